@@ -1,0 +1,36 @@
+-- `endian::write_be16` meets its contract. Two stores are `sets` of the two bytes, by computation. Assumes nothing.
+use native.Mathlib.Nat.{div-one}
+use native.Mathlib.Numerals.{add-one}
+use native.Mathlib.Omega.{arith}
+use lib.ListN.{length-set}
+use borrow.Author.Needs.{needs}
+use Rattle.endian.specs.Endian.{beBytes}
+use Rattle.endian.proofs.write_be16.Statement.{statement}
+use Rattle.endian.proofs.write_be16.Tie as tie
+
+cast-out : tie.Need-cast-out
+cast-out c = search needs
+
+slice-write-out : tie.Need-slice-write-out
+slice-write-out c = search needs
+
+cast-out-2 : tie.Need-cast-out-2
+cast-out-2 c = search needs
+
+add-out : tie.Need-add-out
+add-out c = search needs
+
+slice-write-out-2 : tie.Need-slice-write-out-2
+slice-write-out-2 c = simp length-set (omega arith)
+
+same-length : tie.Need-same-length
+same-length c = search needs
+
+returns : tie.Need-returns
+unfolding beBytes
+returns c = rw (add-one (c .args .at), div-one (c .args .v))
+
+pub write-be16-spec : {M : Type 1} → statement M
+write-be16-spec =
+    tie.close
+    (tie.spec cast-out slice-write-out cast-out-2 add-out slice-write-out-2 same-length returns)
