@@ -1,9 +1,8 @@
 -- A list of bytes stays one: taken apart, joined, and stored into. Assumes nothing.
-use mathlib.Core.Path.{_≡_, refl, ap}
-use Prim.Native.Nat.{ℕ, zero, suc, _+_, _≤_, _<_}
+use Prim.Native.Nat.{ℕ, zero, suc, _+_, _<_}
 use native.Mathlib.Omega.{arith}
 use mathlib.Core.List.{List, [], _∷_, _++_}
-use lib.ListN.{length, getD, set, take, drop}
+use lib.ListN.{set, take, drop}
 use lib.Seq.{sets, getD-drop}
 use Rattle.endian.specs.Endian.{Bytes}
 

@@ -1,10 +1,10 @@
 -- The laws of `be`, `beBytes`, `le` and `leBytes`, each over every width. Assumes nothing.
 use mathlib.Core.Path.{_≡_, refl, sym, ap, ap₂, _∙_}
 use Prim.Native.Nat.{ℕ, zero, suc, _+_, _*_, _/_, _%_, _^_, _≤_, _<_}
-use native.Mathlib.Nat.{add-zero, zero-add, suc-add, add-assoc, add-comm, mul-assoc, add-mul, mul-add, div-one, mod-lt, mod-eq-of-lt, one-le-pow, zero-lt-suc, pow-suc, pow-succ', div-div-eq-div-mul, add-mul-div-right}
-use native.Mathlib.Numerals.{add-one}
+use native.Mathlib.Nat.{add-zero, zero-add, suc-add, add-assoc, add-comm, mul-assoc, add-mul, mul-add, zero-lt-suc, mod-lt, mod-eq-of-lt}
+use native.Mathlib.Nat.{div-one, div-div-eq-div-mul, add-mul-div-right, one-le-pow, pow-suc, pow-succ'}
 use native.Mathlib.Omega.{arith}
-use mathlib.Core.List.{List, [], _∷_, _++_}
+use mathlib.Core.List.{List, _∷_, _++_}
 use lib.ListN.{length, getD, take, drop}
 use lib.Seq.{sets}
 use lib.Arith.{digits-lt, digits-div, mod-mul}
@@ -95,7 +95,8 @@ beBytes-add (suc m) n x =
     rw (suc-add m n, div-div-eq-div-mul x (256 ^ n) (256 ^ m), ← pow-add 256 n m, add-comm n m, beBytes-add m n x)
 
 -- two stores that meet are one store of the wider number
-pub sets-beBytes : {o₁ o₂ : List ℕ} (m n : ℕ) (o : List ℕ) (i x : ℕ) → o₁ ≡ sets o i (beBytes m (x / 256 ^ n)) → o₂ ≡ sets o₁ (i + m) (beBytes n x)
+pub sets-beBytes : {o₁ o₂ : List ℕ} (m n : ℕ) (o : List ℕ) (i x : ℕ)
+    → o₁ ≡ sets o i (beBytes m (x / 256 ^ n)) → o₂ ≡ sets o₁ (i + m) (beBytes n x)
     → o₂ ≡ sets o i (beBytes (m + n) x)
 sets-beBytes m n o i x p q =
     rw (beBytes-add m n x) (sets-append o i m (beBytes m (x / 256 ^ n)) (beBytes n x) (length-beBytes m (x / 256 ^ n)) p q)
@@ -180,7 +181,8 @@ leBytes-add zero n x = rw (zero-add n, div-one x)
 leBytes-add (suc m) n x =
     rw (suc-add m n, leBytes-add m n (x / 256), div-div-eq-div-mul x 256 (256 ^ m), ← pow-succ' 256 m)
 
-pub sets-leBytes : {o₁ o₂ : List ℕ} (m n : ℕ) (o : List ℕ) (i x : ℕ) → o₁ ≡ sets o i (leBytes m x) → o₂ ≡ sets o₁ (i + m) (leBytes n (x / 256 ^ m))
+pub sets-leBytes : {o₁ o₂ : List ℕ} (m n : ℕ) (o : List ℕ) (i x : ℕ)
+    → o₁ ≡ sets o i (leBytes m x) → o₂ ≡ sets o₁ (i + m) (leBytes n (x / 256 ^ m))
     → o₂ ≡ sets o i (leBytes (m + n) x)
 sets-leBytes m n o i x p q =
     rw (leBytes-add m n x) (sets-append o i m (leBytes m x) (leBytes n (x / 256 ^ m)) (length-leBytes m x) p q)

@@ -1,7 +1,7 @@
 -- Worked examples: bytes, and the number that they spell in each order, read and written back. Assumes nothing.
 use mathlib.Core.Path.{_≡_, refl}
 use Prim.Native.Nat.{ℕ}
-use mathlib.Core.List.{List, [], _∷_}
+use mathlib.Core.List.{List, [], _∷_, map}
 use lib.ListN.{take, drop}
 use Rattle.endian.specs.Endian.{be, beBytes, le, leBytes}
 
@@ -23,14 +23,16 @@ rows =
     ∷ record { bytes = 5 ∷ []; at = 1; width = 0; big = 0; little = 0 }
     ∷ []
 
-abbrev pub Holds : List Row → Type 0
-Holds [] = Unit {0}
-Holds (r ∷ rs) =
-    ((be (r .width) (r .bytes) (r .at) ≡ r .big) × (le (r .width) (r .bytes) (r .at) ≡ r .little)
-    × (beBytes (r .width) (r .big) ≡ take (r .width) (drop (r .at) (r .bytes)))
-    × (leBytes (r .width) (r .little) ≡ take (r .width) (drop (r .at) (r .bytes))))
-    × Holds rs
+-- the bytes that spell the number
+abbrev pub part : Row → List ℕ
+part r = take (r .width) (drop (r .at) (r .bytes))
 
-pub examples : Holds rows
+pub record Worked (rs : List Row) : Type 0 where
+  pub be-reads : map (λ r. be (r .width) (r .bytes) (r .at)) rs ≡ map (λ r. r .big) rs
+  pub le-reads : map (λ r. le (r .width) (r .bytes) (r .at)) rs ≡ map (λ r. r .little) rs
+  pub be-writes : map (λ r. beBytes (r .width) (r .big)) rs ≡ map part rs
+  pub le-writes : map (λ r. leBytes (r .width) (r .little)) rs ≡ map part rs
+
+pub examples : Worked rows
 unfolding be beBytes le leBytes
-examples = ((refl, refl, refl, refl), ((refl, refl, refl, refl), ((refl, refl, refl, refl), ((refl, refl, refl, refl), ((refl, refl, refl, refl), ((refl, refl, refl, refl), tt))))))
+examples = record { be-reads = refl; le-reads = refl; be-writes = refl; le-writes = refl }

@@ -17,7 +17,8 @@ module _ {ℓ} {A : Type ℓ} where
       ∙ sets-sets (set o i v) (suc i) vs ws
 
   -- the same of two calls that each store a run: what is left after both
-  pub sets-append : {o₁ o₂ : List A} (o : List A) (i k : ℕ) (vs ws : List A) → length vs ≡ k → o₁ ≡ sets o i vs → o₂ ≡ sets o₁ (i + k) ws
+  pub sets-append : {o₁ o₂ : List A} (o : List A) (i k : ℕ) (vs ws : List A)
+      → length vs ≡ k → o₁ ≡ sets o i vs → o₂ ≡ sets o₁ (i + k) ws
       → o₂ ≡ sets o i (vs ++ ws)
   sets-append o i k vs ws l p q = q ∙ rw (p, ← l) (sets-sets o i vs ws)
 
@@ -33,7 +34,8 @@ module _ {ℓ} {A : Type ℓ} where
       getD-sets-after (set o i v) (suc i) vs k d (omega arith) ∙ getD-set-other o i k v d (λ e. omega arith)
 
   -- among the stores stands what was stored
-  pub getD-sets-at : (o : List A) (i : ℕ) (vs : List A) (k : ℕ) (d : A) → k < length vs → i + k < length o → getD (sets o i vs) (i + k) d ≡ getD vs k d
+  pub getD-sets-at : (o : List A) (i : ℕ) (vs : List A) (k : ℕ) (d : A)
+      → k < length vs → i + k < length o → getD (sets o i vs) (i + k) d ≡ getD vs k d
   getD-sets-at o i [] k d h l = absurd (omega arith)
   getD-sets-at o i (v ∷ vs) zero d h l =
       ap (λ (j : ℕ). getD (sets (set o i v) (suc i) vs) j d) (add-zero i)

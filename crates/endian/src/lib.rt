@@ -7,7 +7,7 @@ ghost use lib.Seq.{sets};
 ghost use Rattle.endian.specs.Endian.{be, beBytes, le, leBytes};
 
 // A byte as a number, with its range.
-fn wide(x: u8) -> u64
+pub fn wide(x: u8) -> u64
     ensures { λ r. ⌜ (r ≡ x) × (r < 256) ⌝ }
 {
     x as u64

@@ -19,7 +19,8 @@ same-length c = search needs
 returns : tie.Need-returns
 returns c =
     let start = c .before .before .before .before .before .before .before .before .before in
-    sets-beBytes 4 4 (start .args .out .now) (start .args .at) (start .args .v) (c .before .before .before .before .before .before .write-be32 .ensures) (c .before .before .write-be322 .ensures)
+    let first = c .before .before .before .before .before .before .write-be32 .ensures in
+    sets-beBytes 4 4 (start .args .out .now) (start .args .at) (start .args .v) first (c .before .before .write-be322 .ensures)
 
 pub write-be64-spec : {M : Type 1} → statement M
 write-be64-spec =

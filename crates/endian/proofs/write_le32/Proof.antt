@@ -19,7 +19,8 @@ same-length c = search needs
 returns : tie.Need-returns
 returns c =
     let start = c .before .before .before .before .before .before .before .before .before in
-    sets-leBytes 2 2 (start .args .out .now) (start .args .at) (start .args .v) (c .before .before .before .before .before .before .write-le16 .ensures) (c .before .before .write-le162 .ensures)
+    let first = c .before .before .before .before .before .before .write-le16 .ensures in
+    sets-leBytes 2 2 (start .args .out .now) (start .args .at) (start .args .v) first (c .before .before .write-le162 .ensures)
 
 pub write-le32-spec : {M : Type 1} → statement M
 write-le32-spec =
