@@ -1,4 +1,5 @@
 -- `endian::read_be16` meets its contract. Two bytes are one step of `be` twice. Assumes nothing.
+use native.Mathlib.Omega.{arith}
 use borrow.Author.Needs.{needs}
 use Rattle.endian.specs.Endian.{be}
 use Rattle.endian.proofs.read_be16.Statement.{statement}
@@ -27,7 +28,7 @@ add-result c = search needs
 
 returns : tie.Need-returns
 unfolding be
-returns c = search needs
+returns c = (omega arith, omega arith)
 
 pub read-be16-spec : {M : Type 1} → statement M
 read-be16-spec =

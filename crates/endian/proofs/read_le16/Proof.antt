@@ -1,4 +1,5 @@
 -- `endian::read_le16` meets its contract. Two bytes are one step of `le` twice. Assumes nothing.
+use native.Mathlib.Omega.{arith}
 use borrow.Author.Needs.{needs}
 use Rattle.endian.specs.Endian.{le}
 use Rattle.endian.proofs.read_le16.Statement.{statement}
@@ -27,7 +28,7 @@ add-result c = search needs
 
 returns : tie.Need-returns
 unfolding le
-returns c = search needs
+returns c = (omega arith, omega arith)
 
 pub read-le16-spec : {M : Type 1} → statement M
 read-le16-spec =
