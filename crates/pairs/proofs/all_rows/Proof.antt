@@ -1,0 +1,12 @@
+-- `pairs::all_rows` meets its contract: antt computes the constant table and the list of `specs/` side by side. Assumes nothing.
+use borrow.Author.Needs.{needs}
+use Rattle.pairs.specs.Pairs.{table}
+use Rattle.pairs.proofs.all_rows.Statement.{statement}
+use Rattle.pairs.proofs.all_rows.Tie as tie
+
+returns : tie.Need-returns
+unfolding table
+returns c = search needs
+
+pub all-rows-spec : {M : Type 1} → statement M
+all-rows-spec = tie.close (tie.spec returns)
