@@ -1,0 +1,7 @@
+-- What document 01 says of a packet's fields, whatever the bytes.
+pub mod Fields
+pub mod Widths
+pub mod WidthsLaws
+pub mod Rules
+pub mod Verdict
+pub mod VerdictLaws
