@@ -1,0 +1,169 @@
+// The header codec: any bytes are read as a packet or refused by number, and a packet is written as
+// the layout's bytes or refused by number.
+mod fields;
+mod room;
+
+ghost use mathlib.Core.Path.{_≡_};
+ghost use Prim.Native.Nat.{_≤_, _*_};
+ghost use lib.ListN.{length};
+ghost use Rattle.pairs.specs.declared.Pair.the-variants.{Carried};
+ghost use Rattle.tlp.specs.Reading.{readOf, readPair, readAs, judged};
+ghost use Rattle.tlp.specs.Layout.{bodyBytes};
+ghost use Rattle.tlp.specs.Writing.{writeOf, roomAfter, size};
+ghost use Rattle.packet.specs.Verdict.{verdictOf};
+ghost use Rattle.packet.specs.declared.Verdict.the-variants.{Lawful};
+ghost use lib.Seq.{sets};
+use packet::Packet;
+use packet::Verdict;
+use pairs::Kind;
+use pairs::Pair;
+use pairs::Row;
+
+// A header that was read: its packet, or the number of the first check that it fails.
+pub enum Reading {
+    Accepted(Packet),
+    Refused(u8),
+}
+
+// A packet that was written: how many bytes, or the number of the first check that it fails.
+pub enum Writing {
+    Written(usize),
+    Refused(u8),
+}
+
+// Reads the header at the front of any bytes. Later bytes are not looked at.
+pub fn read(header: &[u8]) -> Reading
+    ensures { λ r. ⌜ r ≡ readOf (now (header .entry)) ⌝ }
+{
+    if header.len() < 12 {
+        return Reading::Refused(1);
+    }
+    match pairs::pair_of(header[0]) {
+        Pair::Unknown => Reading::Refused(2),
+        Pair::NotCarried => Reading::Refused(3),
+        Pair::Carried(row) => read_row(row, header),
+    }
+}
+
+fn read_row(row: Row, s: &[u8]) -> Reading
+    requires { ⌜ 12 ≤ length (now s) ⌝ }
+    ensures { λ r. ⌜ r ≡ readPair (Carried row) (now (s .entry)) ⌝ }
+{
+    let form = row.form;
+    let kind = row.kind;
+    if s.len() < size_of(form) {
+        return Reading::Refused(1);
+    }
+    read_as(kind, form, s)
+}
+
+fn size_of(form: u8) -> usize
+    ensures { λ r. ⌜ r ≡ 4 * form ⌝ }
+{
+    4 * (form as usize)
+}
+
+fn read_as(kind: Kind, form: u8, s: &[u8]) -> Reading
+    requires { ⌜ (12 ≤ length (now s)) × (4 * form ≤ length (now s)) ⌝ }
+    ensures { λ r. ⌜ r ≡ readAs kind form (now (s .entry)) ⌝ }
+{
+    match kind {
+        Kind::Memory(k) => {
+            let h = fields::request_head_at(form, s);
+            let e = fields::enables_at(s);
+            let a = fields::address_at(form, s);
+            judge(fields::unnamed(s), Packet::Memory(k, h, e, a))
+        }
+        Kind::Io(k) => {
+            let h = fields::request_head_at(form, s);
+            let e = fields::enables_at(s);
+            let a = fields::address_at(form, s);
+            judge(fields::unnamed(s), Packet::Io(k, h, e, a))
+        }
+        Kind::Config(k) => {
+            let h = fields::request_head_at(form, s);
+            let e = fields::enables_at(s);
+            let t = fields::target_at(s);
+            judge(
+                fields::unnamed(s) | fields::unnamed_target(s),
+                Packet::Config(k, h, e, t),
+            )
+        }
+        Kind::Completion(k) => {
+            let h = fields::completion_head_at(k, form, s);
+            let o = fields::outcome_at(s);
+            judge(
+                fields::unnamed(s) | fields::unnamed_lower(s),
+                Packet::Completion(k, h, o),
+            )
+        }
+        Kind::Msg => Reading::Refused(3),
+        Kind::MsgD => Reading::Refused(3),
+        Kind::FetchAdd => Reading::Refused(3),
+        Kind::Swap => Reading::Refused(3),
+        Kind::Cas => Reading::Refused(3),
+    }
+}
+
+// 4 for a bit that the layout does not name, then rules 4 to 9.
+fn judge(stray: bool, p: Packet) -> Reading
+    ensures { λ r. ⌜ r ≡ judged stray p ⌝ }
+{
+    if stray {
+        return Reading::Refused(4);
+    }
+    let n = packet::rule_number(p);
+    if n == 0 {
+        return Reading::Accepted(p);
+    }
+    Reading::Refused(n)
+}
+
+// Writes the packet's 12 or 16 bytes at the front of the room and nothing past them. A refused
+// packet leaves the room as it was.
+pub fn write(p: Packet, room: &mut [u8]) -> Writing
+    ensures { λ r. ⌜ (r ≡ writeOf p (length (now (room .entry)))) × (now (room .exit) ≡ roomAfter p (now (room .entry))) ⌝ }
+{
+    match packet::judge(p) {
+        Verdict::Refused(n) => Writing::Refused(n),
+        Verdict::Lawful(row) => write_lawful(row, p, room),
+    }
+}
+
+fn write_lawful(row: Row, p: Packet, room: &mut [u8]) -> Writing
+    requires { ⌜ verdictOf p ≡ Lawful row ⌝ }
+    ensures { λ r. ⌜ (r ≡ writeOf p (length (now (room .entry)))) × (now (room .exit) ≡ roomAfter p (now (room .entry))) ⌝ }
+{
+    let h = packet::head_of(p);
+    let n = size_of(h.form);
+    if room.len() < n {
+        return Writing::Refused(11);
+    }
+    room::put_front(row, h, room);
+    write_body(row, p, room);
+    Writing::Written(n)
+}
+
+// Bytes 4 on.
+fn write_body(row: Row, p: Packet, room: &mut [u8])
+    requires { ⌜ (verdictOf p ≡ Lawful row) × (12 ≤ length (now room)) × (size p ≤ length (now room)) ⌝ }
+    ensures { λ _. ⌜ now (room .exit) ≡ sets (now (room .entry)) 4 (bodyBytes p) ⌝ }
+{
+    match p {
+        Packet::Memory(_, h, e, a) => {
+            room::put_request(h, e, room);
+            room::put_address(h, a, room);
+        }
+        Packet::Io(_, h, e, a) => {
+            room::put_request(h, e, room);
+            room::put_address(h, a, room);
+        }
+        Packet::Config(_, h, e, t) => {
+            room::put_request(h, e, room);
+            room::put_target(t, room);
+        }
+        Packet::Completion(_, h, o) => {
+            room::put_completion(h, o, room);
+        }
+    }
+}
