@@ -1,0 +1,3 @@
+-- Document 01's examples and the user's demands.
+pub mod Examples
+pub mod Demand2
