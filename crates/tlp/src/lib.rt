@@ -7,9 +7,9 @@ ghost use mathlib.Core.Path.{_≡_};
 ghost use Prim.Native.Nat.{_≤_, _*_};
 ghost use lib.ListN.{length};
 ghost use Rattle.pairs.specs.declared.Pair.the-variants.{Carried};
-ghost use Rattle.tlp.specs.Reading.{readOf, readPair, readAs, judged};
+ghost use Rattle.tlp.specs.Reading.{numberOf as readingNumber, readOf, readPair, readAs, judged};
 ghost use Rattle.tlp.specs.Layout.{bodyBytes};
-ghost use Rattle.tlp.specs.Writing.{writeOf, roomAfter, size};
+ghost use Rattle.tlp.specs.Writing.{numberOf as writingNumber, writeOf, roomAfter, size};
 ghost use Rattle.packet.specs.Verdict.{verdictOf};
 ghost use Rattle.packet.specs.declared.Verdict.the-variants.{Lawful};
 ghost use lib.Seq.{sets};
@@ -25,10 +25,34 @@ pub enum Reading {
     Refused(u8),
 }
 
+impl Reading {
+    // Document 01's number: 0 when accepted.
+    pub fn number(self) -> u8
+        ensures { λ r. ⌜ r ≡ readingNumber self ⌝ }
+    {
+        match self {
+            Reading::Accepted(_) => 0,
+            Reading::Refused(n) => n,
+        }
+    }
+}
+
 // A packet that was written: how many bytes, or the number of the first check that it fails.
 pub enum Writing {
     Written(usize),
     Refused(u8),
+}
+
+impl Writing {
+    // Document 01's number: 0 when written.
+    pub fn number(self) -> u8
+        ensures { λ r. ⌜ r ≡ writingNumber self ⌝ }
+    {
+        match self {
+            Writing::Written(_) => 0,
+            Writing::Refused(n) => n,
+        }
+    }
 }
 
 // Reads the header at the front of any bytes. Later bytes are not looked at.
