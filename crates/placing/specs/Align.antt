@@ -1,0 +1,13 @@
+-- Alignment: the first multiple at or after a number, and powers of two. Assumes nothing.
+use mathlib.Core.Path.{_≡_}
+use Prim.Native.Nat.{ℕ, _+_, _-_, _*_, _/_, _%_, _^_}
+
+-- The first multiple of a at or after x
+unfoldable pub alignUp : ℕ → ℕ → ℕ
+alignUp a x = (x + (a - 1)) / a * a
+
+abbrev pub Multiple : ℕ → ℕ → Type 0
+Multiple a x = x % a ≡ 0
+
+abbrev pub PowerOfTwo : ℕ → Type 0
+PowerOfTwo n = (k : ℕ) × (n ≡ 2 ^ k)

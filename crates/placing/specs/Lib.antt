@@ -1,0 +1,31 @@
+-- Numbering and placing of a board in whole numbers. First the definitions, in the order of the house rules; then the laws; then the theorems
+-- that others cite: Placed, RefusalLaws, Numbered, SizingLaws, Cap, Siblings, Preorder.
+pub mod Lists
+pub mod Align
+pub mod Pools
+pub mod Records
+pub mod Layout
+pub mod Pieces
+pub mod Placing
+pub mod Numbering
+pub mod Refusals
+pub mod Sizing
+pub mod Examples
+pub mod Order
+pub mod ListLaws
+pub mod AlignLaws
+pub mod PoolLaws
+pub mod RecordLaws
+pub mod LayoutLaws
+pub mod PieceLaws
+pub mod PlacingLaws
+pub mod NumberingLaws
+pub mod Opened
+pub mod Placed
+pub mod RefusalLaws
+pub mod Numbered
+pub mod ExtentLaws
+pub mod SizingLaws
+pub mod Cap
+pub mod Siblings
+pub mod Preorder

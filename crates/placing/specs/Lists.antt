@@ -1,0 +1,35 @@
+-- What the definitions say of lists: all elements, some element, all pairs in order, the elements that pass a test, the longest front that does. Assumes nothing.
+use mathlib.Core.Logic.{_⊎_}
+use mathlib.Core.Bool.{Bool, false, cond, _||_}
+use mathlib.Core.List.{List, [], _∷_}
+
+module _ {A : Type 0} where
+  -- Every element has P
+  abbrev pub All : (A → Type 0) → List A → Type 0
+  All P [] = Unit {0}
+  All P (x ∷ xs) = P x × All P xs
+
+  -- Some element has P
+  abbrev pub Some : (A → Type 0) → List A → Type 0
+  Some P [] = ⊥
+  Some P (x ∷ xs) = P x ⊎ Some P xs
+
+  -- Every element stands in R to every later one
+  abbrev pub Pairwise : (A → A → Type 0) → List A → Type 0
+  Pairwise R [] = Unit {0}
+  Pairwise R (x ∷ xs) = All (R x) xs × Pairwise R xs
+
+  -- The elements that pass the test, in their order
+  unfoldable pub keep : (A → Bool) → List A → List A
+  keep t [] = []
+  keep t (x ∷ xs) = let r = keep t xs in cond (t x) (x ∷ r) r
+
+  -- The longest front whose elements all pass the test
+  unfoldable pub front : (A → Bool) → List A → List A
+  front t [] = []
+  front t (x ∷ xs) = let r = front t xs in cond (t x) (x ∷ r) []
+
+  -- Does some element pass the test?
+  unfoldable pub any : (A → Bool) → List A → Bool
+  any t [] = false
+  any t (x ∷ xs) = t x || any t xs
