@@ -89,7 +89,7 @@ module _ (k b : ℕ) (q : Pool) where
           settle true = refl
           settle false = refl
 
-select-windows : (k b : ℕ) (q : Pool) (rest : List Piece) → select b q (windowPieces k b rest) ≡ windowOver k b q (select k q rest)
+pub select-windows : (k b : ℕ) (q : Pool) (rest : List Piece) → select b q (windowPieces k b rest) ≡ windowOver k b q (select k q rest)
 unfolding windowPieces
 select-windows k b q rest =
     keep-append (isOn b q) (w low) (w high ++ w io)

@@ -1,0 +1,41 @@
+-- `bar::io_slot`: an I/O read-back, its size by `size_of` at 16 bits. Assumes nothing.
+use mathlib.Core.Path.{refl, sym, _∙_}
+use borrow.Author.Needs.{needs}
+use Rattle.bar.specs.Bar.{ioSlot}
+use Rattle.bar.proofs.io_slot.Statement.{statement}
+use Rattle.bar.proofs.io_slot.Tie as tie
+
+io-wrong-requires : tie.Need-io-wrong-requires
+io-wrong-requires c κs = search needs
+
+returns : tie.Need-returns
+unfolding ioSlot
+returns c = simp (sym (c .before .io-wrong .ensures) ∙ c .if1 .taken)
+
+mul-size-of : tie.Need-mul-size-of
+mul-size-of c = search needs
+
+cast-size-of : tie.Need-cast-size-of
+cast-size-of c = search needs
+
+size-of-requires : tie.Need-size-of-requires
+size-of-requires c κs = search needs
+
+sized-requires : tie.Need-sized-requires
+sized-requires c κs = search needs
+
+returns-2 : tie.Need-returns-2
+unfolding ioSlot
+returns-2 c = simp (sym (c .before .before .before .io-wrong .ensures) ∙ c .before .before .if1 .left) (rw (← c .before .size-of .ensures 16 2 refl refl) (c .sized .ensures))
+
+pub io-slot-spec : {M : Type 1} → statement M
+io-slot-spec =
+    tie.close
+    (tie.spec
+    io-wrong-requires
+    returns
+    mul-size-of
+    cast-size-of
+    size-of-requires
+    sized-requires
+    returns-2)

@@ -1,0 +1,79 @@
+-- `bar::is_lawful`: the loop. Invariant: what is left from i on is unlawful just where the whole set is.
+-- Measure: the places left of six. Assumes nothing.
+use mathlib.Core.Path.{_≡_, refl, sym, ap, _∙_}
+use mathlib.Core.Bool.{not}
+use Prim.Native.Nat.{ℕ, _+_, _-_}
+use native.Mathlib.Omega.{arith}
+use borrow.Author.Needs.{needs}
+use lib.ListN.{length, take, drop}
+use Rattle.bar.specs.Bar.{anyBad, slots}
+use Rattle.bar.specs.BarLaws.{length-first, any-bad-of-bad, any-bad-step, any-bad-end}
+use Rattle.bar.proofs.is_lawful.Statement.{statement}
+use Rattle.bar.proofs.is_lawful.Tie as tie
+
+abbrev Inv-loop : tie.InvT-loop
+Inv-loop set n m i₀ i = anyBad (slots (drop i (take n set))) ≡ anyBad (slots (take n set))
+
+abbrev μ-loop : tie.MeasureT-loop
+μ-loop set n m i₀ i = 6 - i
+
+count-requires : tie.Need-count-requires Inv-loop μ-loop
+count-requires c κs = search needs
+
+loop-holds : tie.Need-loop-holds Inv-loop μ-loop
+loop-holds c = refl
+
+slot-at-requires : tie.Need-slot-at-requires Inv-loop μ-loop
+slot-at-requires c κs = search needs
+
+is-bad-requires : tie.Need-is-bad-requires Inv-loop μ-loop
+is-bad-requires c κs = search needs
+
+returns : tie.Need-returns Inv-loop μ-loop
+returns c =
+    let a = c .before .before .before .before .before .before .args in
+    let six : length (a .set) ≡ 6 = search needs in
+    let l = length-first (a .set) (a .n) six in
+    ap not (sym (any-bad-of-bad (take (a .n) (a .set)) (c .before .before .before .before .loop .i) _ (omega arith) (c .before .before .slot-at .ensures) (sym (c .before .is-bad .ensures) ∙ c .if1 .taken)) ∙ c .before .before .before .before .loop .inv)
+
+span-requires : tie.Need-span-requires Inv-loop μ-loop
+span-requires c κs = search needs
+
+add-i : tie.Need-add-i Inv-loop μ-loop
+add-i c = omega arith
+
+loop-less : tie.Need-loop-less Inv-loop μ-loop
+loop-less c = omega arith
+
+loop-again : tie.Need-loop-again Inv-loop μ-loop
+loop-again c =
+    let a = c .before .before .before .before .before .before .before .args in
+    let six : length (a .set) ≡ 6 = search needs in
+    let l = length-first (a .set) (a .n) six in
+    ap (λ (k : ℕ). anyBad (slots (drop (c .before .before .before .before .before .loop .i + k) (take (a .n) (a .set))))) (c .span .ensures .0)
+    ∙ any-bad-step (take (a .n) (a .set)) (c .before .before .before .before .before .loop .i) _ (omega arith) (c .before .before .before .slot-at .ensures) (sym (c .before .before .is-bad .ensures) ∙ c .before .if1 .left)
+    ∙ c .before .before .before .before .before .loop .inv
+
+returns-2 : tie.Need-returns-2 Inv-loop μ-loop
+returns-2 c =
+    let a = c .before .before .before .args in
+    let six : length (a .set) ≡ 6 = search needs in
+    let l = length-first (a .set) (a .n) six in
+    ap not (sym (any-bad-end (take (a .n) (a .set)) (c .before .loop .i) (omega arith)) ∙ c .before .loop .inv)
+
+pub is-lawful-spec : {M : Type 1} → statement M
+is-lawful-spec =
+    tie.close
+    (tie.spec
+    Inv-loop
+    μ-loop
+    count-requires
+    loop-holds
+    slot-at-requires
+    is-bad-requires
+    returns
+    span-requires
+    add-i
+    loop-less
+    loop-again
+    returns-2)

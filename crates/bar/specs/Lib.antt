@@ -1,0 +1,10 @@
+-- Document 01, "Read-backs", and BAR values on a sheet (25).
+pub mod Bar
+pub mod Bars
+pub mod Values
+pub mod PowerOfTwo
+pub mod SizeLaws
+pub mod BarLaws
+pub mod ValuesLaws
+pub mod PlacedLaws
+pub mod Examples

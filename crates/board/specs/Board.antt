@@ -1,0 +1,70 @@
+-- Document 01, "The board" and "Numbers given back": the number of the first check that a board's bytes fail, 0 where they are lawful, and what a
+-- lawful board says. Each check covers all records before the next starts. Assumes nothing.
+use Prim.Native.Nat.{ℕ}
+use mathlib.Core.Bool.{Bool, true, false, cond, not, _||_}
+use mathlib.Core.List.{List, [], _∷_, map}
+use lib.ListN.{length, getD, drop}
+use lib.Dec.{eqb, ltb}
+use Rattle.placing.specs.Lists.{any}
+use Rattle.records.specs.Records.{Parts, partsOf, anyPart}
+use Rattle.board.specs.declared.Host.{Host}
+use Rattle.board.specs.declared.Function.{Function}
+use Rattle.board.specs.Host.{hostLength, hostOfPart, hostWrong}
+use Rattle.board.specs.Function.{functionOfPart, headerWrong, readbacksWrong}
+use Rattle.board.specs.Order.{anyMisplaced}
+
+-- "At most 256 functions"
+abbrev pub mostFunctions : ℕ
+mostFunctions = 256
+
+-- "function under 6"
+abbrev pub isShort : List ℕ → Bool
+isShort p = ltb (length p) 6
+
+-- "no host record, or host not 30"
+abbrev pub noHost : List (List ℕ) → Bool
+noHost [] = true
+noHost (p ∷ ps) = not (eqb (length p) hostLength)
+
+-- lengths not ending at the end, or a function under 6
+abbrev pub tailMisframed : Parts → Bool
+tailMisframed r = not (r .whole) || anyPart isShort (r .parts)
+
+-- 20: "lengths not ending at the end; no host record, or host not 30; function under 6"
+unfoldable pub misframed : Parts → Bool
+misframed r = not (r .whole) || noHost (r .parts) || anyPart isShort (drop 1 (r .parts))
+
+-- ## The checks in order: 20 empty, 21, 20, 22, 24, 26, 23, 25
+
+unfoldable pub fromReadbacks : List Function → ℕ
+fromReadbacks fs = cond (any readbacksWrong fs) 25 0
+
+unfoldable pub fromOrder : List Function → ℕ
+fromOrder fs = let rest = fromReadbacks fs in cond (anyMisplaced 0 [] fs) 23 rest
+
+unfoldable pub fromEdges : Host → List Function → ℕ
+fromEdges h fs = let rest = fromOrder fs in cond (hostWrong h) 26 rest
+
+unfoldable pub fromHeaders : Host → List (List ℕ) → ℕ
+fromHeaders h ps = let rest = fromEdges h (map functionOfPart ps) in cond (anyPart headerWrong ps) 24 rest
+
+unfoldable pub fromCount : Host → List (List ℕ) → ℕ
+fromCount h ps = let rest = fromHeaders h ps in cond (ltb mostFunctions (length ps)) 22 rest
+
+unfoldable pub fromFrame : Parts → ℕ
+fromFrame r = let rest = fromCount (hostOfPart (getD (r .parts) 0 [])) (drop 1 (r .parts)) in cond (misframed r) 20 rest
+
+unfoldable pub fromVersion : List ℕ → ℕ
+fromVersion b = let rest = fromFrame (partsOf (drop 1 b)) in cond (eqb (getD b 0 0) 1) rest 21
+
+unfoldable pub boardNumber : List ℕ → ℕ
+boardNumber b = let rest = fromVersion b in cond (eqb (length b) 0) 20 rest
+
+-- ## The decoded board
+
+unfoldable pub hostOf : List ℕ → Host
+hostOf b = hostOfPart (getD (partsOf (drop 1 b) .parts) 0 [])
+
+-- functions, numbered from 1
+unfoldable pub functionsOf : List ℕ → List Function
+functionsOf b = map functionOfPart (drop 1 (partsOf (drop 1 b) .parts))

@@ -1,0 +1,208 @@
+-- The passes over a board's records, one law for each thing that can stand at the cursor. Assumes nothing.
+use mathlib.Core.Path.{_≡_, refl, sym, ap, _∙_}
+use mathlib.Core.Bool.{Bool, true, false, cond, not, _||_, or-true, true≢false}
+use mathlib.Core.List.{List, [], _∷_, map}
+use Prim.Native.Nat.{ℕ, suc, _+_, _≤_, _<_}
+use native.Mathlib.Omega.{arith}
+use lib.ListN.{length, getD, take, drop}
+use lib.Dec.{eqb, ltb}
+use borrow.Author.Tests.{lt-ltb, le-ltb, eq-eqb, ne-eqb, eqb-true, ltb-false, not-false}
+use Rattle.placing.specs.Lists.{any}
+use Rattle.records.specs.declared.Next.{Next}
+use Rattle.records.specs.declared.Next.the-variants.{End, Record, Broken}
+use Rattle.records.specs.Records.{nextOf, Parts, after, partsOf, partsFrom, anyPart}
+use Rattle.records.specs.RecordsLaws.{length-part, fits-at, parts-record, parts-end, parts-broken, pass-record, false-of-or}
+use Rattle.board.specs.declared.Host.{Host}
+use Rattle.board.specs.declared.Function.{Function}
+use Rattle.board.specs.Host.{hostOfPart, hostWrong}
+use Rattle.board.specs.Function.{functionOfPart, headerWrong, readbacksWrong}
+use Rattle.board.specs.Order.{anyMisplaced}
+use Rattle.board.specs.Board.{isShort, noHost, tailMisframed, misframed, mostFunctions, fromReadbacks, fromOrder, fromEdges, fromHeaders, fromCount, fromFrame, fromVersion, boardNumber, hostOf, functionsOf}
+
+pub any-map : {A : Type 0} (test : A → Bool) (f : List ℕ → A) (ps : List (List ℕ)) → any test (map f ps) ≡ anyPart (λ p. test (f p)) ps
+unfolding any anyPart
+any-map test f [] = refl
+any-map test f (p ∷ ps) = ap (λ (t : Bool). test (f p) || t) (any-map test f ps)
+
+-- ---- 20
+
+module _ (s : List ℕ) (at : ℕ) where
+  pub tail-end : nextOf (drop at s) ≡ End → tailMisframed (partsOf (drop at s)) ≡ false
+  unfolding anyPart
+  tail-end e = ap tailMisframed (parts-end s at e)
+
+  pub tail-broken : nextOf (drop at s) ≡ Broken → tailMisframed (partsOf (drop at s)) ≡ true
+  tail-broken e = ap tailMisframed (parts-broken s at e)
+
+  pub tail-short : (n : ℕ) → nextOf (drop at s) ≡ Record n → n < 6 → tailMisframed (partsOf (drop at s)) ≡ true
+  unfolding anyPart
+  tail-short n e h =
+      ap tailMisframed (parts-record s at n e)
+      ∙ rw (lt-ltb (length (take n (drop (at + 2) s))) 6 (omega (arith, length-part s at n e)))
+      (or-true (not (partsOf (drop (at + 2 + n) s) .whole)))
+
+  pub tail-on : (n : ℕ) → nextOf (drop at s) ≡ Record n → 6 ≤ n
+      → tailMisframed (partsOf (drop at s)) ≡ tailMisframed (partsOf (drop (at + 2 + n) s))
+  unfolding anyPart
+  tail-on n e h =
+      ap tailMisframed (parts-record s at n e)
+      ∙ rw (le-ltb (length (take n (drop (at + 2) s))) 6 (omega (arith, length-part s at n e)))
+
+module _ (s : List ℕ) where
+  pub misframed-end : nextOf (drop 1 s) ≡ End → misframed (partsOf (drop 1 s)) ≡ true
+  unfolding misframed
+  misframed-end e = ap misframed (parts-end s 1 e)
+
+  pub misframed-broken : nextOf (drop 1 s) ≡ Broken → misframed (partsOf (drop 1 s)) ≡ true
+  unfolding misframed
+  misframed-broken e = ap misframed (parts-broken s 1 e)
+
+  -- the frame by the host's length and what follows it
+  misframed-record : (n : ℕ) → nextOf (drop 1 s) ≡ Record n
+      → misframed (partsOf (drop 1 s))
+      ≡ (not (partsOf (drop (1 + 2 + n) s) .whole) || not (eqb n 30) || anyPart isShort (partsFrom s (1 + 2 + n)))
+  unfolding misframed
+  misframed-record n e = ap misframed (parts-record s 1 n e) ∙ rw (length-part s 1 n e)
+
+  pub misframed-host : (n : ℕ) → nextOf (drop 1 s) ≡ Record n → (n ≡ 30 → ⊥) → misframed (partsOf (drop 1 s)) ≡ true
+  misframed-host n e h =
+      misframed-record n e
+      ∙ rw (ne-eqb n 30 h)
+      (ap (λ (t : Bool). t || anyPart isShort (partsFrom s (1 + 2 + n))) (or-true (not (partsOf (drop (1 + 2 + n) s) .whole))))
+
+  pub misframed-tail : (n : ℕ) → nextOf (drop 1 s) ≡ Record n → n ≡ 30 → misframed (partsOf (drop 1 s)) ≡ tailMisframed (partsOf (drop 33 s))
+  misframed-tail n e h =
+      let e₃₀ : nextOf (drop 1 s) ≡ Record 30 = e ∙ ap Record h in
+      misframed-record 30 e₃₀ ∙ go (partsOf (drop 33 s) .whole)
+    where
+      go : (w : Bool) → (not w || false || anyPart isShort (partsFrom s 33)) ≡ (not w || anyPart isShort (partsFrom s 33))
+      go true = refl
+      go false = refl
+
+  -- a board that is not misframed has a host of 30 bytes first, and its functions from byte 33 on
+  pub host-of-framed : misframed (partsOf (drop 1 s)) ≡ false → nextOf (drop 1 s) ≡ Record 30
+  host-of-framed h = go (nextOf (drop 1 s)) refl
+    where
+      sized : (n : ℕ) (t : Bool) → eqb n 30 ≡ t → nextOf (drop 1 s) ≡ Record n → nextOf (drop 1 s) ≡ Record 30
+      sized n true b e = e ∙ ap Record (eqb-true n 30 b)
+      sized n false b e = absurd (true≢false (sym (misframed-host n e (λ x. true≢false (sym (eq-eqb n 30 x) ∙ b))) ∙ h))
+
+      go : (q : Next) → nextOf (drop 1 s) ≡ q → nextOf (drop 1 s) ≡ Record 30
+      go End e = absurd (true≢false (sym (misframed-end e) ∙ h))
+      go Broken e = absurd (true≢false (sym (misframed-broken e) ∙ h))
+      go (Record n) e = sized n (eqb n 30) refl e
+
+  pub framed : misframed (partsOf (drop 1 s)) ≡ false → fromFrame (partsOf (drop 1 s)) ≡ fromCount (hostOfPart (take 30 (drop 3 s))) (partsFrom s 33)
+  unfolding fromFrame
+  framed h =
+      let p = parts-record s 1 30 (host-of-framed h) in
+      rw h (ap (λ (r : Parts). fromCount (hostOfPart (getD (r .parts) 0 [])) (drop 1 (r .parts))) p)
+
+-- ---- 22
+
+module _ (s : List ℕ) (at : ℕ) where
+  pub length-record : (n : ℕ) → nextOf (drop at s) ≡ Record n → length (partsFrom s at) ≡ suc (length (partsFrom s (at + 2 + n)))
+  length-record n e = pass-record length s at n e
+
+  pub length-end : nextOf (drop at s) ≡ End → length (partsFrom s at) ≡ 0
+  length-end e = ap (λ (r : Parts). length (r .parts)) (parts-end s at e)
+
+  pub length-broken : nextOf (drop at s) ≡ Broken → length (partsFrom s at) ≡ 0
+  length-broken e = ap (λ (r : Parts). length (r .parts)) (parts-broken s at e)
+
+-- ---- the checks in order: what is left once one is passed
+
+pub past-version : (b : List ℕ) → (length b ≡ 0 → ⊥) → getD b 0 0 ≡ 1 → boardNumber b ≡ fromFrame (partsOf (drop 1 b))
+unfolding boardNumber fromVersion
+past-version b e v = rw (ne-eqb (length b) 0 e, eq-eqb (getD b 0 0) 1 v)
+
+module _ (h : Host) (ps : List (List ℕ)) where
+  pub past-count : ltb mostFunctions (length ps) ≡ false → fromCount h ps ≡ fromHeaders h ps
+  unfolding fromCount
+  past-count e = rw e
+
+  pub past-headers : anyPart headerWrong ps ≡ false → fromHeaders h ps ≡ fromEdges h (map functionOfPart ps)
+  unfolding fromHeaders
+  past-headers e = rw e
+
+module _ (fs : List Function) where
+  pub past-edges : (h : Host) → hostWrong h ≡ false → fromEdges h fs ≡ fromOrder fs
+  unfolding fromEdges
+  past-edges h e = rw e
+
+  pub past-order : anyMisplaced 0 [] fs ≡ false → fromOrder fs ≡ fromReadbacks fs
+  unfolding fromOrder
+  past-order e = rw e
+
+-- ---- what a board that is accepted keeps
+
+pub record Accepted (b : List ℕ) : Type 0 where
+  pub version : getD b 0 0 ≡ 1
+  pub host-record : nextOf (drop 1 b) ≡ Record 30
+  pub host-read : hostOf b ≡ hostOfPart (take 30 (drop 3 b))
+  pub functions-read : functionsOf b ≡ map functionOfPart (partsFrom b 33)
+  pub whole : partsOf (drop 33 b) .whole ≡ true
+  pub few : length (partsFrom b 33) ≤ mostFunctions
+  pub headers : anyPart headerWrong (partsFrom b 33) ≡ false
+  pub edges : hostWrong (hostOf b) ≡ false
+  pub order : anyMisplaced 0 [] (functionsOf b) ≡ false
+  pub readbacks : any readbacksWrong (functionsOf b) ≡ false
+
+-- a test that gives a number other than 0 was not true
+passed : (t : Bool) (n k : ℕ) → cond t (suc n) k ≡ 0 → (t ≡ false) × (k ≡ 0)
+passed true n k e = absurd (omega arith)
+passed false n k e = (refl, e)
+
+version-of-zero : (b : List ℕ) → boardNumber b ≡ 0 → (getD b 0 0 ≡ 1) × (fromFrame (partsOf (drop 1 b)) ≡ 0)
+unfolding boardNumber fromVersion
+version-of-zero b e =
+    let rest = passed (eqb (length b) 0) 19 (cond (eqb (getD b 0 0) 1) (fromFrame (partsOf (drop 1 b))) 21) e .1 in
+    go (eqb (getD b 0 0) 1) refl rest
+  where
+    go : (t : Bool) → eqb (getD b 0 0) 1 ≡ t → cond t (fromFrame (partsOf (drop 1 b))) 21 ≡ 0
+        → (getD b 0 0 ≡ 1) × (fromFrame (partsOf (drop 1 b)) ≡ 0)
+    go true h e = (eqb-true (getD b 0 0) 1 h, e)
+    go false h e = absurd (omega arith)
+
+framed-of-zero : (r : Parts) → fromFrame r ≡ 0 → misframed r ≡ false
+unfolding fromFrame
+framed-of-zero r e = passed (misframed r) 19 (fromCount (hostOfPart (getD (r .parts) 0 [])) (drop 1 (r .parts))) e .0
+
+count-of-zero : (h : Host) (ps : List (List ℕ)) → fromCount h ps ≡ 0
+    → (ltb mostFunctions (length ps) ≡ false)
+    × (anyPart headerWrong ps ≡ false)
+    × (hostWrong h ≡ false)
+    × (anyMisplaced 0 [] (map functionOfPart ps) ≡ false)
+    × (any readbacksWrong (map functionOfPart ps) ≡ false)
+unfolding fromCount fromHeaders fromEdges fromOrder fromReadbacks
+count-of-zero h ps e =
+    let fs = map functionOfPart ps in
+    let a = passed (ltb mostFunctions (length ps)) 21 (fromHeaders h ps) e in
+    let b = passed (anyPart headerWrong ps) 23 (fromEdges h fs) (a .1) in
+    let c = passed (hostWrong h) 25 (fromOrder fs) (b .1) in
+    let d = passed (anyMisplaced 0 [] fs) 22 (fromReadbacks fs) (c .1) in
+    (a .0, b .0, c .0, d .0, passed (any readbacksWrong fs) 24 0 (d .1) .0)
+
+pub accepted-of-zero : (b : List ℕ) → boardNumber b ≡ 0 → Accepted b
+unfolding hostOf functionsOf
+accepted-of-zero b e =
+    let v = version-of-zero b e in
+    let f = framed-of-zero (partsOf (drop 1 b)) (v .1) in
+    let h = host-of-framed b f in
+    let p = parts-record b 1 30 h in
+    let c = count-of-zero (hostOfPart (take 30 (drop 3 b))) (partsFrom b 33) (sym (framed b f) ∙ v .1) in
+    let host = ap (λ (r : Parts). hostOfPart (getD (r .parts) 0 [])) p in
+    let functions = ap (λ (r : Parts). map functionOfPart (drop 1 (r .parts))) p in
+    let tail = sym (misframed-tail b 30 h refl) ∙ f in
+    record {
+      version = v .0;
+      host-record = h;
+      host-read = host;
+      functions-read = functions;
+      whole = not-false (partsOf (drop 33 b) .whole) (false-of-or (not (partsOf (drop 33 b) .whole)) (anyPart isShort (partsFrom b 33)) tail .0);
+      few = ltb-false mostFunctions (length (partsFrom b 33)) (c .0);
+      headers = c .1;
+      edges = ap hostWrong host ∙ c .2;
+      order = ap (anyMisplaced 0 []) functions ∙ c .3;
+      readbacks = ap (any readbacksWrong) functions ∙ c .4;
+    }

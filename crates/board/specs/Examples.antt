@@ -1,0 +1,78 @@
+-- Worked examples of a board's number, as one table under one claim. Assumes nothing.
+use mathlib.Core.Path.{_≡_, refl}
+use Prim.Native.Nat.{ℕ, zero, suc, _+_}
+use mathlib.Core.List.{List, [], _∷_, _++_, map}
+use Rattle.endian.specs.Endian.{be, beBytes}
+use Rattle.records.specs.Records.{nextOf, partsOver, partsOf, anyPart}
+use Rattle.placing.specs.Lists.{any}
+use Rattle.bar.specs.Bar.{sizeFrom, sized, ioSlot, narrowSlot, wideSlot, slotHere, slots, anyBad}
+use Rattle.board.specs.Host.{hostOfPart, poolWrong, hostWrong}
+use Rattle.board.specs.Function.{functionOfPart, headerWrong, readbacksWrong}
+use Rattle.board.specs.Order.{above, parents, lastSibling, misplaced, anyMisplaced}
+use Rattle.board.specs.Board.{misframed, fromReadbacks, fromOrder, fromEdges, fromHeaders, fromCount, fromFrame, fromVersion, boardNumber}
+
+-- ## Records
+
+abbrev pub host : List ℕ
+host =
+    0 ∷ 30 ∷ 0 ∷ 255 ∷ beBytes 4 0xF9000000 ++ beBytes 4 0xF9FFFFFF ++ beBytes 8 0x240000000 ++ beBytes 8 0x27FFFFFFF ++ 0x40 ∷ 0 ∷ 0x4F ∷ 0xFF ∷ []
+
+abbrev pub bridge : ℕ → ℕ → ℕ → List ℕ
+bridge parent devfn header = 0 ∷ 14 ∷ beBytes 2 parent ++ devfn ∷ header ∷ 0 ∷ 3 ∷ beBytes 8 0
+
+abbrev pub end : ℕ → ℕ → ℕ → List ℕ
+end parent devfn header = 0 ∷ 30 ∷ beBytes 2 parent ++ devfn ∷ header ∷ 0 ∷ 3 ∷ beBytes 8 0 ++ beBytes 8 0 ++ beBytes 8 0
+
+-- n bridges, each below the one before, from record k + 1 on
+unfoldable pub chain : ℕ → ℕ → List ℕ
+chain zero k = []
+chain (suc n) k = bridge k 0 1 ++ chain n (suc k)
+
+-- n bridges of the host, at device/function k and on, with bit 7 of their header types set
+unfoldable pub row : ℕ → ℕ → List ℕ
+row zero k = []
+row (suc n) k = bridge 0 k 129 ++ row n (suc k)
+
+-- P10, after source document 004
+abbrev pub p10 : List ℕ
+p10 =
+    1 ∷ host ++ bridge 0 0 1
+    ++ 0 ∷ 30 ∷ 0 ∷ 1 ∷ 0 ∷ 0 ∷ 0 ∷ 3
+    ∷ beBytes 4 0xFFFFF000 ++ beBytes 4 0xFC00000C ++ beBytes 4 0xFFFFFFFF ++ beBytes 4 0xFFFFFF01 ++ beBytes 8 0
+
+pub record Row : Type 0 where
+  pub board : List ℕ
+  pub number : ℕ
+
+abbrev pub rows : List Row
+rows =
+    record { board = []; number = 20 }
+    ∷ record { board = 1 ∷ []; number = 20 }
+    ∷ record { board = 2 ∷ []; number = 21 }
+    -- P8
+    ∷ record { board = 1 ∷ host; number = 0 }
+    -- a stray last byte
+    ∷ record { board = 1 ∷ host ++ 0 ∷ []; number = 20 }
+    ∷ record { board = p10; number = 0 }
+    -- 17 bridges in a row have at most 16 above; an 18th has 17
+    ∷ record { board = 1 ∷ host ++ chain 17 0; number = 0 }
+    ∷ record { board = 1 ∷ host ++ chain 18 0; number = 23 }
+    ∷ record { board = 1 ∷ host ++ chain 17 0 ++ end 17 0 0; number = 23 }
+    -- siblings rise strictly; a function 1 wants a function 0 with bit 7 of its header type set
+    ∷ record { board = 1 ∷ host ++ bridge 0 8 1 ++ end 1 0 0 ++ bridge 0 16 1; number = 0 }
+    ∷ record { board = 1 ∷ host ++ bridge 0 8 1 ++ end 1 0 0 ++ bridge 0 8 1; number = 23 }
+    ∷ record { board = 1 ∷ host ++ end 0 8 128 ++ end 0 9 0; number = 0 }
+    ∷ record { board = 1 ∷ host ++ end 0 8 0 ++ end 0 9 0; number = 23 }
+    -- a bridge that was left is no parent any more
+    ∷ record { board = 1 ∷ host ++ bridge 0 0 1 ++ bridge 0 8 1 ++ end 1 0 0; number = 23 }
+    -- 256 functions are enough
+    ∷ record { board = 1 ∷ host ++ row 256 0; number = 0 }
+    ∷ record { board = 1 ∷ host ++ row 256 0 ++ end 0 0 0; number = 22 }
+    ∷ []
+
+pub record Worked (rs : List Row) : Type 0 where
+  pub numbers : map (λ r. boardNumber (r .board)) rs ≡ map (λ r. r .number) rs
+
+pub examples : Worked rows
+unfolding be beBytes nextOf partsOver partsOf anyPart any sizeFrom sized ioSlot narrowSlot wideSlot slotHere slots anyBad hostOfPart poolWrong hostWrong functionOfPart headerWrong readbacksWrong above parents lastSibling misplaced anyMisplaced misframed fromReadbacks fromOrder fromEdges fromHeaders fromCount fromFrame fromVersion boardNumber chain row
+examples = record { numbers = refl }

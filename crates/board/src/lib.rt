@@ -1,0 +1,321 @@
+// The board, house format: its records are read as the parts after their own lengths, and document 01's checks are tried in their order.
+mod order;
+
+ghost use mathlib.Core.Path.{_≡_};
+ghost use mathlib.Core.Bool.{false};
+ghost use mathlib.Core.List.{map};
+ghost use Prim.Native.Nat.{_<_};
+ghost use lib.ListN.{length, getD, drop};
+ghost use lib.Dec.{ltb};
+ghost use Rattle.placing.specs.Lists.{any};
+ghost use Rattle.records.specs.Records.{partsOf, partsFrom, anyPart};
+ghost use Rattle.board.specs.Host.{hostLength, hostOfPart, offEdges, outside as isOutside, poolWrong, hostWrong};
+ghost use Rattle.board.specs.Function.{readbacksFor, functionOfPart, headerWrong, readbacksWrong};
+ghost use Rattle.board.specs.Board.{mostFunctions, misframed as isMisframed, tailMisframed, boardNumber};
+use pools::Pool;
+use records::Next;
+
+// An address pool of the host: its first and its last address. A pool with its base above its last is closed.
+pub struct Span {
+    pub base: u64,
+    pub last: u64,
+}
+
+// Record 0.
+pub struct Host {
+    pub first_bus: u8,
+    pub last_bus: u8,
+    pub low: Span,
+    pub high: Span,
+    pub io: Span,
+}
+
+// A function record. A type 1 function has two read-backs; the last four are 0.
+pub struct Function {
+    pub parent: u16,
+    pub devfn: u8,
+    pub header: u8,
+    pub command: u16,
+    pub readbacks: [u32; 6],
+}
+
+// Where the host record stands, and, in a board that is not misframed, the first function's.
+pub const HOST: usize = 1;
+
+pub const FUNCTIONS: usize = 33;
+
+// Document 01's number of any bytes as a board: 0 is accepted.
+pub fn check(board: &[u8]) -> u8
+    ensures { λ r. ⌜ r ≡ boardNumber (now (board .entry)) ⌝ }
+{
+    if board.len() == 0 {
+        return 20;
+    }
+    if board[0] != 1 {
+        return 21;
+    }
+    if misframed(board) {
+        return 20;
+    }
+    if too_many(board) {
+        return 22;
+    }
+    if headers_wrong(board) {
+        return 24;
+    }
+    if host_wrong(host_of(records::part_at(board, HOST, 30))) {
+        return 26;
+    }
+    if order::misplaced(board) {
+        return 23;
+    }
+    if readbacks_wrong(board) {
+        return 25;
+    }
+    0
+}
+
+// ---- records as parts
+
+pub fn host_of(part: &[u8]) -> Host
+    requires { ⌜ length (now part) ≡ hostLength ⌝ }
+    ensures { λ r. ⌜ r ≡ hostOfPart (now (part .entry)) ⌝ }
+{
+    let low = Span {
+        base: endian::read_be32(part, 2),
+        last: endian::read_be32(part, 6),
+    };
+    let high = Span {
+        base: endian::read_be64(part, 10),
+        last: endian::read_be64(part, 18),
+    };
+    let io = Span {
+        base: endian::read_be16(part, 26),
+        last: endian::read_be16(part, 28),
+    };
+    Host {
+        first_bus: part[0],
+        last_bus: part[1],
+        low,
+        high,
+        io,
+    }
+}
+
+// Of a record whose header type and length passed their check.
+pub fn function_of(part: &[u8]) -> Function
+    requires { ⌜ headerWrong (now part) ≡ false ⌝ }
+    ensures { λ r. ⌜ r ≡ functionOfPart (now (part .entry)) ⌝ }
+{
+    let readbacks = readbacks_of(part);
+    Function {
+        parent: endian::read_be16(part, 0) as u16,
+        devfn: part[2],
+        header: part[3],
+        command: endian::read_be16(part, 4) as u16,
+        readbacks,
+    }
+}
+
+fn readbacks_of(part: &[u8]) -> [u32; 6]
+    requires { ⌜ headerWrong (now part) ≡ false ⌝ }
+    ensures { λ r. ⌜ r ≡ readbacksFor (getD (now (part .entry)) 3 0) (now (part .entry)) ⌝ }
+{
+    if part[3] % 128 == 1 {
+        return [
+            endian::read_be32(part, 6) as u32,
+            endian::read_be32(part, 10) as u32,
+            0,
+            0,
+            0,
+            0,
+        ];
+    }
+    [
+        endian::read_be32(part, 6) as u32,
+        endian::read_be32(part, 10) as u32,
+        endian::read_be32(part, 14) as u32,
+        endian::read_be32(part, 18) as u32,
+        endian::read_be32(part, 22) as u32,
+        endian::read_be32(part, 26) as u32,
+    ]
+}
+
+// ---- 20: the host first, of 30 bytes, then functions of 6 or more, whose lengths end at the end
+
+fn misframed(board: &[u8]) -> bool
+    ensures { λ r. ⌜ r ≡ isMisframed (partsOf (drop 1 (now (board .entry)))) ⌝ }
+{
+    match records::next_at(board, HOST) {
+        Next::End => true,
+        Next::Broken => true,
+        Next::Record(n) => {
+            if n != 30 {
+                return true;
+            }
+            functions_misframed(board)
+        }
+    }
+}
+
+fn functions_misframed(board: &[u8]) -> bool
+    ensures { λ r. ⌜ r ≡ tailMisframed (partsOf (drop 33 (now (board .entry)))) ⌝ }
+{
+    let mut at = FUNCTIONS;
+    loop {
+        match records::next_at(board, at) {
+            Next::End => {
+                return false;
+            }
+            Next::Broken => {
+                return true;
+            }
+            Next::Record(n) => {
+                if n < 6 {
+                    return true;
+                }
+                at = at + 2 + n;
+            }
+        }
+    }
+}
+
+// ---- 22
+
+fn too_many(board: &[u8]) -> bool
+    ensures { λ r. ⌜ r ≡ ltb mostFunctions (length (partsFrom (now (board .entry)) 33)) ⌝ }
+{
+    let mut at = FUNCTIONS;
+    let mut count: usize = 0;
+    loop {
+        match records::next_at(board, at) {
+            Next::End => {
+                return false;
+            }
+            Next::Broken => {
+                return false;
+            }
+            Next::Record(n) => {
+                if count == 256 {
+                    return true;
+                }
+                count += 1;
+                at = at + 2 + n;
+            }
+        }
+    }
+}
+
+// ---- 24
+
+fn headers_wrong(board: &[u8]) -> bool
+    ensures { λ r. ⌜ r ≡ anyPart headerWrong (partsFrom (now (board .entry)) 33) ⌝ }
+{
+    let mut at = FUNCTIONS;
+    loop {
+        match records::next_at(board, at) {
+            Next::End => {
+                return false;
+            }
+            Next::Broken => {
+                return false;
+            }
+            Next::Record(n) => {
+                if header_wrong(records::part_at(board, at, n)) {
+                    return true;
+                }
+                at = at + 2 + n;
+            }
+        }
+    }
+}
+
+pub fn header_wrong(part: &[u8]) -> bool
+    ensures { λ r. ⌜ r ≡ headerWrong (now (part .entry)) ⌝ }
+{
+    if part.len() < 4 {
+        return true;
+    }
+    let kind = part[3] % 128;
+    if kind == 0 {
+        return part.len() != 30;
+    }
+    if kind == 1 {
+        return part.len() != 14;
+    }
+    true
+}
+
+// ---- 26
+
+pub fn host_wrong(h: Host) -> bool
+    ensures { λ r. ⌜ r ≡ hostWrong h ⌝ }
+{
+    (h.last_bus < h.first_bus)
+        | pool_wrong(Pool::Low, h.low)
+        | pool_wrong(Pool::High, h.high)
+        | pool_wrong(Pool::Io, h.io)
+}
+
+fn pool_wrong(q: Pool, x: Span) -> bool
+    ensures { λ r. ⌜ r ≡ poolWrong q x ⌝ }
+{
+    if x.last < x.base {
+        return false;
+    }
+    outside(q, x) | off_edges(pools::granule(q), x)
+}
+
+// High memory lies from 4 GiB to below 2^52.
+fn outside(q: Pool, x: Span) -> bool
+    ensures { λ r. ⌜ r ≡ isOutside q x ⌝ }
+{
+    match q {
+        Pool::Low => false,
+        Pool::High => (x.base < 4294967296) | (4503599627370496 <= x.last),
+        Pool::Io => false,
+    }
+}
+
+// The last address may be the last there is: one more is not taken.
+fn off_edges(edge: u64, x: Span) -> bool
+    requires { ⌜ 0 < edge ⌝ }
+    ensures { λ r. ⌜ r ≡ offEdges edge x ⌝ }
+{
+    (x.base % edge != 0) | (x.last % edge != edge - 1)
+}
+
+// ---- 25
+
+fn readbacks_wrong(board: &[u8]) -> bool
+    requires { ⌜ anyPart headerWrong (partsFrom (now board) 33) ≡ false ⌝ }
+    ensures { λ r. ⌜ r ≡ any readbacksWrong (map functionOfPart (partsFrom (now (board .entry)) 33)) ⌝ }
+{
+    let mut at = FUNCTIONS;
+    loop {
+        match records::next_at(board, at) {
+            Next::End => {
+                return false;
+            }
+            Next::Broken => {
+                return false;
+            }
+            Next::Record(n) => {
+                if bad_readbacks(function_of(records::part_at(board, at, n))) {
+                    return true;
+                }
+                at = at + 2 + n;
+            }
+        }
+    }
+}
+
+fn bad_readbacks(f: Function) -> bool
+    ensures { λ r. ⌜ r ≡ readbacksWrong f ⌝ }
+{
+    let set = f.readbacks;
+    if f.header % 128 == 1 {
+        return !bar::is_lawful(set, 2);
+    }
+    !bar::is_lawful(set, 6)
+}

@@ -1,0 +1,102 @@
+// 23: depth-first order, by one pass over the functions with the buses that are open. Level 0 is the host's bus; a bridge opens the level after its
+// own, and a function closes the levels below its parent's. At most 16 bridges stand above a function, so 18 levels are enough.
+ghost use mathlib.Core.Path.{_≡_};
+ghost use mathlib.Core.Bool.{false};
+ghost use mathlib.Core.List.{[], map};
+ghost use Prim.Native.Nat.{suc, _+_, _≤_};
+ghost use Rattle.records.specs.Records.{partsFrom, anyPart};
+ghost use Rattle.board.specs.Function.{functionOfPart, headerWrong};
+ghost use Rattle.board.specs.Order.{anyMisplaced};
+ghost use Rattle.board.specs.Stack.{unplacedAt, sharedAfter};
+ghost use Rattle.board.specs.Levels.{foundIn, openAfter};
+use crate::Function;
+use records::Next;
+
+// The level of a bus that is open.
+pub enum Found {
+    At(usize),
+    Nowhere,
+}
+
+pub fn misplaced(board: &[u8]) -> bool
+    requires { ⌜ anyPart headerWrong (partsFrom (now board) 33) ≡ false ⌝ }
+    ensures { λ r. ⌜ r ≡ anyMisplaced 0 [] (map functionOfPart (partsFrom (now (board .entry)) 33)) ⌝ }
+{
+    // of each level: the record that it is the bus of, one more than the device/function of its last function, and than the device of its last
+    // function 0 that is not alone
+    let mut buses = [0usize; 18];
+    let mut nexts = [0usize; 18];
+    let mut shared = [0usize; 18];
+    let mut levels: usize = 1;
+    let mut number: usize = 0;
+    let mut at = crate::FUNCTIONS;
+    loop {
+        match records::next_at(board, at) {
+            Next::End => {
+                return false;
+            }
+            Next::Broken => {
+                return false;
+            }
+            Next::Record(n) => {
+                let f = crate::function_of(records::part_at(board, at, n));
+                let Found::At(i) = level_of(&buses, levels, f.parent as usize) else {
+                    return true;
+                };
+                if unplaced(f, i, nexts[i], shared[i]) {
+                    return true;
+                }
+                number += 1;
+                nexts[i] = f.devfn as usize + 1;
+                shared[i] = shared_after(shared[i], f);
+                buses[i + 1] = number;
+                nexts[i + 1] = 0;
+                shared[i + 1] = 0;
+                levels = open_after(i, f);
+                at = at + 2 + n;
+            }
+        }
+    }
+}
+
+// The deepest of the open levels that is the parent's bus.
+fn level_of(buses: &[usize; 18], levels: usize, parent: usize) -> Found
+    requires { ⌜ levels ≤ 18 ⌝ }
+    ensures { λ r. ⌜ r ≡ foundIn parent (now (buses .entry)) levels ⌝ }
+{
+    let mut left = levels;
+    while left != 0 {
+        let i = left - 1;
+        if buses[i] == parent {
+            return Found::At(i);
+        }
+        left = i;
+    }
+    Found::Nowhere
+}
+
+fn unplaced(f: Function, depth: usize, next: usize, shared: usize) -> bool
+    ensures { λ r. ⌜ r ≡ unplacedAt next shared depth f ⌝ }
+{
+    ((f.devfn as usize) < next)
+        | (16 < depth)
+        | !((f.devfn % 8 == 0) | (shared == (f.devfn / 8) as usize + 1))
+}
+
+fn shared_after(shared: usize, f: Function) -> usize
+    ensures { λ r. ⌜ r ≡ sharedAfter shared f ⌝ }
+{
+    if (f.devfn % 8 == 0) & (f.header / 128 == 1) {
+        (f.devfn / 8) as usize + 1
+    } else {
+        shared
+    }
+}
+
+// A bridge at level i opens the level after it.
+fn open_after(i: usize, f: Function) -> usize
+    requires { ⌜ i ≤ 16 ⌝ }
+    ensures { λ r. ⌜ r ≡ openAfter i f ⌝ }
+{
+    if f.header % 128 == 1 { i + 2 } else { i + 1 }
+}

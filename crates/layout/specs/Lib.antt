@@ -1,0 +1,4 @@
+-- Document 01, "The sheet", as bytes.
+pub mod Layout
+pub mod LayoutLaws
+pub mod ReadBack

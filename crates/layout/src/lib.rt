@@ -1,0 +1,174 @@
+// The sheet as bytes: one function's record written at its place, all 92 bytes of it, in stores of two, four and eight bytes.
+ghost use mathlib.Core.Path.{_≡_};
+ghost use mathlib.Core.List.{[], _∷_, _++_};
+ghost use Prim.Native.Nat.{_+_, _<_, _≤_};
+ghost use lib.ListN.{length};
+ghost use lib.Seq.{sets};
+ghost use Rattle.endian.specs.Endian.{beBytes, leBytes};
+ghost use Rattle.sheet.specs.Entry.{recordSize, isBridge};
+ghost use Rattle.layout.specs.Layout.{zeros, dwordBytes, numberBytes, memoryBytes, windowBytes, bodyBytes, bridgeBytes, endBytes, commonBytes, recordBytes, plannedOf};
+use window::Window;
+
+// What is planned of one function. A bridge has the first two values and read-backs; buses and windows are a bridge's only.
+pub struct Registers {
+    pub id: u16,
+    pub command: u16,
+    pub header: u8,
+    pub values: [u32; 6],
+    pub readbacks: [u32; 6],
+    pub primary: u8,
+    pub secondary: u8,
+    pub subordinate: u8,
+    pub low: Window,
+    pub high: Window,
+    pub io: Window,
+}
+
+// The record of a function, with its length. An I/O window's registers are bytes.
+pub fn write_record(out: &mut [u8], at: usize, r: Registers)
+    requires { ⌜ (at + 92 ≤ length (now out)) × (r .io .base < 256) × (r .io .limit < 256) ⌝ }
+    ensures { λ _. ⌜ now (out .exit) ≡ sets (now (out .entry)) at (recordBytes (plannedOf r)) ⌝ }
+{
+    put_marks(out, at, r.id);
+    put_common(out, at + 4, r.command, r.header);
+    put_body(out, at + 20, r);
+    let readbacks = r.readbacks;
+    put_readbacks(out, at + 68, readbacks);
+}
+
+// ---- parts of a record, in order
+
+// The length and the ID.
+fn put_marks(out: &mut [u8], at: usize, id: u16)
+    requires { ⌜ at + 4 ≤ length (now out) ⌝ }
+    ensures { λ _. ⌜ now (out .exit) ≡ sets (now (out .entry)) at (beBytes 2 recordSize ++ beBytes 2 id) ⌝ }
+{
+    endian::write_be16(out, at, 90);
+    endian::write_be16(out, at + 2, id as u64);
+}
+
+// 00h to 0Fh.
+fn put_common(out: &mut [u8], at: usize, command: u16, header: u8)
+    requires { ⌜ at + 16 ≤ length (now out) ⌝ }
+    ensures { λ _. ⌜ now (out .exit) ≡ sets (now (out .entry)) at (commonBytes command header) ⌝ }
+{
+    endian::write_le32(out, at, 0);
+    endian::write_le16(out, at + 4, command as u64);
+    endian::write_be64(out, at + 6, 0);
+    endian::write_le16(out, at + 14, header as u64);
+}
+
+// 10h to 3Fh.
+fn put_body(out: &mut [u8], at: usize, r: Registers)
+    requires { ⌜ (at + 48 ≤ length (now out)) × (r .io .base < 256) × (r .io .limit < 256) ⌝ }
+    ensures { λ _. ⌜ now (out .exit) ≡ sets (now (out .entry)) at (bodyBytes (plannedOf r .entry)) ⌝ }
+{
+    if r.header % 128 == 1 {
+        put_bridge(out, at, r);
+        return;
+    }
+    let values = r.values;
+    put_end(out, at, values);
+}
+
+fn put_readbacks(out: &mut [u8], at: usize, readbacks: [u32; 6])
+    requires { ⌜ at + 24 ≤ length (now out) ⌝ }
+    ensures { λ _. ⌜ now (out .exit) ≡ sets (now (out .entry)) at (dwordBytes (beBytes 4) 6 readbacks 0) ⌝ }
+{
+    put_be_pair(out, at, readbacks[0], readbacks[1]);
+    put_be_pair(out, at + 8, readbacks[2], readbacks[3]);
+    put_be_pair(out, at + 16, readbacks[4], readbacks[5]);
+}
+
+// ---- 10h to 3Fh, by the header type
+
+fn put_end(out: &mut [u8], at: usize, values: [u32; 6])
+    requires { ⌜ at + 48 ≤ length (now out) ⌝ }
+    ensures { λ _. ⌜ now (out .exit) ≡ sets (now (out .entry)) at (dwordBytes (leBytes 4) 6 values 0 ++ zeros 24) ⌝ }
+{
+    put_values(out, at, values);
+    endian::write_be64(out, at + 24, 0);
+    put_zeros16(out, at + 32);
+}
+
+fn put_values(out: &mut [u8], at: usize, values: [u32; 6])
+    requires { ⌜ at + 24 ≤ length (now out) ⌝ }
+    ensures { λ _. ⌜ now (out .exit) ≡ sets (now (out .entry)) at (dwordBytes (leBytes 4) 6 values 0) ⌝ }
+{
+    put_le_pair(out, at, values[0], values[1]);
+    put_le_pair(out, at + 8, values[2], values[3]);
+    put_le_pair(out, at + 16, values[4], values[5]);
+}
+
+fn put_bridge(out: &mut [u8], at: usize, r: Registers)
+    requires { ⌜ (at + 48 ≤ length (now out)) × (r .io .base < 256) × (r .io .limit < 256) ⌝ }
+    ensures { λ _. ⌜ now (out .exit) ≡ sets (now (out .entry)) at (dwordBytes (leBytes 4) 2 (r .values) 0 ++ numberBytes (r .primary) (r .secondary) (r .subordinate) (r .io) ++ memoryBytes (r .low) (r .high) ++ zeros 16) ⌝ }
+{
+    put_le_pair(out, at, r.values[0], r.values[1]);
+    put_numbers(out, at + 8, r);
+    put_memory(out, at + 16, r.low, r.high);
+    put_zeros16(out, at + 32);
+}
+
+// Buses and the I/O window.
+fn put_numbers(out: &mut [u8], at: usize, r: Registers)
+    requires { ⌜ (at + 8 ≤ length (now out)) × (r .io .base < 256) × (r .io .limit < 256) ⌝ }
+    ensures { λ _. ⌜ now (out .exit) ≡ sets (now (out .entry)) at (numberBytes (r .primary) (r .secondary) (r .subordinate) (r .io)) ⌝ }
+{
+    put_four(out, at, r.primary, r.secondary, r.subordinate, 0);
+    put_four(out, at + 4, r.io.base as u8, r.io.limit as u8, 0, 0);
+}
+
+// Both memory windows, then the high one's upper words.
+fn put_memory(out: &mut [u8], at: usize, low: Window, high: Window)
+    requires { ⌜ at + 16 ≤ length (now out) ⌝ }
+    ensures { λ _. ⌜ now (out .exit) ≡ sets (now (out .entry)) at (memoryBytes low high) ⌝ }
+{
+    put_window(out, at, low);
+    put_window(out, at + 4, high);
+    put_le_pair(out, at + 8, high.upper_base, high.upper_limit);
+}
+
+fn put_window(out: &mut [u8], at: usize, w: Window)
+    requires { ⌜ at + 4 ≤ length (now out) ⌝ }
+    ensures { λ _. ⌜ now (out .exit) ≡ sets (now (out .entry)) at (windowBytes w) ⌝ }
+{
+    endian::write_le16(out, at, w.base as u64);
+    endian::write_le16(out, at + 2, w.limit as u64);
+}
+
+// ---- a few bytes
+
+fn put_four(out: &mut [u8], at: usize, a: u8, b: u8, c: u8, d: u8)
+    requires { ⌜ at + 4 ≤ length (now out) ⌝ }
+    ensures { λ _. ⌜ now (out .exit) ≡ sets (now (out .entry)) at (a ∷ b ∷ c ∷ d ∷ []) ⌝ }
+{
+    out[at] = a;
+    out[at + 1] = b;
+    out[at + 2] = c;
+    out[at + 3] = d;
+}
+
+fn put_le_pair(out: &mut [u8], at: usize, a: u32, b: u32)
+    requires { ⌜ at + 8 ≤ length (now out) ⌝ }
+    ensures { λ _. ⌜ now (out .exit) ≡ sets (now (out .entry)) at (leBytes 4 a ++ leBytes 4 b) ⌝ }
+{
+    endian::write_le32(out, at, a as u64);
+    endian::write_le32(out, at + 4, b as u64);
+}
+
+fn put_be_pair(out: &mut [u8], at: usize, a: u32, b: u32)
+    requires { ⌜ at + 8 ≤ length (now out) ⌝ }
+    ensures { λ _. ⌜ now (out .exit) ≡ sets (now (out .entry)) at (beBytes 4 a ++ beBytes 4 b) ⌝ }
+{
+    endian::write_be32(out, at, a as u64);
+    endian::write_be32(out, at + 4, b as u64);
+}
+
+fn put_zeros16(out: &mut [u8], at: usize)
+    requires { ⌜ at + 16 ≤ length (now out) ⌝ }
+    ensures { λ _. ⌜ now (out .exit) ≡ sets (now (out .entry)) at (zeros 16) ⌝ }
+{
+    endian::write_be64(out, at, 0);
+    endian::write_be64(out, at + 8, 0);
+}

@@ -1,0 +1,1 @@
+// One function placed from the cursors of its bus.

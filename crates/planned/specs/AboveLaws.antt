@@ -1,0 +1,129 @@
+-- The bridges above a function: step by step, and on a planned board the same by bus numbers as by parent records. Assumes nothing.
+use mathlib.Core.Path.{_≡_, refl, sym, ap, subst, _∙_}
+use mathlib.Core.Logic.{⊎-elim}
+use mathlib.Core.List.{List, [], _∷_, Memᴰ·map, Memᴰ·of-map}
+use Prim.Native.Nat.{ℕ, zero, suc, _≤_, _<_}
+use native.Mathlib.Omega.{arith}
+use lib.ListN.{length, List·getD-eq-default, length-map}
+use lib.Seq.{drop-cons}
+use Rattle.placing.specs.Order.{le-or-lt}
+use Rattle.placing.specs.Records.{Host, Function, DepthFirst, Lawful}
+use Rattle.placing.specs.RecordLaws.{ordered-from}
+use Rattle.placing.specs.Preorder.{noFunction, parentOf}
+use Rattle.placing.specs.Placing.{placed}
+use Rattle.placing.specs.Numbering.{Numbered}
+use Rattle.placing.specs.RefusalLaws.{BusesKept}
+use Rattle.walk.specs.Lists.{_∈_}
+use Rattle.walk.specs.Registers.{Node, Registers}
+use Rattle.walk.specs.Above.{LeadsTo, above}
+use Rattle.walk.specs.AboveLaws.{above-root, above-bridge}
+use Rattle.walk.specs.Good.{BridgesRise, Tree}
+use Rattle.walk.specs.Reach.{numbersOf}
+use Rattle.walk.specs.Delivery.{bridgesAbove}
+use Rattle.planned.specs.Spaces.{Space, memorySpace}
+use Rattle.planned.specs.Boards.{Board}
+use Rattle.planned.specs.Registers.{planNode, planRows, planNodes, planRegister, planRegisters, planHost}
+use Rattle.planned.specs.Rows.{Row}
+use Rattle.planned.specs.BusRanges.{ParentRow, parent-row, row-of}
+use Rattle.planned.specs.Tree.{bridges-rise, planned-tree}
+use Rattle.planned.specs.Items.{nodes-plan}
+use Rattle.planned.specs.Above.{stepUp, aboveWithin, aboveByParents}
+
+step-up-pos : (p : ℕ) (on : ℕ → List ℕ) → 0 < p → stepUp p on ≡ p ∷ on p
+step-up-pos zero on l = absurd (omega arith)
+step-up-pos (suc p) on l = refl
+
+-- On a lawful board a record's parent comes before it
+pub parent-before : {fs : List Function} → Lawful fs → (i : ℕ) → parentOf fs (suc i) ≤ i
+parent-before {fs} lawful i = ⊎-elim past there (le-or-lt (length fs) i)
+  where
+    past : length fs ≤ i → parentOf fs (suc i) ≤ i
+    past l = omega (arith, ap (λ (f : Function). f .parent) (List·getD-eq-default fs noFunction l))
+
+    there : i < length fs → parentOf fs (suc i) ≤ i
+    there l =
+        let o = ordered-from fs (lawful .ordered) i in
+        let d = subst (DepthFirst (o .allowed) (suc i)) (drop-cons fs i noFunction l) (o .ordered) in
+        omega (arith, o .bounded (parentOf fs (suc i)) (d .0))
+
+-- The bound does not matter
+above-within-agree : {fs : List Function} → Lawful fs → (m n k : ℕ) → k ≤ m → k ≤ n → aboveWithin m fs k ≡ aboveWithin n fs k
+unfolding aboveWithin
+above-within-agree lawful zero zero k l g = refl
+above-within-agree lawful zero (suc n) zero l g = refl
+above-within-agree lawful zero (suc n) (suc k) l g = absurd (omega arith)
+above-within-agree lawful (suc m) zero zero l g = refl
+above-within-agree lawful (suc m) zero (suc k) l g = absurd (omega arith)
+above-within-agree lawful (suc m) (suc n) zero l g = refl
+above-within-agree {fs} lawful (suc m) (suc n) (suc k) l g = go (parentOf fs (suc k)) (parent-before lawful k) (λ p a. above-within-agree lawful m n p (omega arith) (omega arith))
+  where
+    go : (p : ℕ) → p ≤ k → ((p : ℕ) → p ≤ k → aboveWithin m fs p ≡ aboveWithin n fs p) → stepUp p (aboveWithin m fs) ≡ stepUp p (aboveWithin n fs)
+    go zero a on = refl
+    go (suc p) a on = ap (suc p ∷_) (on (suc p) a)
+
+-- Below the host there is no bridge above
+pub above-host : (fs : List Function) (k : ℕ) → parentOf fs k ≡ 0 → aboveByParents fs k ≡ []
+unfolding aboveByParents aboveWithin
+above-host fs zero e = refl
+above-host fs (suc k) e = rw e
+
+-- Below a bridge there are that bridge and those above it
+pub above-parent : {fs : List Function} → Lawful fs → (k : ℕ) → 0 < parentOf fs k → aboveByParents fs k ≡ parentOf fs k ∷ aboveByParents fs (parentOf fs k)
+unfolding aboveByParents aboveWithin
+above-parent lawful zero l = absurd (omega arith)
+above-parent {fs} lawful (suc k) l =
+    let p = parentOf fs (suc k) in
+    step-up-pos p (aboveWithin k fs) l ∙ ap (p ∷_) (above-within-agree lawful k p p (parent-before lawful k) (omega arith))
+
+module _ (h : Host) (fs : List Function) (board : Board h fs) (kept : BusesKept h fs) (devfn : ℕ → ℕ) where
+  rise : BridgesRise (planNodes h fs devfn)
+  rise = bridges-rise h fs (board .lawful) devfn (board .edges) kept
+
+  tree : Tree (planHost memorySpace h) (planNodes h fs devfn)
+  tree = planned-tree h fs (board .lawful) devfn (board .edges) kept memorySpace
+
+  -- The numbers of the bridges above a bus, the nearest first
+  abbrev byBuses : ℕ → List ℕ
+  byBuses bus = numbersOf (above (h .firstBus) (planNodes h fs devfn) bus)
+
+  numbers-above : (n : ℕ) (x : Numbered) → x ∈ planRows h fs → x .number ≤ n → byBuses (x .bus) ≡ aboveByParents fs (x .number)
+  numbers-above zero x m l = absurd (omega (arith, row-of (h .firstBus) fs (board .lawful) m .from-1))
+  numbers-above (suc n) x m l = ⊎-elim root (below (λ y there g. numbers-above n y there g)) (parent-row (h .firstBus) fs (board .lawful) m)
+    where
+      node : planNode devfn x ∈ planNodes h fs devfn
+      node = Memᴰ·map (planNode devfn) m
+
+      r : Row (h .firstBus) fs x
+      r = row-of (h .firstBus) fs (board .lawful) m
+
+      root : (x .parent ≡ 0) × (x .bus ≡ h .firstBus) → byBuses (x .bus) ≡ aboveByParents fs (x .number)
+      root (e, on-root) =
+          ap numbersOf (above-root rise tree (planNode devfn x) node on-root) ∙ sym (above-host fs (x .number) (sym (r .parent-is) ∙ e))
+
+      below : ((y : Numbered) → y ∈ planRows h fs → y .number ≤ n → byBuses (y .bus) ≡ aboveByParents fs (y .number))
+          → ParentRow (h .firstBus) fs x → byBuses (x .bus) ≡ aboveByParents fs (x .number)
+      below up p =
+          let y = p .row in
+          let is : y .number ≡ parentOf fs (x .number) = p .under .above ∙ r .parent-is in
+          let leads : LeadsTo (x .bus) (planNodes h fs devfn) (planNode devfn y) =
+          record { in-sheet = Memᴰ·map (planNode devfn) (p .in-rows); is-bridge = p .under .bridge; leads = rw (p .under .bridge) (sym (p .under .bus-is)) } in
+          let pos : 0 < parentOf fs (x .number) = omega (arith, is, row-of (h .firstBus) fs (board .lawful) (p .in-rows) .from-1) in
+          ap numbersOf (above-bridge rise tree (planNode devfn x) node (planNode devfn y) leads)
+          ∙ ap (y .number ∷_) (up y (p .in-rows) (omega (arith, p .under .above, r .parent-before)))
+          ∙ ap (λ (k : ℕ). k ∷ aboveByParents fs k) is
+          ∙ sym (above-parent (board .lawful) (x .number) pos)
+
+  -- By bus numbers and by parent records the bridges above a function are the same, in the same order
+  pub above-agree : (sp : Space) (f : Registers) → f ∈ planRegisters sp h fs devfn
+      → numbersOf (bridgesAbove (planHost sp h) (planRegisters sp h fs devfn) f) ≡ aboveByParents fs (f .node .number)
+  unfolding planRegisters
+  above-agree sp f m =
+      let (x, there, e) = Memᴰ·of-map (planRegister sp (placed h fs) devfn) (planRows h fs) m in
+      ap (λ (ns : List Node). numbersOf (above (h .firstBus) ns (f .node .bus))) (nodes-plan sp h fs devfn)
+      ∙ subst (λ (g : Registers). byBuses (g .node .bus) ≡ aboveByParents fs (g .node .number)) e (numbers-above (x .number) x there (omega arith))
+
+  -- and so as many
+  pub length-above : (sp : Space) (f : Registers) → f ∈ planRegisters sp h fs devfn
+      → length (bridgesAbove (planHost sp h) (planRegisters sp h fs devfn) f) ≡ length (aboveByParents fs (f .node .number))
+  length-above sp f m =
+      sym (length-map (bridgesAbove (planHost sp h) (planRegisters sp h fs devfn) f) (λ (b : Node). b .number)) ∙ ap length (above-agree sp f m)

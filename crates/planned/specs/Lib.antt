@@ -1,0 +1,21 @@
+-- Planned boards over registers. First the definitions (Spaces, Boards, Registers, Above, Delivery); then the laws by subject; then the theorems that
+-- others cite: PlannedGood, AboveLaws, DeliveryLaws, NestedAndApart, RefusedExactly, Ids.
+pub mod Spaces
+pub mod Boards
+pub mod Registers
+pub mod Above
+pub mod Delivery
+pub mod Lists
+pub mod Rows
+pub mod BusRanges
+pub mod Tree
+pub mod Items
+pub mod Kept
+pub mod Nested
+pub mod Disjoint
+pub mod PlannedGood
+pub mod AboveLaws
+pub mod DeliveryLaws
+pub mod NestedAndApart
+pub mod RefusedExactly
+pub mod Ids

@@ -1,0 +1,3 @@
+-- Document 01: length-first records.
+pub mod Records
+pub mod RecordsLaws

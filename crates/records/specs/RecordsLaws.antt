@@ -1,0 +1,152 @@
+-- The laws of length-first records: a record found fits, the bound on their number does not matter, and what a loop with a cursor `at` has
+-- left, `partsOf (drop at s)`, by what stands at the cursor. Assumes nothing.
+use mathlib.Core.Path.{_≡_, refl, sym, ap, _∙_}
+use Prim.Native.Nat.{ℕ, zero, suc, _+_, _-_, _*_, _≤_, _<_}
+use native.Mathlib.Numerals.{add-one}
+use native.Mathlib.Omega.{arith}
+use mathlib.Core.Bool.{Bool, true, false, cond, _||_, true≢false}
+use mathlib.Core.List.{List, [], _∷_}
+use lib.ListN.{length, getD, take, drop, length-take, length-drop, drop-of-length-le}
+use lib.Seq.{drop-cons, drop-drop, length-take-le}
+use lib.Dec.{ltb}
+use borrow.Author.Tests.{ltb-false, lt-ltb, le-ltb}
+use Rattle.endian.specs.Endian.{be}
+use Rattle.records.specs.declared.Next.{Next}
+use Rattle.records.specs.declared.Next.the-variants.{End, Record, Broken}
+use Rattle.records.specs.Records.{nextOf, Parts, after, step, partsOver, partsOf, partsFrom, anyPart}
+
+-- ---- a record that is found lies inside
+
+pub fits-of-record : (s : List ℕ) (n : ℕ) → nextOf s ≡ Record n → 2 + n ≤ length s
+unfolding nextOf
+fits-of-record [] n e = let z : _≡_ {A = ℕ} 0 1 = cc in absurd (omega arith)
+fits-of-record (a ∷ []) n e = let z : _≡_ {A = ℕ} 0 1 = cc in absurd (omega arith)
+fits-of-record (a ∷ b ∷ s) n e = go (ltb (length s) (a * 256 + b)) refl
+  where
+    go : (t : Bool) → ltb (length s) (a * 256 + b) ≡ t → 2 + n ≤ suc (suc (length s))
+    go true h = let p : Broken ≡ Record n = rw h at e in let z : _≡_ {A = ℕ} 0 1 = cc in absurd (omega arith)
+    go false h =
+        let p : Record (a * 256 + b) ≡ Record n = rw h at e in
+        let q : a * 256 + b ≡ n = cc in
+        omega (arith, ltb-false (length s) (a * 256 + b) h)
+
+-- ---- the bound does not matter
+
+pub partsOver-agree : (m n : ℕ) (s : List ℕ) → length s < m → length s < n → partsOver m s ≡ partsOver n s
+unfolding partsOver
+partsOver-agree zero n s g h = absurd (omega arith)
+partsOver-agree (suc m) zero s g h = absurd (omega arith)
+partsOver-agree (suc m) (suc n) s g h = go (nextOf s) refl (λ t l. partsOver-agree m n t (omega arith) (omega arith))
+  where
+    go : (q : Next) → nextOf s ≡ q → ((t : List ℕ) → length t < length s → partsOver m t ≡ partsOver n t)
+        → step q s (partsOver m) ≡ step q s (partsOver n)
+    go End e on = refl
+    go Broken e on = refl
+    go (Record k) e on = ap (after (take k (drop 2 s))) (on (drop (2 + k) s) (omega (arith, fits-of-record s k e, length-drop (2 + k) s)))
+
+-- what bytes start with decides their parts
+pub partsOf-step : (s : List ℕ) (q : Next) → nextOf s ≡ q → partsOf s ≡ step q s partsOf
+unfolding partsOf partsOver
+partsOf-step s End e = rw e
+partsOf-step s Broken e = rw e
+partsOf-step s (Record n) e =
+    rw e
+    (ap (after (take n (drop 2 s)))
+    (partsOver-agree (length s) (suc (length (drop (2 + n) s))) (drop (2 + n) s)
+    (omega (arith, fits-of-record s n e, length-drop (2 + n) s)) (omega arith)))
+
+-- ---- at a cursor
+
+module _ (s : List ℕ) (at : ℕ) where
+  pub next-end : length s ≤ at → nextOf (drop at s) ≡ End
+  unfolding nextOf
+  next-end h = rw (drop-of-length-le s h)
+
+  -- the first two bytes at the cursor
+  drop-two : at + 2 ≤ length s → drop at s ≡ getD s at 0 ∷ getD s (at + 1) 0 ∷ drop (at + 2) s
+  drop-two h =
+      let g : at < length s = omega arith in
+      let k : suc at < length s = omega arith in
+      let e : at + 2 ≡ suc (suc at) = omega arith in
+      rw (drop-cons s at 0 g, drop-cons s (suc at) 0 k, e, add-one at)
+
+  pub next-stray : length s ≡ at + 1 → nextOf (drop at s) ≡ Broken
+  unfolding nextOf
+  next-stray h =
+      let g : at < length s = omega arith in
+      rw (drop-cons s at 0 g, drop-of-length-le s {i = suc at} (omega arith))
+
+  pub next-broken : at + 2 ≤ length s → length s - (at + 2) < be 2 s at → nextOf (drop at s) ≡ Broken
+  unfolding nextOf be
+  next-broken h l =
+      rw (drop-two h, lt-ltb (length (drop (at + 2) s)) (getD s at 0 * 256 + getD s (at + 1) 0) (omega (arith, length-drop (at + 2) s)))
+
+  pub next-record : at + 2 ≤ length s → be 2 s at ≤ length s - (at + 2) → nextOf (drop at s) ≡ Record (be 2 s at)
+  unfolding nextOf be
+  next-record h l =
+      let e : getD s at 0 * 256 + (getD s (at + 1) 0 * 1 + 0) ≡ getD s at 0 * 256 + getD s (at + 1) 0 = omega arith in
+      rw (drop-two h, e, le-ltb (length (drop (at + 2) s)) (getD s at 0 * 256 + getD s (at + 1) 0) (omega (arith, length-drop (at + 2) s)))
+
+  -- a record at the cursor lies inside the bytes
+  pub fits-at : (n : ℕ) → nextOf (drop at s) ≡ Record n → at + 2 + n ≤ length s
+  fits-at n e = omega (arith, fits-of-record (drop at s) n e, length-drop at s)
+
+  pub length-part : (n : ℕ) → nextOf (drop at s) ≡ Record n → length (take n (drop (at + 2) s)) ≡ n
+  length-part n e = length-take-le n (drop (at + 2) s) (omega (arith, fits-at n e, length-drop (at + 2) s))
+
+  -- one step of a pass: the part at the cursor, then what the next cursor has left
+  pub parts-record : (n : ℕ) → nextOf (drop at s) ≡ Record n
+      → partsOf (drop at s) ≡ after (take n (drop (at + 2) s)) (partsOf (drop (at + 2 + n) s))
+  parts-record n e =
+      let q : at + (2 + n) ≡ at + 2 + n = omega arith in
+      partsOf-step (drop at s) (Record n) e ∙ rw (drop-drop 2 at s, drop-drop (2 + n) at s, q)
+
+  pub parts-end : nextOf (drop at s) ≡ End → partsOf (drop at s) ≡ record { parts = []; whole = true }
+  parts-end e = partsOf-step (drop at s) End e
+
+  pub parts-broken : nextOf (drop at s) ≡ Broken → partsOf (drop at s) ≡ record { parts = []; whole = false }
+  parts-broken e = partsOf-step (drop at s) Broken e
+
+-- ---- a pass over all records, for any account F of the parts that are left: `F (partsFrom s at)` is a loop's invariant
+
+module _ {B : Type 0} (F : List (List ℕ) → B) (s : List ℕ) (at : ℕ) where
+  pub pass-record : (n : ℕ) → nextOf (drop at s) ≡ Record n → F (partsFrom s at) ≡ F (take n (drop (at + 2) s) ∷ partsFrom s (at + 2 + n))
+  pass-record n e = ap (λ (r : Parts). F (r .parts)) (parts-record s at n e)
+
+  pub pass-end : nextOf (drop at s) ≡ End → F (partsFrom s at) ≡ F []
+  pass-end e = ap (λ (r : Parts). F (r .parts)) (parts-end s at e)
+
+  pub pass-broken : nextOf (drop at s) ≡ Broken → F (partsFrom s at) ≡ F []
+  pass-broken e = ap (λ (r : Parts). F (r .parts)) (parts-broken s at e)
+
+pub false-of-or : (a b : Bool) → (a || b) ≡ false → (a ≡ false) × (b ≡ false)
+false-of-or true b e = absurd (true≢false e)
+false-of-or false b e = (refl, e)
+
+-- a pass that stops at the first part that passes a test
+module _ (test : List ℕ → Bool) (s : List ℕ) (at : ℕ) where
+  pub any-hit : (n : ℕ) → nextOf (drop at s) ≡ Record n → test (take n (drop (at + 2) s)) ≡ true → anyPart test (partsFrom s at) ≡ true
+  unfolding anyPart
+  any-hit n e h = pass-record (anyPart test) s at n e ∙ rw h
+
+  pub any-miss : (n : ℕ) → nextOf (drop at s) ≡ Record n → test (take n (drop (at + 2) s)) ≡ false
+      → anyPart test (partsFrom s at) ≡ anyPart test (partsFrom s (at + 2 + n))
+  unfolding anyPart
+  any-miss n e h = pass-record (anyPart test) s at n e ∙ rw h
+
+  pub any-end : nextOf (drop at s) ≡ End → anyPart test (partsFrom s at) ≡ false
+  unfolding anyPart
+  any-end e = pass-end (anyPart test) s at e
+
+  pub any-broken : nextOf (drop at s) ≡ Broken → anyPart test (partsFrom s at) ≡ false
+  unfolding anyPart
+  any-broken e = pass-broken (anyPart test) s at e
+
+  -- where no part passes, not the one at the cursor and none after it
+  pub none-here : (n : ℕ) → nextOf (drop at s) ≡ Record n → anyPart test (partsFrom s at) ≡ false → test (take n (drop (at + 2) s)) ≡ false
+  unfolding anyPart
+  none-here n e h = (false-of-or (test (take n (drop (at + 2) s))) _ (sym (pass-record (anyPart test) s at n e) ∙ h)) .0
+
+  pub none-later : (n : ℕ) → nextOf (drop at s) ≡ Record n → anyPart test (partsFrom s at) ≡ false → anyPart test (partsFrom s (at + 2 + n)) ≡ false
+  unfolding anyPart
+  none-later n e h = (false-of-or (test (take n (drop (at + 2) s))) _ (sym (pass-record (anyPart test) s at n e) ∙ h)) .1

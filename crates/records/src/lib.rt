@@ -1,0 +1,41 @@
+// Length-first records, the frame of boards and sheets: two bytes of length, then as many bytes. A record is read as the part after its own length.
+ghost use mathlib.Core.Path.{_≡_};
+ghost use Prim.Native.Nat.{_+_, _≤_};
+ghost use lib.ListN.{length, take, drop};
+ghost use Rattle.records.specs.Records.{nextOf};
+
+// What stands at a place of the bytes after the version byte: the end, a record whose part has this many bytes, or a length that does not end at or
+// before the end.
+pub enum Next {
+    End,
+    Record(usize),
+    Broken,
+}
+
+// At the end and past it stands the end.
+pub fn next_at(s: &[u8], at: usize) -> Next
+    ensures { λ r. ⌜ r ≡ nextOf (drop at (now (s .entry))) ⌝ }
+{
+    if s.len() <= at {
+        return Next::End;
+    }
+    let left = s.len() - at;
+    if left < 2 {
+        return Next::Broken;
+    }
+    let n = endian::read_be16(s, at) as usize;
+    if left - 2 < n {
+        return Next::Broken;
+    }
+    Next::Record(n)
+}
+
+// The part of the record at a place, after its own length.
+pub fn part_at(s: &[u8], at: usize, n: usize) -> &[u8]
+    requires { ⌜ at + 2 + n ≤ length (now s) ⌝ }
+    ensures { λ r. ⌜ now r ≡ take n (drop (at + 2) (now (s .entry))) ⌝ }
+{
+    let start = at + 2;
+    let end = start + n;
+    &s[start..end]
+}

@@ -1,0 +1,60 @@
+use borrow.Author.Needs.{needs}
+use Rattle.sheet.proofs.set_command.Statement.{statement}
+use Rattle.sheet.proofs.set_command.Tie as tie
+use Rattle.sheet.proofs.set_command.Reads as reads
+use Rattle.sheet.proofs.set_command.Lts as lts
+use Rattle.endian.proofs.write_le16.Reads as write-le16-reads
+use Rattle.sheet.proofs.find.Reads as find-reads
+use mathlib.Core.Path.{refl, sym, _∙_}
+use native.Mathlib.Omega.{arith}
+use Rattle.sheet.specs.LookupLaws.{registers-fit}
+
+-- src/lib.rt:211:11
+find-requires : tie.Need-find-requires
+find-requires c κs = search needs
+
+-- src/lib.rt:212:27
+enum-known-at : tie.Need-enum-known-at
+enum-known-at c = search needs
+
+-- src/lib.rt:213:39
+add-write-le16 : tie.Need-add-write-le16
+add-write-le16 c = omega (arith, registers-fit _ _ _ (sym (c .before .before .before .before .find .ensures) ∙ c .before .before .at .given .1))
+
+-- src/lib.rt:213:13
+write-le16-requires : tie.Need-write-le16-requires
+write-le16-requires c κs = omega (arith, registers-fit _ _ _ (sym (c .before .before .before .before .find .ensures) ∙ c .before .before .at .given .1))
+
+-- src/lib.rt:216:25
+enum-known-n : tie.Need-enum-known-n
+enum-known-n c = search needs
+
+-- src/lib.rt:208:1
+same-length : tie.Need-same-length
+same-length c = search needs
+
+-- src/lib.rt:208:1
+returns : tie.Need-returns
+returns c = let e = sym (c .before .before .before .before .before .before .before .find .ensures) ∙ c .before .before .before .before .before .at .given .1 in (rw e, rw e (c .before .before .write-le16 .ensures))
+
+-- src/lib.rt:208:1
+same-length-2 : tie.Need-same-length-2
+same-length-2 c = search needs
+
+-- src/lib.rt:208:1
+returns-2 : tie.Need-returns-2
+returns-2 c = let e = sym (c .before .before .before .find .ensures) ∙ c .before .n .given .1 in (rw e, rw e)
+
+pub set-command-spec : {M : Type 1} → statement M
+set-command-spec =
+    tie.close
+    (tie.spec
+    find-requires
+    enum-known-at
+    add-write-le16
+    write-le16-requires
+    enum-known-n
+    same-length
+    returns
+    same-length-2
+    returns-2)

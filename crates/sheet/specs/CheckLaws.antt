@@ -1,0 +1,144 @@
+-- One turn of each pass over a framed sheet, in the words of the code: the record at the cursor is the part that the code takes. Assumes nothing.
+use mathlib.Core.Path.{_≡_, refl, sym, ap, _∙_}
+use mathlib.Core.Bool.{Bool, true, false, cond, not, _&&_, _||_, and-true}
+use mathlib.Core.List.{List, [], _∷_, map}
+use Prim.Native.Nat.{ℕ, zero, suc, _+_, _-_, _*_, _≤_, _<_}
+use native.Mathlib.Omega.{arith}
+use lib.ListN.{length, take, drop, length-drop, length-map}
+use lib.Seq.{length-take-le}
+use lib.Dec.{eqb, ltb}
+use borrow.Author.Tests.{eq-eqb, ne-eqb, ltb-true, ltb-false}
+use Rattle.sheet.specs.declared.Found.{Found}
+use Rattle.sheet.specs.declared.Found.the-variants.{At, Nothing}
+use Rattle.sheet.specs.declared.Rule.{Rule}
+use Rattle.endian.specs.Endian.{be, le}
+use Rattle.bar.specs.Values.{valuesLawful}
+use Rattle.sheet.specs.Entry.{recordSize, Entry, dwords, idOf, headerOf, isBridge, entryOf}
+use Rattle.sheet.specs.Sheet.{Framed, partsIn, entriesFrom, breaks, anyBreaks, findFrom, hasId, idTwice, allZero, readBacksWrong}
+use Rattle.sheet.specs.FrameLaws.{FramedAt, framed-at, parts-past, length-framed}
+
+-- the record's part, by its two ends
+abbrev pub partFrom : List ℕ → ℕ → List ℕ
+partFrom s at = take (at + 92 - (at + 2)) (drop (at + 2) s)
+
+module _ (s : List ℕ) (at : ℕ) (a : FramedAt s at) where
+  part-size : at + 92 - (at + 2) ≡ recordSize
+  part-size = omega arith
+
+  pub part-sized : length (partFrom s at) ≡ recordSize
+  part-sized = rw part-size (length-take-le recordSize (drop (at + 2) s) (omega (arith, a .fits, length-drop (at + 2) s)))
+
+  pub entries-on : entriesFrom s at ≡ entryOf (partFrom s at) ∷ entriesFrom s (at + 92)
+  unfolding entriesFrom
+  entries-on = rw (part-size, a .parts)
+
+  pub breaks-hit : (rule : Rule) → breaks rule (entryOf (partFrom s at)) ≡ true → anyBreaks rule (entriesFrom s at) ≡ true
+  unfolding anyBreaks
+  breaks-hit rule e = ap (anyBreaks rule) entries-on ∙ rw e
+
+  pub breaks-miss : (rule : Rule) → breaks rule (entryOf (partFrom s at)) ≡ false
+      → anyBreaks rule (entriesFrom s at) ≡ anyBreaks rule (entriesFrom s (at + 92))
+  unfolding anyBreaks
+  breaks-miss rule e = ap (anyBreaks rule) entries-on ∙ rw e
+
+  pub find-hit : (id : ℕ) → idOf (partFrom s at) ≡ id → findFrom id at (entriesFrom s at) ≡ At at
+  unfolding findFrom entryOf
+  find-hit id e = ap (findFrom id at) entries-on ∙ rw (eq-eqb (idOf (partFrom s at)) id e)
+
+  pub find-miss : (id : ℕ) → (idOf (partFrom s at) ≡ id → ⊥) → findFrom id at (entriesFrom s at) ≡ findFrom id (at + 92) (entriesFrom s (at + 92))
+  unfolding findFrom entryOf
+  find-miss id e = ap (findFrom id at) entries-on ∙ rw (ne-eqb (idOf (partFrom s at)) id e)
+
+  pub twice-hit : hasId (idOf (partFrom s at)) (entriesFrom s (at + 92)) ≡ true → idTwice (entriesFrom s at) ≡ true
+  unfolding idTwice entryOf
+  twice-hit e = ap idTwice entries-on ∙ rw e
+
+  pub twice-miss : hasId (idOf (partFrom s at)) (entriesFrom s (at + 92)) ≡ false → idTwice (entriesFrom s at) ≡ idTwice (entriesFrom s (at + 92))
+  unfolding idTwice entryOf
+  twice-miss e = ap idTwice entries-on ∙ rw e
+
+module _ (s : List ℕ) (at : ℕ) (h : length s ≤ at) where
+  pub entries-past : entriesFrom s at ≡ []
+  unfolding entriesFrom
+  entries-past = rw (parts-past s at h)
+
+  pub breaks-past : (rule : Rule) → anyBreaks rule (entriesFrom s at) ≡ false
+  unfolding anyBreaks
+  breaks-past rule = ap (anyBreaks rule) entries-past
+
+  pub find-past : (id : ℕ) → findFrom id at (entriesFrom s at) ≡ Nothing
+  unfolding findFrom
+  find-past id = ap (findFrom id at) entries-past
+
+  pub twice-past : idTwice (entriesFrom s at) ≡ false
+  unfolding idTwice
+  twice-past = ap idTwice entries-past
+
+-- ## The records from a place on, by cases
+
+pub record FirstAt (s : List ℕ) (at : ℕ) (x : Entry) (es : List Entry) : Type 0 where
+  pub here : FramedAt s at
+  pub head : entryOf (partFrom s at) ≡ x
+  pub rest : Framed (at + 92) s
+  pub tail : entriesFrom s (at + 92) ≡ es
+
+pub first-at : (s : List ℕ) (at : ℕ) (x : Entry) (es : List Entry) → Framed at s → entriesFrom s at ≡ x ∷ es → FirstAt s at x es
+first-at s at x es f e = go (ltb at (length s)) refl
+  where
+    go : (b : Bool) → ltb at (length s) ≡ b → FirstAt s at x es
+    go true l =
+        let h = framed-at s at (f .sized) (ltb-true at (length s) l) in
+        record {
+          here = h;
+          head = cc (entries-on s at h, e);
+          rest = record { inside = h .fits; sized = h .rest };
+          tail = cc (entries-on s at h, e);
+        }
+    go false l = absurd (let z : _≡_ {A = ℕ} 0 1 = cc (entries-past s at (ltb-false at (length s) l), e) in omega arith)
+
+pub past-of-nil : (s : List ℕ) (at : ℕ) → Framed at s → entriesFrom s at ≡ [] → length s ≤ at
+past-of-nil s at f e = go (ltb at (length s)) refl
+  where
+    go : (b : Bool) → ltb at (length s) ≡ b → length s ≤ at
+    go true l =
+        let h = framed-at s at (f .sized) (ltb-true at (length s) l) in
+        absurd (let z : _≡_ {A = ℕ} 0 1 = cc (entries-on s at h, e) in omega arith)
+    go false l = ltb-false at (length s) l
+
+-- an ID is among the records exactly where it is found
+pub has-of-found : (id at n : ℕ) (es : List Entry) → findFrom id at es ≡ At n → hasId id es ≡ true
+unfolding findFrom hasId
+has-of-found id at n [] e = absurd (let z : _≡_ {A = ℕ} 0 1 = cc in omega arith)
+has-of-found id at n (x ∷ es) e = go (eqb (x .id) id) e (λ f. has-of-found id (at + 92) n es f)
+  where
+    go : (b : Bool) → cond b (At at) (findFrom id (at + 92) es) ≡ At n → (findFrom id (at + 92) es ≡ At n → hasId id es ≡ true) → (b || hasId id es) ≡ true
+    go true e on = refl
+    go false e on = on e
+
+pub not-of-nothing : (id at : ℕ) (es : List Entry) → findFrom id at es ≡ Nothing → hasId id es ≡ false
+unfolding findFrom hasId
+not-of-nothing id at [] e = refl
+not-of-nothing id at (x ∷ es) e = go (eqb (x .id) id) e (λ f. not-of-nothing id (at + 92) es f)
+  where
+    go : (b : Bool) → cond b (At at) (findFrom id (at + 92) es) ≡ Nothing → (findFrom id (at + 92) es ≡ Nothing → hasId id es ≡ false) → (b || hasId id es) ≡ false
+    go true e on = absurd (let z : _≡_ {A = ℕ} 0 1 = cc in omega arith)
+    go false e on = on e
+
+-- over 256 records, by the sheet's length
+pub count-entries : (s : List ℕ) → Framed 1 s → length s ≡ 1 + 92 * length (entriesFrom s 1)
+unfolding entriesFrom
+count-entries s f = rw (length-map (partsIn s) entryOf) (length-framed s f)
+
+-- ## Check 25, in the words of the code
+
+module _ (p rs vs : List ℕ) (r : rs ≡ dwords (be 4) 6 p 66) (v : vs ≡ dwords (le 4) 6 p 18) where
+  pub read-backs-of-bridge : (lawful rest : Bool) → isBridge (headerOf p) ≡ true → lawful ≡ valuesLawful (take 2 rs) (take 2 vs)
+      → rest ≡ allZero (dwords (be 4) 4 p 74) → not (lawful && rest) ≡ readBacksWrong (entryOf p)
+  unfolding entryOf dwords readBacksWrong
+  read-backs-of-bridge lawful rest b l z = rw (l, z, r, v, b)
+
+  pub read-backs-of-end : (lawful : Bool) → isBridge (headerOf p) ≡ false → lawful ≡ valuesLawful (take 6 rs) (take 6 vs)
+      → not lawful ≡ readBacksWrong (entryOf p)
+  unfolding entryOf dwords readBacksWrong allZero
+  read-backs-of-end lawful b l = rw (l, r, v, b)
+      (ap not (sym (and-true (valuesLawful (take 6 (dwords (be 4) 6 p 66)) (take 6 (dwords (le 4) 6 p 18))))))

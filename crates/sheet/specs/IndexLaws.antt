@@ -1,0 +1,97 @@
+-- A framed sheet by record index, from 0: what a search that counts records goes by. Assumes nothing.
+use mathlib.Core.Path.{_≡_, refl, sym, ap, _∙_}
+use mathlib.Core.Bool.{Bool, true, false}
+use mathlib.Core.List.{List, [], _∷_, map}
+use Prim.Native.Nat.{ℕ, zero, suc, pred, _+_, _-_, _*_, _/_, _≤_, _<_}
+use native.Mathlib.Numerals.{add-one}
+use native.Mathlib.Omega.{arith}
+use lib.ListN.{length, getD, take, drop, length-map, List·getD-map}
+use Rattle.endian.specs.Endian.{le}
+use Rattle.endian.specs.EndianLaws.{le-take, le-drop}
+use Rattle.walk.specs.Registers.{Registers, enabledIn}
+use Rattle.sheet.specs.declared.Space.{Space}
+use Rattle.sheet.specs.declared.Space.the-variants.{Memory, Io}
+use Rattle.sheet.specs.Entry.{recordSize, commandOf, Entry, entryOf}
+use Rattle.sheet.specs.Sheet.{isFramed, Framed, entriesFrom, entriesOf, commandsOf, partsIn, partAt}
+use Rattle.sheet.specs.Spaces.{functionOf, functionsFrom, registersOf, enables, enabledOf}
+use Rattle.sheet.specs.FrameLaws.{FramedAt, framed-at, part-index}
+use Rattle.sheet.specs.CheckLaws.{partFrom, entries-on, entries-past, count-entries}
+
+part-from-index : (s : List ℕ) (k : ℕ) → partFrom s (92 * k + 1) ≡ partAt s k
+part-from-index s k =
+    let n : 92 * k + 1 + 92 - (92 * k + 1 + 2) ≡ recordSize = omega arith in
+    let m : 92 * k + 1 + 2 ≡ 92 * k + 3 = omega arith in
+    rw (n, m)
+
+-- the bit of the record with number k + 1
+enabled-map : (space : Space) (cs : List ℕ) (k : ℕ) → enabledIn (map (enables space) cs) (k + 1) ≡ enables space (getD cs k 0)
+unfolding enabledIn
+enabled-map Memory cs k = rw (add-one k) (List·getD-map (enables Memory) cs k 0)
+enabled-map Io cs k = rw (add-one k) (List·getD-map (enables Io) cs k 0)
+
+-- ## Command words
+
+pub length-entries : (s : List ℕ) → length (entriesOf s) ≡ length (partsIn s)
+unfolding entriesFrom
+length-entries s = length-map (partsIn s) entryOf
+
+pub length-commands : (s : List ℕ) → length (commandsOf s) ≡ length (partsIn s)
+unfolding commandsOf
+length-commands s = length-map (partsIn s) commandOf
+
+-- record k's stands at 92 * k + 9
+command-of-place : (s : List ℕ) (k : ℕ) → commandOf (partAt s k) ≡ le 2 s (92 * k + 9)
+command-of-place s k =
+    let e : 92 * k + 3 + 6 ≡ 92 * k + 9 = omega arith in
+    le-take 2 recordSize (drop (92 * k + 3) s) 6 (omega arith) ∙ le-drop 2 (92 * k + 3) s 6 ∙ ap (le 2 s) e
+
+pub command-index : (s : List ℕ) (k : ℕ) → Framed 1 s → k < length (commandsOf s) → getD (commandsOf s) k 0 ≡ le 2 s (92 * k + 9)
+unfolding commandsOf le
+command-index s k f h =
+    List·getD-map commandOf (partsIn s) k []
+    ∙ ap commandOf (part-index s k f (omega (arith, length-commands s)))
+    ∙ command-of-place s k
+
+-- ## Records and functions
+
+module _ (s : List ℕ) (f : Framed 1 s) where
+  lt-of-index : (k : ℕ) → k < length (entriesOf s) → 92 * k + 1 < length s
+  lt-of-index k h = omega (arith, count-entries s f)
+
+  pub framed-index : (k : ℕ) → k ≤ length (entriesOf s) → Framed (92 * k + 1) s
+  framed-index zero h = f
+  framed-index (suc k) h =
+      let a = framed-at s (92 * k + 1) (framed-index k (omega arith) .sized) (lt-of-index k h) in
+      let e : 92 * suc k + 1 ≡ 92 * k + 1 + 92 = omega arith in
+      rw e (record { inside = a .fits; sized = a .rest })
+
+  pub record-fits : (k : ℕ) → k < length (entriesOf s) → 92 * k + 93 ≤ length s
+  record-fits k h = omega (arith, count-entries s f)
+
+  pub entries-index : (k : ℕ) → k < length (entriesOf s) → entriesFrom s (92 * k + 1) ≡ entryOf (partAt s k) ∷ entriesFrom s (92 * (k + 1) + 1)
+  entries-index k h =
+      let a = framed-at s (92 * k + 1) (framed-index k (omega arith) .sized) (lt-of-index k h) in
+      let e : 92 * k + 1 + 92 ≡ 92 * (k + 1) + 1 = omega arith in
+      entries-on s (92 * k + 1) a ∙ rw (part-from-index s k, e)
+
+  -- what a search in record order has left
+  pub functions-index : (space : Space) (k : ℕ) → k < length (entriesOf s)
+      → functionsFrom space (k + 1) (entriesFrom s (92 * k + 1))
+      ≡ functionOf space (k + 1) (entryOf (partAt s k)) ∷ functionsFrom space (k + 1 + 1) (entriesFrom s (92 * (k + 1) + 1))
+  unfolding functionsFrom
+  functions-index space k h = ap (functionsFrom space (k + 1)) (entries-index k h)
+
+  pub functions-end : (space : Space) (k : ℕ) → length (entriesOf s) ≤ k → functionsFrom space (k + 1) (entriesFrom s (92 * k + 1)) ≡ []
+  unfolding functionsFrom
+  functions-end space k h = ap (functionsFrom space (k + 1)) (entries-past s (92 * k + 1) (omega (arith, count-entries s f)))
+
+  -- in the words of the code
+  pub count-index : (length s - 1) / 92 ≡ length (entriesOf s)
+  count-index = omega (arith, count-entries s f)
+
+  -- the command bit of record k
+  pub enabled-index : (space : Space) (k : ℕ) → k < length (entriesOf s) → enabledOf space s (k + 1) ≡ enables space (commandOf (partAt s k))
+  enabled-index space k h = enabled-map space (commandsOf s) k ∙ ap (enables space) (command-of-part k h)
+    where
+      command-of-part : (k : ℕ) → k < length (entriesOf s) → getD (commandsOf s) k 0 ≡ commandOf (partAt s k)
+      command-of-part k h = command-index s k f (omega (arith, length-commands s, length-entries s)) ∙ sym (command-of-place s k)

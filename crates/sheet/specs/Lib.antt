@@ -1,0 +1,15 @@
+-- Document 01: the register sheet, in its order: a record, the checks, the lookup, the registers that the walk reads; then their laws.
+pub mod Entry
+pub mod Sheet
+pub mod Lookup
+pub mod Spaces
+pub mod Commands
+pub mod Examples
+pub mod FrameLaws
+pub mod CheckLaws
+pub mod IndexLaws
+pub mod SpacesLaws
+pub mod EntryLaws
+pub mod SheetLaws
+pub mod LookupLaws
+pub mod CommandsLaws

@@ -1,0 +1,36 @@
+-- Document 01, "The sheet": "Asked for an ID, the caller gets that function's 64 register bytes themselves, inside the lent sheet, or 40 (a bad sheet:
+-- its number) and an empty part." And the sheet after one function's command word is rewritten. Assumes nothing.
+use Prim.Native.Nat.{ℕ, _+_}
+use mathlib.Core.Bool.{cond}
+use mathlib.Core.List.{List, []}
+use lib.ListN.{take, drop}
+use lib.Seq.{sets}
+use lib.Dec.{eqb}
+use Rattle.endian.specs.Endian.{leBytes}
+use Rattle.sheet.specs.declared.Found.{Found}
+use Rattle.sheet.specs.declared.Found.the-variants.{At, Nothing}
+use Rattle.sheet.specs.declared.Lookup.{Lookup}
+use Rattle.sheet.specs.declared.Lookup.the-variants.{Registers, Refused}
+use Rattle.sheet.specs.Sheet.{entriesOf, findFrom, sheetNumber}
+
+-- the registers stand after the record's length and ID
+abbrev pub placed : Found → Lookup
+placed (At at) = Registers (at + 4)
+placed Nothing = Refused 40
+
+-- the sheet's number first, then 40
+unfoldable pub lookupOf : List ℕ → ℕ → Lookup
+lookupOf s id = cond (eqb (sheetNumber s) 0) (placed (findFrom id 1 (entriesOf s))) (Refused (sheetNumber s))
+
+abbrev pub lookupNumber : Lookup → ℕ
+lookupNumber (Registers at) = 0
+lookupNumber (Refused n) = n
+
+abbrev pub registerBytes : Lookup → List ℕ → List ℕ
+registerBytes (Registers at) s = take 64 (drop at s)
+registerBytes (Refused n) s = []
+
+-- the command word stands at 04h
+abbrev pub withCommand : Lookup → List ℕ → ℕ → List ℕ
+withCommand (Registers at) s command = sets s (at + 4) (leBytes 2 command)
+withCommand (Refused n) s command = s

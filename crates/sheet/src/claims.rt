@@ -1,0 +1,54 @@
+// The address spaces: which pools are in them, what enables them, and whether a BAR holds an address.
+ghost use mathlib.Core.Path.{_≡_};
+ghost use Rattle.sheet.specs.Spaces.{inSpace, enables as enablesOf, barHolds};
+use super::Space;
+use bar::Slot;
+use pools::Pool;
+
+// Command bit 0 enables I/O, bit 1 memory.
+pub fn enables(space: Space, command: u16) -> bool
+    ensures { λ r. ⌜ r ≡ enablesOf space command ⌝ }
+{
+    match space {
+        Space::Memory => command / 2 % 2 == 1,
+        Space::Io => command % 2 == 1,
+    }
+}
+
+pub fn in_space(space: Space, q: Pool) -> bool
+    ensures { λ r. ⌜ r ≡ inSpace space q ⌝ }
+{
+    match space {
+        Space::Memory => match q {
+            Pool::Low => true,
+            Pool::High => true,
+            Pool::Io => false,
+        },
+        Space::Io => match q {
+            Pool::Low => false,
+            Pool::High => false,
+            Pool::Io => true,
+        },
+    }
+}
+
+// The slot is a BAR of the space, and with this value it holds the address. No sum: a BAR may end at 2^64.
+pub fn bar_holds(space: Space, x: Slot, value: u64, address: u64) -> bool
+    ensures { λ r. ⌜ r ≡ barHolds space x value address ⌝ }
+{
+    match x {
+        Slot::Unused => false,
+        Slot::Bar(q, _, size) => {
+            let base = bar::base_of(x, value);
+            if !in_space(space, q) {
+                return false;
+            }
+            if address < base {
+                return false;
+            }
+            address - base < size
+        }
+        Slot::Upper => false,
+        Slot::Bad => false,
+    }
+}

@@ -1,0 +1,40 @@
+-- A board's functions, as three arrays say them: the parent record and the header type byte of each, and its set of six read-backs.
+-- Assumes nothing.
+use Prim.Native.Nat.{ℕ, suc, _*_, _%_}
+use mathlib.Core.Bool.{Bool, cond}
+use mathlib.Core.List.{List, [], _∷_}
+use lib.ListN.{getD, take, drop}
+use lib.Dec.{eqb}
+use Rattle.bar.specs.declared.Slot.{Slot}
+use Rattle.bar.specs.declared.Slot.the-variants.{Unused, Bar, Upper, Bad}
+use Rattle.bar.specs.Bar.{slots}
+use Rattle.placing.specs.Records as placing
+use Rattle.placing.specs.Records.{Function}
+unfoldable pub use Rattle.bar.specs.Bars.{barsFrom}
+
+-- the header type is its byte's low seven bits: type 1 is a bridge
+abbrev pub isBridge : ℕ → Bool
+isBridge header = eqb (header % 128) 1
+
+-- how many of the six read-backs count
+abbrev pub slotCount : ℕ → ℕ
+slotCount header = cond (isBridge header) 2 6
+
+-- the slots that count
+abbrev pub slotsIn : ℕ → List ℕ → List Slot
+slotsIn header set = slots (take (slotCount header) set)
+
+abbrev pub functionIn : ℕ → ℕ → List ℕ → Function
+functionIn parent header set = record { parent = parent; bridge = isBridge header; bars = barsFrom 0 (slotsIn header set) }
+
+-- all of them, as many as there are parents
+unfoldable pub functionsIn : List ℕ → List ℕ → List ℕ → List Function
+functionsIn [] hs ss = []
+functionsIn (p ∷ ps) hs ss = functionIn p (getD hs 0 0) (take 6 ss) ∷ functionsIn ps (drop 1 hs) (drop 6 ss)
+
+-- the one at index i
+abbrev pub setAt : List ℕ → ℕ → List ℕ
+setAt ss i = take 6 (drop (6 * i) ss)
+
+abbrev pub functionAt : List ℕ → List ℕ → List ℕ → ℕ → Function
+functionAt ps hs ss i = functionIn (getD ps i 0) (getD hs i 0) (setAt ss i)

@@ -1,0 +1,116 @@
+-- The laws of what sizing stores: runs of records that meet, a bridge before its bus, and what then stands at each record.
+-- Assumes nothing.
+use mathlib.Core.Path.{_≡_, refl, sym, ap, ap₂, _∙_}
+use mathlib.Core.Bool.{Bool, true, false, cond}
+use mathlib.Core.List.{List, [], _∷_, _++_, append-assoc}
+use Prim.Native.Nat.{ℕ, zero, suc, _+_, _-_, _*_, _≤_, _<_, min}
+use native.Mathlib.Nat.{add-zero, add-suc, suc-add}
+use native.Mathlib.Numerals.{add-one}
+use native.Mathlib.Omega.{arith}
+use lib.ListN.{length, getD, set, take, drop, length-append, length-take, length-drop}
+use lib.Seq.{sets, set-comm, take-add, drop-drop, take-all}
+use Rattle.endian.specs.SetsLaws.{sets-sets}
+use Rattle.placing.specs.Records.{Function}
+use Rattle.placing.specs.RecordLaws.{IsAt}
+use Rattle.sizing.specs.declared.Laid.{Laid}
+use Rattle.sizing.specs.Memo.{numbersOf, noNumbers, below, memoOf, memoFrom, memoBetween}
+
+-- ## Stores that do not meet
+
+set-sets : (o : List ℕ) (i v j : ℕ) (ws : List ℕ) → i < j → set (sets o j ws) i v ≡ sets (set o i v) j ws
+set-sets o i v j [] h = refl
+set-sets o i v j (w ∷ ws) h =
+    set-sets (set o j w) i v (suc j) ws (omega arith)
+    ∙ ap (λ (p : List ℕ). sets p (suc j) ws) (set-comm o j i w v (λ e. omega arith))
+
+-- a run stored before a later one
+pub sets-before : (o : List ℕ) (i : ℕ) (vs : List ℕ) (j : ℕ) (ws : List ℕ) → i + length vs ≤ j → sets (sets o j ws) i vs ≡ sets (sets o i vs) j ws
+sets-before o i [] j ws h = refl
+sets-before o i (v ∷ vs) j ws h =
+    ap (λ (p : List ℕ). sets p (suc i) vs) (set-sets o i v j ws (omega arith)) ∙ sets-before (set o i v) (suc i) vs j ws (omega arith)
+
+-- ## The numbers of a run of records
+
+pub length-memo-of : (fs : List Function) (i : ℕ) (f : Function) → length (memoOf fs i f) ≡ 8
+length-memo-of fs i f = go (f .bridge)
+  where
+    go : (t : Bool) → length (cond t (numbersOf (below fs i)) noNumbers) ≡ 8
+    go true = refl
+    go false = refl
+
+pub length-memo-from : (fs : List Function) (i : ℕ) (gs : List Function) → length (memoFrom fs i gs) ≡ 8 * length gs
+unfolding memoFrom
+length-memo-from fs i [] = refl
+length-memo-from fs i (f ∷ gs) =
+    length-append (memoOf fs i f) (memoFrom fs (suc i) gs) ∙ omega (arith, length-memo-of fs i f, length-memo-from fs (suc i) gs)
+
+memo-from-append : (fs : List Function) (i : ℕ) (gs hs : List Function) → memoFrom fs i (gs ++ hs) ≡ memoFrom fs i gs ++ memoFrom fs (i + length gs) hs
+unfolding memoFrom
+memo-from-append fs i [] hs = ap (λ (k : ℕ). memoFrom fs k hs) (sym (add-zero i))
+memo-from-append fs i (f ∷ gs) hs =
+    ap (λ (m : List ℕ). memoOf fs i f ++ m) (memo-from-append fs (suc i) gs hs)
+    ∙ sym (append-assoc (memoOf fs i f) (memoFrom fs (suc i) gs) (memoFrom fs (suc i + length gs) hs))
+    ∙ ap (λ (k : ℕ). (memoOf fs i f ++ memoFrom fs (suc i) gs) ++ memoFrom fs k hs) (omega arith)
+
+module _ (fs : List Function) where
+  length-between : (i j : ℕ) → j ≤ length fs → length (take (j - i) (drop i fs)) ≡ j - i
+  length-between i j h = omega (arith, length-take (j - i) (drop i fs), length-drop i fs)
+
+  pub length-memo-between : (i j : ℕ) → j ≤ length fs → length (memoBetween fs i j) ≡ 8 * (j - i)
+  length-memo-between i j h = length-memo-from fs i (take (j - i) (drop i fs)) ∙ ap (λ (n : ℕ). 8 * n) (length-between i j h)
+
+  pub memo-between-none : (i : ℕ) → memoBetween fs i i ≡ []
+  unfolding memoFrom
+  memo-between-none i = let e : i - i ≡ 0 = omega arith in rw e
+
+  -- runs that meet
+  pub memo-between-add : (i j k : ℕ) → i ≤ j → j ≤ k → j ≤ length fs → memoBetween fs i k ≡ memoBetween fs i j ++ memoBetween fs j k
+  memo-between-add i j k h l m =
+      let n : k - i ≡ (j - i) + (k - j) = omega arith in
+      let s : i + (j - i) ≡ j = omega arith in
+      let t : i + length (take (j - i) (drop i fs)) ≡ j = omega (arith, length-between i j m) in
+      ap (λ (x : ℕ). memoFrom fs i (take x (drop i fs))) n
+      ∙ ap (memoFrom fs i) (take-add (j - i) (k - j) (drop i fs))
+      ∙ memo-from-append fs i (take (j - i) (drop i fs)) (take (k - j) (drop (j - i) (drop i fs)))
+      ∙ ap₂ (λ (x : ℕ) (gs : List Function). memoBetween fs i j ++ memoFrom fs x (take (k - j) gs)) t
+      (drop-drop (j - i) i fs ∙ ap (λ (x : ℕ). drop x fs) s)
+
+  -- a record, then those after it
+  pub memo-between-cons : (i k : ℕ) (f : Function) → IsAt fs i f → i < k → memoBetween fs i k ≡ memoOf fs i f ++ memoBetween fs (suc i) k
+  unfolding memoFrom
+  memo-between-cons i k f e h =
+      let n : k - i ≡ suc (k - suc i) = omega arith in
+      rw (n, e)
+
+-- ## What the code leaves
+
+module _ (fs : List Function) (o : List ℕ) where
+  -- two runs of the walk
+  pub memo-walked : {o₁ o₂ : List ℕ} (i j k : ℕ) → i ≤ j → j ≤ k → j ≤ length fs
+      → o₁ ≡ sets o (8 * i) (memoBetween fs i j) → o₂ ≡ sets o₁ (8 * j) (memoBetween fs j k) → o₂ ≡ sets o (8 * i) (memoBetween fs i k)
+  memo-walked i j k h l m p q =
+      let s : 8 * i + length (memoBetween fs i j) ≡ 8 * j = omega (arith, length-memo-between fs i j m) in
+      q
+      ∙ ap₂ (λ (a : List ℕ) (n : ℕ). sets a n (memoBetween fs j k)) p (sym s)
+      ∙ sets-sets o (8 * i) (memoBetween fs i j) (memoBetween fs j k)
+      ∙ ap (sets o (8 * i)) (sym (memo-between-add fs i j k h l m))
+
+  -- a function that is no bridge
+  pub memo-leaf : {o₁ : List ℕ} (i : ℕ) (f : Function) → IsAt fs i f → f .bridge ≡ false
+      → o₁ ≡ sets o (8 * i) noNumbers → o₁ ≡ sets o (8 * i) (memoBetween fs i (suc i))
+  memo-leaf i f e b p =
+      let n : memoOf fs i f ++ memoBetween fs (suc i) (suc i) ≡ noNumbers = rw (b, memo-between-none fs (suc i)) in
+      p ∙ ap (sets o (8 * i)) (sym (memo-between-cons fs i (suc i) f e (omega arith) ∙ n))
+
+  -- a bridge, stored after the records below it
+  pub memo-bridge : {o₁ o₂ : List ℕ} (i k : ℕ) (f : Function) (inner : Laid) → IsAt fs i f → f .bridge ≡ true → i < k → inner ≡ below fs i
+      → o₁ ≡ sets o (8 * (i + 1)) (memoBetween fs (i + 1) k) → o₂ ≡ sets o₁ (8 * i) (numbersOf inner) → o₂ ≡ sets o (8 * i) (memoBetween fs i k)
+  memo-bridge i k f inner e b h g p q =
+      let s : 8 * i + 8 ≡ 8 * (i + 1) = omega arith in
+      q
+      ∙ ap (λ (a : List ℕ). sets a (8 * i) (numbersOf inner)) p
+      ∙ sets-before o (8 * i) (numbersOf inner) (8 * (i + 1)) (memoBetween fs (i + 1) k) (omega arith)
+      ∙ ap (λ (n : ℕ). sets (sets o (8 * i) (numbersOf inner)) n (memoBetween fs (i + 1) k)) (sym s)
+      ∙ sets-sets o (8 * i) (numbersOf inner) (memoBetween fs (i + 1) k)
+      ∙ ap (sets o (8 * i))
+      (ap₂ (λ (l : Laid) (n : ℕ). numbersOf l ++ memoBetween fs n k) g (add-one i) ∙ sym (memo-between-cons fs i k f e h ∙ rw b))
