@@ -1,7 +1,7 @@
 -- Document 01, "The board" and "Numbers given back": the number of the first check that a board's bytes fail, 0 where they are lawful, and what a
 -- lawful board says. Each check covers all records before the next starts. Assumes nothing.
 use Prim.Native.Nat.{ℕ}
-use mathlib.Core.Bool.{Bool, true, false, cond, not, _||_}
+use mathlib.Core.Bool.{Bool, true, cond, not, _||_}
 use mathlib.Core.List.{List, [], _∷_, map}
 use lib.ListN.{length, getD, drop}
 use lib.Dec.{eqb, ltb}

@@ -10,14 +10,14 @@ use borrow.Author.Tests.{lt-ltb, le-ltb, eq-eqb, ne-eqb, eqb-true, ltb-false, no
 use Rattle.placing.specs.Lists.{any}
 use Rattle.records.specs.declared.Next.{Next}
 use Rattle.records.specs.declared.Next.the-variants.{End, Record, Broken}
-use Rattle.records.specs.Records.{nextOf, Parts, after, partsOf, partsFrom, anyPart}
-use Rattle.records.specs.RecordsLaws.{length-part, fits-at, parts-record, parts-end, parts-broken, pass-record, false-of-or}
+use Rattle.records.specs.Records.{nextOf, Parts, partsOf, partsFrom, anyPart}
+use Rattle.records.specs.RecordsLaws.{length-part, parts-record, parts-end, parts-broken, pass-record, false-of-or}
 use Rattle.board.specs.declared.Host.{Host}
 use Rattle.board.specs.declared.Function.{Function}
 use Rattle.board.specs.Host.{hostOfPart, hostWrong}
 use Rattle.board.specs.Function.{functionOfPart, headerWrong, readbacksWrong}
 use Rattle.board.specs.Order.{anyMisplaced}
-use Rattle.board.specs.Board.{isShort, noHost, tailMisframed, misframed, mostFunctions, fromReadbacks, fromOrder, fromEdges, fromHeaders, fromCount, fromFrame, fromVersion, boardNumber, hostOf, functionsOf}
+use Rattle.board.specs.Board.{isShort, tailMisframed, misframed, mostFunctions, fromReadbacks, fromOrder, fromEdges, fromHeaders, fromCount, fromFrame, fromVersion, boardNumber, hostOf, functionsOf}
 
 pub any-map : {A : Type 0} (test : A → Bool) (f : List ℕ → A) (ps : List (List ℕ)) → any test (map f ps) ≡ anyPart (λ p. test (f p)) ps
 unfolding any anyPart
@@ -206,3 +206,6 @@ accepted-of-zero b e =
       order = ap (anyMisplaced 0 []) functions ∙ c .3;
       readbacks = ap (any readbacksWrong) functions ∙ c .4;
     }
+
+pub framed-of-accepted : (b : List ℕ) → boardNumber b ≡ 0 → misframed (partsOf (drop 1 b)) ≡ false
+framed-of-accepted b e = framed-of-zero (partsOf (drop 1 b)) (version-of-zero b e .1)

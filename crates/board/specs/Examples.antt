@@ -1,6 +1,6 @@
 -- Worked examples of a board's number, as one table under one claim. Assumes nothing.
 use mathlib.Core.Path.{_≡_, refl}
-use Prim.Native.Nat.{ℕ, zero, suc, _+_}
+use Prim.Native.Nat.{ℕ, zero, suc}
 use mathlib.Core.List.{List, [], _∷_, _++_, map}
 use Rattle.endian.specs.Endian.{be, beBytes}
 use Rattle.records.specs.Records.{nextOf, partsOver, partsOf, anyPart}
@@ -17,11 +17,19 @@ abbrev pub host : List ℕ
 host =
     0 ∷ 30 ∷ 0 ∷ 255 ∷ beBytes 4 0xF9000000 ++ beBytes 4 0xF9FFFFFF ++ beBytes 8 0x240000000 ++ beBytes 8 0x27FFFFFFF ++ 0x40 ∷ 0 ∷ 0x4F ∷ 0xFF ∷ []
 
+-- with a low pool of its own
+abbrev pub hostWith : ℕ → ℕ → List ℕ
+hostWith base last = 0 ∷ 30 ∷ 0 ∷ 255 ∷ beBytes 4 base ++ beBytes 4 last ++ beBytes 8 1 ++ beBytes 8 0 ++ 1 ∷ 0 ∷ 0 ∷ 0 ∷ []
+
 abbrev pub bridge : ℕ → ℕ → ℕ → List ℕ
 bridge parent devfn header = 0 ∷ 14 ∷ beBytes 2 parent ++ devfn ∷ header ∷ 0 ∷ 3 ∷ beBytes 8 0
 
 abbrev pub end : ℕ → ℕ → ℕ → List ℕ
 end parent devfn header = 0 ∷ 30 ∷ beBytes 2 parent ++ devfn ∷ header ∷ 0 ∷ 3 ∷ beBytes 8 0 ++ beBytes 8 0 ++ beBytes 8 0
+
+-- with one read-back
+abbrev pub card : ℕ → ℕ → ℕ → List ℕ
+card parent devfn readback = 0 ∷ 30 ∷ beBytes 2 parent ++ devfn ∷ 0 ∷ 0 ∷ 3 ∷ beBytes 4 readback ++ beBytes 4 0 ++ beBytes 8 0 ++ beBytes 8 0
 
 -- n bridges, each below the one before, from record k + 1 on
 unfoldable pub chain : ℕ → ℕ → List ℕ
@@ -68,6 +76,19 @@ rows =
     -- 256 functions are enough
     ∷ record { board = 1 ∷ host ++ row 256 0; number = 0 }
     ∷ record { board = 1 ∷ host ++ row 256 0 ++ end 0 0 0; number = 22 }
+    -- a function of 5 bytes, of 6, and a header type 2
+    ∷ record { board = 1 ∷ host ++ 0 ∷ 5 ∷ 0 ∷ 0 ∷ 0 ∷ 0 ∷ 0 ∷ []; number = 20 }
+    ∷ record { board = 1 ∷ host ++ 0 ∷ 6 ∷ 0 ∷ 0 ∷ 0 ∷ 0 ∷ 0 ∷ 0 ∷ []; number = 24 }
+    ∷ record { board = 1 ∷ host ++ end 0 0 2; number = 24 }
+    -- a pool's last edge; closed pools have none; a pool may start at 0 and end with the last address
+    ∷ record { board = 1 ∷ hostWith 0x100000 0x1FFFFF; number = 0 }
+    ∷ record { board = 1 ∷ hostWith 0x100000 0x1FFFFE; number = 26 }
+    ∷ record { board = 1 ∷ hostWith 0x1FFFFE 0; number = 0 }
+    ∷ record { board = 1 ∷ hostWith 0 0xFFFFFFFF; number = 0 }
+    -- P9, and after it a function out of its place; and both in a host with a wrong pool
+    ∷ record { board = 1 ∷ host ++ card 0 0 0xF0FFF000; number = 25 }
+    ∷ record { board = 1 ∷ host ++ card 0 0 0xF0FFF000 ++ end 1 0 0; number = 23 }
+    ∷ record { board = 1 ∷ hostWith 1 1 ++ card 0 0 0xF0FFF000 ++ end 1 0 0; number = 26 }
     ∷ []
 
 pub record Worked (rs : List Row) : Type 0 where

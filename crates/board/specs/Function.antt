@@ -1,6 +1,6 @@
 -- Document 01, "The board": function records, their header types and lengths (24), and their read-backs (25). Assumes nothing.
-use Prim.Native.Nat.{ℕ, _/_, _%_}
-use mathlib.Core.Bool.{Bool, true, false, cond, not, _&&_, _||_}
+use Prim.Native.Nat.{ℕ, _%_}
+use mathlib.Core.Bool.{Bool, cond, not, _&&_, _||_}
 use mathlib.Core.List.{List, [], _∷_}
 use lib.ListN.{length, getD, take}
 use lib.Dec.{eqb}
@@ -37,10 +37,12 @@ functionOfPart p =
       readbacks = readbacksFor (getD p 3 0) p;
     }
 
--- 24: "header type's low seven bits not 0 or 1, or wrong length for it"
+-- 24: "header type's low seven bits not 0 or 1, or wrong length for it", of a record's length and header type
+abbrev pub wrongFor : ℕ → ℕ → Bool
+wrongFor n header = (not (eqb (typeOf header) 0) && not (isBridgeHeader header)) || not (eqb n (lengthFor header))
+
 unfoldable pub headerWrong : List ℕ → Bool
-headerWrong p =
-    (not (eqb (typeOf (getD p 3 0)) 0) && not (isBridgeHeader (getD p 3 0))) || not (eqb (length p) (lengthFor (getD p 3 0)))
+headerWrong p = wrongFor (length p) (getD p 3 0)
 
 abbrev pub isBridge : Function → Bool
 isBridge f = isBridgeHeader (f .header)

@@ -3,22 +3,21 @@ use mathlib.Core.Path.{_≡_, refl, sym, ap, ap₂, _∙_}
 use mathlib.Core.Logic.{_≢_}
 use mathlib.Core.Bool.{Bool, true, false, cond, not, _||_}
 use mathlib.Core.List.{List, [], _∷_, map}
-use Prim.Native.Nat.{ℕ, zero, suc, _+_, _-_, _/_, _%_, _≤_, _<_}
+use Prim.Native.Nat.{ℕ, zero, suc, _+_, _/_, _%_, _≤_, _<_}
 use native.Mathlib.Numerals.{add-one}
 use native.Mathlib.Omega.{arith}
 use lib.ListN.{length, getD, take, drop, set, length-set}
 use lib.Seq.{getD-set-same, getD-set-other}
 use lib.Dec.{eqb, ltb}
-use borrow.Author.Tests.{eq-eqb, ne-eqb, eqb-true, ltb-false}
+use borrow.Author.Tests.{eq-eqb, ne-eqb, ltb-false}
 use Rattle.records.specs.declared.Next.the-variants.{Record}
 use Rattle.records.specs.Records.{nextOf, partsFrom}
 use Rattle.records.specs.RecordsLaws.{pass-record, false-of-or}
 use Rattle.board.specs.declared.Function.{Function}
-use Rattle.board.specs.declared.order.Found.{Found}
 use Rattle.board.specs.declared.order.Found.the-variants.{At, Nowhere}
 use Rattle.board.specs.Function.{isBridge, functionOfPart}
 use Rattle.board.specs.Order.{mostAbove}
-use Rattle.board.specs.Stack.{Level, fresh, closeTo, unplacedAt, unplaced, entered, opened, enter, sharedAfter, unplacedFrom}
+use Rattle.board.specs.Stack.{Level, fresh, closeTo, unplacedAt, entered, opened, enter, sharedAfter, unplacedFrom}
 use Rattle.board.specs.Levels.{levelAt, deepest, foundIn, openAfter}
 
 -- ---- finding

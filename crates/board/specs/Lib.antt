@@ -7,6 +7,7 @@ pub mod Order
 pub mod OrderLaws
 pub mod Stack
 pub mod StackLaws
+pub mod OrderedLaws
 pub mod Levels
 pub mod LevelsLaws
 pub mod Board

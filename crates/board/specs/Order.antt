@@ -1,7 +1,7 @@
 -- Document 01, "The board": parents, order, depth and function 0 (23), each said of one function and the records before it.
 -- Records before a function stand nearest first; n is the number of the nearest, and so of all of them. Assumes nothing.
 use Prim.Native.Nat.{ℕ, zero, suc, _/_, _%_}
-use mathlib.Core.Bool.{Bool, true, false, cond, not, _&&_, _||_}
+use mathlib.Core.Bool.{Bool, false, cond, not, _&&_, _||_}
 use mathlib.Core.List.{List, [], _∷_, _++_}
 use lib.ListN.{length}
 use lib.Dec.{eqb, ltb}

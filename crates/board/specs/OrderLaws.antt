@@ -1,8 +1,8 @@
 -- What a function that is not misplaced keeps, and the laws of the bridges above and of those that may be parents. Assumes nothing.
 use mathlib.Core.Path.{_≡_, refl, sym, ap, _∙_}
-use mathlib.Core.Bool.{Bool, true, false, cond, not, _&&_, _||_, true≢false, false≢true}
+use mathlib.Core.Bool.{Bool, true, false, cond, not, _||_, true≢false, false≢true}
 use mathlib.Core.List.{List, [], _∷_, _++_}
-use Prim.Native.Nat.{ℕ, zero, suc, _/_, _%_, _≤_, _<_}
+use Prim.Native.Nat.{ℕ, zero, suc, _≤_, _<_}
 use native.Mathlib.Omega.{arith}
 use lib.ListN.{length, drop}
 use lib.Dec.{eqb, ltb, eqb·zero-suc}
@@ -11,7 +11,7 @@ use Rattle.placing.specs.Lists.{All, any}
 use Rattle.placing.specs.ListLaws.{all-imp, all-append}
 use Rattle.board.specs.declared.Function.{Function}
 use Rattle.board.specs.Function.{isBridge}
-use Rattle.board.specs.Order.{above, parents, lastSibling, isShared, isFunctionZero, hasFunctionZero, mostAbove, misplaced, anyMisplaced}
+use Rattle.board.specs.Order.{above, parents, lastSibling, hasFunctionZero, mostAbove, misplaced}
 
 -- ---- what 23 leaves true of a function and the records before it
 

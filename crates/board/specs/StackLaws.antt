@@ -1,8 +1,8 @@
 -- The open buses tell 23 as document 01 does: `unplacedFrom` from the host's bus on is `anyMisplaced`. Assumes nothing.
 use mathlib.Core.Path.{_≡_, refl, sym, ap, ap₂, _∙_}
-use mathlib.Core.Bool.{Bool, true, false, cond, not, _&&_, _||_, true≢false, false≢true}
-use mathlib.Core.List.{List, [], _∷_, _++_, map}
-use Prim.Native.Nat.{ℕ, zero, suc, _+_, _*_, _/_, _%_, _≤_, _<_}
+use mathlib.Core.Bool.{Bool, true, false, cond, not, _&&_, _||_, false≢true}
+use mathlib.Core.List.{List, [], _∷_, map}
+use Prim.Native.Nat.{ℕ, suc, _/_, _≤_, _<_}
 use native.Mathlib.Omega.{arith}
 use lib.ListN.{length, drop, length-map, length-append}
 use lib.Dec.{eqb, ltb, eqb·zero-suc, eqb·suc-suc}
@@ -63,10 +63,10 @@ zero-test : (p d : ℕ) (g : Function) (before : List Function) (a b c : Bool) �
 unfolding any
 zero-test p d g before a b c e h k = rw (e, h, k)
 
-sibling-same : (p : ℕ) (g : Function) (before : List Function) → eqb (g .parent) p ≡ true → lastSibling p (g ∷ before) ≡ suc (g .devfn)
+pub sibling-same : (p : ℕ) (g : Function) (before : List Function) → eqb (g .parent) p ≡ true → lastSibling p (g ∷ before) ≡ suc (g .devfn)
 sibling-same p g before e = ap (λ (l : Level). l .next) (level-same p g before e)
 
-sibling-other : (p : ℕ) (g : Function) (before : List Function) → eqb (g .parent) p ≡ false → lastSibling p (g ∷ before) ≡ lastSibling p before
+pub sibling-other : (p : ℕ) (g : Function) (before : List Function) → eqb (g .parent) p ≡ false → lastSibling p (g ∷ before) ≡ lastSibling p before
 sibling-other p g before e = ap (λ (l : Level). l .next) (level-other p g before e)
 
 -- none of a device above all siblings

@@ -10,7 +10,7 @@ ghost use lib.Dec.{ltb};
 ghost use Rattle.placing.specs.Lists.{any};
 ghost use Rattle.records.specs.Records.{partsOf, partsFrom, anyPart};
 ghost use Rattle.board.specs.Host.{hostLength, hostOfPart, offEdges, outside as isOutside, poolWrong, hostWrong};
-ghost use Rattle.board.specs.Function.{readbacksFor, functionOfPart, headerWrong, readbacksWrong};
+ghost use Rattle.board.specs.Function.{readbacksFor, functionOfPart, wrongFor, headerWrong, readbacksWrong};
 ghost use Rattle.board.specs.Board.{mostFunctions, misframed as isMisframed, tailMisframed, boardNumber};
 use pools::Pool;
 use records::Next;
@@ -236,14 +236,17 @@ pub fn header_wrong(part: &[u8]) -> bool
     if part.len() < 4 {
         return true;
     }
-    let kind = part[3] % 128;
-    if kind == 0 {
-        return part.len() != 30;
+    wrong_for(part.len(), part[3])
+}
+
+// A header type other than 0 and 1, or another length than its.
+fn wrong_for(n: usize, header: u8) -> bool
+    ensures { λ r. ⌜ r ≡ wrongFor n header ⌝ }
+{
+    if header % 128 == 1 {
+        return n != 14;
     }
-    if kind == 1 {
-        return part.len() != 14;
-    }
-    true
+    (header % 128 != 0) | (n != 30)
 }
 
 // ---- 26

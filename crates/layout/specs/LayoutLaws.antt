@@ -1,15 +1,15 @@
--- A sheet's bytes as they are written: the parts of a record in the order of the writer's calls, their lengths, and that all are bytes.
--- Assumes nothing.
+-- A sheet's bytes as they are written: the parts of a record in the order of the writer's calls, and their lengths. Assumes nothing.
 use mathlib.Core.Path.{_≡_, refl, sym, ap, ap₂, _∙_}
 use mathlib.Core.Bool.{Bool, true, false, cond}
-use mathlib.Core.List.{List, [], _∷_, _++_, flatMap, append-assoc}
+use mathlib.Core.List.{List, [], _∷_, _++_, flatMap, append-assoc, append-nil}
 use Prim.Native.Nat.{ℕ, zero, suc, _+_, _*_, _/_, _%_, _≤_, _<_}
-use native.Mathlib.Nat.{zero-mul, suc-mul, add-comm}
+use native.Mathlib.Nat.{zero-add, zero-mul, suc-mul}
 use native.Mathlib.Omega.{arith}
-use lib.ListN.{length, getD, take, length-append}
-use lib.Seq.{getD-take}
-use Rattle.endian.specs.Endian.{Bytes, beBytes, leBytes}
-use Rattle.endian.specs.EndianLaws.{length-beBytes, length-leBytes}
+use lib.ListN.{length, getD, take, drop, length-append}
+use lib.Seq.{sets, sets-eq, getD-take}
+use Rattle.endian.specs.Endian.{beBytes, leBytes}
+use Rattle.endian.specs.SetsLaws.{sets-append}
+use Rattle.endian.specs.EndianLaws.{length-beBytes}
 use Rattle.sheet.specs.Entry.{Entry, recordSize, isBridge}
 use Rattle.layout.specs.declared.Registers.{Registers}
 use Rattle.layout.specs.Layout.{Planned, zeros, dwordBytes, endBytes, numberBytes, memoryBytes, bridgeBytes, bodyBytes, commonBytes, configBytes, partBytes, recordBytes, sheetBytes, sheetLength, plannedOf}
@@ -31,6 +31,22 @@ length-dwordBytes k write l (suc n) vs i =
     length-append (write (getD vs i 0)) _
     ∙ ap₂ _+_ (l (getD vs i 0)) (length-dwordBytes k write l n vs (i + 1))
     ∙ omega (arith, suc-mul n k)
+
+-- three pairs of numbers, stored one after the other, are six
+pub sets-six : (write : ℕ → List ℕ) → ((x : ℕ) → length (write x) ≡ 4)
+    → {o₁ o₂ o₃ : List ℕ} (o : List ℕ) (at : ℕ) (vs : List ℕ)
+    → o₁ ≡ sets o at (write (getD vs 0 0) ++ write (getD vs 1 0))
+    → o₂ ≡ sets o₁ (at + 8) (write (getD vs 2 0) ++ write (getD vs 3 0))
+    → o₃ ≡ sets o₂ (at + 16) (write (getD vs 4 0) ++ write (getD vs 5 0))
+    → o₃ ≡ sets o at (dwordBytes write 6 vs 0)
+unfolding dwordBytes
+sets-six write l o at vs p q r =
+    let two : ℕ → ℕ → List ℕ = λ i j. write (getD vs i 0) ++ write (getD vs j 0) in
+    let joined : two 0 1 ++ two 2 3 ++ two 4 5 ≡ dwordBytes write 6 vs 0 = simp (append-assoc, append-nil) in
+    sets-append o at 16 (two 0 1 ++ two 2 3) (two 4 5) (simp (length-append, l))
+    (sets-append o at 8 (two 0 1) (two 2 3) (simp (length-append, l)) p q)
+    r
+    ∙ ap (sets o at) joined
 
 -- a byte in two: the byte itself, then 0
 pub leBytes-of-byte : (x : ℕ) → x < 256 → leBytes 2 x ≡ x ∷ 0 ∷ []
@@ -59,7 +75,7 @@ module _ (r : Registers) where
 -- ## Lengths, whatever is planned
 
 pub length-common : (command header : ℕ) → length (commonBytes command header) ≡ 16
-unfolding commonBytes leBytes
+unfolding commonBytes beBytes leBytes
 length-common command header = refl
 
 pub length-body : (e : Entry) → length (bodyBytes e) ≡ 48
@@ -112,3 +128,27 @@ pub length-sheetBytes : (ps : List Planned) → length (sheetBytes ps) ≡ sheet
 unfolding sheetBytes flatMap
 length-sheetBytes [] = refl
 length-sheetBytes (p ∷ ps) = omega (arith, length-append (recordBytes p) (flatMap recordBytes ps), length-recordBytes p, length-sheetBytes ps)
+
+-- ## A sheet written record by record
+
+-- the next record stands after those before it
+pub sheetBytes-snoc : (ps : List Planned) (p : Planned) → sheetBytes (ps ++ p ∷ []) ≡ sheetBytes ps ++ recordBytes p
+unfolding sheetBytes flatMap
+sheetBytes-snoc [] p = ap (_∷_ 1) (append-nil (recordBytes p))
+sheetBytes-snoc (q ∷ ps) p =
+    let later : flatMap recordBytes (ps ++ p ∷ []) ≡ flatMap recordBytes ps ++ recordBytes p = ap (drop 1) (sheetBytes-snoc ps p) in
+    rw (later, append-assoc (recordBytes q) (flatMap recordBytes ps) (recordBytes p))
+
+-- one more turn of a loop that writes records
+pub sets-sheetBytes-snoc : {o₁ o₂ : List ℕ} (o : List ℕ) (ps : List Planned) (p : Planned)
+    → o₁ ≡ sets o 0 (sheetBytes ps) → o₂ ≡ sets o₁ (sheetLength (length ps)) (recordBytes p) → o₂ ≡ sets o 0 (sheetBytes (ps ++ p ∷ []))
+sets-sheetBytes-snoc {o₁} o ps p e f =
+    rw (sheetBytes-snoc ps p)
+    (sets-append o 0 (sheetLength (length ps)) (sheetBytes ps) (recordBytes p) (length-sheetBytes ps) e
+    (f ∙ ap (λ (i : ℕ). sets o₁ i (recordBytes p)) (sym (zero-add (sheetLength (length ps))))))
+
+-- and the room that is left stays as it was
+pub sets-sheetBytes : (room : List ℕ) (ps : List Planned) → sheetLength (length ps) ≤ length room
+    → sets room 0 (sheetBytes ps) ≡ sheetBytes ps ++ drop (sheetLength (length ps)) room
+sets-sheetBytes room ps h =
+    sets-eq (sheetBytes ps) room 0 (omega (arith, length-sheetBytes ps)) ∙ rw (length-sheetBytes ps, zero-add (sheetLength (length ps)))

@@ -8,7 +8,7 @@ use native.Mathlib.Numerals.{add-one}
 use native.Mathlib.Omega.{arith}
 use lib.ListN.{length, getD, take, drop, length-append, drop-of-length-le}
 use lib.Seq.{take-at, drop-at, drop-cons}
-use borrow.Author.Tests.{le-ltb}
+use borrow.Author.Tests.{eq-eqb, le-ltb}
 use Rattle.endian.specs.Endian.{be, beBytes, le, leBytes}
 use Rattle.endian.specs.ByteOrder.{ByteOrder, length-write, read-write, read-write-at}
 use Rattle.endian.specs.EndianLaws.{big-endian, little-endian, be-beBytes, le-leBytes, length-beBytes}
@@ -17,9 +17,14 @@ use Rattle.pools.specs.declared.Pool.the-variants.{Low, High, Io}
 use Rattle.window.specs.declared.Window.{Window}
 use Rattle.window.specs.Window.{closed, Fits}
 use Rattle.window.specs.WindowLaws.{uppers-zero}
+use Rattle.records.specs.declared.Next.the-variants.{End, Record}
+use Rattle.records.specs.Records.{nextOf, Parts, partsOf}
+use Rattle.records.specs.RecordsLaws.{partsOf-step}
+use Rattle.walk.specs.Lists.{All}
 use Rattle.sheet.specs.Entry.{Entry, recordSize, dwords, isBridge, slotCount, idOf, commandOf, headerOf, primaryOf, secondaryOf, subordinateOf, windowOf, entryOf}
+use Rattle.sheet.specs.Sheet.{allSized, isFramed, Framed, partsIn, entriesFrom, entriesOf, commandsOf}
 use Rattle.layout.specs.Layout.{Planned, Dwords, NoBridge, Shaped, WellShaped, zeros, dwordBytes, endBytes, numberBytes, memoryBytes, bridgeBytes, bodyBytes, commonBytes, configBytes, partBytes, recordBytes, sheetBytes}
-use Rattle.layout.specs.LayoutLaws.{length-common, length-body, length-partBytes}
+use Rattle.layout.specs.LayoutLaws.{length-common, length-body, length-partBytes, length-recordBytes, length-sheetBytes}
 
 -- ## Numbers in rows, once for both orders of bytes
 
@@ -197,3 +202,68 @@ entryOf-partBytes p w = go (isBridge (p .entry .header)) refl
           readbacks-partBytes p (w .readback-count) (w .readbacks),
         )
         (plain-of-no-bridge (p .entry) (w .no-bridge h))
+
+-- ## A whole sheet
+
+-- a record's length is that of its part, so the frame is found again
+nextOf-recordBytes : (p : Planned) (rest : List ℕ) → nextOf (recordBytes p ++ rest) ≡ Record recordSize
+unfolding nextOf recordBytes beBytes
+nextOf-recordBytes p rest =
+    let l : length (partBytes p ++ rest) ≡ 90 + length rest = length-append (partBytes p) rest ∙ rw (length-partBytes p) in
+    rw (le-ltb (length (partBytes p ++ rest)) 90 (omega arith))
+
+take-recordBytes : (p : Planned) (rest : List ℕ) → take recordSize (drop 2 (recordBytes p ++ rest)) ≡ partBytes p
+unfolding recordBytes beBytes
+take-recordBytes p rest = take-at (partBytes p) rest recordSize (length-partBytes p)
+
+drop-recordBytes : (p : Planned) (rest : List ℕ) → drop (2 + recordSize) (recordBytes p ++ rest) ≡ rest
+drop-recordBytes p rest = drop-at (recordBytes p) rest 92 (length-recordBytes p)
+
+-- the parts of a sheet are those of its functions in order, and their lengths end at the end
+pub partsOf-records : (ps : List Planned) → partsOf (flatMap recordBytes ps) ≡ record { parts = map partBytes ps; whole = true }
+unfolding flatMap nextOf
+partsOf-records [] = partsOf-step [] End refl
+partsOf-records (p ∷ ps) =
+    let rest = flatMap recordBytes ps in
+    partsOf-step (recordBytes p ++ rest) (Record recordSize) (nextOf-recordBytes p rest)
+    ∙ rw (take-recordBytes p rest, drop-recordBytes p rest, partsOf-records ps)
+
+pub partsOf-sheetBytes : (ps : List Planned) → partsOf (drop 1 (sheetBytes ps)) ≡ record { parts = map partBytes ps; whole = true }
+unfolding sheetBytes
+partsOf-sheetBytes ps = partsOf-records ps
+
+allSized-partBytes : (ps : List Planned) → allSized (map partBytes ps) ≡ true
+unfolding allSized
+allSized-partBytes [] = refl
+allSized-partBytes (p ∷ ps) = rw (eq-eqb _ _ (length-partBytes p)) (allSized-partBytes ps)
+
+-- a planned sheet passes the check of its frame
+pub framed-sheetBytes : (ps : List Planned) → Framed 1 (sheetBytes ps)
+unfolding isFramed
+framed-sheetBytes ps =
+    record {
+      inside = omega (arith, length-sheetBytes ps);
+      sized = rw (partsOf-sheetBytes ps) (allSized-partBytes ps);
+    }
+
+pub partsIn-sheetBytes : (ps : List Planned) → partsIn (sheetBytes ps) ≡ map partBytes ps
+partsIn-sheetBytes ps = ap (λ (r : Parts). r .parts) (partsOf-sheetBytes ps)
+
+entries-of-parts : (ps : List Planned) → All WellShaped ps → map entryOf (map partBytes ps) ≡ map (λ p. p .entry) ps
+unfolding All
+entries-of-parts [] w = refl
+entries-of-parts (p ∷ ps) w = ap₂ _∷_ (entryOf-partBytes p (w .0 .entry)) (entries-of-parts ps (w .1))
+
+commands-of-parts : (ps : List Planned) → All WellShaped ps → map commandOf (map partBytes ps) ≡ map (λ p. p .command) ps
+unfolding All
+commands-of-parts [] w = refl
+commands-of-parts (p ∷ ps) w = ap₂ _∷_ (commandOf-partBytes p (w .0 .command)) (commands-of-parts ps (w .1))
+
+-- the records that are read of a planned sheet are those planned, and so are its command words
+pub entriesOf-sheetBytes : (ps : List Planned) → All WellShaped ps → entriesOf (sheetBytes ps) ≡ map (λ p. p .entry) ps
+unfolding entriesFrom
+entriesOf-sheetBytes ps w = ap (map entryOf) (partsIn-sheetBytes ps) ∙ entries-of-parts ps w
+
+pub commandsOf-sheetBytes : (ps : List Planned) → All WellShaped ps → commandsOf (sheetBytes ps) ≡ map (λ p. p .command) ps
+unfolding commandsOf
+commandsOf-sheetBytes ps w = ap (map commandOf) (partsIn-sheetBytes ps) ∙ commands-of-parts ps w

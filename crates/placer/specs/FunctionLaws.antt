@@ -8,15 +8,13 @@ use native.Mathlib.Omega.{arith}
 use native.Mathlib.Nat.{add-zero}
 use lib.Dec.{eqb}
 use lib.ListN.{getD, drop}
-use borrow.Author.Tests.{eq-eqb, ne-eqb, eqb-true}
+use borrow.Author.Tests.{eq-eqb, ne-eqb}
 use Rattle.pools.specs.declared.Pool.{Pool}
 use Rattle.pools.specs.declared.Pool.the-variants.{Low as low, High as high, Io as io}
 use Rattle.pools.specs.Pools.{samePool}
 use Rattle.bar.specs.declared.Slot.{Slot}
 use Rattle.bar.specs.declared.Slot.the-variants.{Unused, Bar, Upper, Bad}
 use Rattle.bar.specs.Values.{valueOf, registersOf}
-use Rattle.window.specs.declared.Window.{Window}
-use Rattle.window.specs.Window.{closed, opened}
 use Rattle.placing.specs.Order.{true-or-false, both-of-and}
 use Rattle.placing.specs.Lists.{All, keep}
 use Rattle.placing.specs.ListLaws.{all-append, all-imp, all-imp₂, all-keep, all-of-keep, keep-none, keep-append}
@@ -25,17 +23,17 @@ use Rattle.placing.specs.PoolLaws.{same-pool-refl, eq-of-same-pool, is-on-of-on
 use Rattle.placing.specs.Records.{Function}
 use Rattle.placing.specs.Records as placing
 use Rattle.placing.specs.RecordLaws.{false-of-not}
-use Rattle.placing.specs.Layout.{Part, bar, window, Piece, Placed, endOf, isWindow, isOn, select, isPlacedOn, selectPlaced, startAt, endAt, layout, layoutEnd}
+use Rattle.placing.specs.Layout.{Part, bar, window, Piece, Placed, isWindow, isOn, select, isPlacedOn, selectPlaced, startAt, endAt, layout, layoutEnd}
 use Rattle.placing.specs.LayoutLaws.{layout-end-append}
 use Rattle.placing.specs.Pieces.{windowPiece, windowOver, barPiece, barPieces, windowPieces, ownPieces}
-use Rattle.placing.specs.PieceLaws.{Own, BarsSized, own-pieces, Shaped, has-align, WindowOf, window-of-is, own-one}
-use Rattle.placing.specs.Placing.{Cursors, isWindowOf, moved, place, cursorsAfter}
+use Rattle.placing.specs.PieceLaws.{Own, BarsSized, own-pieces, Shaped, has-align, window-of-is, own-one}
+use Rattle.placing.specs.Placing.{Cursors, isWindowOf, place, cursorsAfter}
 use Rattle.placing.specs.PlacingLaws.{after, Unopened, all-place, place-select, cursors-select, opened-at}
 use Rattle.placing.specs.Sizing.{Extent, nothing, extend}
 use Rattle.placing.specs.Sizing as sizing
 use Rattle.placing.specs.ExtentLaws.{window-over-extent, select-windows}
 use Rattle.placer.specs.Registers.{barsFrom, isPart, isWindowIn, barStart, windowFor, valuesFrom}
-use Rattle.placer.specs.Function.{Ends, startOf, afterBar, barStarts, afterBars, registersAt, valuesAt, isEmpty, windowStart, windowStop, afterWindow, belowWindow, windowAt, afterFunction, belowFunction, windowOf}
+use Rattle.placer.specs.Function.{Ends, afterBar, barStarts, afterBars, valuesAt, isEmpty, windowStart, windowStop, afterFunction, belowFunction}
 use Rattle.placer.specs.PassLaws.{firstOf, first-none, bar-start-first}
 
 -- ## BARs
@@ -49,7 +47,7 @@ after-bar k b s q wide z c = λ i p. each p i
     each p = rw (eq-eqb b b refl)
 
 -- xs is what the board has; from slot s on its BARs of record k are those of the pieces still to be placed
-abbrev Left : ℕ → ℕ → List Placed → List Piece → ℕ → List Slot → Cursors → Type 0
+abbrev pub Left : ℕ → ℕ → List Placed → List Piece → ℕ → List Slot → Cursors → Type 0
 Left k b xs w s ss c = (j : ℕ) → s ≤ j → barStart k j xs ≡ barStart k j (place c (barPieces k b (barsFrom s ss) ++ w))
 
 module _ (k b : ℕ) (xs : List Placed) (w : List Piece) (cut : ℕ → ℕ) (same : (j : ℕ) → cut (barStart k j xs) ≡ barStart k j xs) where

@@ -1,34 +1,31 @@
 -- The plan's registers of the record at index i, and the cursors after it, are those of one function from the cursors of its bus before it; also with
 -- every address cut at a limit that nothing on the board passes. Assumes nothing.
 use mathlib.Core.Path.{_≡_, refl, sym, ap, ap₂, subst, _∙_}
-use mathlib.Core.Logic.{⊎-elim}
 use mathlib.Core.Bool.{Bool, true, false, cond, _&&_}
-use mathlib.Core.List.{List, [], _∷_, _++_, map}
-use Prim.Native.Nat.{ℕ, zero, suc, _+_, _≤_, _<_}
+use mathlib.Core.List.{List, [], _∷_, map}
+use Prim.Native.Nat.{ℕ, suc, _≤_, _<_}
 use native.Mathlib.Omega.{arith}
 use lib.Dec.{eqb}
 use lib.ListN.{getD, drop}
 use Rattle.pools.specs.declared.Pool.{Pool}
 use Rattle.bar.specs.declared.Slot.{Slot}
-use Rattle.window.specs.declared.Window.{Window}
-use Rattle.window.specs.Window.{closed, opened}
+use Rattle.window.specs.Window.{closed, opened, bound}
 use Rattle.placing.specs.Lists.{All}
 use Rattle.placing.specs.ListLaws.{all-of, all-imp, all-drop, all-forall}
 use Rattle.placing.specs.Records.{Host, Function, Sized, Lawful, DepthFirst}
 use Rattle.placing.specs.RecordLaws.{IsAt, ordered-from}
-use Rattle.placing.specs.Layout.{Piece, Placed, endOf}
-use Rattle.placing.specs.LayoutLaws.{Within}
-use Rattle.placing.specs.Pieces.{pieces, barPieces, windowPieces, ownPieces}
+use Rattle.placing.specs.Layout.{Placed, endOf}
+use Rattle.placing.specs.Pieces.{pieces, windowPieces, ownPieces}
 use Rattle.placing.specs.PieceLaws.{BarsSized, Shaped, pieces-shaped}
 use Rattle.placing.specs.Placing.{Cursors, placed}
 use Rattle.placing.specs.Placed.{in-pool}
 use Rattle.placing.specs.Refusals.{Kept}
 use Rattle.placing.specs.Sizing.{Extent, busLaid, laidFrom}
-use Rattle.placing.specs.Cap.{cap, limit, cap-small}
+use Rattle.placing.specs.Cap.{cap, cap-small}
 use Rattle.placer.specs.Registers.{barsFrom, isPart, isWindowIn, barStart, windowFor, valuesFrom}
 use Rattle.placer.specs.Function.{Ends, barStarts, afterBars, valuesAt, isEmpty, windowStart, windowStop, windowAt, windowOf, afterFunction, belowFunction}
 use Rattle.placer.specs.Pass.{cursorsAt}
-use Rattle.placer.specs.PassLaws.{firstOf, first-split, window-for-first, bar-start-split, ownAt, cursors-at-step, record-split}
+use Rattle.placer.specs.PassLaws.{firstOf, first-split, bar-start-split, cursors-at-step, record-split}
 use Rattle.placer.specs.FunctionLaws.{values-left, own-starts, own-window, own-cursor, below-cursor, other-cursor}
 
 map-id : (xs : List ℕ) → map (λ x. x) xs ≡ xs
@@ -62,14 +59,20 @@ window-for-whole cut (x ∷ xs) h g k q =
 
 -- ## The record at index i, with these slots
 
-module _ (h : Host) (fs : List Function) (lawful : Lawful fs) (i : ℕ) (f : Function) (at : IsAt fs i f) (ss : List Slot) (bars : f .bars ≡ barsFrom 0 ss) where
-  -- the cursors of its bus before it
-  abbrev pub before : Ends
-  before = cursorsAt h fs i (f .parent)
+-- the cursors of its bus before it
+abbrev pub busBefore : Host → List Function → ℕ → Function → Ends
+busBefore h fs i f = cursorsAt h fs i (f .parent)
 
-  -- what its own bus comes to
-  abbrev pub inner : Pool → Extent
-  inner = busLaid fs (suc i) (laidFrom (suc i)) .extent
+-- what its own bus comes to
+abbrev pub insideOf : List Function → ℕ → Pool → Extent
+insideOf fs i = busLaid fs (suc i) (laidFrom (suc i)) .extent
+
+module _ (h : Host) (fs : List Function) (lawful : Lawful fs) (i : ℕ) (f : Function) (at : IsAt fs i f) (ss : List Slot) (bars : f .bars ≡ barsFrom 0 ss) where
+  abbrev before : Ends
+  before = busBefore h fs i f
+
+  abbrev inner : Pool → Extent
+  inner = insideOf fs i
 
   sized-here : Sized (f ∷ drop (suc i) fs)
   sized-here = subst Sized at (all-drop BarsSized i fs (lawful .sized))
@@ -144,18 +147,21 @@ module _ (h : Host) (fs : List Function) (lawful : Lawful fs) (i : ℕ) (f : Fun
 
 -- ## Where every pool is kept
 
--- pools end below 2^52
+-- nothing runs out; pools end below 2^52, and within the addresses of their kind
 pub record Room (h : Host) (fs : List Function) : Type 0 where
   pub kept : (q : Pool) → Kept h fs q
   pub low : (q : Pool) → h .last q < 4503599627370496
+  pub fits : (q : Pool) → h .last q < bound q
 
+pub all-in-pool : (h : Host) (fs : List Function) → Lawful fs → Room h fs → All (λ x. endOf x ≤ suc (h .last (x .piece .pool))) (placed h fs)
+all-in-pool h fs lawful room =
+    all-imp _ _ (placed h fs) (all-forall _ (placed h fs) (λ (q : Pool). in-pool h fs lawful q (room .kept q))) (λ x w. w (x .piece .pool) refl .to-end)
+
+-- so that a cut at 2^62 leaves every address as it is
 pub whole-of-room : (h : Host) (fs : List Function) → Lawful fs → Room h fs → Whole cap (placed h fs)
 whole-of-room h fs lawful room =
     record {
       none = refl;
-      starts = all-imp _ _ (placed h fs) inside (λ x w. let v = w (x .piece .pool) refl in cap-small (x .start) (omega (arith, v .to-end, room .low (x .piece .pool))));
-      ends = all-imp _ _ (placed h fs) inside (λ x w. let v = w (x .piece .pool) refl in cap-small (endOf x) (omega (arith, v .to-end, room .low (x .piece .pool))));
+      starts = all-imp _ _ (placed h fs) (all-in-pool h fs lawful room) (λ x l. cap-small (x .start) (omega (arith, room .low (x .piece .pool))));
+      ends = all-imp _ _ (placed h fs) (all-in-pool h fs lawful room) (λ x l. cap-small (endOf x) (omega (arith, room .low (x .piece .pool))));
     }
-  where
-    inside : All (λ x. (q : Pool) → x .piece .pool ≡ q → Within (h .base q) (suc (h .last q)) x) (placed h fs)
-    inside = all-forall _ (placed h fs) (λ (q : Pool). in-pool h fs lawful q (room .kept q))

@@ -2,6 +2,14 @@
 pub mod Registers
 pub mod Function
 pub mod Pass
+pub mod Kept
+pub mod Examples
 pub mod PassLaws
 pub mod FunctionLaws
 pub mod JoinLaws
+pub mod CapLaws
+pub mod NumberLaws
+pub mod KeptLaws
+pub mod WordLaws
+pub mod LoopLaws
+pub mod TurnLaws

@@ -1,9 +1,9 @@
 -- The pass by index: what lies before a record, its own pieces, what comes after; so that a record's registers are told by its own pieces.
 -- Assumes nothing.
-use mathlib.Core.Path.{_≡_, refl, sym, ap, ap₂, _∙_}
-use mathlib.Core.Bool.{Bool, true, false, cond, _&&_}
+use mathlib.Core.Path.{_≡_, refl, sym, ap, _∙_}
+use mathlib.Core.Bool.{Bool, false, cond, _&&_}
 use mathlib.Core.List.{List, [], _∷_, _++_, append-assoc, cons≢nil}
-use Prim.Native.Nat.{ℕ, zero, suc, _+_, _≤_, _<_}
+use Prim.Native.Nat.{ℕ, zero, suc, _+_, _<_}
 use native.Mathlib.Omega.{arith}
 use native.Mathlib.Nat.{add-zero}
 use lib.Dec.{eqb}
@@ -11,7 +11,6 @@ use lib.ListN.{drop}
 use lib.Seq.{drop-nil}
 use borrow.Author.Tests.{ne-eqb}
 use Rattle.pools.specs.declared.Pool.{Pool}
-use Rattle.window.specs.declared.Window.{Window}
 use Rattle.window.specs.Window.{closed, opened}
 use Rattle.placing.specs.Lists.{All}
 use Rattle.placing.specs.ListLaws.{all-imp, all-append}

@@ -4,12 +4,9 @@ use mathlib.Core.Logic.{⊎-elim}
 use mathlib.Core.List.{List, [], _∷_, Memᴰ·map, Memᴰ·of-map}
 use Prim.Native.Nat.{ℕ, zero, suc, _≤_, _<_}
 use native.Mathlib.Omega.{arith}
-use lib.ListN.{length, List·getD-eq-default, length-map}
-use lib.Seq.{drop-cons}
-use Rattle.placing.specs.Order.{le-or-lt}
-use Rattle.placing.specs.Records.{Host, Function, DepthFirst, Lawful}
-use Rattle.placing.specs.RecordLaws.{ordered-from}
-use Rattle.placing.specs.Preorder.{noFunction, parentOf}
+use lib.ListN.{length, length-map}
+use Rattle.placing.specs.Records.{Host, Function, Lawful}
+use Rattle.placing.specs.Preorder.{parentOf}
 use Rattle.placing.specs.Placing.{placed}
 use Rattle.placing.specs.Numbering.{Numbered}
 use Rattle.placing.specs.RefusalLaws.{BusesKept}
@@ -23,7 +20,7 @@ use Rattle.walk.specs.Delivery.{bridgesAbove}
 use Rattle.planned.specs.Spaces.{Space, memorySpace}
 use Rattle.planned.specs.Boards.{Board}
 use Rattle.planned.specs.Registers.{planNode, planRows, planNodes, planRegister, planRegisters, planHost}
-use Rattle.planned.specs.Rows.{Row}
+use Rattle.planned.specs.Rows.{Row, parent-before}
 use Rattle.planned.specs.BusRanges.{ParentRow, parent-row, row-of}
 use Rattle.planned.specs.Tree.{bridges-rise, planned-tree}
 use Rattle.planned.specs.Items.{nodes-plan}
@@ -32,19 +29,6 @@ use Rattle.planned.specs.Above.{stepUp, aboveWithin, aboveByParents}
 step-up-pos : (p : ℕ) (on : ℕ → List ℕ) → 0 < p → stepUp p on ≡ p ∷ on p
 step-up-pos zero on l = absurd (omega arith)
 step-up-pos (suc p) on l = refl
-
--- On a lawful board a record's parent comes before it
-pub parent-before : {fs : List Function} → Lawful fs → (i : ℕ) → parentOf fs (suc i) ≤ i
-parent-before {fs} lawful i = ⊎-elim past there (le-or-lt (length fs) i)
-  where
-    past : length fs ≤ i → parentOf fs (suc i) ≤ i
-    past l = omega (arith, ap (λ (f : Function). f .parent) (List·getD-eq-default fs noFunction l))
-
-    there : i < length fs → parentOf fs (suc i) ≤ i
-    there l =
-        let o = ordered-from fs (lawful .ordered) i in
-        let d = subst (DepthFirst (o .allowed) (suc i)) (drop-cons fs i noFunction l) (o .ordered) in
-        omega (arith, o .bounded (parentOf fs (suc i)) (d .0))
 
 -- The bound does not matter
 above-within-agree : {fs : List Function} → Lawful fs → (m n k : ℕ) → k ≤ m → k ≤ n → aboveWithin m fs k ≡ aboveWithin n fs k

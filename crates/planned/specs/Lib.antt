@@ -14,8 +14,10 @@ pub mod Kept
 pub mod Nested
 pub mod Disjoint
 pub mod PlannedGood
+pub mod RecordPieces
 pub mod AboveLaws
 pub mod DeliveryLaws
 pub mod NestedAndApart
 pub mod RefusedExactly
 pub mod Ids
+pub mod Examples

@@ -1,11 +1,11 @@
--- Between the two ways of saying something of a list: `All`, `Some` and `Pairwise` of placing, by membership and as the walk has them.
--- Assumes nothing.
-use mathlib.Core.Path.{_≡_, refl, sym, subst, _∙_}
+-- Between the two ways of saying something of a list: `All`, `Some` and `Pairwise` of placing, by membership and as the walk has them; and the
+-- part of a list that passes a test. Assumes nothing.
+use mathlib.Core.Path.{_≡_, refl, sym, ap, subst, _∙_}
 use mathlib.Core.Logic.{_⊎_, inl, inr, ⊎-elim, _↔_}
-use mathlib.Core.Bool.{Bool, true, false, cond}
-use mathlib.Core.List.{List, [], _∷_, List·Memᴰ·head, List·Memᴰ·tail, List·Memᴰ·not-nil, List·Memᴰ·cases-cons}
+use mathlib.Core.Bool.{Bool, true, false, cond, _&&_}
+use mathlib.Core.List.{List, [], _∷_, map, List·Memᴰ·head, List·Memᴰ·tail, List·Memᴰ·not-nil, List·Memᴰ·cases-cons}
 use Rattle.placing.specs.Lists.{All, Some, Pairwise}
-use Rattle.walk.specs.Lists.{_∈_, select, select-elim, all-intro, all-elim}
+use Rattle.walk.specs.Lists.{_∈_, select, select-elim, select-none, all-intro, all-elim}
 use Rattle.walk.specs.Lists.{All as WalkAll, Pairwise as WalkPairwise}
 
 module _ {A : Type 0} (P : A → Type 0) where
@@ -60,3 +60,34 @@ module _ {A : Type 0} (R : A → A → Type 0) where
       go : (b : Bool) → WalkPairwise R (select p xs) → WalkPairwise R (cond b (x ∷ select p xs) (select p xs))
       go true rest = (all-intro _ _ (λ y m. all-elim (R x) xs (h .0) (select-elim p xs m .0)), rest)
       go false rest = rest
+
+module _ {A : Type 0} (p : A → Bool) where
+  pub select-all : (xs : List A) → All (λ x. p x ≡ true) xs → select p xs ≡ xs
+  unfolding select
+  select-all [] h = refl
+  select-all (x ∷ xs) h = rw (h .0) (ap (x ∷_) (select-all xs (h .1)))
+
+  pub select-nothing : (xs : List A) → All (λ x. p x ≡ false) xs → select p xs ≡ []
+  select-nothing xs h = select-none p xs (all-agree _ xs .0 h)
+
+  -- Two tests at once, or one after the other
+  pub select-and : (q : A → Bool) (xs : List A) → select (λ x. p x && q x) xs ≡ select q (select p xs)
+  unfolding select
+  select-and q [] = refl
+  select-and q (x ∷ xs) = go (p x) (select-and q xs)
+    where
+      go : (a : Bool) → select (λ y. p y && q y) xs ≡ select q (select p xs)
+          → cond (a && q x) (x ∷ select (λ y. p y && q y) xs) (select (λ y. p y && q y) xs) ≡ select q (cond a (x ∷ select p xs) (select p xs))
+      go true e = ap (λ (zs : List A). cond (q x) (x ∷ zs) zs) e
+      go false e = e
+
+  -- A test of what a function gives
+  pub map-select : {B : Type 0} (f : B → A) (xs : List B) → map f (select (λ x. p (f x)) xs) ≡ select p (map f xs)
+  unfolding select
+  map-select f [] = refl
+  map-select f (x ∷ xs) = go (p (f x)) (map-select f xs)
+    where
+      go : (a : Bool) → map f (select (λ y. p (f y)) xs) ≡ select p (map f xs)
+          → map f (cond a (x ∷ select (λ y. p (f y)) xs) (select (λ y. p (f y)) xs)) ≡ cond a (f x ∷ select p (map f xs)) (select p (map f xs))
+      go true e = ap (f x ∷_) e
+      go false e = e

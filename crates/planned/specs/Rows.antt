@@ -1,17 +1,19 @@
 -- What holds of each numbered record and of each placed piece by the record's number: its parent, its bus, that it has a row.
 -- Assumes nothing.
 use mathlib.Core.Path.{_≡_, refl, sym, ap, subst, _∙_}
-use mathlib.Core.Logic.{inl, inr}
+use mathlib.Core.Logic.{inl, inr, ⊎-elim}
 use mathlib.Core.Bool.{true}
 use mathlib.Core.List.{List, [], _∷_, cons≢nil, head-eq-of-cons-eq}
 use Prim.Native.Nat.{ℕ, zero, suc, _≤_, _<_}
 use native.Mathlib.Omega.{arith}
-use lib.ListN.{length, drop, length-drop}
+use lib.ListN.{length, drop, length-drop, List·getD-eq-default}
+use lib.Seq.{drop-cons}
+use Rattle.placing.specs.Order.{le-or-lt}
 use Rattle.placing.specs.Lists.{All, Some, Pairwise}
 use Rattle.placing.specs.ListLaws.{all-imp, drop-suc}
 use Rattle.placing.specs.Records.{Host, Function, DepthFirst, Lawful, Sized}
 use Rattle.placing.specs.RecordLaws.{ordered-from}
-use Rattle.placing.specs.Preorder.{parentOf}
+use Rattle.placing.specs.Preorder.{noFunction, parentOf}
 use Rattle.placing.specs.Pieces.{pieces}
 use Rattle.placing.specs.PieceLaws.{all-pieces}
 use Rattle.placing.specs.Placing.{fromBases, placed}
@@ -37,6 +39,19 @@ parent-at zero (g ∷ l) f fs e = ap (λ (x : Function). x .parent) (head-eq-of-
 parent-at (suc i) [] f fs e = absurd (cons≢nil (sym e))
 parent-at (suc i) (g ∷ l) f fs e = parent-at i l f fs e
 
+-- On a lawful board a record's parent comes before it
+pub parent-before : {fs : List Function} → Lawful fs → (i : ℕ) → parentOf fs (suc i) ≤ i
+parent-before {fs} lawful i = ⊎-elim past there (le-or-lt (length fs) i)
+  where
+    past : length fs ≤ i → parentOf fs (suc i) ≤ i
+    past l = omega (arith, ap (λ (f : Function). f .parent) (List·getD-eq-default fs noFunction l))
+
+    there : i < length fs → parentOf fs (suc i) ≤ i
+    there l =
+        let o = ordered-from fs (lawful .ordered) i in
+        let d = subst (DepthFirst (o .allowed) (suc i)) (drop-cons fs i noFunction l) (o .ordered) in
+        omega (arith, o .bounded (parentOf fs (suc i)) (d .0))
+
 pub first-le-bus-number : (first : ℕ) (fs : List Function) (k : ℕ) → first ≤ busNumber first fs k
 unfolding busNumber
 first-le-bus-number first fs k = omega arith
@@ -48,19 +63,13 @@ module _ (first : ℕ) (fs : List Function) (lawful : Lawful fs) where
   rows-from i [] e h = tt
   rows-from i (f ∷ gs) e h = (row, rows-from (suc i) gs (drop-suc i fs f gs e) (h .1))
     where
-      before : f .parent < suc i
-      before =
-          let o = ordered-from fs (lawful .ordered) i in
-          let d = subst (DepthFirst (o .allowed) (suc i)) e (o .ordered) in
-          o .bounded (f .parent) (d .0)
-
       row : Row first fs (rowOf first fs (suc i) f)
       row =
           record {
             from-1 = omega arith;
             in-list = omega (arith, length-drop i fs, ap length e);
             parent-is = sym (parent-at i fs f gs e);
-            parent-before = before;
+            parent-before = omega (arith, parent-at i fs f gs e, parent-before lawful i);
             bus-is = refl;
             secondary-is = refl;
             subordinate-is = refl;

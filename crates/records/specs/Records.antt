@@ -41,6 +41,11 @@ partsOf s = partsOver (suc (length s)) s
 abbrev pub partsFrom : List ℕ → ℕ → List (List ℕ)
 partsFrom s at = partsOf (drop at s) .parts
 
+-- the bytes of records with these parts
+unfoldable pub total : List (List ℕ) → ℕ
+total [] = 0
+total (part ∷ parts) = 2 + length part + total parts
+
 -- some part passes the test
 unfoldable pub anyPart : (List ℕ → Bool) → List (List ℕ) → Bool
 anyPart test [] = false

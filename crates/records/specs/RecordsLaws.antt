@@ -4,16 +4,16 @@ use mathlib.Core.Path.{_≡_, refl, sym, ap, _∙_}
 use Prim.Native.Nat.{ℕ, zero, suc, _+_, _-_, _*_, _≤_, _<_}
 use native.Mathlib.Numerals.{add-one}
 use native.Mathlib.Omega.{arith}
-use mathlib.Core.Bool.{Bool, true, false, cond, _||_, true≢false}
+use mathlib.Core.Bool.{Bool, true, false, _||_, true≢false}
 use mathlib.Core.List.{List, [], _∷_}
-use lib.ListN.{length, getD, take, drop, length-take, length-drop, drop-of-length-le}
+use lib.ListN.{length, getD, take, drop, length-drop, drop-of-length-le}
 use lib.Seq.{drop-cons, drop-drop, length-take-le}
 use lib.Dec.{ltb}
 use borrow.Author.Tests.{ltb-false, lt-ltb, le-ltb}
 use Rattle.endian.specs.Endian.{be}
 use Rattle.records.specs.declared.Next.{Next}
 use Rattle.records.specs.declared.Next.the-variants.{End, Record, Broken}
-use Rattle.records.specs.Records.{nextOf, Parts, after, step, partsOver, partsOf, partsFrom, anyPart}
+use Rattle.records.specs.Records.{nextOf, Parts, after, step, partsOver, partsOf, partsFrom, anyPart, total}
 
 -- ---- a record that is found lies inside
 
@@ -54,6 +54,42 @@ partsOf-step s (Record n) e =
     (ap (after (take n (drop 2 s)))
     (partsOver-agree (length s) (suc (length (drop (2 + n) s))) (drop (2 + n) s)
     (omega (arith, fits-of-record s n e, length-drop (2 + n) s)) (omega arith)))
+
+-- ---- lengths that end at the end
+
+empty-of-end : (s : List ℕ) → nextOf s ≡ End → length s ≡ 0
+unfolding nextOf
+empty-of-end [] e = refl
+empty-of-end (a ∷ []) e = cc
+empty-of-end (a ∷ b ∷ s) e = go (ltb (length s) (a * 256 + b)) refl
+  where
+    go : (t : Bool) → ltb (length s) (a * 256 + b) ≡ t → suc (suc (length s)) ≡ 0
+    go true h = let p : Broken ≡ End = rw h at e in cc
+    go false h = let p : Record (a * 256 + b) ≡ End = rw h at e in cc
+
+length-over : (k : ℕ) (s : List ℕ) → length s < k → partsOf s .whole ≡ true → length s ≡ total (partsOf s .parts)
+unfolding total
+length-over zero s h w = absurd (omega arith)
+length-over (suc k) s h w = go (nextOf s) refl (length-over k)
+  where
+    sum : Parts → ℕ
+    sum r = total (r .parts)
+
+    go : (q : Next) → nextOf s ≡ q → ((t : List ℕ) → length t < k → partsOf t .whole ≡ true → length t ≡ total (partsOf t .parts))
+        → length s ≡ total (partsOf s .parts)
+    go End e on = empty-of-end s e ∙ sym (ap (λ (r : Parts). total (r .parts)) (partsOf-step s End e))
+    go Broken e on = absurd (true≢false (sym w ∙ ap (λ (r : Parts). r .whole) (partsOf-step s Broken e)))
+    go (Record n) e on =
+        let p = partsOf-step s (Record n) e in
+        let f = fits-of-record s n e in
+        let d = length-drop (2 + n) s in
+        let l : length (drop (2 + n) s) ≡ total (partsOf (drop (2 + n) s) .parts) =
+        on (drop (2 + n) s) (omega arith) (sym (ap (λ (r : Parts). r .whole) p) ∙ w) in
+        let m : length (take n (drop 2 s)) ≡ n = length-take-le n (drop 2 s) (omega (arith, length-drop 2 s)) in
+        omega (arith, ap (λ (r : Parts). total (r .parts)) p)
+
+pub length-of-whole : (s : List ℕ) → partsOf s .whole ≡ true → length s ≡ total (partsOf s .parts)
+length-of-whole s w = length-over (suc (length s)) s (omega arith) w
 
 -- ---- at a cursor
 

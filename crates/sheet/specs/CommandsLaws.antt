@@ -2,17 +2,16 @@
 -- function's command word is such a change, and changes that word alone. Assumes nothing.
 use mathlib.Core.Path.{_≡_, refl, sym, ap, ap₂, _∙_}
 use mathlib.Core.Bool.{Bool, true, false, cond}
-use mathlib.Core.List.{List, [], _∷_, map}
-use Prim.Native.Nat.{ℕ, zero, suc, _+_, _-_, _*_, _/_, _%_, _^_, _≤_, _<_}
-use native.Mathlib.Nat.{add-zero}
+use mathlib.Core.List.{List, [], _∷_}
+use Prim.Native.Nat.{ℕ, zero, suc, _+_, _-_, _*_, _/_, _≤_, _<_}
 use native.Mathlib.Omega.{arith}
-use lib.ListN.{length, getD, take, drop, set, length-take, length-drop, length-map, length-set, List·getD-map, List·getD-eq-default}
+use lib.ListN.{length, getD, take, drop, set, length-take, length-set, List·getD-eq-default}
 use lib.Seq.{sets, length-sets, getD-drop, getD-take, ext-getD, getD-set-same, getD-set-other}
 use lib.Dec.{eqb, leb, ltb}
 use borrow.Author.Tests.{eqb-true, eqb-false, ltb-true, ltb-false, leb-true, leb-false}
 use Rattle.endian.specs.Endian.{be, le, leBytes}
 use Rattle.endian.specs.SetsLaws.{getD-sets-before, getD-sets-after}
-use Rattle.endian.specs.EndianLaws.{be-agree, le-agree, le-take, le-drop, le-sets, le-sets-before, le-sets-after, length-leBytes}
+use Rattle.endian.specs.EndianLaws.{be-agree, le-agree, le-sets, le-sets-before, le-sets-after, length-leBytes}
 use Rattle.records.specs.declared.Next.{Next}
 use Rattle.records.specs.declared.Next.the-variants.{End, Record, Broken}
 use Rattle.records.specs.Records.{nextOf}
@@ -20,12 +19,12 @@ use Rattle.records.specs.RecordsLaws.{fits-at, next-end, next-stray, next-recor
 use Rattle.sheet.specs.declared.Space.{Space}
 use Rattle.sheet.specs.declared.Lookup.{Lookup}
 use Rattle.sheet.specs.declared.Lookup.the-variants.{Registers, Refused}
-use Rattle.sheet.specs.Entry.{recordSize, register, dwords, idOf, headerOf, commandOf, isBridge, slotCount, primaryOf, secondaryOf, subordinateOf, windowOf, Entry, entryOf}
-use Rattle.sheet.specs.Sheet.{isFramed, Framed, entriesFrom, entriesOf, commandsOf, partsIn, partAt, from20, from21, from22, sheetNumber}
+use Rattle.sheet.specs.Entry.{recordSize, dwords, headerOf, slotCount, windowOf, Entry, entryOf}
+use Rattle.sheet.specs.Sheet.{isFramed, Framed, entriesFrom, entriesOf, commandsOf, from20, from21, from22, sheetNumber}
 use Rattle.sheet.specs.Lookup.{lookupOf, withCommand}
 use Rattle.sheet.specs.Spaces.{functionsFrom, nodesFrom, registersOf, nodesOf}
 use Rattle.sheet.specs.Commands.{placeIn, SameButCommands}
-use Rattle.sheet.specs.FrameLaws.{framed-end, framed-broken, framed-other, framed-on, FramedAt, framed-at, length-framed, part-index}
+use Rattle.sheet.specs.FrameLaws.{framed-end, framed-broken, framed-other, framed-on, framed-at, length-framed}
 use Rattle.sheet.specs.CheckLaws.{partFrom, entries-on, entries-past, first-at, past-of-nil}
 use Rattle.sheet.specs.IndexLaws.{length-commands, command-index}
 use Rattle.sheet.specs.LookupLaws.{LookedUp, looked-up}

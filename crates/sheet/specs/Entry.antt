@@ -11,7 +11,7 @@ use Rattle.pools.specs.declared.Pool.the-variants.{Low, High, Io}
 use Rattle.window.specs.declared.Window.{Window}
 use Rattle.window.specs.Window.{closed}
 
--- the length of a record's part, and of the whole record with its length
+-- the length of a record's part; with its own length before it a record takes 92 bytes of the sheet
 abbrev pub recordSize : ℕ
 recordSize = 90
 

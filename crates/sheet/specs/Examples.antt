@@ -1,7 +1,7 @@
 -- Worked examples of sheets, as one table under one claim: P8's and P10's sheets, each number with the check after it failing too, lookups, and
 -- P10's registers as the walk has them. Assumes nothing.
 use mathlib.Core.Path.{_≡_, refl}
-use mathlib.Core.List.{List, [], _∷_, _++_, map}
+use mathlib.Core.List.{List, [], _∷_, _++_}
 use Prim.Native.Nat.{ℕ, zero, suc}
 use lib.ListN.{set, take, replicate}
 use Rattle.endian.specs.Endian.{be, le, leBytes}
@@ -17,8 +17,7 @@ use Rattle.sheet.specs.declared.Space.the-variants.{Memory, Io}
 use Rattle.sheet.specs.declared.Lookup.{Lookup}
 use Rattle.sheet.specs.declared.Lookup.the-variants.{Registers as Found, Refused}
 use Rattle.sheet.specs.Entry.{dwords, windowOf, entryOf}
-use Rattle.sheet.specs.Sheet.{allSized, isFramed, entriesFrom, commandsOf, allZero, readBacksWrong, breaks, anyBreaks, findFrom, hasId, idTwice}
-use Rattle.sheet.specs.Sheet.{from29, from25, from28, from27, from24, from22, from20, from21, sheetNumber}
+use Rattle.sheet.specs.Sheet.{allSized, isFramed, entriesFrom, commandsOf, allZero, readBacksWrong, breaks, anyBreaks, findFrom, hasId, idTwice, from29, from25, from28, from27, from24, from22, from20, from21, sheetNumber}
 use Rattle.sheet.specs.Lookup.{lookupOf, withCommand}
 use Rattle.sheet.specs.Spaces.{barsFrom, functionsFrom, registersOf}
 

@@ -1,20 +1,20 @@
 -- A framed sheet by record index, from 0: what a search that counts records goes by. Assumes nothing.
-use mathlib.Core.Path.{_≡_, refl, sym, ap, _∙_}
-use mathlib.Core.Bool.{Bool, true, false}
+use mathlib.Core.Path.{_≡_, sym, ap, _∙_}
 use mathlib.Core.List.{List, [], _∷_, map}
-use Prim.Native.Nat.{ℕ, zero, suc, pred, _+_, _-_, _*_, _/_, _≤_, _<_}
+use Prim.Native.Nat.{ℕ, zero, suc, _+_, _-_, _*_, _/_, _≤_, _<_}
 use native.Mathlib.Numerals.{add-one}
 use native.Mathlib.Omega.{arith}
-use lib.ListN.{length, getD, take, drop, length-map, List·getD-map}
+use lib.Seq.{length-take-le}
+use lib.ListN.{length, getD, drop, length-drop, length-map, List·getD-map}
 use Rattle.endian.specs.Endian.{le}
 use Rattle.endian.specs.EndianLaws.{le-take, le-drop}
-use Rattle.walk.specs.Registers.{Registers, enabledIn}
+use Rattle.walk.specs.Registers.{enabledIn}
 use Rattle.sheet.specs.declared.Space.{Space}
 use Rattle.sheet.specs.declared.Space.the-variants.{Memory, Io}
-use Rattle.sheet.specs.Entry.{recordSize, commandOf, Entry, entryOf}
-use Rattle.sheet.specs.Sheet.{isFramed, Framed, entriesFrom, entriesOf, commandsOf, partsIn, partAt}
-use Rattle.sheet.specs.Spaces.{functionOf, functionsFrom, registersOf, enables, enabledOf}
-use Rattle.sheet.specs.FrameLaws.{FramedAt, framed-at, part-index}
+use Rattle.sheet.specs.Entry.{recordSize, commandOf, entryOf}
+use Rattle.sheet.specs.Sheet.{Framed, entriesFrom, entriesOf, commandsOf, partsIn, partAt}
+use Rattle.sheet.specs.Spaces.{functionOf, functionsFrom, enables, enabledOf}
+use Rattle.sheet.specs.FrameLaws.{framed-at, part-index}
 use Rattle.sheet.specs.CheckLaws.{partFrom, entries-on, entries-past, count-entries}
 
 part-from-index : (s : List ℕ) (k : ℕ) → partFrom s (92 * k + 1) ≡ partAt s k
@@ -22,6 +22,9 @@ part-from-index s k =
     let n : 92 * k + 1 + 92 - (92 * k + 1 + 2) ≡ recordSize = omega arith in
     let m : 92 * k + 1 + 2 ≡ 92 * k + 3 = omega arith in
     rw (n, m)
+
+pub length-part : (s : List ℕ) (k : ℕ) → 92 * k + 93 ≤ length s → length (partAt s k) ≡ recordSize
+length-part s k h = length-take-le recordSize (drop (92 * k + 3) s) (omega (arith, length-drop (92 * k + 3) s))
 
 -- the bit of the record with number k + 1
 enabled-map : (space : Space) (cs : List ℕ) (k : ℕ) → enabledIn (map (enables space) cs) (k + 1) ≡ enables space (getD cs k 0)

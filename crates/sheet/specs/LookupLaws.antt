@@ -2,17 +2,16 @@
 use mathlib.Core.Path.{_≡_, refl, sym, ap, _∙_}
 use mathlib.Core.Bool.{Bool, true, false, cond}
 use mathlib.Core.List.{List, [], _∷_}
-use Prim.Native.Nat.{ℕ, zero, suc, _+_, _-_, _*_, _≤_, _<_}
+use Prim.Native.Nat.{ℕ, suc, _+_, _-_, _*_, _≤_}
 use native.Mathlib.Omega.{arith}
 use lib.ListN.{length, take, drop}
-use lib.Dec.{eqb, ltb}
-use borrow.Author.Tests.{eqb-true, eqb-false, eq-eqb, ne-eqb, ltb-true, ltb-false}
+use lib.Dec.{eqb}
+use borrow.Author.Tests.{eqb-true, eq-eqb, ne-eqb}
 use Rattle.sheet.specs.declared.Found.{Found}
 use Rattle.sheet.specs.declared.Found.the-variants.{At, Nothing}
-use Rattle.sheet.specs.declared.Lookup.{Lookup}
 use Rattle.sheet.specs.declared.Lookup.the-variants.{Registers, Refused}
 use Rattle.sheet.specs.Entry.{Entry, entryOf, idOf}
-use Rattle.sheet.specs.Sheet.{Framed, entriesFrom, entriesOf, partAt, findFrom, sheetNumber}
+use Rattle.sheet.specs.Sheet.{Framed, entriesFrom, entriesOf, findFrom, sheetNumber}
 use Rattle.sheet.specs.Lookup.{placed, lookupOf, registerBytes}
 use Rattle.sheet.specs.CheckLaws.{partFrom, FirstAt, first-at}
 use Rattle.sheet.specs.SheetLaws.{Checked, checked-of-zero}

@@ -1,28 +1,26 @@
 -- A sheet that passes 20 to 29, in the words of the walk's laws: record numbers count up, bridges rise (27) and IDs differ (28). Assumes nothing.
-use mathlib.Core.Path.{_≡_, refl, sym, ap, ap₂, _∙_}
-use mathlib.Core.Bool.{Bool, true, false, cond, not, _&&_, _||_, and-eq-true-iff, true≢false, false≢true}
-use mathlib.Core.Logic.{_↔_}
-use mathlib.Core.List.{List, [], _∷_, map}
-use Prim.Native.Nat.{ℕ, zero, suc, _+_, _-_, _*_, _/_, _%_, _≤_, _<_}
+use mathlib.Core.Path.{_≡_, refl, ap}
+use mathlib.Core.Bool.{Bool, true, false, cond, not, _&&_, and-eq-true-iff}
+use mathlib.Core.List.{List, [], _∷_}
+use Prim.Native.Nat.{ℕ, suc, _+_, _-_, _≤_, _<_}
 use native.Mathlib.Omega.{arith}
-use lib.ListN.{length, getD, take, drop}
+use lib.ListN.{length, getD, drop}
 use lib.Dec.{eqb, leb, ltb}
-use borrow.Author.Tests.{ltb-true, ltb-false, leb-true, eqb-true, eqb-false, eq-eqb, ne-eqb, le-ltb, not-false, not-true}
-use Rattle.endian.specs.Endian.{Bytes, be, le}
+use borrow.Author.Tests.{ltb-true, ltb-false, leb-true, eqb-true, eqb-false, eq-eqb, ne-eqb, le-ltb, not-false}
+use Rattle.endian.specs.Endian.{Bytes}
 use Rattle.endian.specs.BytesLaws.{bytes-take, bytes-drop}
 use Rattle.walk.specs.Lists.{All, Pairwise}
-use Rattle.walk.specs.Registers.{Node, Registers, nodes, NumberedFrom}
+use Rattle.walk.specs.Registers.{nodes, NumberedFrom}
 use Rattle.walk.specs.Good.{Rises, BridgesRise}
 use Rattle.walk.specs.Ids.{DistinctIds}
-use Rattle.sheet.specs.declared.Rule.{Rule}
 use Rattle.sheet.specs.declared.Rule.the-variants.{HeaderType, Buses, ReadBacks, Nibbles}
 use Rattle.sheet.specs.declared.Space.{Space}
 use Rattle.sheet.specs.Entry.{Entry, headerOf, isBridge, subordinateOf, entryOf, bus, devfn, bridges}
-use Rattle.sheet.specs.Sheet.{isFramed, Framed, entriesFrom, entriesOf, busesWrong, breaks, anyBreaks, hasId, idTwice}
-use Rattle.sheet.specs.Sheet.{from20, from21, from22, from24, from25, from27, from28, from29, sheetNumber}
-use Rattle.sheet.specs.EntryLaws.{or-false-elim}
+use Rattle.sheet.specs.Sheet.{isFramed, Framed, partAt, entriesFrom, entriesOf, busesWrong, breaks, anyBreaks, hasId, idTwice, from20, from21, from22, from24, from25, from27, from28, from29, sheetNumber}
+use Rattle.sheet.specs.EntryLaws.{or-false-elim, breaks-index, lawful-entry}
 use Rattle.sheet.specs.CheckLaws.{partFrom, first-at}
-use Rattle.sheet.specs.Spaces.{nodeOf, functionsFrom, nodesFrom, registersOf, nodesOf}
+use Rattle.bar.specs.Bar.{anyBad}
+use Rattle.sheet.specs.Spaces.{slotsOf, nodeOf, functionsFrom, nodesFrom, registersOf, nodesOf}
 
 -- ## The checks, one by one
 
@@ -174,3 +172,7 @@ passes-of-zero s b z =
       numbered = λ space. numbered-functions space 1 (entriesOf s);
       nodes-are = λ space. nodes-functions space 1 (entriesOf s);
     }
+
+-- no slot of a checked sheet's record is unlawful, so that a search may go from BAR to BAR
+pub lawful-index : (s : List ℕ) → Checked s → (k : ℕ) → k < length (entriesOf s) → anyBad (slotsOf (entryOf (partAt s k))) ≡ false
+lawful-index s c k h = lawful-entry (entryOf (partAt s k)) (breaks-index ReadBacks s (c .framed) (c .readbacks) k h)

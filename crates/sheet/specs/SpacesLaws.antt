@@ -1,10 +1,10 @@
 -- BARs slot by slot and windows one by one, in the words of a search: which of them claims an address. Assumes nothing.
-use mathlib.Core.Path.{_≡_, refl, sym, ap, ap₂, _∙_}
+use mathlib.Core.Path.{_≡_, refl, sym, ap, _∙_}
 use mathlib.Core.Bool.{Bool, true, false, cond, _&&_}
 use mathlib.Core.List.{List, [], _∷_, _++_, map}
-use Prim.Native.Nat.{ℕ, zero, suc, _+_, _-_, _≤_, _<_}
+use Prim.Native.Nat.{ℕ, _+_, _-_, _≤_, _<_}
 use native.Mathlib.Omega.{arith}
-use lib.ListN.{length, getD, take, drop, drop-of-length-le}
+use lib.ListN.{length, drop, drop-of-length-le}
 use lib.Seq.{drop-drop}
 use lib.Dec.{leb, ltb}
 use borrow.Author.Tests.{ltb-true, ltb-false, lt-ltb, le-ltb, leb-true, le-leb, lt-leb}
@@ -20,7 +20,6 @@ use Rattle.walk.specs.Ranges.{Range, holds}
 use Rattle.walk.specs.Registers.{Claim}
 use Rattle.walk.specs.Lists.{select}
 use Rattle.walk.specs.Tally.{hitsOf}
-use Rattle.walk.specs.SearchLaws.{hits-append}
 use Rattle.sheet.specs.declared.Space.{Space}
 use Rattle.sheet.specs.Spaces.{inSpace, barRange, barHere, barsFrom, barHolds, poolOf, openRange}
 

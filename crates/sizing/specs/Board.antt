@@ -12,10 +12,10 @@ use Rattle.pools.specs.declared.Pool.the-variants.{Low, High, Io}
 use Rattle.bar.specs.Bar.{anyBad}
 use Rattle.placing.specs.Records.{Function, DepthFirst, onlyHost}
 use Rattle.placing.specs.Sizing as placing
-use Rattle.placing.specs.Sizing.{busLaid}
+use Rattle.placing.specs.Sizing.{busLaid, functionLaid}
 use Rattle.placing.specs.SizingLaws.{Ready}
 use Rattle.sizing.specs.declared.Laid.{Laid}
-use Rattle.sizing.specs.Functions.{slotsIn, functionsIn, setAt}
+use Rattle.sizing.specs.Functions.{slotsIn, functionsIn, setAt, functionAt}
 use Rattle.sizing.specs.Cut.{says, cut, Whole}
 use Rattle.sizing.specs.Memo.{memoFrom, memoBetween}
 
@@ -49,6 +49,13 @@ pub record Standing (ps hs ss memo : List ℕ) (b : ℕ) (l : Laid) : Type 0 whe
 pub record Walked (fs : List Function) (memo memo' : List ℕ) (l : Laid) (m : placing.Laid) (r : Laid) : Type 0 where
   pub laid : r ≡ cut m
   pub stored : memo' ≡ sets memo (8 * l .next) (memoBetween fs (l .next) (r .next))
+
+abbrev pub BusSized : List ℕ → List ℕ → List ℕ → List ℕ → List ℕ → ℕ → Laid → Laid → Type 0
+BusSized ps hs ss memo memo' b l r = Walked (functionsIn ps hs ss) memo memo' l (busLaid (functionsIn ps hs ss) b (says l)) r
+
+abbrev pub FunctionSized : List ℕ → List ℕ → List ℕ → List ℕ → List ℕ → Laid → Laid → Type 0
+FunctionSized ps hs ss memo memo' l r =
+    Walked (functionsIn ps hs ss) memo memo' l (functionLaid (functionsIn ps hs ss) (functionAt ps hs ss (l .next)) (says l)) r
 
 -- the loop over bus b, from `start`, stands at l
 pub record OnBus (ps hs ss memo memo' : List ℕ) (b : ℕ) (start l : Laid) : Type 0 where

@@ -1,45 +1,44 @@
 -- The laws of what the code keeps: cutting twice is cutting once, each step of the walk from what is kept comes to what is kept of the step,
 -- and no sum of the code wraps. Assumes nothing.
-use mathlib.Core.Path.{_≡_, refl, sym, ap, ap₂, _∙_}
+use mathlib.Core.Path.{_≡_, refl, sym, ap, _∙_}
 use mathlib.Core.Bool.{Bool, true, false, true≢false, cond}
-use mathlib.Core.List.{List, [], _∷_}
-use mathlib.Core.Logic.{⊎-elim}
-use Prim.Native.Nat.{ℕ, zero, suc, _+_, _-_, _*_, _/_, _%_, _^_, _≤_, _<_, min, max}
+use mathlib.Core.List.{List, _∷_}
+use Prim.Native.Nat.{ℕ, _+_, _-_, _^_, _≤_, _<_, max}
 use native.Mathlib.Nat.{div-add-mod'}
 use native.Mathlib.Numerals.{add-one, add-two}
 use native.Mathlib.Omega.{arith}
 use lib.Bits.{bitAnd}
 use lib.Pow.{pow-mono}
-use lib.Dec.{eqb}
 use borrow.Author.Tests.{ne-eqb}
-use lib.ListN.{length, take, drop, drop-of-length-le}
+use lib.ListN.{length, drop, drop-of-length-le}
 use Rattle.pools.specs.declared.Pool.{Pool}
 use Rattle.pools.specs.declared.Pool.the-variants.{Low, High, Io}
-use Rattle.pools.specs.Pools.{granule, samePool}
+use Rattle.pools.specs.Pools.{granule}
 use Rattle.bar.specs.declared.Slot.{Slot}
 use Rattle.bar.specs.declared.Slot.the-variants.{Unused, Bar, Upper, Bad}
 use Rattle.bar.specs.Bar.{slotHere, slots, isBad, anyBad, takesNext, span}
+use Rattle.bar.specs.Bars.{barsFrom}
 use Rattle.bar.specs.BarLaws.{slots-at-step, any-bad-of-bad}
 use Rattle.bar.specs.PowerOfTwo.{lt-of-pow-lt, and-pred-power}
 use Rattle.placing.specs.Align.{alignUp, PowerOfTwo}
 use Rattle.placing.specs.AlignLaws.{pos-of-power}
 use Rattle.placing.specs.PoolLaws.{granule-power}
+use Rattle.placing.specs.Pieces.{windowSize, windowAlign}
 use Rattle.placing.specs.Records as records
 use Rattle.placing.specs.Sizing as placing
-use Rattle.placing.specs.Sizing.{grow, withBars, withWindow, laidFrom}
+use Rattle.placing.specs.Sizing.{grow, withBars, withWindow}
 use Rattle.placing.specs.SizingLaws.{laid-ext}
-use Rattle.placing.specs.Cap.{limit, cap, cap-cap, cap-align, cappedLaid, cap-with-bars}
+use Rattle.placing.specs.Cap.{cap, cap-cap, cap-align, cappedLaid, cap-with-bars}
 use Rattle.sizing.specs.declared.Extent.{Extent}
 use Rattle.sizing.specs.declared.Laid.{Laid}
-use Rattle.sizing.specs.Functions.{barsFrom}
 use Rattle.sizing.specs.FunctionsLaws.{AllSized, bars-from-sized}
 use Rattle.sizing.specs.Cut.{extentOf, cutExtent, extentIn, withExtent, says, cut, Whole, addBar, addSlot, addBars}
 
 -- ## Sums
 
 -- a power of two that fits 64 bits leaves room for 2^62
-pub power-le : (a : ℕ) → PowerOfTwo a → a < 2 ^ 64 → a ≤ 2 ^ 63
-power-le a (k, e) h = rw e (pow-mono (lt-63 (rw e at h)))
+pub le-of-power : (a : ℕ) → PowerOfTwo a → a < 2 ^ 64 → a ≤ 2 ^ 63
+le-of-power a (k, e) h = rw e (pow-mono (lt-63 (rw e at h)))
   where
     lt-63 : 2 ^ k < 2 ^ 64 → k ≤ 63
     lt-63 g = omega (arith, lt-of-pow-lt {j = k} {k = 64} g)
@@ -57,7 +56,7 @@ cut-grow e z a p = ap (λ (n : ℕ). record { end = n; align = max (e .align) a 
 
 -- a window over a cut end
 pub cut-window : (q : Pool) (e inner : Extent) → (inner .align ≡ 0 → ⊥)
-    → cutExtent (grow (extentOf e) (alignUp (granule q) (cap (inner .end))) (max (granule q) (inner .align))) ≡ cutExtent (withWindow q (extentOf e) (extentOf inner))
+    → cutExtent (grow (extentOf e) (windowSize q (cap (inner .end))) (windowAlign q (inner .align))) ≡ cutExtent (withWindow q (extentOf e) (extentOf inner))
 cut-window q e inner h =
     rw (ne-eqb (inner .align) 0 h)
     (ap (λ (n : ℕ). record { end = n; align = max (e .align) (max (granule q) (inner .align)) })
@@ -83,8 +82,11 @@ cut-of-capped l m e = sym (cut-capped l) ∙ ap cut e ∙ cut-capped m
 pub whole-cut : (l : placing.Laid) → Whole (cut l)
 whole-cut l = ap cut (says-cut l) ∙ cut-capped l
 
-pub whole-of : (l : Laid) (m : placing.Laid) → l ≡ cut m → Whole l
-whole-of l m e = rw e (whole-cut m)
+pub whole-of-cut : (l : Laid) (m : placing.Laid) → l ≡ cut m → Whole l
+whole-of-cut l m e = rw e (whole-cut m)
+
+pub says-of-cut : (l : Laid) (m : placing.Laid) → l ≡ cut m → says l ≡ cappedLaid m
+says-of-cut l m e = ap says e ∙ says-cut m
 
 whole-in : (l : Laid) → Whole l → (q : Pool) → extentIn l q ≡ cutExtent (extentOf (extentIn l q))
 whole-in l w Low = sym (ap (λ (x : Laid). x .low) w)
@@ -125,8 +127,8 @@ add-bars-step set i x m h e l = ap (λ (xs : List Slot). addBars (barsFrom i xs)
     go Bad g = absurd (true≢false g)
 
 -- among lawful slots each is lawful
-pub not-bad-of : (set : List ℕ) (i : ℕ) (x : Slot) → i < length set → x ≡ slotHere (drop i set) → anyBad (slots (drop i set)) ≡ false → isBad x ≡ false
-not-bad-of set i x h e g = go (isBad x) refl
+pub not-bad-of-lawful : (set : List ℕ) (i : ℕ) (x : Slot) → i < length set → x ≡ slotHere (drop i set) → anyBad (slots (drop i set)) ≡ false → isBad x ≡ false
+not-bad-of-lawful set i x h e g = go (isBad x) refl
   where
     go : (t : Bool) → isBad x ≡ t → t ≡ false
     go true b = sym (any-bad-of-bad set i x h e b) ∙ g

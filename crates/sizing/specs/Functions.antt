@@ -1,16 +1,14 @@
 -- A board's functions, as three arrays say them: the parent record and the header type byte of each, and its set of six read-backs.
 -- Assumes nothing.
-use Prim.Native.Nat.{ℕ, suc, _*_, _%_}
+use Prim.Native.Nat.{ℕ, _*_, _%_}
 use mathlib.Core.Bool.{Bool, cond}
 use mathlib.Core.List.{List, [], _∷_}
 use lib.ListN.{getD, take, drop}
 use lib.Dec.{eqb}
 use Rattle.bar.specs.declared.Slot.{Slot}
-use Rattle.bar.specs.declared.Slot.the-variants.{Unused, Bar, Upper, Bad}
 use Rattle.bar.specs.Bar.{slots}
-use Rattle.placing.specs.Records as placing
+use Rattle.bar.specs.Bars.{barsFrom}
 use Rattle.placing.specs.Records.{Function}
-unfoldable pub use Rattle.bar.specs.Bars.{barsFrom}
 
 -- the header type is its byte's low seven bits: type 1 is a bridge
 abbrev pub isBridge : ℕ → Bool

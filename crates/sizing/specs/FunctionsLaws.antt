@@ -1,7 +1,6 @@
 -- The laws of the functions that arrays say: by index, and the sizes of their BARs. Assumes nothing.
-use mathlib.Core.Path.{_≡_, refl, sym, ap, ap₂, _∙_}
-use mathlib.Core.Bool.{Bool, true, false, true≢false, cond}
-use mathlib.Core.List.{List, [], _∷_}
+use mathlib.Core.Path.{_≡_, refl, ap, ap₂, _∙_}
+use mathlib.Core.List.{List, [], _∷_, map}
 use Prim.Native.Nat.{ℕ, zero, suc, _+_, _*_, _≤_, _<_}
 use native.Mathlib.Omega.{arith}
 use native.Mathlib.Numerals.{add-one, add-two, add-three, add-four, add-five}
@@ -9,15 +8,15 @@ use lib.ListN.{length, getD, take, drop}
 use lib.Seq.{drop-drop, drop-cons, getD-drop}
 use Rattle.bar.specs.declared.Slot.{Slot}
 use Rattle.bar.specs.declared.Slot.the-variants.{Unused, Bar, Upper, Bad}
-use Rattle.bar.specs.Bar.{slots}
-use Rattle.bar.specs.Bar.{SizedSlot}
+use Rattle.bar.specs.Bar.{slots, SizedSlot}
+use Rattle.bar.specs.Bars.{barsFrom}
 use Rattle.bar.specs.BarLaws.{sized-slots}
 use Rattle.placing.specs.Lists.{All}
 use Rattle.placing.specs.Align.{PowerOfTwo}
 use Rattle.placing.specs.Records as placing
 use Rattle.placing.specs.Records.{Function, Sized}
 use Rattle.placing.specs.RecordLaws.{IsAt}
-use Rattle.sizing.specs.Functions.{slotCount, barsFrom, slotsIn, functionIn, functionsIn, setAt, functionAt}
+use Rattle.sizing.specs.Functions.{functionIn, functionsIn, setAt, functionAt}
 
 -- ## Sizes are powers of two
 
@@ -47,19 +46,34 @@ unfolding functionsIn
 length-functions [] hs ss = refl
 length-functions (p ∷ ps) hs ss = ap suc (length-functions ps (drop 1 hs) (drop 6 ss))
 
-pub functions-at : (ps hs ss : List ℕ) (i : ℕ) → i < length ps → IsAt (functionsIn ps hs ss) i (functionAt ps hs ss i)
-unfolding functionsIn
-functions-at [] hs ss i h = absurd (omega arith)
-functions-at (p ∷ ps) hs ss zero h = refl
-functions-at (p ∷ ps) hs ss (suc i) h =
-    functions-at ps (drop 1 hs) (drop 6 ss) i (omega arith)
-    ∙ ap₂ (λ (x : ℕ) (set : List ℕ). functionIn (getD ps i 0) x set ∷ drop (suc i) (functionsIn ps (drop 1 hs) (drop 6 ss))) header set
+-- the functions after the first, by index
+function-at-suc : (p : ℕ) (ps hs ss : List ℕ) (i : ℕ) → functionAt ps (drop 1 hs) (drop 6 ss) i ≡ functionAt (p ∷ ps) hs ss (suc i)
+function-at-suc p ps hs ss i = ap₂ (λ (x : ℕ) (set : List ℕ). functionIn (getD ps i 0) x set) header set
   where
     header : getD (drop 1 hs) i 0 ≡ getD hs (suc i) 0
     header = let e : 1 + i ≡ suc i = omega arith in getD-drop 1 hs i 0 ∙ ap (λ (k : ℕ). getD hs k 0) e
 
     set : setAt (drop 6 ss) i ≡ setAt ss (suc i)
     set = let e : 6 + 6 * i ≡ 6 * suc i = omega arith in ap (take 6) (drop-drop (6 * i) 6 ss ∙ ap (λ (k : ℕ). drop k ss) e)
+
+pub functions-at : (ps hs ss : List ℕ) (i : ℕ) → i < length ps → IsAt (functionsIn ps hs ss) i (functionAt ps hs ss i)
+unfolding functionsIn
+functions-at [] hs ss i h = absurd (omega arith)
+functions-at (p ∷ ps) hs ss zero h = refl
+functions-at (p ∷ ps) hs ss (suc i) h =
+    functions-at ps (drop 1 hs) (drop 6 ss) i (omega arith)
+    ∙ ap (λ (f : Function). f ∷ drop (suc i) (functionsIn ps (drop 1 hs) (drop 6 ss))) (function-at-suc p ps hs ss i)
+
+-- the arrays say the functions of a list that they agree with at each index
+pub functions-agree : {A : Type 0} (to : A → Function) (gs : List A) (ps hs ss : List ℕ) → length ps ≡ length gs
+    → ((i : ℕ) (d : A) → i < length gs → functionAt ps hs ss i ≡ to (getD gs i d)) → functionsIn ps hs ss ≡ map to gs
+unfolding functionsIn
+functions-agree to [] [] hs ss e h = refl
+functions-agree to [] (p ∷ ps) hs ss e h = absurd (omega arith)
+functions-agree to (g ∷ gs) [] hs ss e h = absurd (omega arith)
+functions-agree to (g ∷ gs) (p ∷ ps) hs ss e h =
+    ap₂ _∷_ (h 0 g (omega arith))
+    (functions-agree to gs ps (drop 1 hs) (drop 6 ss) (omega arith) (λ i d l. function-at-suc p ps hs ss i ∙ h (suc i) d (omega arith)))
 
 -- ## A set, in the words of the code
 

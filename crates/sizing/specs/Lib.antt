@@ -6,4 +6,7 @@ pub mod CutLaws
 pub mod Memo
 pub mod MemoLaws
 pub mod Board
+pub mod BusLaws
+pub mod BridgeLaws
 pub mod BoardLaws
+pub mod Examples

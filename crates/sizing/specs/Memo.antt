@@ -2,8 +2,8 @@
 -- Assumes nothing.
 use mathlib.Core.Bool.{cond}
 use mathlib.Core.List.{List, [], _∷_, _++_}
-use Prim.Native.Nat.{ℕ, suc, _-_}
-use lib.ListN.{take, drop}
+use Prim.Native.Nat.{ℕ, suc, _+_, _-_, _*_}
+use lib.ListN.{getD, take, drop}
 use Rattle.placing.specs.Records.{Function}
 use Rattle.placing.specs.Sizing.{busLaid, laidFrom}
 use Rattle.sizing.specs.declared.Laid.{Laid}
@@ -16,6 +16,16 @@ numbersOf l =
 
 abbrev pub noNumbers : List ℕ
 noNumbers = 0 ∷ 0 ∷ 0 ∷ 0 ∷ 0 ∷ 0 ∷ 0 ∷ 0 ∷ []
+
+-- what the eight numbers of record i say
+abbrev pub laidAt : List ℕ → ℕ → Laid
+laidAt m i =
+    record {
+      next = getD m (8 * i) 0;
+      low = record { end = getD m (8 * i + 1) 0; align = getD m (8 * i + 2) 0 };
+      high = record { end = getD m (8 * i + 3) 0; align = getD m (8 * i + 4) 0 };
+      io = record { end = getD m (8 * i + 5) 0; align = getD m (8 * i + 6) 0 };
+    }
 
 -- the bus below the bridge at index i
 abbrev pub below : List Function → ℕ → Laid

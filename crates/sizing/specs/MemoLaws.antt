@@ -3,17 +3,17 @@
 use mathlib.Core.Path.{_≡_, refl, sym, ap, ap₂, _∙_}
 use mathlib.Core.Bool.{Bool, true, false, cond}
 use mathlib.Core.List.{List, [], _∷_, _++_, append-assoc}
-use Prim.Native.Nat.{ℕ, zero, suc, _+_, _-_, _*_, _≤_, _<_, min}
-use native.Mathlib.Nat.{add-zero, add-suc, suc-add}
+use Prim.Native.Nat.{ℕ, suc, _+_, _-_, _*_, _≤_, _<_}
+use native.Mathlib.Nat.{add-zero}
 use native.Mathlib.Numerals.{add-one}
 use native.Mathlib.Omega.{arith}
-use lib.ListN.{length, getD, set, take, drop, length-append, length-take, length-drop}
-use lib.Seq.{sets, set-comm, take-add, drop-drop, take-all}
-use Rattle.endian.specs.SetsLaws.{sets-sets}
+use lib.ListN.{length, getD, set, take, drop, length-append, length-take, length-drop, List·getD-append}
+use lib.Seq.{sets, set-comm, take-add, drop-drop, take-length, getD-append-add}
+use Rattle.endian.specs.SetsLaws.{sets-sets, getD-sets-at}
 use Rattle.placing.specs.Records.{Function}
 use Rattle.placing.specs.RecordLaws.{IsAt}
 use Rattle.sizing.specs.declared.Laid.{Laid}
-use Rattle.sizing.specs.Memo.{numbersOf, noNumbers, below, memoOf, memoFrom, memoBetween}
+use Rattle.sizing.specs.Memo.{numbersOf, noNumbers, laidAt, below, memoOf, memoFrom, memoBetween}
 
 -- ## Stores that do not meet
 
@@ -114,3 +114,42 @@ module _ (fs : List Function) (o : List ℕ) where
       ∙ sets-sets o (8 * i) (numbersOf inner) (memoBetween fs (i + 1) k)
       ∙ ap (sets o (8 * i))
       (ap₂ (λ (l : Laid) (n : ℕ). numbersOf l ++ memoBetween fs n k) g (add-one i) ∙ sym (memo-between-cons fs i k f e h ∙ rw b))
+
+  -- ## What then stands at each record
+
+  -- all records
+  pub memo-between-all : memoBetween fs 0 (length fs) ≡ memoFrom fs 0 fs
+  memo-between-all = let e : length fs - 0 ≡ length fs = omega arith in ap (memoFrom fs 0) (ap (λ (n : ℕ). take n fs) e ∙ take-length fs)
+
+  module _ (room : 8 * length fs ≤ length o) (i : ℕ) (f : Function) (e : IsAt fs i f) (h : i < length fs) where
+    pub memo-at : (k : ℕ) → k < 8 → getD (sets o 0 (memoFrom fs 0 fs)) (8 * i + k) 0 ≡ getD (memoOf fs i f) k 0
+    memo-at k l =
+        let n : ℕ = length fs in
+        let z : 0 + (8 * i + k) ≡ 8 * i + k = omega arith in
+        let m : length (memoBetween fs 0 i) ≡ 8 * i = length-memo-between fs 0 i (omega arith) ∙ omega arith in
+        ap (λ (x : ℕ). getD (sets o 0 (memoFrom fs 0 fs)) x 0) (sym z)
+        ∙ getD-sets-at o 0 (memoFrom fs 0 fs) (8 * i + k) 0 (omega (arith, length-memo-from fs 0 fs)) (omega arith)
+        ∙ ap (λ (v : List ℕ). getD v (8 * i + k) 0)
+        (sym memo-between-all
+        ∙ memo-between-add fs 0 i n (omega arith) (omega arith) (omega arith)
+        ∙ ap (λ (v : List ℕ). memoBetween fs 0 i ++ v) (memo-between-cons fs i n f e h))
+        ∙ ap (λ (x : ℕ). getD (memoBetween fs 0 i ++ (memoOf fs i f ++ memoBetween fs (suc i) n)) (x + k) 0) (sym m)
+        ∙ getD-append-add (memoBetween fs 0 i) (memoOf fs i f ++ memoBetween fs (suc i) n) k 0
+        ∙ List·getD-append (memoOf fs i f) (memoBetween fs (suc i) n) 0 k (omega (arith, length-memo-of fs i f))
+
+    -- what lies below a bridge is read back
+    pub laid-at-bridge : f .bridge ≡ true → laidAt (sets o 0 (memoFrom fs 0 fs)) i ≡ below fs i
+    laid-at-bridge b =
+        λ j.
+        record {
+          next = first j;
+          low = record { end = each 1 (omega arith) j; align = each 2 (omega arith) j };
+          high = record { end = each 3 (omega arith) j; align = each 4 (omega arith) j };
+          io = record { end = each 5 (omega arith) j; align = each 6 (omega arith) j };
+        }
+      where
+        each : (k : ℕ) → k < 8 → getD (sets o 0 (memoFrom fs 0 fs)) (8 * i + k) 0 ≡ getD (numbersOf (below fs i)) k 0
+        each k l = memo-at k l ∙ ap (λ (t : Bool). getD (cond t (numbersOf (below fs i)) noNumbers) k 0) b
+
+        first : getD (sets o 0 (memoFrom fs 0 fs)) (8 * i) 0 ≡ below fs i .next
+        first = rw (add-zero (8 * i)) at (each 0 (omega arith))

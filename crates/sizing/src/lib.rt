@@ -3,20 +3,20 @@
 // Ends are kept up to 2^62: no pool reaches 2^52, so no answer changes, and no sum wraps.
 ghost use mathlib.Core.Path.{_≡_};
 ghost use mathlib.Core.Bool.{cond, false};
-ghost use Prim.Native.Nat.{ℕ, _+_, _*_, _≤_, _<_, max};
+ghost use Prim.Native.Nat.{_+_, _*_, _≤_, _<_, max};
 ghost use lib.ListN.{length, getD, take};
 ghost use lib.Seq.{sets};
 ghost use Rattle.pools.specs.declared.Pool.{Pool as PoolName};
-ghost use Rattle.pools.specs.Pools.{granule as granuleOf};
-ghost use Rattle.bar.specs.Bar.{slots, anyBad};
-ghost use Rattle.bar.specs.Bar.{SizedSlot};
+ghost use Rattle.bar.specs.Bar.{slots, anyBad, SizedSlot};
+ghost use Rattle.bar.specs.Bars.{barsFrom};
 ghost use Rattle.placing.specs.Align.{alignUp, PowerOfTwo};
 ghost use Rattle.placing.specs.Cap.{limit, cap as capOf};
-ghost use Rattle.placing.specs.Sizing.{grow as growOf, withWindow, busLaid, barsLaid, windowLaid, functionLaid, laidFrom};
-ghost use Rattle.sizing.specs.Functions.{isBridge, slotCount, barsFrom, functionIn, functionsIn, setAt, functionAt};
+ghost use Rattle.placing.specs.Pieces.{windowSize, windowAlign};
+ghost use Rattle.placing.specs.Sizing.{grow as growOf, withWindow, barsLaid, windowLaid, laidFrom, endsPast};
+ghost use Rattle.sizing.specs.Functions.{isBridge, functionIn, functionsIn, setAt};
 ghost use Rattle.sizing.specs.Cut.{extentOf, cutExtent, extentIn, says, cut, Whole, addBar, addSlot, addBars};
-ghost use Rattle.sizing.specs.Memo.{numbersOf};
-ghost use Rattle.sizing.specs.Board.{Board, OwnBars, isChild, Standing, Walked};
+ghost use Rattle.sizing.specs.Memo.{numbersOf, laidAt};
+ghost use Rattle.sizing.specs.Board.{Board, OwnBars, isChild, Standing, BusSized, FunctionSized, basesOf, rootFrom, BoardSized};
 use bar::Slot;
 use pools::Pool;
 
@@ -36,22 +36,77 @@ pub struct Laid {
 
 const LIMIT: u64 = 4611686018427387904;
 
-// ---- numbers
-
-fn cap(x: u64) -> u64
-    ensures { λ r. ⌜ (r ≡ capOf x) × (r ≤ limit) ⌝ }
+// Every bus of the board, in one pass: what the root bus comes to from the pools' bases, and in `memo`, eight numbers for each function, what
+// lies below each bridge. Function i has its parent record and its header type byte at i, its six read-backs at 6 * i, its numbers at 8 * i.
+pub fn size_board(
+    parents: &[u16],
+    headers: &[u8],
+    readbacks: &[u32],
+    memo: &mut [u64],
+    base_low: u64,
+    base_high: u64,
+    base_io: u64,
+) -> Laid
+    requires { ⌜ Board (now parents) (now headers) (now readbacks) × (8 * length (now parents) ≤ length (now memo)) ⌝ }
+    ensures { λ r. ⌜ BoardSized (functionsIn (now (parents .entry)) (now (headers .entry)) (now (readbacks .entry))) (basesOf «base_low» «base_high» «base_io») (now (memo .entry)) (now (memo .exit)) r ⌝ }
 {
-    if x < LIMIT { x } else { LIMIT }
+    let start = root_from(base_low, base_high, base_io);
+    bus_size(parents, headers, readbacks, memo, 0, start)
 }
 
-fn larger(a: u64, b: u64) -> u64
-    ensures { λ r. ⌜ r ≡ max a b ⌝ }
+// What was stored of the function at index i.
+pub fn stored_at(memo: &[u64], i: usize) -> Laid
+    requires { ⌜ 8 * i + 8 ≤ length (now memo) ⌝ }
+    ensures { λ r. ⌜ r ≡ laidAt (now (memo .entry)) i ⌝ }
 {
-    if a < b { b } else { a }
+    let at = 8 * i;
+    Laid {
+        next: memo[at] as usize,
+        low: Extent {
+            end: memo[at + 1],
+            align: memo[at + 2],
+        },
+        high: Extent {
+            end: memo[at + 3],
+            align: memo[at + 4],
+        },
+        io: Extent {
+            end: memo[at + 5],
+            align: memo[at + 6],
+        },
+    }
+}
+
+// Is there anything, and does it end past a pool with this last address?
+pub fn ends_past(last: u64, e: Extent) -> bool
+    ensures { λ r. ⌜ r ≡ endsPast last (extentOf e) ⌝ }
+{
+    if e.align == 0 {
+        return false;
+    }
+    if e.end <= last {
+        return false;
+    }
+    1 < e.end - last
+}
+
+// A window's size: the end of what is inside, rounded up to the granule.
+pub fn window_size(q: Pool, end: u64) -> u64
+    ensures { λ r. ⌜ r ≡ windowSize q (capOf end) ⌝ }
+{
+    let granule = pools::granule(q);
+    align_up(granule, cap(end))
+}
+
+// A window's alignment: the granule, or the largest alignment inside if that is greater.
+pub fn window_align(q: Pool, largest: u64) -> u64
+    ensures { λ r. ⌜ r ≡ windowAlign q largest ⌝ }
+{
+    larger(pools::granule(q), largest)
 }
 
 // The first multiple of a at or after x, by a mask.
-fn align_up(a: u64, x: u64) -> u64
+pub fn align_up(a: u64, x: u64) -> u64
     requires { ⌜ PowerOfTwo a × (x ≤ limit) ⌝ }
     ensures { λ r. ⌜ r ≡ alignUp a x ⌝ }
 {
@@ -59,16 +114,93 @@ fn align_up(a: u64, x: u64) -> u64
     y - (y & (a - 1))
 }
 
-// ---- one item more
+// ---- a bus from its functions, a bridge from its bus
 
-fn grow(e: Extent, size: u64, align: u64) -> Extent
-    requires { ⌜ PowerOfTwo align ⌝ }
-    ensures { λ r. ⌜ r ≡ cutExtent (growOf (extentOf e) size align) ⌝ }
+fn bus_size(
+    parents: &[u16],
+    headers: &[u8],
+    readbacks: &[u32],
+    memo: &mut [u64],
+    bus: usize,
+    start: Laid,
+) -> Laid
+    requires { ⌜ Standing (now parents) (now headers) (now readbacks) (now memo) bus start ⌝ }
+    ensures { λ r. ⌜ BusSized (now (parents .entry)) (now (headers .entry)) (now (readbacks .entry)) (now (memo .entry)) (now (memo .exit)) bus start r ⌝ }
 {
-    let start = cap(align_up(align, cap(e.end)));
-    Extent {
-        end: cap(start + cap(size)),
-        align: larger(e.align, align),
+    let mut l = start;
+    while is_child(parents, l.next, bus) {
+        l = function_size(parents, headers, readbacks, memo, l);
+    }
+    l
+}
+
+fn function_size(
+    parents: &[u16],
+    headers: &[u8],
+    readbacks: &[u32],
+    memo: &mut [u64],
+    l: Laid,
+) -> Laid
+    requires { ⌜ Standing (now parents) (now headers) (now readbacks) (now memo) (getD (now parents) (l .next) 0) l × (l .next < length (now parents)) ⌝ }
+    ensures { λ r. ⌜ FunctionSized (now (parents .entry)) (now (headers .entry)) (now (readbacks .entry)) (now (memo .entry)) (now (memo .exit)) l r ⌝ }
+{
+    let i = l.next;
+    let own = own_bars(headers, readbacks, l);
+    if is_bridge(headers, i) {
+        let inside = laid_from(i + 1);
+        let inner = bus_size(parents, headers, readbacks, memo, i + 1, inside);
+        store(memo, i, inner);
+        return with_windows(own, inner);
+    }
+    store(memo, i, laid_from(0));
+    own
+}
+
+// ---- the items of a function: its BARs, then its windows
+
+// The next function's own BARs: items of its own bus, a bridge's too.
+fn own_bars(headers: &[u8], readbacks: &[u32], l: Laid) -> Laid
+    requires { ⌜ OwnBars (now headers) (now readbacks) l ⌝ }
+    ensures { λ r. ⌜ r ≡ cut (barsLaid (functionIn 0 (getD (now (headers .entry)) (l .next) 0) (setAt (now (readbacks .entry)) (l .next))) (says l)) ⌝ }
+{
+    let i = l.next;
+    let count = slot_count(is_bridge(headers, i));
+    let own = with_bars(l, set_at(readbacks, i), count);
+    let low = own.low;
+    let high = own.high;
+    let io = own.io;
+    Laid {
+        next: i + 1,
+        low: low,
+        high: high,
+        io: io,
+    }
+}
+
+// A function's BARs in slot order: those of the first n read-backs of its set.
+fn with_bars(l: Laid, set: [u32; 6], n: usize) -> Laid
+    requires { ⌜ Whole l × ((n ≤ 6) × (anyBad (slots (take n set)) ≡ false)) ⌝ }
+    ensures { λ r. ⌜ r ≡ cut (addBars (barsFrom 0 (slots (take n set))) (says l)) ⌝ }
+{
+    let mut done = l;
+    let mut i: usize = 0;
+    while i < n {
+        let s = bar::slot_at(set, n, i);
+        done = with_slot(done, s);
+        i += bar::span(s);
+    }
+    done
+}
+
+fn with_slot(l: Laid, s: Slot) -> Laid
+    requires { ⌜ Whole l × SizedSlot s ⌝ }
+    ensures { λ r. ⌜ r ≡ cut (addSlot s (says l)) ⌝ }
+{
+    match s {
+        Slot::Unused => l,
+        Slot::Bar(pool, _, size) => with_bar(l, pool, size),
+        Slot::Upper => l,
+        Slot::Bad => l,
     }
 }
 
@@ -101,58 +233,8 @@ fn with_bar(l: Laid, pool: Pool, size: u64) -> Laid
     }
 }
 
-fn with_slot(l: Laid, s: Slot) -> Laid
-    requires { ⌜ Whole l × SizedSlot s ⌝ }
-    ensures { λ r. ⌜ r ≡ cut (addSlot s (says l)) ⌝ }
-{
-    match s {
-        Slot::Unused => l,
-        Slot::Bar(pool, _, size) => with_bar(l, pool, size),
-        Slot::Upper => l,
-        Slot::Bad => l,
-    }
-}
-
-// A function's BARs in slot order: those of the first n read-backs of its set.
-fn with_bars(l: Laid, set: [u32; 6], n: usize) -> Laid
-    requires { ⌜ Whole l × ((n ≤ 6) × (anyBad (slots (take n set)) ≡ false)) ⌝ }
-    ensures { λ r. ⌜ r ≡ cut (addBars (barsFrom 0 (slots (take n set))) (says l)) ⌝ }
-{
-    let mut done = l;
-    let mut i: usize = 0;
-    while i < n {
-        let s = bar::slot_at(set, n, i);
-        done = with_slot(done, s);
-        i += bar::span(s);
-    }
-    done
-}
-
-// A window's size: the end of what is inside, rounded up to the granule.
-fn window_size(q: Pool, end: u64) -> u64
-    ensures { λ r. ⌜ r ≡ alignUp (granuleOf q) (capOf end) ⌝ }
-{
-    let granule = pools::granule(q);
-    align_up(granule, cap(end))
-}
-
-// A bridge's window over what its bus comes to: none where there is nothing inside.
-fn with_window(q: Pool, e: Extent, inner: Extent) -> Extent
-    requires { ⌜ PowerOfTwo (max (granuleOf q) (inner .align)) ⌝ }
-    ensures { λ r. ⌜ r ≡ cutExtent (withWindow q (extentOf e) (extentOf inner)) ⌝ }
-{
-    if inner.align == 0 {
-        return Extent {
-            end: cap(e.end),
-            align: e.align,
-        };
-    }
-    let align = larger(pools::granule(q), inner.align);
-    grow(e, window_size(q, inner.end), align)
-}
-
 fn with_windows(l: Laid, inner: Laid) -> Laid
-    requires { ⌜ ((q : PoolName) → PowerOfTwo (max (granuleOf q) (extentIn inner q .align))) ⌝ }
+    requires { ⌜ ((q : PoolName) → PowerOfTwo (windowAlign q (extentIn inner q .align))) ⌝ }
     ensures { λ r. ⌜ r ≡ cut (windowLaid (says l) (says inner)) ⌝ }
 {
     Laid {
@@ -163,14 +245,32 @@ fn with_windows(l: Laid, inner: Laid) -> Laid
     }
 }
 
-// ---- the board's arrays
-
-fn is_bridge(headers: &[u8], i: usize) -> bool
-    requires { ⌜ i < length (now headers) ⌝ }
-    ensures { λ r. ⌜ r ≡ isBridge (getD (now (headers .entry)) i 0) ⌝ }
+// A bridge's window over what its bus comes to: none where there is nothing inside.
+fn with_window(q: Pool, e: Extent, inner: Extent) -> Extent
+    requires { ⌜ PowerOfTwo (windowAlign q (inner .align)) ⌝ }
+    ensures { λ r. ⌜ r ≡ cutExtent (withWindow q (extentOf e) (extentOf inner)) ⌝ }
 {
-    headers[i] % 128 == 1
+    if inner.align == 0 {
+        return Extent {
+            end: cap(e.end),
+            align: e.align,
+        };
+    }
+    grow(e, window_size(q, inner.end), window_align(q, inner.align))
 }
+
+fn grow(e: Extent, size: u64, align: u64) -> Extent
+    requires { ⌜ PowerOfTwo align ⌝ }
+    ensures { λ r. ⌜ r ≡ cutExtent (growOf (extentOf e) size align) ⌝ }
+{
+    let start = cap(align_up(align, cap(e.end)));
+    Extent {
+        end: cap(start + cap(size)),
+        align: larger(e.align, align),
+    }
+}
+
+// ---- the board's arrays
 
 // Is there a function at index i, and is it on this bus?
 fn is_child(parents: &[u16], i: usize, bus: usize) -> bool
@@ -180,6 +280,20 @@ fn is_child(parents: &[u16], i: usize, bus: usize) -> bool
         return parents[i] as usize == bus;
     }
     false
+}
+
+fn is_bridge(headers: &[u8], i: usize) -> bool
+    requires { ⌜ i < length (now headers) ⌝ }
+    ensures { λ r. ⌜ r ≡ isBridge (getD (now (headers .entry)) i 0) ⌝ }
+{
+    headers[i] % 128 == 1
+}
+
+// How many of the six read-backs count.
+fn slot_count(bridge: bool) -> usize
+    ensures { λ r. ⌜ (r ≡ cond bridge 2 6) × (r ≤ 6) ⌝ }
+{
+    if bridge { 2 } else { 6 }
 }
 
 fn set_at(readbacks: &[u32], i: usize) -> [u32; 6]
@@ -197,33 +311,41 @@ fn set_at(readbacks: &[u32], i: usize) -> [u32; 6]
     ]
 }
 
-// How many of the six read-backs count.
-fn slot_count(bridge: bool) -> usize
-    ensures { λ r. ⌜ (r ≡ cond bridge 2 6) × (r ≤ 6) ⌝ }
-{
-    if bridge { 2 } else { 6 }
-}
+// ---- where a walk starts, and what is stored of it
 
-// The next function's own BARs: items of its own bus, a bridge's too.
-fn own_bars(headers: &[u8], readbacks: &[u32], l: Laid) -> Laid
-    requires { ⌜ OwnBars (now headers) (now readbacks) l ⌝ }
-    ensures { λ r. ⌜ r ≡ cut (barsLaid (functionIn 0 (getD (now (headers .entry)) (l .next) 0) (setAt (now (readbacks .entry)) (l .next))) (says l)) ⌝ }
+// The walk over the root bus starts at the pools' bases.
+fn root_from(base_low: u64, base_high: u64, base_io: u64) -> Laid
+    ensures { λ r. ⌜ r ≡ cut (rootFrom (basesOf «base_low» «base_high» «base_io»)) ⌝ }
 {
-    let i = l.next;
-    let count = slot_count(is_bridge(headers, i));
-    let own = with_bars(l, set_at(readbacks, i), count);
-    let low = own.low;
-    let high = own.high;
-    let io = own.io;
     Laid {
-        next: i + 1,
-        low: low,
-        high: high,
-        io: io,
+        next: 0,
+        low: Extent {
+            end: cap(base_low),
+            align: 0,
+        },
+        high: Extent {
+            end: cap(base_high),
+            align: 0,
+        },
+        io: Extent {
+            end: cap(base_io),
+            align: 0,
+        },
     }
 }
 
-// ---- what is stored on the way
+// Nothing is laid out yet, and the walk stands at index i.
+fn laid_from(i: usize) -> Laid
+    ensures { λ r. ⌜ r ≡ cut (laidFrom i) ⌝ }
+{
+    let none = Extent { end: 0, align: 0 };
+    Laid {
+        next: i,
+        low: none,
+        high: none,
+        io: none,
+    }
+}
 
 fn store(memo: &mut [u64], i: usize, l: Laid)
     requires { ⌜ 8 * i + 8 ≤ length (now memo) ⌝ }
@@ -243,57 +365,16 @@ fn store(memo: &mut [u64], i: usize, l: Laid)
     memo[at + 7] = 0;
 }
 
-// ---- a bus from its functions, a bridge from its bus
+// ---- numbers
 
-// Nothing is laid out yet, and the walk stands at index i.
-fn laid_from(i: usize) -> Laid
-    ensures { λ r. ⌜ r ≡ cut (laidFrom i) ⌝ }
+fn cap(x: u64) -> u64
+    ensures { λ r. ⌜ (r ≡ capOf x) × (r ≤ limit) ⌝ }
 {
-    let none = Extent { end: 0, align: 0 };
-    Laid {
-        next: i,
-        low: none,
-        high: none,
-        io: none,
-    }
+    if x < LIMIT { x } else { LIMIT }
 }
 
-fn bus_size(
-    parents: &[u16],
-    headers: &[u8],
-    readbacks: &[u32],
-    memo: &mut [u64],
-    bus: usize,
-    start: Laid,
-) -> Laid
-    requires { ⌜ Standing (now parents) (now headers) (now readbacks) (now memo) bus start ⌝ }
-    ensures { λ r. ⌜ Walked (functionsIn (now (parents .entry)) (now (headers .entry)) (now (readbacks .entry))) (now (memo .entry)) (now (memo .exit)) start (busLaid (functionsIn (now (parents .entry)) (now (headers .entry)) (now (readbacks .entry))) bus (says start)) r ⌝ }
+fn larger(a: u64, b: u64) -> u64
+    ensures { λ r. ⌜ r ≡ max a b ⌝ }
 {
-    let mut l = start;
-    while is_child(parents, l.next, bus) {
-        l = function_size(parents, headers, readbacks, memo, l);
-    }
-    l
-}
-
-fn function_size(
-    parents: &[u16],
-    headers: &[u8],
-    readbacks: &[u32],
-    memo: &mut [u64],
-    l: Laid,
-) -> Laid
-    requires { ⌜ Standing (now parents) (now headers) (now readbacks) (now memo) (getD (now parents) (l .next) 0) l × (l .next < length (now parents)) ⌝ }
-    ensures { λ r. ⌜ Walked (functionsIn (now (parents .entry)) (now (headers .entry)) (now (readbacks .entry))) (now (memo .entry)) (now (memo .exit)) l (functionLaid (functionsIn (now (parents .entry)) (now (headers .entry)) (now (readbacks .entry))) (functionAt (now (parents .entry)) (now (headers .entry)) (now (readbacks .entry)) (l .next)) (says l)) r ⌝ }
-{
-    let i = l.next;
-    let own = own_bars(headers, readbacks, l);
-    if is_bridge(headers, i) {
-        let inside = laid_from(i + 1);
-        let inner = bus_size(parents, headers, readbacks, memo, i + 1, inside);
-        store(memo, i, inner);
-        return with_windows(own, inner);
-    }
-    store(memo, i, laid_from(0));
-    own
+    if a < b { b } else { a }
 }

@@ -1,25 +1,19 @@
+-- `board::bad_readbacks` meets its contract: the slots of a bridge are two, of another function six. Assumes nothing.
 use borrow.Author.Needs.{needs}
 use Rattle.board.proofs.bad_readbacks.Statement.{statement}
 use Rattle.board.proofs.bad_readbacks.Tie as tie
-use Rattle.board.proofs.bad_readbacks.Reads as reads
-use Rattle.board.proofs.bad_readbacks.Lts as lts
-use Rattle.bar.proofs.is_lawful.Reads as is-lawful-reads
 use Rattle.board.specs.FunctionLaws.{readbacks-wrong}
 use borrow.Author.Tests.{eq-eqb, ne-eqb}
 
--- src/lib.rt:318:17
 is-lawful-requires : tie.Need-is-lawful-requires
 is-lawful-requires c κs = search needs
 
--- src/lib.rt:318:9
 returns : tie.Need-returns
 returns c = let s = c .before .before .before .before in readbacks-wrong (s .args .f) 2 _ (rw (eq-eqb _ _ (c .before .if1 .taken))) (c .is-lawful .ensures)
 
--- src/lib.rt:320:6
 is-lawful-requires-2 : tie.Need-is-lawful-requires-2
 is-lawful-requires-2 c κs = search needs
 
--- src/lib.rt:313:1
 returns-2 : tie.Need-returns-2
 returns-2 c = let s = c .before .before .before .before in readbacks-wrong (s .args .f) 6 _ (rw (ne-eqb _ _ (c .before .if1 .left))) (c .is-lawful2 .ensures)
 

@@ -1,16 +1,7 @@
+-- `board::check` meets its contract: one lemma for each check that is passed, then each number by the test that gave it. Assumes nothing.
 use borrow.Author.Needs.{needs}
 use Rattle.board.proofs.check.Statement.{statement}
 use Rattle.board.proofs.check.Tie as tie
-use Rattle.board.proofs.check.Reads as reads
-use Rattle.board.proofs.check.Lts as lts
-use Rattle.board.proofs.headers_wrong.Reads as headers-wrong-reads
-use Rattle.board.proofs.host_of.Reads as host-of-reads
-use Rattle.board.proofs.host_wrong.Reads as host-wrong-reads
-use Rattle.board.proofs.misframed.Reads as misframed-reads
-use Rattle.board.proofs.order.misplaced.Reads as misplaced-reads
-use Rattle.board.proofs.readbacks_wrong.Reads as readbacks-wrong-reads
-use Rattle.board.proofs.too_many.Reads as too-many-reads
-use Rattle.records.proofs.part_at.Reads as part-at-reads
 use mathlib.Core.Path.{_≡_, sym, ap, _∙_}
 use mathlib.Core.List.{map}
 use lib.ListN.{length, getD, take, drop}
@@ -43,83 +34,65 @@ past-6 c = past-5 (c .before .before .before .before) ∙ past-edges _ _ (sym (e
 past-7 : (c : tie.Else7) → boardNumber (c .before .before .before .before .before .before .before .before .before .before .before .before .before .before .before .before .args .board .now) ≡ fromReadbacks (map functionOfPart (partsFrom (c .before .before .before .before .before .before .before .before .before .before .before .before .before .before .before .before .args .board .now) 33))
 past-7 c = past-6 (c .before .before) ∙ past-order _ (sym (c .before .misplaced .ensures) ∙ c .if7 .left)
 
--- src/lib.rt:52:9
 returns : tie.Need-returns
 unfolding boardNumber
 returns c = sym (rw (eq-eqb (length (c .before .before .args .board .now)) 0 (c .if1 .taken)))
 
--- src/lib.rt:54:8
 shared-slice-read-if2 : tie.Need-shared-slice-read-if2
 shared-slice-read-if2 c = search needs
 
--- src/lib.rt:55:9
 returns-2 : tie.Need-returns-2
 unfolding boardNumber fromVersion
 returns-2 c = sym (rw (ne-eqb (length (c .before .before .before .before .args .board .now)) 0 (c .before .before .if1 .left), ne-eqb (getD (c .before .before .before .before .args .board .now) 0 0) 1 (c .if2 .taken)))
 
--- src/lib.rt:57:8
 misframed-requires : tie.Need-misframed-requires
 misframed-requires c κs = search needs
 
--- src/lib.rt:58:9
 returns-3 : tie.Need-returns-3
 unfolding fromFrame
 returns-3 c = sym (past-2 (c .before .before) ∙ rw (sym (c .before .misframed .ensures) ∙ c .if3 .taken))
 
--- src/lib.rt:60:8
 too-many-requires : tie.Need-too-many-requires
 too-many-requires c κs = search needs
 
--- src/lib.rt:61:9
 returns-4 : tie.Need-returns-4
 unfolding fromCount
 returns-4 c = sym (past-3 (c .before .before) ∙ rw (sym (c .before .too-many .ensures) ∙ c .if4 .taken))
 
--- src/lib.rt:63:8
 headers-wrong-requires : tie.Need-headers-wrong-requires
 headers-wrong-requires c κs = search needs
 
--- src/lib.rt:64:9
 returns-5 : tie.Need-returns-5
 unfolding fromHeaders
 returns-5 c = sym (past-4 (c .before .before) ∙ rw (sym (c .before .headers-wrong .ensures) ∙ c .if5 .taken))
 
--- src/lib.rt:66:27
 part-at-requires : tie.Need-part-at-requires
 part-at-requires c κs = let s = (c .before .before .before .before .before .before .before .before .before .before .args .board .now) in fits-at s 1 30 (host-of-framed s (sym (c .before .before .before .before .before .misframed .ensures) ∙ c .before .before .before .before .if3 .left))
 
--- src/lib.rt:66:19
 host-of-requires : tie.Need-host-of-requires
 host-of-requires c κs = let s = (c .before .before .before .before .before .before .before .before .before .before .before .args .board .now) in ap length (c .part-at .ensures) ∙ length-part s 1 30 (host-of-framed s (sym (c .before .before .before .before .before .before .misframed .ensures) ∙ c .before .before .before .before .before .if3 .left))
 
--- src/lib.rt:66:8
 host-wrong-requires : tie.Need-host-wrong-requires
 host-wrong-requires c κs = search needs
 
--- src/lib.rt:67:9
 returns-6 : tie.Need-returns-6
 unfolding fromEdges
 returns-6 c = sym (past-5 (c .before .before .before .before) ∙ rw (sym (edges (c .before)) ∙ c .if6 .taken))
 
--- src/lib.rt:69:8
 misplaced-requires : tie.Need-misplaced-requires
 misplaced-requires c κs = sym (c .before .before .before .before .before .headers-wrong .ensures) ∙ c .before .before .before .before .if5 .left
 
--- src/lib.rt:70:9
 returns-7 : tie.Need-returns-7
 unfolding fromOrder
 returns-7 c = sym (past-6 (c .before .before) ∙ rw (sym (c .before .misplaced .ensures) ∙ c .if7 .taken))
 
--- src/lib.rt:72:8
 readbacks-wrong-requires : tie.Need-readbacks-wrong-requires
 readbacks-wrong-requires c κs = sym (c .before .before .before .before .before .before .before .headers-wrong .ensures) ∙ c .before .before .before .before .before .before .if5 .left
 
--- src/lib.rt:73:9
 returns-8 : tie.Need-returns-8
 unfolding fromReadbacks
 returns-8 c = sym (past-7 (c .before .before) ∙ rw (sym (c .before .readbacks-wrong .ensures) ∙ c .if8 .taken))
 
--- src/lib.rt:48:1
 returns-9 : tie.Need-returns-9
 unfolding fromReadbacks
 returns-9 c = sym (past-7 (c .before .before) ∙ rw (sym (c .before .readbacks-wrong .ensures) ∙ c .if8 .left))

@@ -1,11 +1,9 @@
+-- `board::functions_misframed` meets its contract. The invariant: what is left from the cursor on decides; the measure is the bytes left. Assumes nothing.
 use Rattle.board.proofs.functions_misframed.Statement.{statement}
 use Rattle.board.proofs.functions_misframed.Tie as tie
-use Rattle.board.proofs.functions_misframed.Reads as reads
-use Rattle.board.proofs.functions_misframed.Lts as lts
-use Rattle.records.proofs.next_at.Reads as next-at-reads
 use native.Mathlib.Omega.{arith}
 use borrow.Author.Needs.{needs}
-use Prim.Native.Nat.{_+_, _-_}
+use Prim.Native.Nat.{_-_}
 use mathlib.Core.Path.{_≡_, refl, sym, _∙_}
 use lib.ListN.{length, drop}
 use Rattle.records.specs.Records.{partsOf}
@@ -19,19 +17,15 @@ Inv-loop board at₀ at = tailMisframed (partsOf (drop at board)) ≡ tailMisfra
 abbrev μ-loop : tie.MeasureT-loop
 μ-loop board at₀ at = length board - at
 
--- src/lib.rt:165:5
 loop-holds : tie.Need-loop-holds Inv-loop μ-loop
 loop-holds c = refl
 
--- src/lib.rt:166:15
 next-at-requires : tie.Need-next-at-requires Inv-loop μ-loop
 next-at-requires c κs = search needs
 
--- src/lib.rt:168:17
 enum-told : tie.Need-enum-told Inv-loop μ-loop
 enum-told c = search needs
 
--- src/lib.rt:168:17
 returns : tie.Need-returns Inv-loop μ-loop
 returns c =
     let s = c .before .before .before .before .before .args .board .now in
@@ -39,11 +33,9 @@ returns c =
     let e = sym (c .before .before .next-at .ensures) ∙ c .enum-told .given .1 in
     sym (tail-end s at e) ∙ c .before .before .before .loop .inv
 
--- src/lib.rt:171:17
 enum-told-2 : tie.Need-enum-told-2 Inv-loop μ-loop
 enum-told-2 c = search needs
 
--- src/lib.rt:171:17
 returns-2 : tie.Need-returns-2 Inv-loop μ-loop
 returns-2 c =
     let s = c .before .before .before .before .before .args .board .now in
@@ -51,11 +43,9 @@ returns-2 c =
     let e = sym (c .before .before .next-at .ensures) ∙ c .enum-told2 .given .1 in
     sym (tail-broken s at e) ∙ c .before .before .before .loop .inv
 
--- src/lib.rt:173:26
 enum-known-n : tie.Need-enum-known-n Inv-loop μ-loop
 enum-known-n c = search needs
 
--- src/lib.rt:175:21
 returns-3 : tie.Need-returns-3 Inv-loop μ-loop
 returns-3 c =
     let s = c .before .before .before .before .before .before .before .args .board .now in
@@ -63,7 +53,6 @@ returns-3 c =
     let e = sym (c .before .before .before .before .next-at .ensures) ∙ c .before .before .n .given .1 in
     sym (tail-short s at _ e (c .if1 .taken)) ∙ c .before .before .before .before .before .loop .inv
 
--- src/lib.rt:177:22
 add-at : tie.Need-add-at Inv-loop μ-loop
 add-at c =
     let s = c .before .before .before .before .before .before .before .args .board .now in
@@ -71,7 +60,6 @@ add-at c =
     let e = sym (c .before .before .before .before .next-at .ensures) ∙ c .before .before .n .given .1 in
     omega (arith, fits-at s at _ e)
 
--- src/lib.rt:177:22
 add-at-2 : tie.Need-add-at-2 Inv-loop μ-loop
 add-at-2 c =
     let s = c .before .before .before .before .before .before .before .args .board .now in
@@ -79,7 +67,6 @@ add-at-2 c =
     let e = sym (c .before .before .before .before .next-at .ensures) ∙ c .before .before .n .given .1 in
     omega (arith, fits-at s at _ e)
 
--- src/lib.rt:165:5
 loop-less : tie.Need-loop-less Inv-loop μ-loop
 loop-less c =
     let s = c .before .before .before .before .before .before .before .args .board .now in
@@ -87,7 +74,6 @@ loop-less c =
     let e = sym (c .before .before .before .before .next-at .ensures) ∙ c .before .before .n .given .1 in
     omega (arith, fits-at s at _ e)
 
--- src/lib.rt:165:5
 loop-again : tie.Need-loop-again Inv-loop μ-loop
 loop-again c =
     let s = c .before .before .before .before .before .before .before .args .board .now in

@@ -1,13 +1,9 @@
+-- `board::headers_wrong` meets its contract. The invariant: what is left from the cursor on decides; the measure is the bytes left. Assumes nothing.
 use Rattle.board.proofs.headers_wrong.Statement.{statement}
 use Rattle.board.proofs.headers_wrong.Tie as tie
-use Rattle.board.proofs.headers_wrong.Reads as reads
-use Rattle.board.proofs.headers_wrong.Lts as lts
-use Rattle.board.proofs.header_wrong.Reads as header-wrong-reads
-use Rattle.records.proofs.next_at.Reads as next-at-reads
-use Rattle.records.proofs.part_at.Reads as part-at-reads
 use native.Mathlib.Omega.{arith}
 use borrow.Author.Needs.{needs}
-use Prim.Native.Nat.{_+_, _-_}
+use Prim.Native.Nat.{_-_}
 use mathlib.Core.Path.{_≡_, refl, sym, ap, _∙_}
 use lib.ListN.{length}
 use Rattle.records.specs.Records.{partsFrom, anyPart}
@@ -20,19 +16,15 @@ Inv-loop board at₀ at = anyPart headerWrong (partsFrom board at) ≡ anyPart h
 abbrev μ-loop : tie.MeasureT-loop
 μ-loop board at₀ at = length board - at
 
--- src/lib.rt:215:5
 loop-holds : tie.Need-loop-holds Inv-loop μ-loop
 loop-holds c = refl
 
--- src/lib.rt:216:15
 next-at-requires : tie.Need-next-at-requires Inv-loop μ-loop
 next-at-requires c κs = search needs
 
--- src/lib.rt:218:17
 enum-told : tie.Need-enum-told Inv-loop μ-loop
 enum-told c = search needs
 
--- src/lib.rt:218:17
 returns : tie.Need-returns Inv-loop μ-loop
 returns c =
     let s = c .before .before .before .before .before .args .board .now in
@@ -40,11 +32,9 @@ returns c =
     let e = sym (c .before .before .next-at .ensures) ∙ c .enum-told .given .1 in
     sym (any-end headerWrong s at e) ∙ c .before .before .before .loop .inv
 
--- src/lib.rt:221:17
 enum-told-2 : tie.Need-enum-told-2 Inv-loop μ-loop
 enum-told-2 c = search needs
 
--- src/lib.rt:221:17
 returns-2 : tie.Need-returns-2 Inv-loop μ-loop
 returns-2 c =
     let s = c .before .before .before .before .before .args .board .now in
@@ -52,11 +42,9 @@ returns-2 c =
     let e = sym (c .before .before .next-at .ensures) ∙ c .enum-told2 .given .1 in
     sym (any-broken headerWrong s at e) ∙ c .before .before .before .loop .inv
 
--- src/lib.rt:223:26
 enum-known-n : tie.Need-enum-known-n Inv-loop μ-loop
 enum-known-n c = search needs
 
--- src/lib.rt:224:33
 part-at-requires : tie.Need-part-at-requires Inv-loop μ-loop
 part-at-requires c κs =
     let s = c .before .before .before .before .before .before .args .board .now in
@@ -64,11 +52,9 @@ part-at-requires c κs =
     let e = sym (c .before .before .before .next-at .ensures) ∙ c .before .n .given .1 in
     fits-at s at _ e
 
--- src/lib.rt:224:20
 header-wrong-requires : tie.Need-header-wrong-requires Inv-loop μ-loop
 header-wrong-requires c κs = search needs
 
--- src/lib.rt:225:21
 returns-3 : tie.Need-returns-3 Inv-loop μ-loop
 returns-3 c =
     let s = c .before .before .before .before .before .before .before .before .before .args .board .now in
@@ -76,7 +62,6 @@ returns-3 c =
     let e = sym (c .before .before .before .before .before .before .next-at .ensures) ∙ c .before .before .before .before .n .given .1 in
     sym (any-hit headerWrong s at _ e (ap headerWrong (sym (c .before .before .part-at .ensures)) ∙ sym (c .before .header-wrong .ensures) ∙ c .if1 .taken)) ∙ c .before .before .before .before .before .before .before .loop .inv
 
--- src/lib.rt:227:22
 add-at : tie.Need-add-at Inv-loop μ-loop
 add-at c =
     let s = c .before .before .before .before .before .before .before .before .before .args .board .now in
@@ -84,7 +69,6 @@ add-at c =
     let e = sym (c .before .before .before .before .before .before .next-at .ensures) ∙ c .before .before .before .before .n .given .1 in
     omega (arith, fits-at s at _ e)
 
--- src/lib.rt:227:22
 add-at-2 : tie.Need-add-at-2 Inv-loop μ-loop
 add-at-2 c =
     let s = c .before .before .before .before .before .before .before .before .before .args .board .now in
@@ -92,7 +76,6 @@ add-at-2 c =
     let e = sym (c .before .before .before .before .before .before .next-at .ensures) ∙ c .before .before .before .before .n .given .1 in
     omega (arith, fits-at s at _ e)
 
--- src/lib.rt:215:5
 loop-less : tie.Need-loop-less Inv-loop μ-loop
 loop-less c =
     let s = c .before .before .before .before .before .before .before .before .before .args .board .now in
@@ -100,7 +83,6 @@ loop-less c =
     let e = sym (c .before .before .before .before .before .before .next-at .ensures) ∙ c .before .before .before .before .n .given .1 in
     omega (arith, fits-at s at _ e)
 
--- src/lib.rt:215:5
 loop-again : tie.Need-loop-again Inv-loop μ-loop
 loop-again c =
     let s = c .before .before .before .before .before .before .before .before .before .args .board .now in

@@ -1,55 +1,43 @@
+-- `board::misframed` meets its contract: the host's length, then the rest. Assumes nothing.
 use borrow.Author.Needs.{needs}
 use Rattle.board.proofs.misframed.Statement.{statement}
 use Rattle.board.proofs.misframed.Tie as tie
-use Rattle.board.proofs.misframed.Reads as reads
-use Rattle.board.proofs.misframed.Lts as lts
-use Rattle.board.proofs.functions_misframed.Reads as functions-misframed-reads
-use Rattle.records.proofs.next_at.Reads as next-at-reads
 use mathlib.Core.Path.{sym, _∙_}
 use Rattle.board.specs.BoardLaws.{misframed-end, misframed-broken, misframed-host, misframed-tail}
 
--- src/lib.rt:149:11
 next-at-requires : tie.Need-next-at-requires
 next-at-requires c κs = search needs
 
--- src/lib.rt:150:22
 enum-told : tie.Need-enum-told
 enum-told c = search needs
 
--- src/lib.rt:151:25
 enum-told-2 : tie.Need-enum-told-2
 enum-told-2 c = search needs
 
--- src/lib.rt:152:22
 enum-known-n : tie.Need-enum-known-n
 enum-known-n c = search needs
 
--- src/lib.rt:154:17
 returns : tie.Need-returns
 returns c =
     let s = c .before .before .before .before .before .before .args .board .now in
     let e = sym (c .before .before .before .before .next-at .ensures) ∙ c .before .before .n .given .1 in
     sym (misframed-host s _ e (c .if1 .taken))
 
--- src/lib.rt:156:13
 functions-misframed-requires : tie.Need-functions-misframed-requires
 functions-misframed-requires c κs = search needs
 
--- src/lib.rt:146:1
 returns-2 : tie.Need-returns-2
 returns-2 c =
     let s = c .before .before .before .before .args .board .now in
     let e = sym (c .before .before .next-at .ensures) ∙ c .enum-told .given .1 in
     sym (misframed-end s e)
 
--- src/lib.rt:146:1
 returns-3 : tie.Need-returns-3
 returns-3 c =
     let s = c .before .before .before .before .args .board .now in
     let e = sym (c .before .before .next-at .ensures) ∙ c .enum-told2 .given .1 in
     sym (misframed-broken s e)
 
--- src/lib.rt:146:1
 returns-4 : tie.Need-returns-4
 returns-4 c =
     let s = c .before .before .before .before .before .before .before .args .board .now in

@@ -1,23 +1,18 @@
+-- `board::off_edges` meets its contract: the law of an edge, over any edge. Assumes nothing.
 use borrow.Author.Needs.{needs}
 use Rattle.board.proofs.off_edges.Statement.{statement}
 use Rattle.board.proofs.off_edges.Tie as tie
-use Rattle.board.proofs.off_edges.Reads as reads
-use Rattle.board.proofs.off_edges.Lts as lts
 use Rattle.board.specs.HostLaws.{edge-last}
 
--- src/lib.rt:285:6
 rem-result : tie.Need-rem-result
 rem-result c = search needs
 
--- src/lib.rt:285:29
 rem-result-2 : tie.Need-rem-result-2
 rem-result-2 c = search needs
 
--- src/lib.rt:285:46
 sub-result : tie.Need-sub-result
 sub-result c = search needs
 
--- src/lib.rt:281:1
 returns : tie.Need-returns
 returns c = rw (edge-last (c .before .before .args .edge) (c .before .before .args .x .last) (c .before .before .pre))
 

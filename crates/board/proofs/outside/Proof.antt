@@ -1,30 +1,23 @@
+-- `board::outside` meets its contract, pool by pool. Assumes nothing.
 use borrow.Author.Needs.{needs}
 use Rattle.board.proofs.outside.Statement.{statement}
 use Rattle.board.proofs.outside.Tie as tie
-use Rattle.board.proofs.outside.Reads as reads
-use Rattle.board.proofs.outside.Lts as lts
 
--- src/lib.rt:274:22
 enum-told : tie.Need-enum-told
 enum-told c = search needs
 
--- src/lib.rt:275:24
 enum-told-2 : tie.Need-enum-told-2
 enum-told-2 c = search needs
 
--- src/lib.rt:276:21
 enum-told-3 : tie.Need-enum-told-3
 enum-told-3 c = search needs
 
--- src/lib.rt:270:1
 returns : tie.Need-returns
 returns c = search needs
 
--- src/lib.rt:270:1
 returns-2 : tie.Need-returns-2
 returns-2 c = rw (c .before .before .enum-told2 .given .1)
 
--- src/lib.rt:270:1
 returns-3 : tie.Need-returns-3
 returns-3 c = search needs
 

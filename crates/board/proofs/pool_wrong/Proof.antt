@@ -1,11 +1,7 @@
+-- `board::pool_wrong` meets its contract: a closed pool has no edges. Assumes nothing.
 use borrow.Author.Needs.{needs}
 use Rattle.board.proofs.pool_wrong.Statement.{statement}
 use Rattle.board.proofs.pool_wrong.Tie as tie
-use Rattle.board.proofs.pool_wrong.Reads as reads
-use Rattle.board.proofs.pool_wrong.Lts as lts
-use Rattle.board.proofs.off_edges.Reads as off-edges-reads
-use Rattle.board.proofs.outside.Reads as outside-reads
-use Rattle.pools.proofs.granule.Reads as granule-reads
 use native.Mathlib.Omega.{arith}
 use mathlib.Core.Bool.{_||_}
 use Prim.Native.Nat.{ℕ}
@@ -14,24 +10,19 @@ use borrow.Author.Tests.{lt-leb, le-leb}
 use Rattle.board.specs.Host.{poolWrong, offEdges}
 use Rattle.board.specs.HostLaws.{granule-pos}
 
--- src/lib.rt:264:9
 returns : tie.Need-returns
 unfolding poolWrong
 returns c = sym (rw (lt-leb (c .before .before .args .x .base) (c .before .before .args .x .last) (c .if1 .taken)))
 
--- src/lib.rt:266:5
 outside-requires : tie.Need-outside-requires
 outside-requires c κs = search needs
 
--- src/lib.rt:266:31
 granule-requires : tie.Need-granule-requires
 granule-requires c κs = search needs
 
--- src/lib.rt:266:21
 off-edges-requires : tie.Need-off-edges-requires
 off-edges-requires c κs = omega (arith, c .granule .ensures, granule-pos (c .before .before .before .before .args .q))
 
--- src/lib.rt:260:1
 returns-2 : tie.Need-returns-2
 unfolding poolWrong
 returns-2 c = ap₂ _||_ (c .before .before .outside .ensures) (c .off-edges .ensures ∙ ap (λ (g : ℕ). offEdges g (c .before .before .before .before .before .args .x)) (c .before .granule .ensures)) ∙ sym (rw (le-leb (c .before .before .before .before .before .args .x .base) (c .before .before .before .before .before .args .x .last) (c .before .before .before .if1 .left)))

@@ -1,86 +1,65 @@
+-- `board::readbacks_of` meets its contract: a function that is no bridge has 30 bytes. Assumes nothing.
 use borrow.Author.Needs.{needs}
 use Rattle.board.proofs.readbacks_of.Statement.{statement}
 use Rattle.board.proofs.readbacks_of.Tie as tie
-use Rattle.board.proofs.readbacks_of.Reads as reads
-use Rattle.board.proofs.readbacks_of.Lts as lts
-use Rattle.endian.proofs.read_be32.Reads as read-be32-reads
 use native.Mathlib.Omega.{arith}
 use Rattle.board.specs.FunctionLaws.{le-length, length-of-end}
 use borrow.Author.Tests.{eq-eqb, ne-eqb}
 
--- src/lib.rt:124:8
 shared-slice-read-if1 : tie.Need-shared-slice-read-if1
 shared-slice-read-if1 c = omega (arith, le-length _ (c .before .before .pre))
 
--- src/lib.rt:126:13
 read-be32-requires : tie.Need-read-be32-requires
 read-be32-requires c κs = omega (arith, le-length _ (c .before .before .before .pre))
 
--- src/lib.rt:126:13
 cast-t7 : tie.Need-cast-t7
 cast-t7 c = search needs
 
--- src/lib.rt:127:13
 read-be32-requires-2 : tie.Need-read-be32-requires-2
 read-be32-requires-2 c κs = omega (arith, le-length _ (c .before .before .before .before .pre))
 
--- src/lib.rt:127:13
 cast-t9 : tie.Need-cast-t9
 cast-t9 c = search needs
 
--- src/lib.rt:125:9
 returns : tie.Need-returns
 returns c = simp (eq-eqb _ _ (c .before .before .if1 .taken)) (cc)
 
--- src/lib.rt:135:9
 read-be32-requires-3 : tie.Need-read-be32-requires-3
 read-be32-requires-3 c κs = let s = c .before .before .before in omega (arith, length-of-end (s .args .part .now) (s .pre) (ne-eqb _ 1 (c .if1 .left)))
 
--- src/lib.rt:135:9
 cast-t11 : tie.Need-cast-t11
 cast-t11 c = search needs
 
--- src/lib.rt:136:9
 read-be32-requires-4 : tie.Need-read-be32-requires-4
 read-be32-requires-4 c κs = let s = c .before .before .before .before in omega (arith, length-of-end (s .args .part .now) (s .pre) (ne-eqb _ 1 (c .before .if1 .left)))
 
--- src/lib.rt:136:9
 cast-t13 : tie.Need-cast-t13
 cast-t13 c = search needs
 
--- src/lib.rt:137:9
 read-be32-requires-5 : tie.Need-read-be32-requires-5
 read-be32-requires-5 c κs = let s = c .before .before .before .before .before in omega (arith, length-of-end (s .args .part .now) (s .pre) (ne-eqb _ 1 (c .before .before .if1 .left)))
 
--- src/lib.rt:137:9
 cast-t15 : tie.Need-cast-t15
 cast-t15 c = search needs
 
--- src/lib.rt:138:9
 read-be32-requires-6 : tie.Need-read-be32-requires-6
 read-be32-requires-6 c κs = let s = c .before .before .before .before .before .before in omega (arith, length-of-end (s .args .part .now) (s .pre) (ne-eqb _ 1 (c .before .before .before .if1 .left)))
 
--- src/lib.rt:138:9
 cast-t17 : tie.Need-cast-t17
 cast-t17 c = search needs
 
--- src/lib.rt:139:9
 read-be32-requires-7 : tie.Need-read-be32-requires-7
 read-be32-requires-7 c κs = let s = c .before .before .before .before .before .before .before in omega (arith, length-of-end (s .args .part .now) (s .pre) (ne-eqb _ 1 (c .before .before .before .before .if1 .left)))
 
--- src/lib.rt:139:9
 cast-t19 : tie.Need-cast-t19
 cast-t19 c = search needs
 
--- src/lib.rt:140:9
 read-be32-requires-8 : tie.Need-read-be32-requires-8
 read-be32-requires-8 c κs = let s = c .before .before .before .before .before .before .before .before in omega (arith, length-of-end (s .args .part .now) (s .pre) (ne-eqb _ 1 (c .before .before .before .before .before .if1 .left)))
 
--- src/lib.rt:140:9
 cast-t21 : tie.Need-cast-t21
 cast-t21 c = search needs
 
--- src/lib.rt:120:1
 returns-2 : tie.Need-returns-2
 returns-2 c = simp (ne-eqb _ _ (c .before .before .before .before .before .before .if1 .left)) (cc)
 

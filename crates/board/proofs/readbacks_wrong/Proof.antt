@@ -1,15 +1,11 @@
+-- `board::readbacks_wrong` meets its contract. The invariant: the headers left passed check 24, and what is left decides; the measure is the bytes left.
+-- Assumes nothing.
 use Rattle.board.proofs.readbacks_wrong.Statement.{statement}
 use Rattle.board.proofs.readbacks_wrong.Tie as tie
-use Rattle.board.proofs.readbacks_wrong.Reads as reads
-use Rattle.board.proofs.readbacks_wrong.Lts as lts
-use Rattle.board.proofs.bad_readbacks.Reads as bad-readbacks-reads
-use Rattle.board.proofs.function_of.Reads as function-of-reads
-use Rattle.records.proofs.next_at.Reads as next-at-reads
-use Rattle.records.proofs.part_at.Reads as part-at-reads
 use native.Mathlib.Omega.{arith}
 use borrow.Author.Needs.{needs}
-use Prim.Native.Nat.{ℕ, _+_, _-_}
-use mathlib.Core.Path.{_≡_, refl, sym, ap, _∙_}
+use Prim.Native.Nat.{ℕ, _-_}
+use mathlib.Core.Path.{_≡_, sym, ap, _∙_}
 use mathlib.Core.Bool.{Bool, false}
 use mathlib.Core.List.{List, map}
 use lib.ListN.{length}
@@ -29,19 +25,15 @@ Inv-loop board at₀ at =
 abbrev μ-loop : tie.MeasureT-loop
 μ-loop board at₀ at = length board - at
 
--- src/lib.rt:295:5
 loop-holds : tie.Need-loop-holds Inv-loop μ-loop
 loop-holds c = (c .before .pre, sym (any-map readbacksWrong functionOfPart (partsFrom (c .before .args .board .now) 33)))
 
--- src/lib.rt:296:15
 next-at-requires : tie.Need-next-at-requires Inv-loop μ-loop
 next-at-requires c κs = search needs
 
--- src/lib.rt:298:17
 enum-told : tie.Need-enum-told Inv-loop μ-loop
 enum-told c = search needs
 
--- src/lib.rt:298:17
 returns : tie.Need-returns Inv-loop μ-loop
 returns c =
     let s = c .before .before .before .before .before .args .board .now in
@@ -49,11 +41,9 @@ returns c =
     let e = sym (c .before .before .next-at .ensures) ∙ c .enum-told .given .1 in
     sym (any-end wrong s at e) ∙ c .before .before .before .loop .inv .1
 
--- src/lib.rt:301:17
 enum-told-2 : tie.Need-enum-told-2 Inv-loop μ-loop
 enum-told-2 c = search needs
 
--- src/lib.rt:301:17
 returns-2 : tie.Need-returns-2 Inv-loop μ-loop
 returns-2 c =
     let s = c .before .before .before .before .before .args .board .now in
@@ -61,11 +51,9 @@ returns-2 c =
     let e = sym (c .before .before .next-at .ensures) ∙ c .enum-told2 .given .1 in
     sym (any-broken wrong s at e) ∙ c .before .before .before .loop .inv .1
 
--- src/lib.rt:303:26
 enum-known-n : tie.Need-enum-known-n Inv-loop μ-loop
 enum-known-n c = search needs
 
--- src/lib.rt:304:46
 part-at-requires : tie.Need-part-at-requires Inv-loop μ-loop
 part-at-requires c κs =
     let s = c .before .before .before .before .before .before .args .board .now in
@@ -73,7 +61,6 @@ part-at-requires c κs =
     let e = sym (c .before .before .before .next-at .ensures) ∙ c .before .n .given .1 in
     fits-at s at _ e
 
--- src/lib.rt:304:34
 function-of-requires : tie.Need-function-of-requires Inv-loop μ-loop
 function-of-requires c κs =
     let s = c .before .before .before .before .before .before .before .args .board .now in
@@ -81,11 +68,9 @@ function-of-requires c κs =
     let e = sym (c .before .before .before .before .next-at .ensures) ∙ c .before .before .n .given .1 in
     ap headerWrong (c .part-at .ensures) ∙ none-here headerWrong s at _ e (c .before .before .before .before .before .loop .inv .0)
 
--- src/lib.rt:304:20
 bad-readbacks-requires : tie.Need-bad-readbacks-requires Inv-loop μ-loop
 bad-readbacks-requires c κs = search needs
 
--- src/lib.rt:305:21
 returns-3 : tie.Need-returns-3 Inv-loop μ-loop
 returns-3 c =
     let s = c .before .before .before .before .before .before .before .before .before .before .args .board .now in
@@ -93,7 +78,6 @@ returns-3 c =
     let e = sym (c .before .before .before .before .before .before .before .next-at .ensures) ∙ c .before .before .before .before .before .n .given .1 in
     sym (any-hit wrong s at _ e (sym (c .before .bad-readbacks .ensures ∙ ap readbacksWrong (c .before .before .function-of .ensures ∙ ap functionOfPart (c .before .before .before .part-at .ensures))) ∙ c .if1 .taken)) ∙ c .before .before .before .before .before .before .before .before .loop .inv .1
 
--- src/lib.rt:307:22
 add-at : tie.Need-add-at Inv-loop μ-loop
 add-at c =
     let s = c .before .before .before .before .before .before .before .before .before .before .args .board .now in
@@ -101,7 +85,6 @@ add-at c =
     let e = sym (c .before .before .before .before .before .before .before .next-at .ensures) ∙ c .before .before .before .before .before .n .given .1 in
     omega (arith, fits-at s at _ e)
 
--- src/lib.rt:307:22
 add-at-2 : tie.Need-add-at-2 Inv-loop μ-loop
 add-at-2 c =
     let s = c .before .before .before .before .before .before .before .before .before .before .args .board .now in
@@ -109,7 +92,6 @@ add-at-2 c =
     let e = sym (c .before .before .before .before .before .before .before .next-at .ensures) ∙ c .before .before .before .before .before .n .given .1 in
     omega (arith, fits-at s at _ e)
 
--- src/lib.rt:295:5
 loop-less : tie.Need-loop-less Inv-loop μ-loop
 loop-less c =
     let s = c .before .before .before .before .before .before .before .before .before .before .args .board .now in
@@ -117,7 +99,6 @@ loop-less c =
     let e = sym (c .before .before .before .before .before .before .before .next-at .ensures) ∙ c .before .before .before .before .before .n .given .1 in
     omega (arith, fits-at s at _ e)
 
--- src/lib.rt:295:5
 loop-again : tie.Need-loop-again Inv-loop μ-loop
 loop-again c =
     let s = c .before .before .before .before .before .before .before .before .before .before .args .board .now in

@@ -1,12 +1,10 @@
+-- `board::too_many` meets its contract. The invariant: those counted and those left are all; the measure is the bytes left. Assumes nothing.
 use Rattle.board.proofs.too_many.Statement.{statement}
 use Rattle.board.proofs.too_many.Tie as tie
-use Rattle.board.proofs.too_many.Reads as reads
-use Rattle.board.proofs.too_many.Lts as lts
-use Rattle.records.proofs.next_at.Reads as next-at-reads
 use native.Mathlib.Omega.{arith}
 use borrow.Author.Needs.{needs}
 use Prim.Native.Nat.{_+_, _-_, _≤_}
-use mathlib.Core.Path.{_≡_, refl, sym, _∙_}
+use mathlib.Core.Path.{_≡_, sym, _∙_}
 use lib.ListN.{length}
 use Rattle.records.specs.Records.{partsFrom}
 use Rattle.records.specs.RecordsLaws.{fits-at}
@@ -19,19 +17,15 @@ Inv-loop board at₀ count₀ at count = (count ≤ 256) × (count + length (par
 abbrev μ-loop : tie.MeasureT-loop
 μ-loop board at₀ count₀ at count = length board - at
 
--- src/lib.rt:190:5
 loop-holds : tie.Need-loop-holds Inv-loop μ-loop
 loop-holds c = omega arith
 
--- src/lib.rt:191:15
 next-at-requires : tie.Need-next-at-requires Inv-loop μ-loop
 next-at-requires c κs = search needs
 
--- src/lib.rt:193:17
 enum-told : tie.Need-enum-told Inv-loop μ-loop
 enum-told c = search needs
 
--- src/lib.rt:193:17
 returns : tie.Need-returns Inv-loop μ-loop
 returns c =
     let s = c .before .before .before .before .before .args .board .now in
@@ -39,11 +33,9 @@ returns c =
     let e = sym (c .before .before .next-at .ensures) ∙ c .enum-told .given .1 in
     sym (le-ltb 256 (length (partsFrom s 33)) (omega (arith, length-end s at e)))
 
--- src/lib.rt:196:17
 enum-told-2 : tie.Need-enum-told-2 Inv-loop μ-loop
 enum-told-2 c = search needs
 
--- src/lib.rt:196:17
 returns-2 : tie.Need-returns-2 Inv-loop μ-loop
 returns-2 c =
     let s = c .before .before .before .before .before .args .board .now in
@@ -51,11 +43,9 @@ returns-2 c =
     let e = sym (c .before .before .next-at .ensures) ∙ c .enum-told2 .given .1 in
     sym (le-ltb 256 (length (partsFrom s 33)) (omega (arith, length-broken s at e)))
 
--- src/lib.rt:198:26
 enum-known-n : tie.Need-enum-known-n Inv-loop μ-loop
 enum-known-n c = search needs
 
--- src/lib.rt:200:21
 returns-3 : tie.Need-returns-3 Inv-loop μ-loop
 returns-3 c =
     let s = c .before .before .before .before .before .before .before .args .board .now in
@@ -63,11 +53,9 @@ returns-3 c =
     let e = sym (c .before .before .before .before .next-at .ensures) ∙ c .before .before .n .given .1 in
     sym (lt-ltb 256 (length (partsFrom s 33)) (omega (arith, length-record s at _ e)))
 
--- src/lib.rt:202:17
 add-count : tie.Need-add-count Inv-loop μ-loop
 add-count c = omega arith
 
--- src/lib.rt:203:22
 add-at : tie.Need-add-at Inv-loop μ-loop
 add-at c =
     let s = c .before .before .before .before .before .before .before .args .board .now in
@@ -75,7 +63,6 @@ add-at c =
     let e = sym (c .before .before .before .before .next-at .ensures) ∙ c .before .before .n .given .1 in
     omega (arith, fits-at s at _ e)
 
--- src/lib.rt:203:22
 add-at-2 : tie.Need-add-at-2 Inv-loop μ-loop
 add-at-2 c =
     let s = c .before .before .before .before .before .before .before .args .board .now in
@@ -83,7 +70,6 @@ add-at-2 c =
     let e = sym (c .before .before .before .before .next-at .ensures) ∙ c .before .before .n .given .1 in
     omega (arith, fits-at s at _ e)
 
--- src/lib.rt:190:5
 loop-less : tie.Need-loop-less Inv-loop μ-loop
 loop-less c =
     let s = c .before .before .before .before .before .before .before .args .board .now in
@@ -91,7 +77,6 @@ loop-less c =
     let e = sym (c .before .before .before .before .next-at .ensures) ∙ c .before .before .n .given .1 in
     omega (arith, fits-at s at _ e)
 
--- src/lib.rt:190:5
 loop-again : tie.Need-loop-again Inv-loop μ-loop
 loop-again c =
     let s = c .before .before .before .before .before .before .before .args .board .now in

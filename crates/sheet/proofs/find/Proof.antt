@@ -1,45 +1,34 @@
+-- `sheet::find` meets its contract: the sheet's number, then what the search finds. Assumes nothing.
 use borrow.Author.Needs.{needs}
-use Rattle.sheet.proofs.find.Statement.{statement}
-use Rattle.sheet.proofs.find.Tie as tie
-use Rattle.sheet.proofs.find.Reads as reads
-use Rattle.sheet.proofs.find.Lts as lts
-use Rattle.sheet.proofs.check.Reads as check-reads
-use Rattle.sheet.proofs.find_from.Reads as find-from-reads
 use mathlib.Core.Path.{sym, ap, _∙_}
 use native.Mathlib.Omega.{arith}
 use Rattle.sheet.specs.Lookup.{placed}
 use Rattle.sheet.specs.SheetLaws.{checked-of-zero}
 use Rattle.sheet.specs.LookupLaws.{found-at, lookup-bad, lookup-good}
+use Rattle.sheet.proofs.find.Statement.{statement}
+use Rattle.sheet.proofs.find.Tie as tie
 
--- src/lib.rt:171:9
 check-requires : tie.Need-check-requires
 check-requires c κs = search needs
 
--- src/lib.rt:173:9
 returns : tie.Need-returns
 returns c = lookup-bad _ _ _ (c .before .check .ensures) (c .if1 .taken)
 
--- src/lib.rt:175:11
 find-from-requires : tie.Need-find-from-requires
 find-from-requires c κs = checked-of-zero _ (sym (c .before .check .ensures) ∙ c .if1 .left) .framed
 
--- src/lib.rt:176:19
 enum-known-at : tie.Need-enum-known-at
 enum-known-at c = search needs
 
--- src/lib.rt:176:44
 add-t8 : tie.Need-add-t8
 add-t8 c = let f = checked-of-zero _ (sym (c .before .before .before .before .before .check .ensures) ∙ c .before .before .before .before .if1 .left) .framed in omega (arith, found-at _ 1 _ _ f (sym (c .before .before .before .find-from .ensures) ∙ c .before .at .given .1) .fits)
 
--- src/lib.rt:177:27
 enum-told : tie.Need-enum-told
 enum-told c = search needs
 
--- src/lib.rt:168:1
 returns-2 : tie.Need-returns-2
 returns-2 c = ap placed (sym (c .before .at .given .1)) ∙ lookup-good _ _ _ (c .before .before .before .before .before .check .ensures) (c .before .before .before .before .if1 .left) _ (c .before .before .before .find-from .ensures)
 
--- src/lib.rt:168:1
 returns-3 : tie.Need-returns-3
 returns-3 c = ap placed (sym (c .enum-told .given .1)) ∙ lookup-good _ _ _ (c .before .before .before .before .check .ensures) (c .before .before .before .if1 .left) _ (c .before .before .find-from .ensures)
 

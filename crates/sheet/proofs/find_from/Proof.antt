@@ -1,17 +1,15 @@
-use Rattle.sheet.proofs.find_from.Statement.{statement}
-use Rattle.sheet.proofs.find_from.Tie as tie
-use Rattle.sheet.proofs.find_from.Reads as reads
-use Rattle.sheet.proofs.find_from.Lts as lts
-use Rattle.sheet.proofs.record.id_of.Reads as id-of-reads
+-- `sheet::find_from` meets its contract. Invariant: a record starts at the cursor or it is the end, and what is found from there on is what is found
+-- at all. Measure: the bytes that are left. Assumes nothing.
 use Prim.Native.Nat.{_≤_, _-_}
 use native.Mathlib.Omega.{arith}
 use mathlib.Core.Bool.{true}
 use mathlib.Core.Path.{_≡_, refl, sym, _∙_}
-use lib.ListN.{length, drop, length-drop}
-use borrow.Author.Needs.{needs}
+use lib.ListN.{length, drop}
 use Rattle.sheet.specs.FrameLaws.{FramedAt, framed-at}
 use Rattle.sheet.specs.CheckLaws.{part-sized, find-hit, find-miss, find-past}
 use Rattle.sheet.specs.Sheet.{isFramed, entriesFrom, findFrom}
+use Rattle.sheet.proofs.find_from.Statement.{statement}
+use Rattle.sheet.proofs.find_from.Tie as tie
 
 abbrev Inv-loop : tie.InvT-loop
 Inv-loop sheet from id at₀ at = (at ≤ length sheet) × (isFramed (drop at sheet) ≡ true) × (findFrom id at (entriesFrom sheet at) ≡ findFrom id from (entriesFrom sheet from))
@@ -23,47 +21,36 @@ abbrev μ-loop : tie.MeasureT-loop
 here : (c : tie.In-loop Inv-loop μ-loop) → FramedAt (c .before .before .before .args .sheet .now) (c .before .loop .at)
 here c = framed-at _ _ (c .before .loop .inv .1) (c .loop-test .taken)
 
--- src/lib.rt:79:5
 loop-holds : tie.Need-loop-holds Inv-loop μ-loop
 loop-holds c = (c .before .pre .inside, c .before .pre .sized, refl)
 
--- src/lib.rt:80:21
 add-start : tie.Need-add-start Inv-loop μ-loop
 add-start c = omega arith
 
--- src/lib.rt:81:19
 add-end : tie.Need-add-end Inv-loop μ-loop
 add-end c = omega (arith, here c .fits)
 
--- src/lib.rt:82:26
 sub-id-of : tie.Need-sub-id-of Inv-loop μ-loop
 sub-id-of c = omega arith
 
--- src/lib.rt:82:26
 part-id-of-start : tie.Need-part-id-of-start Inv-loop μ-loop
 part-id-of-start c = omega arith
 
--- src/lib.rt:82:26
 part-id-of-end : tie.Need-part-id-of-end Inv-loop μ-loop
 part-id-of-end c = omega (arith, here c .fits)
 
--- src/lib.rt:82:12
 id-of-requires : tie.Need-id-of-requires Inv-loop μ-loop
 id-of-requires c κs = part-sized _ _ (here (c .before))
 
--- src/lib.rt:83:13
 returns : tie.Need-returns Inv-loop μ-loop
 returns c = sym (find-hit _ _ (here (c .before .before .before)) _ (sym (c .before .id-of .ensures) ∙ c .if1 .taken)) ∙ c .before .before .before .before .loop .inv .2
 
--- src/lib.rt:79:5
 loop-less : tie.Need-loop-less Inv-loop μ-loop
 loop-less c = omega (arith, here (c .before .before .before) .fits)
 
--- src/lib.rt:79:5
 loop-again : tie.Need-loop-again Inv-loop μ-loop
 loop-again c = let h = here (c .before .before .before) in (h .fits, h .rest, sym (find-miss _ _ h _ (λ e. c .if1 .left (c .before .id-of .ensures ∙ e))) ∙ c .before .before .before .before .loop .inv .2)
 
--- src/lib.rt:74:1
 returns-2 : tie.Need-returns-2 Inv-loop μ-loop
 returns-2 c = sym (find-past _ _ (c .loop-test .left) _) ∙ c .before .loop .inv .2
 

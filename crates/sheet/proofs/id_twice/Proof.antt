@@ -1,18 +1,15 @@
-use Rattle.sheet.proofs.id_twice.Statement.{statement}
-use Rattle.sheet.proofs.id_twice.Tie as tie
-use Rattle.sheet.proofs.id_twice.Reads as reads
-use Rattle.sheet.proofs.id_twice.Lts as lts
-use Rattle.sheet.proofs.has_id_from.Reads as has-id-from-reads
-use Rattle.sheet.proofs.record.id_of.Reads as id-of-reads
+-- `sheet::id_twice` meets its contract. Invariant: a record starts at the cursor or it is the end, and whether an ID comes twice from there on is
+-- whether one does in the sheet. Measure: the bytes that are left. Assumes nothing.
 use Prim.Native.Nat.{_≤_, _-_}
 use native.Mathlib.Omega.{arith}
 use mathlib.Core.Bool.{true}
-use mathlib.Core.Path.{_≡_, refl, sym, ap, _∙_}
-use lib.ListN.{length, drop, length-drop}
-use borrow.Author.Needs.{needs}
+use mathlib.Core.Path.{_≡_, refl, sym, _∙_}
+use lib.ListN.{length, drop}
 use Rattle.sheet.specs.FrameLaws.{FramedAt, framed-at}
 use Rattle.sheet.specs.CheckLaws.{part-sized, twice-hit, twice-miss, twice-past}
-use Rattle.sheet.specs.Sheet.{isFramed, entriesFrom, hasId, idTwice}
+use Rattle.sheet.specs.Sheet.{isFramed, entriesFrom, idTwice}
+use Rattle.sheet.proofs.id_twice.Statement.{statement}
+use Rattle.sheet.proofs.id_twice.Tie as tie
 
 abbrev Inv-loop : tie.InvT-loop
 Inv-loop sheet at₀ at = (at ≤ length sheet) × (isFramed (drop at sheet) ≡ true) × (idTwice (entriesFrom sheet at) ≡ idTwice (entriesFrom sheet 1))
@@ -24,51 +21,39 @@ abbrev μ-loop : tie.MeasureT-loop
 here : (c : tie.In-loop Inv-loop μ-loop) → FramedAt (c .before .before .before .args .sheet .now) (c .before .loop .at)
 here c = framed-at _ _ (c .before .loop .inv .1) (c .loop-test .taken)
 
--- src/lib.rt:96:5
 loop-holds : tie.Need-loop-holds Inv-loop μ-loop
 loop-holds c = (c .before .pre .inside, c .before .pre .sized, refl)
 
--- src/lib.rt:97:21
 add-start : tie.Need-add-start Inv-loop μ-loop
 add-start c = omega arith
 
--- src/lib.rt:98:19
 add-end : tie.Need-add-end Inv-loop μ-loop
 add-end c = omega (arith, here c .fits)
 
--- src/lib.rt:99:32
 sub-id-of : tie.Need-sub-id-of Inv-loop μ-loop
 sub-id-of c = omega arith
 
--- src/lib.rt:99:32
 part-id-of-start : tie.Need-part-id-of-start Inv-loop μ-loop
 part-id-of-start c = omega arith
 
--- src/lib.rt:99:32
 part-id-of-end : tie.Need-part-id-of-end Inv-loop μ-loop
 part-id-of-end c = omega (arith, here c .fits)
 
--- src/lib.rt:99:13
 id-of-requires : tie.Need-id-of-requires Inv-loop μ-loop
 id-of-requires c κs = part-sized _ _ (here (c .before))
 
--- src/lib.rt:100:12
 has-id-from-requires : tie.Need-has-id-from-requires Inv-loop μ-loop
 has-id-from-requires c κs = let h = here (c .before .before) in record { inside = h .fits; sized = h .rest }
 
--- src/lib.rt:101:13
 returns : tie.Need-returns Inv-loop μ-loop
 returns c = sym (twice-hit _ _ (here (c .before .before .before .before)) (rw (c .before .before .id-of .ensures) at (sym (c .before .has-id-from .ensures) ∙ c .if1 .taken))) ∙ c .before .before .before .before .before .loop .inv .2
 
--- src/lib.rt:96:5
 loop-less : tie.Need-loop-less Inv-loop μ-loop
 loop-less c = omega (arith, here (c .before .before .before .before) .fits)
 
--- src/lib.rt:96:5
 loop-again : tie.Need-loop-again Inv-loop μ-loop
 loop-again c = let h = here (c .before .before .before .before) in (h .fits, h .rest, sym (twice-miss _ _ h (rw (c .before .before .id-of .ensures) at (sym (c .before .has-id-from .ensures) ∙ c .if1 .left))) ∙ c .before .before .before .before .before .loop .inv .2)
 
--- src/lib.rt:91:1
 returns-2 : tie.Need-returns-2 Inv-loop μ-loop
 returns-2 c = sym (twice-past _ _ (c .loop-test .left)) ∙ c .before .loop .inv .2
 

@@ -1,58 +1,44 @@
+-- `sheet::registers` meets its contract: the part that is found lies inside the sheet. Assumes nothing.
 use borrow.Author.Needs.{needs}
-use Rattle.sheet.proofs.registers.Statement.{statement}
-use Rattle.sheet.proofs.registers.Tie as tie
-use Rattle.sheet.proofs.registers.Reads as reads
-use Rattle.sheet.proofs.registers.Lts as lts
-use Rattle.sheet.proofs.find.Reads as find-reads
-use mathlib.Core.Path.{refl, sym, _∙_}
+use mathlib.Core.Path.{sym, _∙_}
 use native.Mathlib.Omega.{arith}
 use Rattle.sheet.specs.LookupLaws.{registers-fit, registers-part}
+use Rattle.sheet.proofs.registers.Statement.{statement}
+use Rattle.sheet.proofs.registers.Tie as tie
 
--- src/lib.rt:185:11
 find-requires : tie.Need-find-requires
 find-requires c κs = search needs
 
--- src/lib.rt:186:27
 enum-known-at : tie.Need-enum-known-at
 enum-known-at c = search needs
 
--- src/lib.rt:186:45
 add-result : tie.Need-add-result
 add-result c = omega (arith, registers-fit _ _ _ (sym (c .before .before .before .find .ensures) ∙ c .before .at .given .1))
 
--- src/lib.rt:186:34
 sub-result : tie.Need-sub-result
 sub-result c = search needs
 
--- src/lib.rt:186:34
 part-result-start : tie.Need-part-result-start
 part-result-start c = search needs
 
--- src/lib.rt:186:34
 part-result-end : tie.Need-part-result-end
 part-result-end c = omega (arith, registers-fit _ _ _ (sym (c .before .before .before .find .ensures) ∙ c .before .at .given .1))
 
--- src/lib.rt:187:31
 enum-told : tie.Need-enum-told
 enum-told c = search needs
 
--- src/lib.rt:187:31
 sub-result-2 : tie.Need-sub-result-2
 sub-result-2 c = search needs
 
--- src/lib.rt:187:31
 part-result-start-2 : tie.Need-part-result-start-2
 part-result-start-2 c = search needs
 
--- src/lib.rt:187:31
 part-result-end-2 : tie.Need-part-result-end-2
 part-result-end-2 c = search needs
 
--- src/lib.rt:182:1
 returns : tie.Need-returns
 returns c = registers-part _ _ _ (sym (c .before .before .before .before .find .ensures) ∙ c .before .before .at .given .1)
 
--- src/lib.rt:182:1
 returns-2 : tie.Need-returns-2
 returns-2 c = rw (sym (c .before .before .before .find .ensures) ∙ c .before .enum-told .given .1)
 

@@ -1,58 +1,44 @@
+-- `sheet::registers_and_number` meets its contract: the part that is found lies inside the sheet. Assumes nothing.
 use borrow.Author.Needs.{needs}
-use Rattle.sheet.proofs.registers_and_number.Statement.{statement}
-use Rattle.sheet.proofs.registers_and_number.Tie as tie
-use Rattle.sheet.proofs.registers_and_number.Reads as reads
-use Rattle.sheet.proofs.registers_and_number.Lts as lts
-use Rattle.sheet.proofs.find.Reads as find-reads
-use mathlib.Core.Path.{refl, sym, _∙_}
+use mathlib.Core.Path.{sym, _∙_}
 use native.Mathlib.Omega.{arith}
 use Rattle.sheet.specs.LookupLaws.{registers-fit, registers-part}
+use Rattle.sheet.proofs.registers_and_number.Statement.{statement}
+use Rattle.sheet.proofs.registers_and_number.Tie as tie
 
--- src/lib.rt:195:11
 find-requires : tie.Need-find-requires
 find-requires c κs = search needs
 
--- src/lib.rt:196:27
 enum-known-at : tie.Need-enum-known-at
 enum-known-at c = search needs
 
--- src/lib.rt:198:24
 add-result : tie.Need-add-result
 add-result c = omega (arith, registers-fit _ _ _ (sym (c .before .before .before .find .ensures) ∙ c .before .at .given .1))
 
--- src/lib.rt:198:13
 sub-result : tie.Need-sub-result
 sub-result c = search needs
 
--- src/lib.rt:198:13
 part-result-start : tie.Need-part-result-start
 part-result-start c = search needs
 
--- src/lib.rt:198:13
 part-result-end : tie.Need-part-result-end
 part-result-end c = omega (arith, registers-fit _ _ _ (sym (c .before .before .before .find .ensures) ∙ c .before .at .given .1))
 
--- src/lib.rt:200:25
 enum-known-n : tie.Need-enum-known-n
 enum-known-n c = search needs
 
--- src/lib.rt:202:13
 sub-result-2 : tie.Need-sub-result-2
 sub-result-2 c = search needs
 
--- src/lib.rt:202:13
 part-result-start-2 : tie.Need-part-result-start-2
 part-result-start-2 c = search needs
 
--- src/lib.rt:202:13
 part-result-end-2 : tie.Need-part-result-end-2
 part-result-end-2 c = search needs
 
--- src/lib.rt:192:1
 returns : tie.Need-returns
 returns c = let e = sym (c .before .before .before .before .find .ensures) ∙ c .before .before .at .given .1 in (registers-part _ _ _ e, rw e)
 
--- src/lib.rt:192:1
 returns-2 : tie.Need-returns-2
 returns-2 c = let e = sym (c .before .before .before .before .find .ensures) ∙ c .before .before .n .given .1 in (rw e, rw e)
 

@@ -1,47 +1,35 @@
+-- `sheet::set_command` meets its contract: one store where the lookup finds the function, none else. Assumes nothing.
 use borrow.Author.Needs.{needs}
-use Rattle.sheet.proofs.set_command.Statement.{statement}
-use Rattle.sheet.proofs.set_command.Tie as tie
-use Rattle.sheet.proofs.set_command.Reads as reads
-use Rattle.sheet.proofs.set_command.Lts as lts
-use Rattle.endian.proofs.write_le16.Reads as write-le16-reads
-use Rattle.sheet.proofs.find.Reads as find-reads
-use mathlib.Core.Path.{refl, sym, _∙_}
+use mathlib.Core.Path.{sym, _∙_}
 use native.Mathlib.Omega.{arith}
 use Rattle.sheet.specs.LookupLaws.{registers-fit}
+use Rattle.sheet.proofs.set_command.Statement.{statement}
+use Rattle.sheet.proofs.set_command.Tie as tie
 
--- src/lib.rt:211:11
 find-requires : tie.Need-find-requires
 find-requires c κs = search needs
 
--- src/lib.rt:212:27
 enum-known-at : tie.Need-enum-known-at
 enum-known-at c = search needs
 
--- src/lib.rt:213:39
 add-write-le16 : tie.Need-add-write-le16
 add-write-le16 c = omega (arith, registers-fit _ _ _ (sym (c .before .before .before .before .find .ensures) ∙ c .before .before .at .given .1))
 
--- src/lib.rt:213:13
 write-le16-requires : tie.Need-write-le16-requires
 write-le16-requires c κs = omega (arith, registers-fit _ _ _ (sym (c .before .before .before .before .find .ensures) ∙ c .before .before .at .given .1))
 
--- src/lib.rt:216:25
 enum-known-n : tie.Need-enum-known-n
 enum-known-n c = search needs
 
--- src/lib.rt:208:1
 same-length : tie.Need-same-length
 same-length c = search needs
 
--- src/lib.rt:208:1
 returns : tie.Need-returns
 returns c = let e = sym (c .before .before .before .before .before .before .before .find .ensures) ∙ c .before .before .before .before .before .at .given .1 in (rw e, rw e (c .before .before .write-le16 .ensures))
 
--- src/lib.rt:208:1
 same-length-2 : tie.Need-same-length-2
 same-length-2 c = search needs
 
--- src/lib.rt:208:1
 returns-2 : tie.Need-returns-2
 returns-2 c = let e = sym (c .before .before .before .find .ensures) ∙ c .before .n .given .1 in (rw e, rw e)
 

@@ -1,5 +1,8 @@
+-- `sizing::bus_size` and `sizing::function_size` meet their contracts. The records left fall: a bus counts them twice and one more, a function
+-- twice. The loop over a bus stands where `OnBus` says: what is still to come, from what was laid out, comes to what the bus comes to.
+-- Assumes nothing.
 use borrow.Author.Needs.{needs}
-use mathlib.Core.Path.{_≡_, sym, ap, _∙_}
+use mathlib.Core.Path.{sym, ap, _∙_}
 use Prim.Native.Nat.{ℕ, _+_, _-_, _*_, _<_}
 use native.Mathlib.Omega.{arith}
 use lib.ListN.{length}
@@ -7,8 +10,8 @@ use lib.Seq.{sets}
 use Rattle.sizing.specs.declared.Laid.{Laid}
 use Rattle.sizing.specs.Memo.{numbersOf}
 use Rattle.sizing.specs.Board.{OnBus}
-use Rattle.sizing.specs.BoardLaws.{child-of, on-bus-start, child-standing, on-bus-turn, turn-lt, on-bus-length, on-bus-end}
-use Rattle.sizing.specs.BoardLaws.{own-bars-of, inside-standing, inner-align-power, leaf-walked, bridge-walked}
+use Rattle.sizing.specs.BusLaws.{on-bus-start, on-bus-length, on-bus-end, child-within, child-standing, lt-next-of-turn, on-bus-turn}
+use Rattle.sizing.specs.BridgeLaws.{own-bars-of-standing, inside-standing, inner-align-power, leaf-walked, bridge-walked}
 use borrow.Fn.Kinds.{In}
 use borrow.Fn.PlainCycle.{Measures, is, falls, and}
 use Rattle.sizing.proofs.bus_size.Reads as bus-size
@@ -82,106 +85,95 @@ bus-size-Inv-loop parents headers readbacks memo₀ bus l₀ memo l = OnBus pare
 abbrev bus-size-μ-loop : bus-size-lts.MeasureT-loop
 bus-size-μ-loop parents headers readbacks memo₀ bus l₀ memo l = length parents - l .next
 
--- src/lib.rt:236:5
 bus-size-loop-holds : (t : ℕ) → bus-size-lts.Need-loop-holds (bus-size-claims t) (bus-size-at t) bus-size.Post bus-size-Inv-loop bus-size-μ-loop
-bus-size-loop-holds t c = on-bus-start _ _ _ _ _ _ (c .before .before .before .before .pre .1)
+bus-size-loop-holds t c = on-bus-start (c .before .before .before .before .pre .1)
 
--- src/lib.rt:236:11
 bus-size-is-child-requires : (t : ℕ) → bus-size-lts.Need-is-child-requires (bus-size-claims t) (bus-size-at t) bus-size.Post bus-size-Inv-loop bus-size-μ-loop
 bus-size-is-child-requires t c κs = search needs
 
--- src/lib.rt:237:9
 bus-size-function-size-requires : (t : ℕ) → bus-size-lts.Need-function-size-requires (bus-size-claims t) (bus-size-at t) bus-size.Post bus-size-Inv-loop bus-size-μ-loop
 bus-size-function-size-requires t c κs =
     let on = c .before .before .before .loop .inv in
     let child = sym (c .before .before .is-child .ensures) ∙ c .before .if1 .taken in
-    let here = child-of (c .before .before .before .before .before .before .before .before .args .parents .now) (c .before .before .before .loop .l .next) (c .before .before .before .before .before .before .before .before .args .bus) child .0 in
-    (omega (arith, c .before .before .before .before .before .before .before .before .pre .0, on .from, here), (child-standing _ _ _ _ _ _ _ _ on child, here))
+    let here = child-within on child in
+    (omega (arith, c .before .before .before .before .before .before .before .before .pre .0, on .from, here), (child-standing on child, here))
 
--- src/lib.rt:236:5
 bus-size-loop-less : (t : ℕ) → bus-size-lts.Need-loop-less (bus-size-claims t) (bus-size-at t) bus-size.Post bus-size-Inv-loop bus-size-μ-loop
 bus-size-loop-less t c =
-    let turn = turn-lt _ _ _ _ _ _ _ _ (c .before .before .before .before .before .before .loop .inv) _ _ (sym (c .before .before .before .before .before .is-child .ensures) ∙ c .before .before .before .before .if1 .taken) (c .before .before .function-size .ensures) in
-    omega (arith, turn .0, turn .1)
+    let on = c .before .before .before .before .before .before .loop .inv in
+    let child = sym (c .before .before .before .before .before .is-child .ensures) ∙ c .before .before .before .before .if1 .taken in
+    omega (arith, child-within on child, lt-next-of-turn on child (c .before .before .function-size .ensures))
 
--- src/lib.rt:236:5
 bus-size-loop-again : (t : ℕ) → bus-size-lts.Need-loop-again (bus-size-claims t) (bus-size-at t) bus-size.Post bus-size-Inv-loop bus-size-μ-loop
-bus-size-loop-again t c = on-bus-turn _ _ _ _ _ _ _ _ (c .before .before .before .before .before .before .loop .inv) _ _ (sym (c .before .before .before .before .before .is-child .ensures) ∙ c .before .before .before .before .if1 .taken) (c .before .before .function-size .ensures)
+bus-size-loop-again t c =
+    on-bus-turn (c .before .before .before .before .before .before .loop .inv) (sym (c .before .before .before .before .before .is-child .ensures) ∙ c .before .before .before .before .if1 .taken) (c .before .before .function-size .ensures)
 
--- src/lib.rt:231:1
 bus-size-same-length : (t : ℕ) → bus-size-lts.Need-same-length (bus-size-claims t) (bus-size-at t) bus-size.Post bus-size-Inv-loop bus-size-μ-loop
-bus-size-same-length t c = on-bus-length _ _ _ _ _ _ _ _ (c .before .before .loop .inv)
+bus-size-same-length t c = on-bus-length (c .before .before .loop .inv)
 
--- src/lib.rt:231:1
 bus-size-returns : (t : ℕ) → bus-size-lts.Need-returns (bus-size-claims t) (bus-size-at t) bus-size.Post bus-size-Inv-loop bus-size-μ-loop
-bus-size-returns t c = on-bus-end _ _ _ _ _ _ _ _ (c .before .before .loop .inv) (sym (c .before .is-child .ensures) ∙ c .if1 .left)
+bus-size-returns t c = on-bus-end (c .before .before .loop .inv) (sym (c .before .is-child .ensures) ∙ c .if1 .left)
 
--- src/lib.rt:247:9
 function-size-own-bars-requires : (t : ℕ) → function-size-lts.Need-own-bars-requires (function-size-claims t) (function-size-at t) function-size.Post
-function-size-own-bars-requires t c κs = own-bars-of _ _ _ _ _ _ (c .before .before .before .before .pre .1 .0) (c .before .before .before .before .pre .1 .1)
+function-size-own-bars-requires t c κs = let pre = c .before .before .before .before .pre .1 in own-bars-of-standing (pre .0) (pre .1)
 
--- src/lib.rt:248:8
 function-size-is-bridge-requires : (t : ℕ) → function-size-lts.Need-is-bridge-requires (function-size-claims t) (function-size-at t) function-size.Post
-function-size-is-bridge-requires t c κs = omega (arith, c .before .before .before .before .before .pre .1 .1, c .before .before .before .before .before .pre .1 .0 .board .headers)
+function-size-is-bridge-requires t c κs = let pre = c .before .before .before .before .before .pre .1 in omega (arith, pre .1, pre .0 .board .headers)
 
--- src/lib.rt:249:32
 function-size-add-laid-from : (t : ℕ) → function-size-lts.Need-add-laid-from (function-size-claims t) (function-size-at t) function-size.Post
 function-size-add-laid-from t c = omega (arith, c .before .before .before .before .before .before .before .pre .1 .1)
 
--- src/lib.rt:249:13
 function-size-laid-from-requires : (t : ℕ) → function-size-lts.Need-laid-from-requires (function-size-claims t) (function-size-at t) function-size.Post
 function-size-laid-from-requires t c κs = search needs
 
--- src/lib.rt:250:65
 function-size-add-bus-size : (t : ℕ) → function-size-lts.Need-add-bus-size (function-size-claims t) (function-size-at t) function-size.Post
 function-size-add-bus-size t c = omega (arith, c .before .before .before .before .before .before .before .before .before .pre .1 .1)
 
--- src/lib.rt:250:13
 function-size-bus-size-requires : (t : ℕ) → function-size-lts.Need-bus-size-requires (function-size-claims t) (function-size-at t) function-size.Post
 function-size-bus-size-requires t c κs =
+    let pre = c .before .before .before .before .before .before .before .before .before .pre in
     let fresh = c .before .laid-from .ensures in
-    (omega (arith, c .before .before .before .before .before .before .before .before .before .pre .0, c .before .before .before .before .before .before .before .before .before .pre .1 .1, ap (λ (x : Laid). x .next) fresh), inside-standing _ _ _ _ _ _ (c .before .before .before .before .before .before .before .before .before .pre .1 .0) (c .before .before .before .before .before .before .before .before .before .pre .1 .1) _ fresh)
+    (omega (arith, pre .0, pre .1 .1, ap (λ (x : Laid). x .next) fresh), inside-standing (pre .1 .0) (pre .1 .1) fresh)
 
--- src/lib.rt:251:9
 function-size-store-requires : (t : ℕ) → function-size-lts.Need-store-requires (function-size-claims t) (function-size-at t) function-size.Post
-function-size-store-requires t c κs = omega (arith, c .before .before .before .before .before .before .before .before .before .before .before .before .before .pre .1 .0 .room, c .before .before .before .before .before .before .before .before .before .before .before .before .before .pre .1 .1, c .before .before .before .bus-size .kept .1 .1 .1 .0)
+function-size-store-requires t c κs =
+    let pre = c .before .before .before .before .before .before .before .before .before .before .before .before .before .pre .1 in
+    omega (arith, pre .0 .room, pre .1, c .before .before .before .bus-size .kept .1 .1 .1 .0)
 
--- src/lib.rt:252:9
 function-size-with-windows-requires : (t : ℕ) → function-size-lts.Need-with-windows-requires (function-size-claims t) (function-size-at t) function-size.Post
-function-size-with-windows-requires t c κs = inner-align-power _ _ _ _ _ _ (c .before .before .before .before .before .before .before .before .before .before .before .before .before .before .before .before .pre .1 .0) (c .before .before .before .before .before .before .before .before .before .before .before .before .before .before .before .before .pre .1 .1) _ _ _ (c .before .before .before .before .before .before .before .before .laid-from .ensures) (c .before .before .before .before .before .before .bus-size .ensures)
+function-size-with-windows-requires t c κs =
+    let pre = c .before .before .before .before .before .before .before .before .before .before .before .before .before .before .before .before .pre .1 in
+    inner-align-power (pre .0) (pre .1) (c .before .before .before .before .before .before .before .before .laid-from .ensures) (c .before .before .before .before .before .before .bus-size .ensures)
 
--- src/lib.rt:252:9
 function-size-same-length : (t : ℕ) → function-size-lts.Need-same-length (function-size-claims t) (function-size-at t) function-size.Post
 function-size-same-length t c = search needs
 
--- src/lib.rt:252:9
 function-size-returns : (t : ℕ) → function-size-lts.Need-returns (function-size-claims t) (function-size-at t) function-size.Post
 function-size-returns t c =
-    bridge-walked _ _ _ _ _ _ (c .before .before .before .before .before .before .before .before .before .before .before .before .before .before .before .before .before .pre .1 .0) (c .before .before .before .before .before .before .before .before .before .before .before .before .before .before .before .before .before .pre .1 .1) _ _ _ (c .before .before .before .before .before .before .before .before .before .laid-from .ensures) (c .before .before .before .before .before .before .before .bus-size .ensures) _ _ _
+    let pre = c .before .before .before .before .before .before .before .before .before .before .before .before .before .before .before .before .before .pre .1 in
+    bridge-walked (pre .0) (pre .1) (c .before .before .before .before .before .before .before .before .before .laid-from .ensures) (c .before .before .before .before .before .before .before .bus-size .ensures)
     (sym (c .before .before .before .before .before .before .before .before .before .before .before .is-bridge .ensures) ∙ c .before .before .before .before .before .before .before .before .before .before .if1 .taken)
     (c .before .before .before .before .before .before .before .before .before .before .before .before .own-bars .ensures)
     (c .before .before .before .store .ensures)
     (c .with-windows .ensures)
 
--- src/lib.rt:254:20
 function-size-laid-from-requires-2 : (t : ℕ) → function-size-lts.Need-laid-from-requires-2 (function-size-claims t) (function-size-at t) function-size.Post
 function-size-laid-from-requires-2 t c κs = search needs
 
--- src/lib.rt:254:5
 function-size-store-requires-2 : (t : ℕ) → function-size-lts.Need-store-requires-2 (function-size-claims t) (function-size-at t) function-size.Post
-function-size-store-requires-2 t c κs = omega (arith, c .before .before .before .before .before .before .before .before .before .pre .1 .0 .room, c .before .before .before .before .before .before .before .before .before .pre .1 .1)
+function-size-store-requires-2 t c κs = let pre = c .before .before .before .before .before .before .before .before .before .pre .1 in omega (arith, pre .0 .room, pre .1)
 
--- src/lib.rt:242:1
 function-size-same-length-2 : (t : ℕ) → function-size-lts.Need-same-length-2 (function-size-claims t) (function-size-at t) function-size.Post
 function-size-same-length-2 t c = search needs
 
--- src/lib.rt:242:1
 function-size-returns-2 : (t : ℕ) → function-size-lts.Need-returns-2 (function-size-claims t) (function-size-at t) function-size.Post
 function-size-returns-2 t c =
-    leaf-walked _ _ _ _ _ _ (c .before .before .before .before .before .before .before .before .before .before .before .before .pre .1 .0) (c .before .before .before .before .before .before .before .before .before .before .before .before .pre .1 .1) _ _
+    let start = c .before .before .before .before .before .before .before .before .before .before .before .before in
+    let none = ap (λ (x : Laid). sets (start .args .memo .now) (8 * start .args .l .next) (numbersOf x)) (c .before .before .before .laid-from2 .ensures) in
+    leaf-walked (start .pre .1 .0) (start .pre .1 .1)
     (sym (c .before .before .before .before .before .before .is-bridge .ensures) ∙ c .before .before .before .before .before .if1 .left)
     (c .before .before .before .before .before .before .before .own-bars .ensures)
-    (c .before .before .store2 .ensures ∙ ap (λ (x : Laid). sets (c .before .before .before .before .before .before .before .before .before .before .before .before .args .memo .now) (8 * c .before .before .before .before .before .before .before .before .before .before .before .before .args .l .next) (numbersOf x)) (c .before .before .before .laid-from2 .ensures))
+    (c .before .before .store2 .ensures ∙ none)
 
 pub +bus-size+function-size-spec : {M : Type 1} → statement M
 +bus-size+function-size-spec = close μ-bus-size μ-function-size (λ t. bus-size-lts.spec (bus-size-claims t)

@@ -1,30 +1,24 @@
+-- `sizing::align_up` meets its contract: of a power of two the mask takes the remainder, and no sum passes 2^62 + 2^63. Assumes nothing.
 use Rattle.sizing.proofs.align_up.Statement.{statement}
 use Rattle.sizing.proofs.align_up.Tie as tie
-use Rattle.sizing.proofs.align_up.Reads as reads
-use Rattle.sizing.proofs.align_up.Lts as lts
 use native.Mathlib.Omega.{arith}
 use lib.Bits.{and-le-l}
 use Rattle.placing.specs.AlignLaws.{pos-of-power}
-use Rattle.sizing.specs.CutLaws.{power-le, align-up-mask}
+use Rattle.sizing.specs.CutLaws.{le-of-power, align-up-mask}
 use Prim.Native.Nat.{_+_, _-_}
 
--- src/lib.rt:60:18
 sub-y : tie.Need-sub-y
 sub-y c = omega (arith, pos-of-power (c .pre .0))
 
--- src/lib.rt:60:13
 add-y : tie.Need-add-y
-add-y c = omega (arith, pos-of-power (c .pre .0), power-le (c .args .a) (c .pre .0) (c .fits .a .fits))
+add-y c = omega (arith, pos-of-power (c .pre .0), le-of-power (c .args .a) (c .pre .0) (c .fits .a .fits))
 
--- src/lib.rt:61:15
 sub-result : tie.Need-sub-result
 sub-result c = omega (arith, pos-of-power (c .pre .0))
 
--- src/lib.rt:61:5
 sub-result-2 : tie.Need-sub-result-2
 sub-result-2 c = and-le-l (c .args .x + (c .args .a - 1)) (c .args .a - 1)
 
--- src/lib.rt:56:1
 returns : tie.Need-returns
 returns c = align-up-mask (c .args .a) (c .args .x) (c .pre .0)
 

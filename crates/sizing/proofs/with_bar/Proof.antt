@@ -1,45 +1,34 @@
+-- `sizing::with_bar` meets its contract: the other pools stay as they were. Assumes nothing.
 use borrow.Author.Needs.{needs}
 use Rattle.sizing.proofs.with_bar.Statement.{statement}
 use Rattle.sizing.proofs.with_bar.Tie as tie
-use Rattle.sizing.proofs.with_bar.Reads as reads
-use Rattle.sizing.proofs.with_bar.Lts as lts
-use Rattle.sizing.proofs.grow.Reads as grow-reads
 use Rattle.pools.specs.declared.Pool.the-variants.{Low, High, Io}
 use Rattle.sizing.specs.CutLaws.{with-bar-at}
 
--- src/lib.rt:82:48
 enum-told : tie.Need-enum-told
 enum-told c = search needs
 
--- src/lib.rt:82:48
 grow-requires : tie.Need-grow-requires
 grow-requires c κs = search needs
 
--- src/lib.rt:83:60
 enum-told-2 : tie.Need-enum-told-2
 enum-told-2 c = search needs
 
--- src/lib.rt:83:60
 grow-requires-2 : tie.Need-grow-requires-2
 grow-requires-2 c κs = search needs
 
--- src/lib.rt:84:68
 enum-told-3 : tie.Need-enum-told-3
 enum-told-3 c = search needs
 
--- src/lib.rt:84:68
 grow-requires-3 : tie.Need-grow-requires-3
 grow-requires-3 c κs = search needs
 
--- src/lib.rt:74:1
 returns : tie.Need-returns
 returns c = rw (c .before .enum-told .given .1) (with-bar-at Low (c .before .before .before .before .before .before .args .size) (c .before .before .before .before .before .before .args .l) (c .grow .result) (c .before .before .before .before .before .before .pre .0) (c .grow .ensures))
 
--- src/lib.rt:74:1
 returns-2 : tie.Need-returns-2
 returns-2 c = rw (c .before .enum-told2 .given .1) (with-bar-at High (c .before .before .before .before .before .before .args .size) (c .before .before .before .before .before .before .args .l) (c .grow2 .result) (c .before .before .before .before .before .before .pre .0) (c .grow2 .ensures))
 
--- src/lib.rt:74:1
 returns-3 : tie.Need-returns-3
 returns-3 c = rw (c .before .enum-told3 .given .1) (with-bar-at Io (c .before .before .before .before .before .before .args .size) (c .before .before .before .before .before .before .args .l) (c .grow3 .result) (c .before .before .before .before .before .before .pre .0) (c .grow3 .ensures))
 

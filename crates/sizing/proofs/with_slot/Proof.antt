@@ -1,47 +1,35 @@
+-- `sizing::with_slot` meets its contract, case by case. Assumes nothing.
 use borrow.Author.Needs.{needs}
 use Rattle.sizing.proofs.with_slot.Statement.{statement}
 use Rattle.sizing.proofs.with_slot.Tie as tie
-use Rattle.sizing.proofs.with_slot.Reads as reads
-use Rattle.sizing.proofs.with_slot.Lts as lts
-use Rattle.sizing.proofs.with_bar.Reads as with-bar-reads
 use mathlib.Core.Path.{sym, ap, _∙_}
 use Rattle.bar.specs.declared.Slot.{Slot}
-use Rattle.bar.specs.Bar.{SizedSlot}
 use Rattle.sizing.specs.Cut.{says, cut, addSlot}
 
--- src/lib.rt:93:25
 enum-told : tie.Need-enum-told
 enum-told c = search needs
 
--- src/lib.rt:94:19
 enum-known-s : tie.Need-enum-known-s
 enum-known-s c = search needs
 
--- src/lib.rt:94:37
 with-bar-requires : tie.Need-with-bar-requires
 with-bar-requires c κs = let z = rw (c .before .s .given .1) at (c .before .before .before .pre .1) in (c .before .before .before .pre .0, (z .bit, z .power))
 
--- src/lib.rt:95:24
 enum-told-2 : tie.Need-enum-told-2
 enum-told-2 c = search needs
 
--- src/lib.rt:96:22
 enum-told-3 : tie.Need-enum-told-3
 enum-told-3 c = search needs
 
--- src/lib.rt:88:1
 returns : tie.Need-returns
 returns c = rw (c .enum-told .given .1) (sym (c .before .before .pre .0))
 
--- src/lib.rt:88:1
 returns-2 : tie.Need-returns-2
 returns-2 c = c .with-bar .ensures ∙ sym (ap (λ (x : Slot). cut (addSlot x (says (c .before .before .before .before .args .l)))) (c .before .before .s .given .1))
 
--- src/lib.rt:88:1
 returns-3 : tie.Need-returns-3
 returns-3 c = rw (c .enum-told2 .given .1) (sym (c .before .before .pre .0))
 
--- src/lib.rt:88:1
 returns-4 : tie.Need-returns-4
 returns-4 c = rw (c .enum-told3 .given .1) (sym (c .before .before .pre .0))
 

@@ -1,23 +1,18 @@
+-- `board::order::open_after` meets its contract: a bridge opens one level more. Assumes nothing.
 use borrow.Author.Needs.{needs}
 use Rattle.board.proofs.order.open_after.Statement.{statement}
 use Rattle.board.proofs.order.open_after.Tie as tie
-use Rattle.board.proofs.order.open_after.Reads as reads
-use Rattle.board.proofs.order.open_after.Lts as lts
 use borrow.Author.Tests.{eq-eqb, ne-eqb}
 
--- src/order.rt:103:9
 add-result : tie.Need-add-result
 add-result c = search needs
 
--- src/order.rt:105:9
 add-result-2 : tie.Need-add-result-2
 add-result-2 c = search needs
 
--- src/order.rt:98:1
 returns : tie.Need-returns
 returns c = rw (eq-eqb _ _ (c .if1 .taken))
 
--- src/order.rt:98:1
 returns-2 : tie.Need-returns-2
 returns-2 c = rw (ne-eqb _ _ (c .if1 .left))
 

@@ -1,108 +1,80 @@
+-- `sheet::record::window_of` meets its contract: the reads are the registers, pool by pool. Assumes nothing.
 use borrow.Author.Needs.{needs}
+use Rattle.sheet.specs.Entry.{windowOf}
 use Rattle.sheet.proofs.record.window_of.Statement.{statement}
 use Rattle.sheet.proofs.record.window_of.Tie as tie
-use Rattle.sheet.proofs.record.window_of.Reads as reads
-use Rattle.sheet.proofs.record.window_of.Lts as lts
-use Rattle.endian.proofs.read_le16.Reads as read-le16-reads
-use Rattle.endian.proofs.read_le32.Reads as read-le32-reads
-use Rattle.endian.proofs.wide.Reads as wide-reads
-use Rattle.sheet.specs.Entry.{windowOf}
 
--- src/record.rt:63:19
 enum-told : tie.Need-enum-told
 enum-told c = search needs
 
--- src/record.rt:63:19
 read-le16-requires : tie.Need-read-le16-requires
 read-le16-requires c κs = search needs
 
--- src/record.rt:63:19
 cast-t5 : tie.Need-cast-t5
 cast-t5 c = search needs
 
--- src/record.rt:64:20
 read-le16-requires-2 : tie.Need-read-le16-requires-2
 read-le16-requires-2 c κs = search needs
 
--- src/record.rt:64:20
 cast-t7 : tie.Need-cast-t7
 cast-t7 c = search needs
 
--- src/record.rt:69:19
 enum-told-2 : tie.Need-enum-told-2
 enum-told-2 c = search needs
 
--- src/record.rt:69:19
 read-le16-requires-3 : tie.Need-read-le16-requires-3
 read-le16-requires-3 c κs = search needs
 
--- src/record.rt:69:19
 cast-t9 : tie.Need-cast-t9
 cast-t9 c = search needs
 
--- src/record.rt:70:20
 read-le16-requires-4 : tie.Need-read-le16-requires-4
 read-le16-requires-4 c κs = search needs
 
--- src/record.rt:70:20
 cast-t11 : tie.Need-cast-t11
 cast-t11 c = search needs
 
--- src/record.rt:71:25
 read-le32-requires : tie.Need-read-le32-requires
 read-le32-requires c κs = search needs
 
--- src/record.rt:71:25
 cast-t13 : tie.Need-cast-t13
 cast-t13 c = search needs
 
--- src/record.rt:72:26
 read-le32-requires-2 : tie.Need-read-le32-requires-2
 read-le32-requires-2 c κs = search needs
 
--- src/record.rt:72:26
 cast-t15 : tie.Need-cast-t15
 cast-t15 c = search needs
 
--- src/record.rt:75:32
 enum-told-3 : tie.Need-enum-told-3
 enum-told-3 c = search needs
 
--- src/record.rt:75:32
 shared-slice-read-wide : tie.Need-shared-slice-read-wide
 shared-slice-read-wide c = search needs
 
--- src/record.rt:75:19
 wide-requires : tie.Need-wide-requires
 wide-requires c κs = search needs
 
--- src/record.rt:75:19
 cast-t19 : tie.Need-cast-t19
 cast-t19 c = search needs
 
--- src/record.rt:76:33
 shared-slice-read-wide-2 : tie.Need-shared-slice-read-wide-2
 shared-slice-read-wide-2 c = search needs
 
--- src/record.rt:76:20
 wide-requires-2 : tie.Need-wide-requires-2
 wide-requires-2 c κs = search needs
 
--- src/record.rt:76:20
 cast-t23 : tie.Need-cast-t23
 cast-t23 c = search needs
 
--- src/record.rt:57:1
 returns : tie.Need-returns
 unfolding windowOf
 returns c = rw (c .before .before .enum-told .given .1) (cc)
 
--- src/record.rt:57:1
 returns-2 : tie.Need-returns-2
 unfolding windowOf
 returns-2 c = rw (c .before .before .before .before .enum-told2 .given .1) (cc)
 
--- src/record.rt:57:1
 returns-3 : tie.Need-returns-3
 unfolding windowOf
 returns-3 c = rw (c .before .before .before .before .enum-told3 .given .1) (cc)

@@ -1,0 +1,54 @@
+-- `after_bar` meets its contract: the cursor of the BAR's pool stands at its end, the others where they were. Assumes nothing.
+use mathlib.Core.Path.{_∙_}
+use borrow.Author.Needs.{needs}
+use Rattle.placer.specs.KeptLaws.{kept-bar}
+use Rattle.placer.proofs.after_bar.Statement.{statement}
+use Rattle.placer.proofs.after_bar.Tie as tie
+
+enum-told : tie.Need-enum-told
+enum-told c = search needs
+
+enum-known-x : tie.Need-enum-known-x
+enum-known-x c = search needs
+
+end-of-requires : tie.Need-end-of-requires
+end-of-requires c κs = search needs
+
+with-cursor-requires : tie.Need-with-cursor-requires
+with-cursor-requires c κs = search needs
+
+enum-told-2 : tie.Need-enum-told-2
+enum-told-2 c = search needs
+
+enum-told-3 : tie.Need-enum-told-3
+enum-told-3 c = search needs
+
+returns : tie.Need-returns
+returns c = rw (c .enum-told .given .1) (c .before .before .pre .0)
+
+returns-2 : tie.Need-returns-2
+returns-2 c =
+    rw (c .before .before .before .x .given .1)
+    (c .with-cursor .ensures
+    ∙ kept-bar (c .before .before .before .before .before .args .c) (c .before .before .before .x .given .0 .0) (c .before .before .before .x .given .0 .1 .0) (c .before .before .before .x .given .0 .1 .1 .0) (c .before .before .before .before .before .args .start) _ (c .before .before .before .before .before .pre .0) (rw (c .before .before .before .x .given .1) at (c .before .before .before .before .before .pre .1)) (c .before .end-of .ensures))
+
+returns-3 : tie.Need-returns-3
+returns-3 c = rw (c .enum-told2 .given .1) (c .before .before .pre .0)
+
+returns-4 : tie.Need-returns-4
+returns-4 c = rw (c .enum-told3 .given .1) (c .before .before .pre .0)
+
+pub after-bar-spec : {M : Type 1} → statement M
+after-bar-spec =
+    tie.close
+    (tie.spec
+    enum-told
+    enum-known-x
+    end-of-requires
+    with-cursor-requires
+    enum-told-2
+    enum-told-3
+    returns
+    returns-2
+    returns-3
+    returns-4)

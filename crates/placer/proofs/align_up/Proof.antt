@@ -1,0 +1,26 @@
+-- `align_up` meets its contract: a mask below a power of two takes the remainder. Assumes nothing.
+use Prim.Native.Nat.{_+_, _-_}
+use native.Mathlib.Omega.{arith}
+use lib.Bits.{and-le-l}
+use Rattle.placing.specs.AlignLaws.{pos-of-power}
+use Rattle.placer.specs.NumberLaws.{power-le, align-up-mask}
+use Rattle.placer.proofs.align_up.Statement.{statement}
+use Rattle.placer.proofs.align_up.Tie as tie
+
+sub-y : tie.Need-sub-y
+sub-y c = omega (arith, pos-of-power (c .pre .0))
+
+add-y : tie.Need-add-y
+add-y c = omega (arith, pos-of-power (c .pre .0), power-le (c .args .a) (c .pre .0) (c .fits .a .fits))
+
+sub-result : tie.Need-sub-result
+sub-result c = omega (arith, pos-of-power (c .pre .0))
+
+sub-result-2 : tie.Need-sub-result-2
+sub-result-2 c = and-le-l (c .args .x + (c .args .a - 1)) (c .args .a - 1)
+
+returns : tie.Need-returns
+returns c = align-up-mask (c .args .a) (c .args .x) (c .pre .0)
+
+pub align-up-spec : {M : Type 1} → statement M
+align-up-spec = tie.close (tie.spec sub-y add-y sub-result sub-result-2 returns)

@@ -1,0 +1,23 @@
+-- `start_at` meets its contract: a cut taken before rounding up changes nothing after it. Assumes nothing.
+use mathlib.Core.Path.{ap, _∙_}
+use Rattle.placing.specs.AlignLaws.{pos-of-power}
+use Rattle.placing.specs.Align.{alignUp}
+use Rattle.placing.specs.Cap.{cap, cap-align}
+use borrow.Author.Needs.{needs}
+use Rattle.placer.proofs.start_at.Statement.{statement}
+use Rattle.placer.proofs.start_at.Tie as tie
+
+cap-requires : tie.Need-cap-requires
+cap-requires c κs = search needs
+
+align-up-requires : tie.Need-align-up-requires
+align-up-requires c κs = search needs
+
+cap-requires-2 : tie.Need-cap-requires-2
+cap-requires-2 c κs = search needs
+
+returns : tie.Need-returns
+returns c = (c .cap2 .ensures .0 ∙ ap cap (c .before .align-up .ensures ∙ ap (alignUp (c .before .before .before .args .align)) (c .before .before .cap .ensures .0)) ∙ cap-align (c .before .before .before .args .align) (pos-of-power (c .before .before .before .pre)) (c .before .before .before .args .end), c .cap2 .ensures .1)
+
+pub start-at-spec : {M : Type 1} → statement M
+start-at-spec = tie.close (tie.spec cap-requires align-up-requires cap-requires-2 returns)

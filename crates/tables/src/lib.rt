@@ -1,0 +1,77 @@
+// A lawful board's functions, once, into the arrays that the planner's passes read: each parent record, header type byte and set of read-backs.
+ghost use mathlib.Core.Path.{_≡_};
+ghost use Prim.Native.Nat.{_+_, _≤_, _<_};
+ghost use lib.ListN.{length};
+ghost use lib.Seq.{sets};
+ghost use Rattle.board.specs.Board.{mostFunctions, boardNumber, functionsOf};
+ghost use Rattle.tables.specs.Tables.{Room, Put, Filled};
+ghost use Rattle.tables.specs.Counts.{weightOf, countsOf};
+use board::Function;
+use records::Next;
+
+// How many functions the board has. Function i has its parent record and its header type byte at i, its six read-backs at 6 * i.
+pub fn fill(board: &[u8], parents: &mut [u16], headers: &mut [u8], readbacks: &mut [u32]) -> usize
+    requires { ⌜ (boardNumber (now board) ≡ 0) × Room mostFunctions (now parents) (now headers) (now readbacks) ⌝ }
+    ensures { λ r. ⌜ Filled (functionsOf (now (board .entry))) (now (parents .entry)) (now (headers .entry)) (now (readbacks .entry)) (now (parents .exit)) (now (headers .exit)) (now (readbacks .exit)) r ⌝ }
+{
+    let mut at = board::FUNCTIONS;
+    let mut i: usize = 0;
+    loop {
+        match records::next_at(board, at) {
+            Next::End => {
+                return i;
+            }
+            Next::Broken => {
+                return i;
+            }
+            Next::Record(n) => {
+                let f = board::function_of(records::part_at(board, at, n));
+                put(f, i, parents, headers, readbacks);
+                i += 1;
+                at = at + 2 + n;
+            }
+        }
+    }
+}
+
+fn put(f: Function, i: usize, parents: &mut [u16], headers: &mut [u8], readbacks: &mut [u32])
+    requires { ⌜ Room (i + 1) (now parents) (now headers) (now readbacks) ⌝ }
+    ensures { λ _. ⌜ Put f i (now (parents .entry)) (now (headers .entry)) (now (readbacks .entry)) (now (parents .exit)) (now (headers .exit)) (now (readbacks .exit)) ⌝ }
+{
+    let values = f.readbacks;
+    parents[i] = f.parent;
+    headers[i] = f.header;
+    put_set(readbacks, 6 * i, values);
+}
+
+fn put_set(readbacks: &mut [u32], at: usize, values: [u32; 6])
+    requires { ⌜ at + 6 ≤ length (now readbacks) ⌝ }
+    ensures { λ _. ⌜ now (readbacks .exit) ≡ sets (now (readbacks .entry)) at values ⌝ }
+{
+    let mut j: usize = 0;
+    while j < 6 {
+        readbacks[at + j] = values[j];
+        j += 1;
+    }
+}
+
+// At k, for k up to the number of functions: how many bridges are among the first k functions.
+pub fn count_bridges(headers: &[u8], counts: &mut [u16])
+    requires { ⌜ (length (now headers) ≤ mostFunctions) × (length (now headers) < length (now counts)) ⌝ }
+    ensures { λ _. ⌜ now (counts .exit) ≡ sets (now (counts .entry)) 0 (countsOf (now (headers .entry))) ⌝ }
+{
+    let mut n: u16 = 0;
+    let mut i: usize = 0;
+    while i < headers.len() {
+        counts[i] = n;
+        n += weight(headers[i]);
+        i += 1;
+    }
+    counts[i] = n;
+}
+
+fn weight(header: u8) -> u16
+    ensures { λ r. ⌜ (r ≡ weightOf header) × (r ≤ 1) ⌝ }
+{
+    if header % 128 == 1 { 1 } else { 0 }
+}
