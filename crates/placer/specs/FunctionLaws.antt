@@ -79,7 +79,7 @@ not-bar : (t : Part) (j : ℕ) → isWindow t ≡ true → isPart t j ≡ false
 not-bar (bar n) j e = absurd (false≢true e)
 not-bar window j e = refl
 
-windows-only : (k b : ℕ) (rest : List Piece) (t : Bool) → All (λ p. isWindow (p .part) ≡ true) (cond t (windowPieces k b rest) [])
+pub windows-only : (k b : ℕ) (rest : List Piece) (t : Bool) → All (λ p. isWindow (p .part) ≡ true) (cond t (windowPieces k b rest) [])
 unfolding windowPieces
 windows-only k b rest false = tt
 windows-only k b rest true =

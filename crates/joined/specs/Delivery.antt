@@ -1,0 +1,88 @@
+-- Demand 3's delivery on the planned sheet as bytes, as planned or with its command words rewritten: the walk over the sheet's own registers, from
+-- the bus of its first record, delivers as placed. Assumes nothing.
+use mathlib.Core.Path.{_≡_, sym, ap, subst, _∙_}
+use mathlib.Core.List.{List}
+use Prim.Native.Nat.{ℕ, _≤_}
+use lib.ListN.{length}
+use Rattle.endian.specs.Endian.{Bytes}
+use Rattle.placing.specs.Refusals.{refusalOf}
+use Rattle.board.specs.declared.Host.{Host}
+use Rattle.board.specs.declared.Function.{Function}
+use Rattle.board.specs.Board.{boardNumber, hostOf, functionsOf}
+use Rattle.board.specs.ToPlacing.{toHost, toPlacing}
+use Rattle.walk.specs.Registers.{Node, Registers, nodes, rootOf}
+use Rattle.walk.specs.Tally.{tallyOn}
+use Rattle.walk.specs.Walk.{Outcome, walkFrom}
+use Rattle.walk.specs.Good.{Good}
+use Rattle.walk.specs.Delivery.{outcomeOf, outcome-from-first}
+use Rattle.sheet.specs.declared.Space.{Space as SheetSpace}
+use Rattle.sheet.specs.Sheet.{entriesOf, sheetNumber}
+use Rattle.sheet.specs.SheetLaws.{nodes-functions}
+use Rattle.sheet.specs.Spaces.{registersOf, nodesOf, enabledOf}
+use Rattle.sheet.specs.Commands.{SameButCommands}
+use Rattle.sheet.specs.CommandsLaws.{registers-same}
+use Rattle.layout.specs.Layout.{sheetBytes}
+use Rattle.layout.specs.ReadBack.{framed-sheetBytes}
+use Rattle.planned.specs.Spaces.{Space}
+use Rattle.planned.specs.Registers.{planRegisters, planHost}
+use Rattle.planned.specs.Above.{aboveByParents}
+use Rattle.planned.specs.Delivery.{DeliversAsPlaced}
+use Rattle.planned.specs.DeliveryLaws.{planned-delivers}
+use Rattle.planned.specs.PlannedGood.{planned-good}
+use Rattle.planning.specs.Plan.{planOf}
+use Rattle.joined.specs.Fits.{devfnOf, BoardFits}
+use Rattle.joined.specs.Accepted.{fits-of-accepted}
+use Rattle.joined.specs.BarRanges.{spaceOf}
+use Rattle.joined.specs.Registers.{registers-agree}
+use Rattle.joined.specs.Passes.{rewritten-sheet-passes}
+
+-- what a request with this start address comes to on a sheet: the walk starts on the bus of the first record
+abbrev pub sheetOutcome : SheetSpace → List ℕ → ℕ → Outcome
+sheetOutcome space s address = walkFrom (tallyOn (enabledOf space s) (registersOf space s) address) (rootOf (nodesOf s)) 0
+
+-- what holds of a sheet that is the planned one but for command words
+pub record PlannedSheet (h : Host) (fs : List Function) (t : List ℕ) : Type 0 where
+  pub passes : sheetNumber t ≡ 0
+  pub registers-are : (sp : Space) → registersOf (spaceOf sp) t ≡ planRegisters sp (toHost h) (toPlacing fs) (devfnOf fs)
+  pub good : (sp : Space) → Good (planHost sp (toHost h)) (registersOf (spaceOf sp) t)
+  pub delivers : (sp : Space) (address : ℕ)
+      → DeliversAsPlaced sp (toHost h) (toPlacing fs) (enabledOf (spaceOf sp) t) address (sheetOutcome (spaceOf sp) t address)
+  pub at-most-16-above : (k : ℕ) → length (aboveByParents (toPlacing fs) k) ≤ 16
+
+module _ (h : Host) (fs : List Function) (fits : BoardFits h fs) (planned : refusalOf (toHost h) (toPlacing fs) ≡ 0) (t : List ℕ)
+    (same : SameButCommands (sheetBytes (planOf h fs)) t) where
+  registers-are : (sp : Space) → registersOf (spaceOf sp) t ≡ planRegisters sp (toHost h) (toPlacing fs) (devfnOf fs)
+  registers-are sp = registers-same same (framed-sheetBytes (planOf h fs)) (spaceOf sp) ∙ registers-agree h fs fits planned sp
+
+  plan-good : (sp : Space) → Good (planHost sp (toHost h)) (planRegisters sp (toHost h) (toPlacing fs) (devfnOf fs))
+  plan-good sp = planned-good (fits .board) planned sp (devfnOf fs)
+
+  -- the walk over the sheet's registers is that over the plan's, from the host's first bus
+  outcome-is : (sp : Space) (address : ℕ)
+      → sheetOutcome (spaceOf sp) t address
+      ≡ outcomeOf (planHost sp (toHost h)) (enabledOf (spaceOf sp) t) (planRegisters sp (toHost h) (toPlacing fs) (devfnOf fs)) address
+  outcome-is sp address =
+      let enabled = enabledOf (spaceOf sp) t in
+      ap (λ (ns : List Node). walkFrom (tallyOn enabled (registersOf (spaceOf sp) t) address) (rootOf ns) 0)
+      (sym (nodes-functions (spaceOf sp) 1 (entriesOf t)))
+      ∙ ap (λ (rs : List Registers). walkFrom (tallyOn enabled rs address) (rootOf (nodes rs)) 0) (registers-are sp)
+      ∙ outcome-from-first (planRegisters sp (toHost h) (toPlacing fs) (devfnOf fs)) (plan-good sp .tree) enabled address
+
+  pub planned-sheet : PlannedSheet h fs t
+  planned-sheet =
+      record {
+        passes = rewritten-sheet-passes h fs fits planned t same;
+        registers-are = registers-are;
+        good = λ sp. subst (Good (planHost sp (toHost h))) (sym (registers-are sp)) (plan-good sp);
+        delivers =
+            λ sp address.
+            let enabled = enabledOf (spaceOf sp) t in
+            subst (DeliversAsPlaced sp (toHost h) (toPlacing fs) enabled address) (sym (outcome-is sp address))
+            (planned-delivers (fits .board) planned sp (devfnOf fs) enabled address);
+        at-most-16-above = fits .shallow;
+      }
+
+-- of a board's bytes that are accepted and not refused by 30 to 33
+pub planned-sheet-of-board : (b : List ℕ) → Bytes b → boardNumber b ≡ 0 → refusalOf (toHost (hostOf b)) (toPlacing (functionsOf b)) ≡ 0
+    → (t : List ℕ) → SameButCommands (sheetBytes (planOf (hostOf b) (functionsOf b))) t → PlannedSheet (hostOf b) (functionsOf b) t
+planned-sheet-of-board b bytes accepted planned = planned-sheet (hostOf b) (functionsOf b) (fits-of-accepted b bytes accepted) planned

@@ -1,0 +1,38 @@
+-- What a board's bytes and checks give the planned sheet: every number has its width, and numbering, placing and order are lawful. Assumes nothing.
+use mathlib.Core.Path.{_≡_}
+use mathlib.Core.Bool.{true, false}
+use mathlib.Core.List.{List, map}
+use Prim.Native.Nat.{ℕ, pred, _%_, _^_, _≤_, _<_}
+use lib.ListN.{length, getD, take, drop}
+use Rattle.bar.specs.Bar.{slots, anyBad}
+use Rattle.placing.specs.Lists.{All}
+use Rattle.board.specs.declared.Host.{Host}
+use Rattle.board.specs.declared.Function.{Function}
+use Rattle.board.specs.Function.{slotCount}
+use Rattle.board.specs.ToPlacing.{toHost, toPlacing}
+use Rattle.sheet.specs.Sheet.{allZero}
+use Rattle.planned.specs.Boards.{Board}
+use Rattle.planned.specs.Ids.{SiblingsRise}
+use Rattle.planned.specs.Above.{aboveByParents}
+
+-- the device/function byte of each record, by its number
+abbrev pub devfnOf : List Function → ℕ → ℕ
+devfnOf fs k = getD (map (λ (f : Function). f .devfn) fs) (pred k) 0
+
+-- one function: its numbers' widths, header type (24), and read-backs (25)
+pub record FunctionFits (f : Function) : Type 0 where
+  pub devfn : f .devfn < 256
+  pub header : f .header < 256
+  pub header-type : f .header % 128 ≤ 1
+  pub command : f .command < 2 ^ 16
+  pub six : length (f .readbacks) ≡ 6
+  pub readbacks : (i : ℕ) → getD (f .readbacks) i 0 < 2 ^ 32
+  pub lawful : anyBad (slots (take (slotCount f) (f .readbacks))) ≡ false
+  pub rest-zero : allZero (drop (slotCount f) (f .readbacks)) ≡ true
+
+pub record BoardFits (h : Host) (fs : List Function) : Type 0 where
+  pub board : Board (toHost h) (toPlacing fs)
+  pub functions : All FunctionFits fs
+  pub few : length fs ≤ 256
+  pub siblings-rise : SiblingsRise (toPlacing fs) (devfnOf fs)
+  pub shallow : (k : ℕ) → length (aboveByParents (toPlacing fs) k) ≤ 16
