@@ -81,9 +81,9 @@ module _ (q : Pool) (inner : Extent) (e : ℕ) where
       go true = cap-cap e
       go false = cap-window-stop
 
-  pub cap-below-window : (old below : ℕ) → cap old ≡ cap below → cap (belowWindow q (capped inner) (cap e) old) ≡ cap (belowWindow q inner e below)
-  cap-below-window old below h = go (isEmpty inner)
+  pub cap-below-window : (below : ℕ) → cap (belowWindow q (capped inner) (cap e) (cap below)) ≡ cap (belowWindow q inner e below)
+  cap-below-window below = go (isEmpty inner)
     where
-      go : (t : Bool) → cap (cond t old (windowStart q (capped inner) (cap e))) ≡ cap (cond t below (windowStart q inner e))
-      go true = h
+      go : (t : Bool) → cap (cond t (cap below) (windowStart q (capped inner) (cap e))) ≡ cap (cond t below (windowStart q inner e))
+      go true = cap-cap below
       go false = cap-window-start

@@ -141,17 +141,17 @@ kept-ext e f h = λ i. record { low = h Low i; high = h High i; io = h Io i }
 pub kept-kept : (c : Cursors) (e : Ends) → c ≡ keptCursors e → c ≡ keptCursors (endsOf c)
 kept-kept c e h = h ∙ sym (kept-ext (endsOf c) e (λ q. ap (λ (x : Cursors). cap (endsOf x q)) h ∙ ap (λ (f : Ends). cap (f q)) (ends-kept e) ∙ cap-cap (e q)))
 
--- a BAR of z bytes that starts at s and ends at n
-pub kept-bar : (c : Cursors) (q : Pool) (wide : Bool) (z s n : ℕ) → c ≡ keptCursors (endsOf c) → s ≡ cap (alignUp z (endsOf c q)) → n ≡ cap (s + z)
+-- a BAR of n bytes that starts at s
+pub kept-bar : (c : Cursors) (q : Pool) (wide : Bool) (z e s n : ℕ) → c ≡ keptCursors (endsOf c) → e ≡ endsOf c q → s ≡ cap (alignUp z e) → n ≡ cap (s + z)
     → withEnd c q n ≡ keptCursors (afterBar (endsOf c) (Bar q wide z))
-kept-bar c Low wide z s n k f g =
-    let h : n ≡ cap (alignUp z (c .low) + z) = omega arith in
+kept-bar c Low wide z e s n k d f g =
+    let h : n ≡ cap (alignUp z (c .low) + z) = omega (arith, ap (alignUp z) d) in
     λ i. record { low = h i; high = k i .high; io = k i .io }
-kept-bar c High wide z s n k f g =
-    let h : n ≡ cap (alignUp z (c .high) + z) = omega arith in
+kept-bar c High wide z e s n k d f g =
+    let h : n ≡ cap (alignUp z (c .high) + z) = omega (arith, ap (alignUp z) d) in
     λ i. record { low = k i .low; high = h i; io = k i .io }
-kept-bar c Io wide z s n k f g =
-    let h : n ≡ cap (alignUp z (c .io) + z) = omega arith in
+kept-bar c Io wide z e s n k d f g =
+    let h : n ≡ cap (alignUp z (c .io) + z) = omega (arith, ap (alignUp z) d) in
     λ i. record { low = k i .low; high = k i .high; io = h i }
 
 -- ## The loop over a set's slots

@@ -3,7 +3,6 @@ pub mod Registers
 pub mod Function
 pub mod Pass
 pub mod Kept
-pub mod Examples
 pub mod PassLaws
 pub mod FunctionLaws
 pub mod JoinLaws
@@ -12,4 +11,3 @@ pub mod NumberLaws
 pub mod KeptLaws
 pub mod WordLaws
 pub mod LoopLaws
-pub mod TurnLaws

@@ -26,7 +26,7 @@ use Rattle.placing.specs.PieceLaws.{BarsSized, Shaped, pieces-shaped}
 use Rattle.placing.specs.Placing.{placed}
 use Rattle.placing.specs.Sizing.{Extent, nothing, busLaid}
 use Rattle.placing.specs.ExtentLaws.{extend-align}
-use Rattle.placing.specs.Cap.{cap, capped, cap-cap}
+use Rattle.placing.specs.Cap.{cap, capped}
 use Rattle.placer.specs.Registers.{barsFrom, windowFor, valuesFrom}
 use Rattle.placer.specs.Function.{Ends, barStarts, afterBars, valuesAt, isEmpty, windowAt, afterWindow, belowWindow}
 use Rattle.placer.specs.Pass.{cursorsAt}
@@ -37,13 +37,13 @@ use Rattle.placer.specs.CapLaws.{capEnds, cap-after-bars, cap-bar-starts
 use Rattle.placer.specs.JoinLaws.{Room, whole-of-room, busBefore, insideOf, parent-lt, values-cut, window-cut, cursor-own, cursor-below, cursor-other}
 use Rattle.placer.specs.WordLaws.{all-fitting, map-word, words-join}
 
--- the cursors of the buses up to n, before the record at index i
+-- the arrays of the buses up to n, before the record at index i
 abbrev pub Agrees : Host → List Function → ℕ → ℕ → (ℕ → Ends) → Type 0
-Agrees h fs n i a = (b : ℕ) → b ≤ n → (q : Pool) → cap (a b q) ≡ cap (cursorsAt h fs i b q)
+Agrees h fs n i a = (b : ℕ) → b ≤ n → (q : Pool) → a b q ≡ cap (cursorsAt h fs i b q)
 
 -- at first every cursor is its pool's base
-pub agrees-start : (h : Host) (fs : List Function) (n : ℕ) (a : ℕ → Ends) → ((b : ℕ) → b ≤ n → (q : Pool) → a b q ≡ h .base q) → Agrees h fs n 0 a
-agrees-start h fs n a e b l q = ap cap (e b l q) ∙ ap (λ (c : ℕ → Ends). cap (c b q)) (sym (cursors-at-start h fs))
+pub agrees-start : (h : Host) (fs : List Function) (n : ℕ) (a : ℕ → Ends) → ((b : ℕ) → b ≤ n → (q : Pool) → a b q ≡ cap (h .base q)) → Agrees h fs n 0 a
+agrees-start h fs n a e b l q = e b l q ∙ ap (λ (c : ℕ → Ends). cap (c b q)) (sym (cursors-at-start h fs))
 
 -- the record at index i, whose slots are those of the first m read-backs of its set
 module _ (h : Host) (fs : List Function) (lawful : Lawful fs) (i : ℕ) (f : Function) (at : IsAt fs i f) (set : List ℕ) (m : ℕ)
@@ -60,27 +60,18 @@ module _ (h : Host) (fs : List Function) (lawful : Lawful fs) (i : ℕ) (f : Fun
   own-le : f .parent ≤ n
   own-le = omega (arith, parent-lt h fs lawful i f at xs bars)
 
-  own-is : capEnds (a (f .parent)) ≡ capEnds own
+  own-is : a (f .parent) ≡ capEnds own
   own-is = λ j q. agrees (f .parent) own-le q j
 
   -- after its BARs
   bars-end : (q : Pool) → cap (afterBars (a (f .parent)) xs q) ≡ cap (afterBars own xs q)
-  bars-end q =
-      sym (cap-after-bars (a (f .parent)) xs sized-slots q)
-      ∙ ap (λ (e : Ends). cap (afterBars e xs q)) own-is
-      ∙ cap-after-bars own xs sized-slots q
-
-  bars-start : map cap (barStarts (a (f .parent)) xs) ≡ map cap (barStarts own xs)
-  bars-start =
-      sym (cap-bar-starts (a (f .parent)) xs sized-slots)
-      ∙ ap (λ (e : Ends). map cap (barStarts e xs)) own-is
-      ∙ cap-bar-starts own xs sized-slots
+  bars-end q = ap (λ (e : Ends). cap (afterBars e xs q)) own-is ∙ cap-after-bars own xs sized-slots q
 
   -- BAR registers are the plan's
   pub values-planned : Room h fs → keptValues set m (a (f .parent)) ≡ valuesFrom (suc i) 0 (placed h fs) xs set
   unfolding keptValues
   values-planned room =
-      ap (λ (l : List ℕ). map word (valuesAt xs set l)) bars-start
+      ap (λ (l : List ℕ). map word (valuesAt xs set l)) (ap (λ (e : Ends). map cap (barStarts e xs)) own-is ∙ cap-bar-starts own xs sized-slots)
       ∙ ap (map word) (sym (values-cut h fs lawful i f at xs bars cap (whole-of-room h fs lawful room) set))
       ∙ map-word _ (words-join h fs lawful room i f at xs bars (all-fitting (take m set)) set)
 
@@ -89,15 +80,15 @@ module _ (h : Host) (fs : List Function) (lawful : Lawful fs) (i : ℕ) (f : Fun
       → ((b : ℕ) → b ≤ n → (b ≡ f .parent → ⊥) → (q : Pool) → a' b q ≡ a b q) → Agrees h fs n (suc i) a'
   agrees-leaf a' leaf moved kept b l q = ⊎-elim mine other (eq-or-ne b (f .parent))
     where
-      mine : b ≡ f .parent → cap (a' b q) ≡ cap (cursorsAt h fs (suc i) b q)
-      mine e = rw e (ap cap (moved q) ∙ cap-cap (afterBars (a (f .parent)) xs q) ∙ bars-end q ∙ ap cap (sym (cursor-own h fs lawful i f at xs bars q ∙ rw leaf)))
+      mine : b ≡ f .parent → a' b q ≡ cap (cursorsAt h fs (suc i) b q)
+      mine e = rw e (moved q ∙ bars-end q ∙ ap cap (sym (cursor-own h fs lawful i f at xs bars q ∙ rw leaf)))
 
       below : b ≡ suc i → cursorsAt h fs (suc i) b q ≡ cursorsAt h fs i b q
       below e = rw e (cursor-below h fs lawful i f at xs bars q ∙ rw leaf)
 
-      other : (b ≡ f .parent → ⊥) → cap (a' b q) ≡ cap (cursorsAt h fs (suc i) b q)
+      other : (b ≡ f .parent → ⊥) → a' b q ≡ cap (cursorsAt h fs (suc i) b q)
       other ne =
-          ap cap (kept b l ne q) ∙ agrees b l q
+          kept b l ne q ∙ agrees b l q
           ∙ ap cap (sym (⊎-elim below (cursor-other h fs lawful i f at xs bars b q ne) (eq-or-ne b (suc i))))
 
   -- a bridge, with what its bus comes to, cut at 2^62
@@ -121,27 +112,24 @@ module _ (h : Host) (fs : List Function) (lawful : Lawful fs) (i : ℕ) (f : Fun
           → ((q : Pool) → a' (suc i) q ≡ cap (belowWindow q (x q) (c q) (a (suc i) q)))
           → ((b : ℕ) → b ≤ n → (b ≡ f .parent → ⊥) → (b ≡ suc i → ⊥) → (q : Pool) → a' b q ≡ a b q) → Agrees h fs n (suc i) a'
       agrees-bridge a' moved opened kept b l q =
-          ⊎-elim mine (λ ne. ⊎-elim below (other ne) (eq-or-ne b (suc i))) (eq-or-ne b (f .parent))
+          ⊎-elim mine (λ ne. ⊎-elim below (λ nk. kept b l ne nk q ∙ agrees b l q ∙ ap cap (sym (cursor-other h fs lawful i f at xs bars b q ne nk))) (eq-or-ne b (suc i)))
+          (eq-or-ne b (f .parent))
         where
-          other : (b ≡ f .parent → ⊥) → (b ≡ suc i → ⊥) → cap (a' b q) ≡ cap (cursorsAt h fs (suc i) b q)
-          other ne nk = ap cap (kept b l ne nk q) ∙ agrees b l q ∙ ap cap (sym (cursor-other h fs lawful i f at xs bars b q ne nk))
-
-          mine : b ≡ f .parent → cap (a' b q) ≡ cap (cursorsAt h fs (suc i) b q)
+          mine : b ≡ f .parent → a' b q ≡ cap (cursorsAt h fs (suc i) b q)
           mine e =
               rw e
-              (ap cap (moved q)
-              ∙ cap-cap (afterWindow q (x q) (c q))
+              (moved q
               ∙ ap₂ (λ (y : Extent) (k : ℕ). cap (afterWindow q y k)) (sized q) (end-is q)
               ∙ cap-after-window q (inside q) (afterBars own xs q)
               ∙ ap cap (sym (cursor-own h fs lawful i f at xs bars q ∙ rw bridge)))
 
-          below : b ≡ suc i → cap (a' b q) ≡ cap (cursorsAt h fs (suc i) b q)
+          below : b ≡ suc i → a' b q ≡ cap (cursorsAt h fs (suc i) b q)
           below e =
               rw e
-              (ap cap (opened q)
-              ∙ cap-cap (belowWindow q (x q) (c q) (a (suc i) q))
+              (opened q
               ∙ ap₂ (λ (y : Extent) (k : ℕ). cap (belowWindow q y k (a (suc i) q))) (sized q) (end-is q)
-              ∙ cap-below-window q (inside q) (afterBars own xs q) (a (suc i) q) (cursorsAt h fs i (suc i) q) (agrees (suc i) last q)
+              ∙ ap (λ (k : ℕ). cap (belowWindow q (capped (inside q)) (cap (afterBars own xs q)) k)) (agrees (suc i) last q)
+              ∙ cap-below-window q (inside q) (afterBars own xs q) (cursorsAt h fs i (suc i) q)
               ∙ ap cap (sym (cursor-below h fs lawful i f at xs bars q ∙ rw bridge)))
 
     -- what the call for its windows requires

@@ -158,14 +158,14 @@ fn bar_start(c: Cursors, x: Slot) -> u64
     }
 }
 
-// The cursors, all kept before, after the slot's BAR, which starts there.
-fn after_bar(c: Cursors, x: Slot, start: u64) -> Cursors
-    requires { ⌜ (c ≡ keptCursors (endsOf c)) × (start ≡ capOf (startOf (endsOf c) x)) ⌝ }
+// The cursors, all kept before, after the slot's BAR.
+fn after_bar(c: Cursors, x: Slot) -> Cursors
+    requires { ⌜ SizedSlot x × (c ≡ keptCursors (endsOf c)) ⌝ }
     ensures { λ r. ⌜ r ≡ keptCursors (afterBar (endsOf c) x) ⌝ }
 {
     match x {
         Slot::Unused => c,
-        Slot::Bar(q, _, size) => with_cursor(c, q, end_of(start, size)),
+        Slot::Bar(q, _, size) => with_cursor(c, q, end_of(start_at(size, cursor(c, q)), size)),
         Slot::Upper => c,
         Slot::Bad => c,
     }
@@ -203,10 +203,9 @@ pub fn place_bars(set: [u32; 6], n: usize, c: Cursors) -> BarsPlaced
     let mut i: usize = 0;
     while i < n {
         let x = bar::slot_at(set, n, i);
-        let start = bar_start(at, x);
-        let v = bar::value_of(x, set[i], start);
+        let v = bar::value_of(x, set[i], bar_start(at, x));
         put_registers(&mut values, i, x, v);
-        at = after_bar(at, x, start);
+        at = after_bar(at, x);
         i += bar::span(x);
     }
     BarsPlaced {

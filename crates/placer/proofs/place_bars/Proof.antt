@@ -31,7 +31,7 @@ mul-value-of : tie.Need-mul-value-of Inv-loop μ-loop
 mul-value-of c = search needs
 
 array-read-value-of : tie.Need-array-read-value-of Inv-loop μ-loop
-array-read-value-of c = omega (arith, c .before .before .before .before .before .pre .0)
+array-read-value-of c = omega (arith, c .before .before .before .before .pre .0)
 
 bar-start-requires : tie.Need-bar-start-requires Inv-loop μ-loop
 bar-start-requires c κs = subst SizedSlot (sym (c .slot-at .ensures)) (sized-here _)
@@ -51,7 +51,7 @@ put-registers-requires c κs =
     omega (arith, l .inv .six, c .before .before .before .before .before .before .before .pre .0)
 
 after-bar-requires : tie.Need-after-bar-requires Inv-loop μ-loop
-after-bar-requires c κs = (c .before .before .before .before .before .before .before .loop .inv .kept, c .before .before .before .before .bar-start .ensures .0)
+after-bar-requires c κs = (subst SizedSlot (sym (c .before .before .before .before .before .slot-at .ensures)) (sized-here _), c .before .before .before .before .before .before .before .loop .inv .kept)
 
 span-requires : tie.Need-span-requires Inv-loop μ-loop
 span-requires c κs = search needs
@@ -84,9 +84,9 @@ place-bars-spec =
     kept-requires
     loop-holds
     slot-at-requires
-    bar-start-requires
     mul-value-of
     array-read-value-of
+    bar-start-requires
     value-of-requires
     slice-aggregate-put-registers
     put-registers-requires
