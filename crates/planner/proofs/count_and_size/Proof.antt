@@ -1,0 +1,56 @@
+-- `planner::count_and_size` meets its contract. Assumes nothing.
+use borrow.Author.Needs.{needs}
+use Rattle.planner.proofs.count_and_size.Statement.{statement}
+use Rattle.planner.proofs.count_and_size.Tie as tie
+use native.Mathlib.Omega.{arith}
+use mathlib.Core.Path.{sym}
+use lib.Seq.{length-take-le}
+
+slice-aggregate-hs : tie.Need-slice-aggregate-hs
+slice-aggregate-hs c = sym (length-take-le _ _ (c .before .before .before .before .before .before .pre .arrays .headers))
+
+count-bridges-requires : tie.Need-count-bridges-requires
+count-bridges-requires c κs = let l = length-take-le (c .before .before .before .before .before .before .before .args .n) (c .before .before .before .before .before .before .before .args .headers .now) (c .before .before .before .before .before .before .before .pre .arrays .headers) in (omega (arith, l, c .before .before .before .before .before .before .before .pre .few), omega (arith, l, c .before .before .before .before .before .before .before .pre .counts-room))
+
+slice-aggregate-ps : tie.Need-slice-aggregate-ps
+slice-aggregate-ps c = sym (length-take-le _ _ (c .before .before .before .before .before .before .before .before .before .before .before .before .before .before .pre .arrays .parents))
+
+mul-sets : tie.Need-mul-sets
+mul-sets c = search needs
+
+slice-aggregate-sets : tie.Need-slice-aggregate-sets
+slice-aggregate-sets c = sym (length-take-le _ _ (c .before .before .before .before .before .before .before .before .before .before .before .before .before .before .before .pre .arrays .readbacks))
+
+size-board-requires : tie.Need-size-board-requires
+size-board-requires c κs = let l = length-take-le (c .before .before .before .before .before .before .before .before .before .before .before .before .before .before .before .before .args .n) (c .before .before .before .before .before .before .before .before .before .before .before .before .before .before .before .before .args .parents .now) (c .before .before .before .before .before .before .before .before .before .before .before .before .before .before .before .before .pre .arrays .parents) in (c .before .before .before .before .before .before .before .before .before .before .before .before .before .before .before .before .pre .board, omega (arith, l, c .before .before .before .before .before .before .before .before .before .before .before .before .before .before .before .before .pre .memo-room))
+
+mul-t20 : tie.Need-mul-t20
+mul-t20 c = search needs
+
+slice-read-t25 : tie.Need-slice-read-t25
+slice-read-t25 c = search needs
+
+same-length : tie.Need-same-length
+same-length c = search needs
+
+same-length-2 : tie.Need-same-length-2
+same-length-2 c = search needs
+
+returns : tie.Need-returns
+returns c = search needs
+
+pub count-and-size-spec : {M : Type 1} → statement M
+count-and-size-spec =
+    tie.close
+    (tie.spec
+    slice-aggregate-hs
+    count-bridges-requires
+    slice-aggregate-ps
+    mul-sets
+    slice-aggregate-sets
+    size-board-requires
+    mul-t20
+    slice-read-t25
+    same-length
+    same-length-2
+    returns)

@@ -1,0 +1,62 @@
+-- What the planner's first pass leaves of a lawful board, and the number that follows from it. Assumes nothing.
+use mathlib.Core.Path.{_≡_}
+use mathlib.Core.Bool.{Bool, true, cond}
+use mathlib.Core.List.{List}
+use Prim.Native.Nat.{ℕ, _+_, _*_, _≤_, _<_}
+use lib.Dec.{ltb}
+use lib.ListN.{length, getD, take}
+use lib.Seq.{sets}
+use Rattle.placing.specs.Numbering.{bridges}
+use Rattle.placing.specs.Sizing.{busLaid, rootLaid, endsPast}
+use Rattle.board.specs.declared.Span.{Span}
+use Rattle.board.specs.declared.Host.{Host}
+use Rattle.board.specs.declared.Function.{Function}
+use Rattle.board.specs.Function.{isBridge}
+use Rattle.board.specs.Board.{mostFunctions, hostOf, functionsOf}
+use Rattle.board.specs.ToPlacing.{toHost, toPlacing}
+use Rattle.sizing.specs.declared.Extent.{Extent}
+use Rattle.sizing.specs.Cut.{extentOf, cut}
+use Rattle.sizing.specs.Functions.{functionsIn}
+use Rattle.sizing.specs.Memo.{laidAt, below}
+use Rattle.sizing.specs.Board.{Board, basesOf, BoardSized}
+use Rattle.tables.specs.Tables.{Room}
+use Rattle.tables.specs.Counts.{countsOf}
+use Rattle.placement.specs.StepLaws.{RecordAt}
+use Rattle.planner.specs.declared.Measured.{Measured}
+
+-- what the root bus comes to in a pool, held against the pool
+abbrev pub runsOut : Span → Extent → Bool
+runsOut x e = cond (ltb (x .last) (x .base)) (ltb 0 (e .align)) (endsPast (x .last) (extentOf e))
+
+unfoldable pub refusalBy : Host → Measured → ℕ
+refusalBy h m =
+    cond (ltb (h .«last_bus») (h .«first_bus» + m .bridges)) 30
+    (cond (runsOut (h .low) (m .root .low)) 31
+    (cond (runsOut (h .high) (m .root .high)) 32
+    (cond (runsOut (h .io) (m .root .io)) 33 0)))
+
+-- the first n functions of the arrays are a lawful board's, and the other arrays have room for them
+pub record Measurable (ps hs ss : List ℕ) (n : ℕ) (counts memo : List ℕ) : Type 0 where
+  pub arrays : Room n ps hs ss
+  pub few : n ≤ mostFunctions
+  pub board : Board (take n ps) (take n hs) (take (6 * n) ss)
+  pub counts-room : n < length counts
+  pub memo-room : 8 * n ≤ length memo
+
+-- what counting and sizing them leaves
+pub record CountedAndSized (ps hs ss : List ℕ) (n : ℕ) (h : Host) (counts memo counts' memo' : List ℕ) (m : Measured) : Type 0 where
+  pub functions : m .functions ≡ n
+  pub counts-are : counts' ≡ sets counts 0 (countsOf (take n hs))
+  pub bridges-are : m .bridges ≡ getD counts' n 0
+  pub sized : BoardSized (functionsIn (take n ps) (take n hs) (take (6 * n) ss)) (basesOf (h .low .base) (h .high .base) (h .io .base)) memo memo' (m .root)
+
+-- the board measured: its functions and bridges, what its root bus comes to, and the arrays that count the bridges before each function and keep what
+-- lies below each bridge
+pub record IsMeasured (b counts memo : List ℕ) (m : Measured) : Type 0 where
+  pub functions : m .functions ≡ length (functionsOf b)
+  pub bridges-are : m .bridges ≡ bridges (toPlacing (functionsOf b))
+  pub root : m .root ≡ cut (busLaid (toPlacing (functionsOf b)) 0 (rootLaid (toHost (hostOf b))))
+  pub counts-room : length (functionsOf b) < length counts
+  pub counted : (k : ℕ) → k ≤ length (functionsOf b) → getD counts k 0 ≡ bridges (take k (toPlacing (functionsOf b)))
+  pub memo-room : 8 * length (functionsOf b) ≤ length memo
+  pub stored : (i : ℕ) (f : Function) → RecordAt (functionsOf b) i f → isBridge f ≡ true → laidAt memo i ≡ below (toPlacing (functionsOf b)) i

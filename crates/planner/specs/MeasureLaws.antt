@@ -1,0 +1,111 @@
+-- The number that follows from a measured board is the placing rule's. Assumes nothing.
+use mathlib.Core.Path.{_≡_, refl, sym, ap, ap₂, _∙_}
+use mathlib.Core.Bool.{Bool, true, false, cond, _&&_}
+use mathlib.Core.List.{List, [], _∷_}
+use Prim.Native.Nat.{ℕ, suc, _≤_, _<_, max}
+use native.Mathlib.Omega.{arith}
+use lib.Dec.{ltb}
+use borrow.Author.Tests.{lt-ltb, ltb-true, ltb-false}
+use Rattle.endian.specs.Endian.{Bytes}
+use Rattle.pools.specs.declared.Pool.{Pool}
+use Rattle.pools.specs.declared.Pool.the-variants.{Low, High, Io}
+use Rattle.placing.specs.Lists.{All}
+use Rattle.placing.specs.ListLaws.{all-imp, all-keep}
+use Rattle.placing.specs.Records as placing
+use Rattle.placing.specs.Records.{Lawful}
+use Rattle.placing.specs.Layout.{Piece, isOn, select, layoutEnd, largestAlign, endAt}
+use Rattle.placing.specs.LayoutLaws.{HasAlign, le-end-at, le-layout-end}
+use Rattle.placing.specs.Pieces.{pieces}
+use Rattle.placing.specs.PieceLaws.{Shaped, has-align, pieces-shaped}
+use Rattle.placing.specs.Sizing as laid
+use Rattle.placing.specs.Sizing.{extend, busLaid, rootLaid, endsPast}
+use Rattle.placing.specs.ExtentLaws.{extend-align}
+use Rattle.placing.specs.Cap.{capped, out-of-pool-capped}
+use Rattle.placing.specs.Refusals.{outOfPool, refusalOf}
+use Rattle.placing.specs.RefusalLaws.{out-of-pool-end}
+use Rattle.board.specs.declared.Host.{Host}
+use Rattle.board.specs.declared.Span.{Span}
+use Rattle.board.specs.Board.{boardNumber, hostOf, functionsOf}
+use Rattle.board.specs.Host.{spanOf}
+use Rattle.board.specs.ToPlacing.{toHost, toPlacing}
+use Rattle.sizing.specs.declared.Laid.{Laid}
+use Rattle.sizing.specs.Cut.{extentOf, extentIn, cut}
+use Rattle.planned.specs.Boards.{HostEdges}
+use Rattle.joined.specs.Accepted.{board-of-accepted}
+use Rattle.planner.specs.declared.Measured.{Measured}
+use Rattle.planner.specs.Measure.{runsOut, refusalBy, IsMeasured}
+
+-- an open pool ends below 2^52
+abbrev pub OpenEndsLow : placing.Host → Pool → Type 0
+OpenEndsLow h q = h .base q ≤ h .last q → h .last q < 4503599627370496
+
+pub open-ends-low : {h : placing.Host} → HostEdges h → (q : Pool) → OpenEndsLow h q
+open-ends-low e Low o = omega (arith, e .low-ends-below-4-GiB o)
+open-ends-low e High o = e .high-ends-below-2^52 o
+open-ends-low e Io o = omega (arith, e .io-ends-below-64-KiB o)
+
+-- ---- one pool
+
+-- whatever is laid out from a base on ends past it
+past-base : (l base : ℕ) → l ≤ base → (ps : List Piece) → All Shaped ps → (ltb 0 (largestAlign ps) && ltb l (layoutEnd base ps)) ≡ ltb 0 (largestAlign ps)
+unfolding layoutEnd largestAlign
+past-base l base g [] h = refl
+past-base l base g (p ∷ ps) h = go (ltb 0 (max (p .align) (largestAlign ps)))
+  where
+    later : l < layoutEnd (endAt base p) ps
+    later =
+        let some = has-align p (h .0) in
+        let rest = le-layout-end (endAt base p) ps (all-imp Shaped HasAlign ps (h .1) has-align) in
+        omega (arith, le-end-at base p some .0, h .0 .align-fits, some, rest)
+
+    go : (t : Bool) → (t && ltb l (layoutEnd (endAt base p) ps)) ≡ t
+    go true = lt-ltb l (layoutEnd (endAt base p) ps) later
+    go false = refl
+
+module _ (h : placing.Host) (fs : List placing.Function) (lawful : Lawful fs) (q : Pool) where
+  content-shaped : All Shaped (select 0 q (pieces 1 fs))
+  content-shaped = all-keep (isOn 0 q) Shaped (pieces 1 fs) (pieces-shaped 1 fs (lawful .sized))
+
+  -- a closed pool runs out exactly when the root bus has anything for it
+  out-of-closed : h .last q < h .base q → outOfPool h fs q ≡ ltb 0 (busLaid fs 0 (rootLaid h) .extent q .align)
+  unfolding busLaid
+  out-of-closed closed =
+      let content = select 0 q (pieces 1 fs) in
+      let align : extend (rootLaid h .extent q) content .align ≡ largestAlign content = extend-align (rootLaid h .extent q) content ∙ omega arith in
+      out-of-pool-end h fs lawful q ∙ past-base (suc (h .last q)) (h .base q) closed content content-shaped ∙ ap (ltb 0) (sym align)
+
+-- a pool runs out exactly when the code finds so, from what it kept of the root bus
+module _ (h : Host) (fs : List placing.Function) (lawful : Lawful fs) (r : Laid) (e : r ≡ cut (busLaid fs 0 (rootLaid (toHost h)))) where
+  kept-end : (q : Pool) → extentOf (extentIn r q) ≡ capped (busLaid fs 0 (rootLaid (toHost h)) .extent q)
+  kept-end Low = ap (λ (x : Laid). extentOf (x .low)) e
+  kept-end High = ap (λ (x : Laid). extentOf (x .high)) e
+  kept-end Io = ap (λ (x : Laid). extentOf (x .io)) e
+
+  runs-out-at : (q : Pool) (x : Span) → x .base ≡ toHost h .base q → x .last ≡ toHost h .last q → OpenEndsLow (toHost h) q
+      → runsOut x (extentIn r q) ≡ outOfPool (toHost h) fs q
+  runs-out-at q x b l low = go (ltb (x .last) (x .base)) refl
+    where
+      align : extentIn r q .align ≡ busLaid fs 0 (rootLaid (toHost h)) .extent q .align
+      align = ap (λ (y : laid.Extent). y .align) (kept-end q)
+
+      go : (t : Bool) → ltb (x .last) (x .base) ≡ t
+          → cond t (ltb 0 (extentIn r q .align)) (endsPast (x .last) (extentOf (extentIn r q))) ≡ outOfPool (toHost h) fs q
+      go true g = ap (ltb 0) align ∙ sym (out-of-closed (toHost h) fs lawful q (omega (arith, ltb-true (x .last) (x .base) g, b, l)))
+      go false g =
+          let opens : toHost h .base q ≤ toHost h .last q = omega (arith, ltb-false (x .last) (x .base) g, b, l) in
+          ap₂ endsPast l (kept-end q) ∙ sym (out-of-pool-capped (toHost h) fs lawful q (low opens))
+
+  pub runs-out-is : (q : Pool) → OpenEndsLow (toHost h) q → runsOut (spanOf h q) (extentIn r q) ≡ outOfPool (toHost h) fs q
+  runs-out-is Low = runs-out-at Low (h .low) refl refl
+  runs-out-is High = runs-out-at High (h .high) refl refl
+  runs-out-is Io = runs-out-at Io (h .io) refl refl
+
+-- ---- the number
+
+pub refusal-by-is : {counts memo : List ℕ} {m : Measured} (b : List ℕ) → Bytes b → boardNumber b ≡ 0 → IsMeasured b counts memo m
+    → refusalBy (hostOf b) m ≡ refusalOf (toHost (hostOf b)) (toPlacing (functionsOf b))
+unfolding refusalBy refusalOf
+refusal-by-is {m = m} b bytes accepted is =
+    let board = board-of-accepted b bytes accepted in
+    let out = runs-out-is (hostOf b) (toPlacing (functionsOf b)) (board .lawful) (m .root) (is .root) in
+    rw (is .bridges-are, out Low (open-ends-low (board .edges) Low), out High (open-ends-low (board .edges) High), out Io (open-ends-low (board .edges) Io))
