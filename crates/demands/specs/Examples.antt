@@ -1,28 +1,84 @@
 -- Document 01, "Examples (P: to be proved together)": one table of examples under one claim. Assumes nothing.
 use Prim.Native.Nat.{ℕ}
 use mathlib.Core.Path.{_≡_, refl}
-use mathlib.Core.List.{List, [], _∷_}
-use Rattle.endian.specs.Endian.{be}
+use mathlib.Core.List.{List, [], _∷_, _++_, map, flatMap}
+use lib.ListN.{length, replicate}
+use Rattle.endian.specs.Endian.{be, beBytes, le, leBytes}
 use Rattle.pairs.specs.Pairs.{table, first, findPair, pairOf}
 use Rattle.packet.specs.Fields.{headOf}
 use Rattle.packet.specs.Rules.{reservedSet, fixedWrong, upperZero, enablesWrong, crossesPage, statusWrong, fromRule5, fromRule6, fromRule7, fromRule8, fromRule9, ruleNumber}
 use Rattle.tlp.specs.declared.Reading.{Reading}
 use Rattle.tlp.specs.declared.Reading.the-variants.{Accepted, Refused}
-use Rattle.tlp.specs.Reading.{numberOf, headAt, enablesAt, addressAt, unnamed, judged, readOf}
+use Rattle.tlp.specs.Reading.{numberOf as readingNumber, headAt, enablesAt, addressAt, unnamed, judged, readOf}
+use Rattle.records.specs.Records.{nextOf, partsOver, partsOf, anyPart}
+use Rattle.placing.specs.Lists.{any, keep}
+use Rattle.placing.specs.Align.{alignUp}
+use Rattle.placing.specs.Layout.{layoutEnd, largestAlign}
+use Rattle.placing.specs.Pieces.{barPieces, windowPieces, ownPieces, pieces}
+use Rattle.placing.specs.Placing.{place, placed}
+use Rattle.placing.specs.Numbering.{bridges, busNumber, greatestBelow, subordinateOf}
+use Rattle.placing.specs.Refusals.{outOfPool, refusalOf}
+use Rattle.bar.specs.Bar.{sizeFrom, sized, ioSlot, narrowSlot, wideSlot, slotHere, slots, anyBad}
+use Rattle.bar.specs.Bars.{barsFrom}
+use Rattle.bar.specs.Values.{isBarValue, valuesFit}
+use Rattle.window.specs.Window.{closed, opened, start, stop, isNibbled}
+use Rattle.board.specs.Host.{hostOfPart, poolWrong, hostWrong}
+use Rattle.board.specs.Function.{functionOfPart, headerWrong, readbacksWrong}
+use Rattle.board.specs.Order.{above, parents, lastSibling, misplaced, anyMisplaced}
+use Rattle.board.specs.Board.{misframed, fromReadbacks, fromOrder, fromEdges, fromHeaders, fromCount, fromFrame, fromVersion, boardNumber, hostOf, functionsOf}
+use Rattle.board.specs.Examples.{host, hostWith, row, card, p10}
+use Rattle.sheet.specs.Entry.{dwords, windowOf, entryOf}
+use Rattle.sheet.specs.Sheet.{allSized, isFramed, entriesFrom, commandsOf, allZero, readBacksWrong, breaks, anyBreaks, hasId, idTwice}
+use Rattle.sheet.specs.Sheet.{from29, from25, from28, from27, from24, from22, from20, from21, sheetNumber}
+use Rattle.sheet.specs.Spaces.{barsFrom as rangesFrom, functionsFrom, nodesFrom}
+use Rattle.sheet.specs.Examples.{p10 as p10-sheet}
+use Rattle.layout.specs.Layout.{dwordBytes, endBytes, bridgeBytes, bodyBytes, commonBytes, configBytes, partBytes, recordBytes, sheetBytes}
+use Rattle.walk.specs.Lists.{select}
+use Rattle.walk.specs.Registers.{itemsOf, items, enabledIn}
+use Rattle.walk.specs.Tally.{join, tallyOn}
+use Rattle.walk.specs.Walk.{walkOver, walkFrom}
+use Rattle.planning.specs.declared.Planning.the-variants.{Planned}
+use Rattle.planning.specs.Plan.{barStart, windowFor, valuesFrom, plannedFrom, planOf, onRoom, onBoard, planning, numberOf as planningNumber, sheetAfter}
+use Rattle.route.specs.declared.Routing.{Routing}
+use Rattle.route.specs.declared.Routing.the-variants.{Delivered, Refused as NotDelivered}
+use Rattle.route.specs.Route.{numberOf as routingNumber, routeOf, fromSheet, from40, from42}
 
 -- the Length that a reading reports; a refused header has none, and 0 is no Length of a memory request
 abbrev pub lengthRead : Reading → ℕ
 lengthRead (Accepted p) = headOf p .length
 lengthRead (Refused n) = 0
 
--- what an example says: the number that reading a header answers (0: accepted), or the Length that it reports
+-- the record that a request is delivered to, 0 where it is refused, and the bridges crossed on the way
+abbrev pub recordOf : Routing → ℕ
+recordOf (Delivered k count p) = k
+recordOf (NotDelivered n) = 0
+
+abbrev pub crossed : Routing → ℕ
+crossed (Delivered k count p) = count
+crossed (NotDelivered n) = 0
+
+-- room for the sheet of any board
+abbrev pub fullRoom : ℕ
+fullRoom = 23553
+
 pub data Claim : Type 0 where
+  -- reading a header answers this number (0: accepted), or reports this Length
   reads : List ℕ → ℕ → Claim
   reads-length : List ℕ → ℕ → Claim
+  -- planning a board answers this number (0: accepted), or leaves this sheet in room of its length
+  plans : List ℕ → ℕ → Claim
+  leaves : List ℕ → List ℕ → Claim
+  -- over a sheet a header goes to a record, so many bridges on, or is refused
+  goes : List ℕ → List ℕ → ℕ → ℕ → Claim
+  refuses : List ℕ → List ℕ → ℕ → Claim
 
 abbrev pub Holds : Claim → Type 0
-Holds (reads s n) = numberOf (readOf s) ≡ n
+Holds (reads s n) = readingNumber (readOf s) ≡ n
 Holds (reads-length s n) = lengthRead (readOf s) ≡ n
+Holds (plans b n) = planningNumber (planning b fullRoom) ≡ n
+Holds (leaves b s) = (planning b (length s) ≡ Planned (length s)) × (sheetAfter b (replicate (length s) 0) ≡ s)
+Holds (goes header s k count) = (recordOf (routeOf header s) ≡ k) × (crossed (routeOf header s) ≡ count)
+Holds (refuses header s n) = routingNumber (routeOf header s) ≡ n
 
 -- an example of the paper, by its number
 pub record Example : Type 0 where
@@ -43,6 +99,10 @@ request byte code enables high low = byte ∷ 0 ∷ 0 ∷ code ∷ 0 ∷ 0 ∷ 0
 -- the same in the four-dword form, with the address's upper half
 abbrev pub request64 : ℕ → ℕ → List ℕ
 request64 byte upper = byte ∷ 0 ∷ 0 ∷ 1 ∷ 0 ∷ 0 ∷ 0 ∷ 0x0f ∷ 0 ∷ 0 ∷ 0 ∷ upper ∷ 0 ∷ 0 ∷ 0 ∷ 0 ∷ []
+
+-- one dword read at F900 and these sixteen bits
+abbrev pub readAt : ℕ → ℕ → List ℕ
+readAt high low = 0x00 ∷ 0 ∷ 0 ∷ 1 ∷ 0 ∷ 0 ∷ 0 ∷ 0x0F ∷ 0xF9 ∷ 0x00 ∷ high ∷ low ∷ []
 
 abbrev pub MRd3 : ℕ
 MRd3 = 0x00
@@ -69,8 +129,25 @@ examples =
     -- 64-bit form, upper half 0, and upper half 1
     ∷ P 5 (reads (request64 MRd4 0) 6)
     ∷ P 5 (reads (request64 MRd4 1) 0)
+    -- buses 0 to 255: 255 bridges, and 256
+    ∷ P 6 (plans (1 ∷ host ++ row 255 0) 0)
+    ∷ P 6 (plans (1 ∷ host ++ row 256 0) 30)
+    -- a low pool of 1 MiB: one BAR of 1 MiB on the root bus, and two
+    ∷ P 7 (plans (1 ∷ hostWith 0xF9000000 0xF90FFFFF ++ card 0 0 0xFFF00000) 0)
+    ∷ P 7 (plans (1 ∷ hostWith 0xF9000000 0xF90FFFFF ++ card 0 0 0xFFF00000 ++ card 0 8 0xFFF00000) 31)
+    -- no functions: the sheet is the byte 01
+    ∷ P 8 (leaves (1 ∷ host) (1 ∷ []))
+    -- the read-back F0FFF000
+    ∷ P 9 (plans (1 ∷ host ++ card 0 0 0xF0FFF000) 25)
+    -- the board after source document 004: its sheet, and a read of F9000FFC and of F9001000 over it
+    ∷ P 10 (leaves p10 p10-sheet)
+    ∷ P 10 (goes (readAt 0x0F 0xFC) p10-sheet 2 1)
+    ∷ P 10 (refuses (readAt 0x10 0x00) p10-sheet 40)
     ∷ []
 
 pub examples-hold : All examples
-unfolding examples readOf pairOf findPair first table judged headAt enablesAt addressAt unnamed be ruleNumber fromRule5 fromRule6 fromRule7 fromRule8 fromRule9 reservedSet fixedWrong upperZero enablesWrong crossesPage statusWrong
-examples-hold = (refl, (refl, (refl, (refl, (refl, (refl, (refl, (refl, (refl, tt)))))))))
+unfolding examples readOf pairOf findPair first table judged headAt enablesAt addressAt unnamed be ruleNumber fromRule5 fromRule6 fromRule7 fromRule8 fromRule9 reservedSet fixedWrong upperZero enablesWrong crossesPage statusWrong row planning onBoard onRoom boardNumber fromVersion fromFrame fromCount fromHeaders fromEdges fromOrder fromReadbacks misframed above parents lastSibling misplaced anyMisplaced functionOfPart headerWrong readbacksWrong hostOfPart poolWrong hostWrong beBytes nextOf partsOver partsOf anyPart any sizeFrom sized ioSlot narrowSlot wideSlot slotHere slots anyBad hostOf functionsOf refusalOf outOfPool place placed pieces ownPieces windowPieces barPieces layoutEnd largestAlign keep alignUp bridges barsFrom sheetAfter sheetBytes flatMap recordBytes partBytes configBytes commonBytes bodyBytes bridgeBytes endBytes dwordBytes planOf plannedFrom valuesFrom windowFor barStart closed opened busNumber subordinateOf greatestBelow le leBytes routeOf fromSheet from40 from42 walkFrom walkOver tallyOn join select itemsOf items enabledIn sheetNumber from21 from20 from22 from24 from27 from28 from25 from29 isFramed allSized entriesFrom commandsOf breaks anyBreaks allZero readBacksWrong hasId idTwice entryOf dwords windowOf rangesFrom functionsFrom nodesFrom start stop isNibbled isBarValue valuesFit
+examples-hold = (
+  refl,
+  (refl, (refl, (refl, (refl, (refl, (refl, (refl, (refl, (refl, (refl, (refl, (refl, ((refl, refl), (refl, ((refl, refl), ((refl, refl), (refl, tt))))))))))))))))),
+)

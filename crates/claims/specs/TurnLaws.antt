@@ -1,0 +1,116 @@
+-- One turn of a search by address over a checked sheet, in the words of the code: record k is passed over, or claims by its BARs and windows before
+-- the records after it. Assumes nothing.
+use mathlib.Core.Path.{_≡_, refl, sym, ap, _∙_}
+use mathlib.Core.Bool.{Bool, true, false, cond, _&&_}
+use mathlib.Core.List.{List, _++_, append-assoc}
+use Prim.Native.Nat.{ℕ, _+_, _*_, _≤_, _<_}
+use native.Mathlib.Omega.{arith}
+use lib.ListN.{length, take}
+use lib.Dec.{eqb}
+use Rattle.endian.specs.Endian.{be, le}
+use Rattle.bar.specs.BarLaws.{length-first}
+use Rattle.walk.specs.Ranges.{Range}
+use Rattle.walk.specs.Registers.{Registers, Claim, bar}
+use Rattle.walk.specs.Tally.{Tally, none, join, hitsOf, claimsOf, claimsOn, tallyOn}
+use Rattle.walk.specs.SearchLaws.{claims-nil, claims-cons, claims-of-here, claims-of-other}
+use Rattle.sheet.specs.declared.Space.{Space}
+use Rattle.sheet.specs.Entry.{recordSize, dwords, headerOf, isBridge, slotCount, entryOf}
+use Rattle.sheet.specs.Sheet.{entriesFrom, entriesOf, partAt}
+use Rattle.sheet.specs.IndexLaws.{length-part, record-fits, functions-index, functions-end, enabled-index}
+use Rattle.sheet.specs.EntryLaws.{bars-entry}
+use Rattle.sheet.specs.SheetLaws.{Checked, lawful-index}
+use Rattle.sheet.specs.Spaces.{barsOf, functionOf, functionsFrom, registersOf, enabledOf}
+use Rattle.sheet.specs.SpacesLaws.{barsAt}
+use Rattle.claims.specs.Search.{isLive, windowClaims}
+use Rattle.claims.specs.HitsLaws.{join-nil, LawfulFrom}
+
+-- ## The slots of a set, in the words of the code
+
+module _ (set p : List ℕ) (count i : ℕ) (r : set ≡ dwords (be 4) 6 p 66) (n : count ≡ slotCount (headerOf p)) where
+  length-six : length set ≡ 6
+  unfolding dwords
+  length-six = ap length r
+
+  pub slots-le : count ≤ 6
+  slots-le = omega (arith, n, go (isBridge (headerOf p)))
+    where
+      go : (b : Bool) → cond b 2 6 ≤ 6
+      go true = omega arith
+      go false = omega arith
+
+  pub slots-inside : i < count → i < length (take count set)
+  slots-inside h = omega (arith, length-first set count length-six, slots-le)
+
+  pub slots-past : count ≤ i → length (take count set) ≤ i
+  slots-past h = omega (arith, length-first set count length-six, slots-le)
+
+-- ## What is left
+
+-- the claims of record k and of those after it
+unfoldable pub claimsFrom : Space → List ℕ → ℕ → ℕ → ℕ → List Claim
+claimsFrom space s address bus k = claimsOn (enabledOf space s) (functionsFrom space (k + 1) (entriesFrom s (92 * k + 1))) address bus
+
+pub claims-start : (space : Space) (s : List ℕ) (address bus : ℕ)
+    → join none (claimsFrom space s address bus 0) ≡ tallyOn (enabledOf space s) (registersOf space s) address bus
+unfolding tallyOn claimsFrom
+claims-start space s address bus = refl
+
+-- n records in all
+module _ (s : List ℕ) (c : Checked s) (n k : ℕ) (count : n ≡ length (entriesOf s)) where
+  pub claims-end : (space : Space) (address bus : ℕ) (t : Tally) → n ≤ k → t ≡ join t (claimsFrom space s address bus k)
+  unfolding claimsFrom
+  claims-end space address bus t h =
+      sym (ap (λ (fs : List Registers). join t (claimsOn (enabledOf space s) fs address bus)) (functions-end s (c .framed) space k (omega arith))
+      ∙ ap (join t) (claims-nil (enabledOf space s) address bus)
+      ∙ join-nil t)
+
+  module _ (h : k < n) where
+    inside : k < length (entriesOf s)
+    inside = omega arith
+
+    pub part-fits : 92 * k + 93 ≤ length s
+    part-fits = record-fits s (c .framed) k inside
+
+    -- record numbers fit: there are at most 256
+    pub number-le : k + 1 ≤ 256
+    number-le = omega (arith, inside, c .count)
+
+    -- p is the record's part
+    module _ (p : List ℕ) (e : p ≡ partAt s k) where
+      pub sized : length p ≡ recordSize
+      sized = ap length e ∙ length-part s k part-fits
+
+      pub lawful-here : (set : List ℕ) (m : ℕ) → set ≡ dwords (be 4) 6 p 66 → m ≡ slotCount (headerOf p) → LawfulFrom (take m set) 0
+      unfolding entryOf
+      lawful-here set m r q = rw (r, q, e) (lawful-index s c k inside)
+
+      module _ (space : Space) (address bus : ℕ) (b : Bool) (live : b ≡ isLive space bus p) (t : Tally) where
+        function : Registers
+        function = functionOf space (k + 1) (entryOf p)
+
+        live-is : (eqb (function .node .bus) bus && enabledOf space s (function .node .number)) ≡ b
+        unfolding function entryOf
+        live-is = rw (enabled-index s (c .framed) space k inside, ← e) (sym live)
+
+        claims-step : claimsFrom space s address bus k ≡ claimsOf (enabledOf space s) address bus function ++ claimsFrom space s address bus (k + 1)
+        unfolding function claimsFrom
+        claims-step =
+            ap (λ (fs : List Registers). claimsOn (enabledOf space s) fs address bus) (functions-index s (c .framed) space k inside)
+            ∙ rw (← e) (claims-cons (enabledOf space s) address bus function (functionsFrom space (k + 1 + 1) (entriesFrom s (92 * (k + 1) + 1))))
+
+        pub claims-other : b ≡ false → join t (claimsFrom space s address bus (k + 1)) ≡ join t (claimsFrom space s address bus k)
+        claims-other off =
+            sym (ap (join t) (claims-step
+            ∙ ap (λ (cs : List Claim). cs ++ claimsFrom space s address bus (k + 1)) (claims-of-other (enabledOf space s) address bus function (live-is ∙ off))))
+
+        pub claims-here : (set values : List ℕ) (m : ℕ) → set ≡ dwords (be 4) 6 p 66 → values ≡ dwords (le 4) 6 p 18 → m ≡ slotCount (headerOf p) → b ≡ true
+            → join t (hitsOf address (bar (k + 1)) (barsAt space (take m set) (take m values) 0) ++ (windowClaims space address (k + 1) p ++ claimsFrom space s address bus (k + 1)))
+            ≡ join t (claimsFrom space s address bus k)
+        unfolding function
+        claims-here set values m r v q on =
+            let rest = claimsFrom space s address bus (k + 1) in
+            let windows = windowClaims space address (k + 1) p in
+            sym (ap (join t) (claims-step
+            ∙ ap (λ (cs : List Claim). cs ++ rest) (claims-of-here (enabledOf space s) address bus function (live-is ∙ on))
+            ∙ append-assoc (hitsOf address (bar (k + 1)) (barsOf space (entryOf p))) windows rest
+            ∙ ap (λ (rs : List Range). hitsOf address (bar (k + 1)) rs ++ (windows ++ rest)) (bars-entry p space ∙ rw (r, v, q))))

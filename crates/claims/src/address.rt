@@ -1,0 +1,92 @@
+// The search by address: over a sheet's records, and over the BAR slots and windows of those that are on the bus and enabled.
+ghost use mathlib.Core.Path.{_≡_};
+ghost use lib.ListN.{length};
+ghost use Rattle.walk.specs.Tally.{join, hitsOf, tallyOn};
+ghost use Rattle.walk.specs.Registers.{window};
+ghost use Rattle.sheet.specs.Entry.{recordSize, secondaryOf, windowOf};
+ghost use Rattle.sheet.specs.Spaces.{openRange, registersOf, enabledOf};
+ghost use Rattle.sheet.specs.SheetLaws.{Checked};
+ghost use Rattle.claims.specs.Claims.{tallyOf};
+ghost use Rattle.claims.specs.Search.{isLive, windowClaims};
+use super::Claim;
+use super::Tally;
+use pools::Pool;
+use sheet::Space;
+use sheet::record;
+
+// A function of this bus whose space is enabled. The others are passed over.
+fn is_live(part: &[u8], space: Space, bus: u8) -> bool
+    requires { ⌜ length (now part) ≡ recordSize ⌝ }
+    ensures { λ r. ⌜ r ≡ isLive space bus (now (part .entry)) ⌝ }
+{
+    if record::bus_of(part) == bus {
+        record::is_enabled(part, space)
+    } else {
+        false
+    }
+}
+
+// The tally with the claim that a bridge's window of this pool makes, if it does.
+fn with_window(tally: Tally, part: &[u8], q: Pool, number: u16, address: u64) -> Tally
+    requires { ⌜ length (now part) ≡ recordSize ⌝ }
+    ensures { λ r. ⌜ tallyOf r ≡ join (tallyOf tally) (hitsOf address (window number (secondaryOf (now (part .entry)))) (openRange q (windowOf q (now (part .entry))))) ⌝ }
+{
+    if record::window_of(part, q).holds(q, address) {
+        return tally.with_claim(Claim::Window(number, record::secondary_of(part)));
+    }
+    tally
+}
+
+// The same of each window that the function has in the space.
+fn with_windows(tally: Tally, part: &[u8], space: Space, number: u16, address: u64) -> Tally
+    requires { ⌜ length (now part) ≡ recordSize ⌝ }
+    ensures { λ r. ⌜ tallyOf r ≡ join (tallyOf tally) (windowClaims space address number (now (part .entry))) ⌝ }
+{
+    if !record::is_bridge(part) {
+        return tally;
+    }
+    match space {
+        Space::Memory => {
+            let low = with_window(tally, part, Pool::Low, number, address);
+            with_window(low, part, Pool::High, number, address)
+        }
+        Space::Io => with_window(tally, part, Pool::Io, number, address),
+    }
+}
+
+// Every enabled BAR and open window of the bus that holds the address is one claim, and the second ends the search.
+pub fn claims_on(sheet: &[u8], space: Space, bus: u8, address: u64) -> Tally
+    requires { ⌜ Checked (now sheet) ⌝ }
+    ensures { λ r. ⌜ tallyOf r ≡ tallyOn (enabledOf space (now (sheet .entry))) (registersOf space (now (sheet .entry))) address bus ⌝ }
+{
+    let records = sheet::count(sheet);
+    let mut tally = Tally::Nothing;
+    let mut k: usize = 0;
+    'records: while k < records {
+        let part = sheet::part(sheet, k);
+        k += 1;
+        if is_live(part, space, bus) {
+            let number = k as u16;
+            let set = record::readbacks_of(part);
+            let values = record::values_of(part);
+            let slots = record::slot_count(part);
+            let mut i: usize = 0;
+            while i < slots {
+                let slot = bar::slot_at(set, slots, i);
+                let value = bar::value_here(slot, values, slots, i);
+                i += bar::span(slot);
+                if sheet::claims::bar_holds(space, slot, value, address) {
+                    tally = tally.with_claim(Claim::Bar(number));
+                    if tally.is_several() {
+                        break 'records;
+                    }
+                }
+            }
+            tally = with_windows(tally, part, space, number, address);
+            if tally.is_several() {
+                break 'records;
+            }
+        }
+    }
+    tally
+}

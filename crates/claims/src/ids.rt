@@ -1,0 +1,78 @@
+// The search by ID: on the target's bus the function with that ID, else the bridges whose bus range holds the target's bus.
+ghost use mathlib.Core.Path.{_≡_};
+ghost use mathlib.Core.List.{map};
+ghost use Prim.Native.Nat.{_/_, _%_};
+ghost use lib.ListN.{length};
+ghost use Rattle.walk.specs.Lists.{select};
+ghost use Rattle.walk.specs.Tally.{none, join};
+ghost use Rattle.walk.specs.Ids.{hasId, leadsToward, bridgeClaim, firstOf, tallyById};
+ghost use Rattle.sheet.specs.Entry.{recordSize, entryOf};
+ghost use Rattle.sheet.specs.SheetLaws.{Checked};
+ghost use Rattle.sheet.specs.Spaces.{nodeOf, nodesOf};
+ghost use Rattle.claims.specs.Claims.{tallyOf};
+use super::Claim;
+use super::Tally;
+use sheet::record;
+
+// The function with this ID, wherever it stands on its bus.
+fn owner_of(sheet: &[u8], id: u16) -> Tally
+    requires { ⌜ Checked (now sheet) ⌝ }
+    ensures { λ r. ⌜ tallyOf r ≡ firstOf (select (hasId (id / 256) (id % 256)) (nodesOf (now (sheet .entry)))) ⌝ }
+{
+    let records = sheet::count(sheet);
+    let mut k: usize = 0;
+    while k < records {
+        let part = sheet::part(sheet, k);
+        k += 1;
+        if record::id_of(part) == id {
+            return Tally::One(Claim::Bar(k as u16));
+        }
+    }
+    Tally::Nothing
+}
+
+// A bridge on this bus whose range holds the target's.
+fn leads_toward(part: &[u8], target: u8, bus: u8) -> bool
+    requires { ⌜ length (now part) ≡ recordSize ⌝ }
+    ensures { λ r. ⌜ r ≡ leadsToward target bus (nodeOf 0 (entryOf (now (part .entry)))) ⌝ }
+{
+    if record::bus_of(part) != bus {
+        return false;
+    }
+    if !record::is_bridge(part) {
+        return false;
+    }
+    (record::secondary_of(part) <= target) & (target <= record::subordinate_of(part))
+}
+
+// The bridges on this bus that lead toward the target's. The second ends the search.
+fn bridges_toward(sheet: &[u8], target: u8, bus: u8) -> Tally
+    requires { ⌜ Checked (now sheet) ⌝ }
+    ensures { λ r. ⌜ tallyOf r ≡ join none (map bridgeClaim (select (leadsToward target bus) (nodesOf (now (sheet .entry))))) ⌝ }
+{
+    let records = sheet::count(sheet);
+    let mut tally = Tally::Nothing;
+    let mut k: usize = 0;
+    while k < records {
+        let part = sheet::part(sheet, k);
+        k += 1;
+        if leads_toward(part, target, bus) {
+            tally = tally.with_claim(Claim::Window(k as u16, record::secondary_of(part)));
+            if tally.is_several() {
+                break;
+            }
+        }
+    }
+    tally
+}
+
+pub fn claims_on(sheet: &[u8], id: u16, bus: u8) -> Tally
+    requires { ⌜ Checked (now sheet) ⌝ }
+    ensures { λ r. ⌜ tallyOf r ≡ tallyById (nodesOf (now (sheet .entry))) (id / 256) (id % 256) bus ⌝ }
+{
+    let target = (id / 256) as u8;
+    if bus == target {
+        return owner_of(sheet, id);
+    }
+    bridges_toward(sheet, target, bus)
+}

@@ -1,0 +1,165 @@
+-- Demand 3 in the user's sentences, over document 01's paragraph "Words of demand 3": when a lawful board is refused, how a planned one lies, and what
+-- becomes of a request over its sheet. Bytes are what a slice of u8 holds. `demand-3` of Demand3Laws proves it. Assumes nothing.
+use mathlib.Core.Path.{_≡_}
+use mathlib.Core.Logic.{_⊎_, _↔_}
+use mathlib.Core.List.{List, reverse}
+use Prim.Native.Nat.{ℕ, _≤_, _<_}
+use lib.ListN.{length, take, drop}
+use Rattle.endian.specs.Endian.{Bytes}
+use Rattle.packet.specs.declared.Packet.{Packet}
+use Rattle.packet.specs.declared.Packet.the-variants.{Memory, Io, Config, Completion}
+use Rattle.tlp.specs.declared.Reading.the-variants.{Accepted}
+use Rattle.tlp.specs.Reading.{readOf}
+use Rattle.placing.specs.Lists.{Some}
+use Rattle.placing.specs.Pools.{Pool, low, high, io}
+use Rattle.placing.specs.Records.{Host, Function}
+use Rattle.placing.specs.Placing.{placed}
+use Rattle.placing.specs.Placed.{WellPlaced}
+use Rattle.board.specs.Board.{boardNumber, hostOf, functionsOf}
+use Rattle.board.specs.ToPlacing.{toHost, toPlacing}
+use Rattle.walk.specs.Good.{Good}
+use Rattle.walk.specs.Walk.{Trail}
+use Rattle.sheet.specs.Sheet.{sheetNumber}
+use Rattle.sheet.specs.Spaces.{registersOf, enabledOf}
+use Rattle.sheet.specs.Commands.{SameButCommands}
+use Rattle.layout.specs.Layout.{sheetLength}
+use Rattle.planned.specs.Spaces.{Space, memorySpace, ioSpace}
+use Rattle.planned.specs.Registers.{planRegisters, planHost}
+use Rattle.planned.specs.RefusedExactly.{BusesRunOut, PoolRunsOut}
+use Rattle.planned.specs.NestedAndApart.{NestedAndApart}
+use Rattle.planned.specs.Above.{aboveByParents}
+use Rattle.planned.specs.Delivery.{BarHolds, OwnsAsPlaced}
+use Rattle.planning.specs.declared.Planning.the-variants.{Planned, Refused}
+use Rattle.planning.specs.Plan.{numberOf as planningNumber, planning, sheetAfter}
+use Rattle.joined.specs.Fits.{devfnOf}
+use Rattle.joined.specs.BarRanges.{spaceOf}
+use Rattle.claims.specs.Claims.{tallyFor}
+use Rattle.route.specs.declared.Routing.the-variants.{Delivered}
+use Rattle.route.specs.Route.{numberOf as routingNumber, aimOf, root, routeOf}
+
+-- ## A board
+
+-- "now lawful": none of the board's checks fails
+abbrev pub Lawful : List ℕ → Type 0
+Lawful b = boardNumber b ≡ 0
+
+-- its host and its functions, as numbering and placing see them
+abbrev pub host : List ℕ → Host
+host b = toHost (hostOf b)
+
+abbrev pub functions : List ℕ → List Function
+functions b = toPlacing (functionsOf b)
+
+abbrev pub lengthOfSheet : List ℕ → ℕ
+lengthOfSheet b = sheetLength (length (functionsOf b))
+
+-- "Buses run out as refusal 30 says, a pool when a root bus item's last byte is above the pool's last."
+abbrev pub NoBusesLeft : List ℕ → Type 0
+NoBusesLeft b = BusesRunOut (host b) (functions b)
+
+abbrev pub NoRoomIn : Pool → List ℕ → Type 0
+NoRoomIn q b = PoolRunsOut (host b) (functions b) q
+
+-- "its bus numbers, or one of three address pools, run out"
+abbrev pub RunsOut : List ℕ → Type 0
+RunsOut b = NoBusesLeft b ⊎ ((q : Pool) × NoRoomIn q b)
+
+-- document 01's number of what the planner answers, 0 where the board is planned
+abbrev pub planNumber : List ℕ → List ℕ → ℕ
+planNumber b room = planningNumber (planning b (length room))
+
+-- A lawful board's number, whatever the room: the buses come first, then the pools in their order, then short room. Else it is planned
+pub record AnswersByNumber (b room : List ℕ) : Type 0 where
+  pub no-buses-left : (planNumber b room ≡ 30) ↔ NoBusesLeft b
+  pub no-low-room : (planNumber b room ≡ 31) ↔ (¬ NoBusesLeft b × NoRoomIn low b)
+  pub no-high-room : (planNumber b room ≡ 32) ↔ (¬ NoBusesLeft b × ¬ NoRoomIn low b × NoRoomIn high b)
+  pub no-io-room : (planNumber b room ≡ 33) ↔ (¬ NoBusesLeft b × ¬ NoRoomIn low b × ¬ NoRoomIn high b × NoRoomIn io b)
+  pub short-room : (planNumber b room ≡ 11) ↔ (¬ RunsOut b × (length room < lengthOfSheet b))
+  pub planned-else : (planning b (length room) ≡ Planned (lengthOfSheet b)) ↔ (¬ RunsOut b × (lengthOfSheet b ≤ length room))
+
+-- ## Its sheet
+
+-- What the sheet of a planned board says, whatever its command words: none of its checks fails, its registers are the plan's, and by their own values
+-- they lie within their parent's and siblings are apart
+pub record SheetSays (b t : List ℕ) : Type 0 where
+  pub passes : sheetNumber t ≡ 0
+  pub registers-are : (sp : Space) → registersOf (spaceOf sp) t ≡ planRegisters sp (host b) (functions b) (devfnOf (functionsOf b))
+  pub nested-and-apart : (sp : Space) → Good (planHost sp (host b)) (registersOf (spaceOf sp) t)
+
+-- ## A request
+
+-- p is a memory or I/O request in this space, from this start address on
+abbrev pub IsRequest : Packet → Space → ℕ → Type 0
+IsRequest (Memory k h e a) sp address = (sp ≡ memorySpace) × (address ≡ a)
+IsRequest (Io k h e a) sp address = (sp ≡ ioSpace) × (address ≡ a)
+IsRequest (Config k h e t) sp address = ⊥
+IsRequest (Completion k h o) sp address = ⊥
+
+-- one of function k's BARs in the space holds the address: "its size in addresses from where it is placed"
+abbrev pub HasBarOver : List ℕ → Space → ℕ → ℕ → Type 0
+HasBarOver b sp address k = Some (BarHolds sp k address) (placed (host b) (functions b))
+
+-- "Bridges above a function: its parent record, that one's parent and so on, stopping short of the host."
+abbrev pub bridgesAbove : List ℕ → ℕ → List ℕ
+bridgesAbove b k = aboveByParents (functions b) k
+
+-- function k has such a BAR, and k and each bridge above it have the space enabled: "the space's bit in the sheet's command word"
+abbrev pub Owns : List ℕ → List ℕ → Space → ℕ → ℕ → Type 0
+Owns b t sp address k = OwnsAsPlaced sp (host b) (functions b) (enabledOf (spaceOf sp) t) address k
+
+-- document 01's number of what the router answers for a packet from the host, 0 where it is delivered
+abbrev pub routeNumber : List ℕ → List ℕ → ℕ
+routeNumber header t = routingNumber (routeOf header t)
+
+abbrev pub DeliveredTo : List ℕ → List ℕ → ℕ → Type 0
+DeliveredTo header t k = (count : ℕ) × (q : Packet) × (routeOf header t ≡ Delivered k count q)
+
+-- the router's walk with p goes through windows of these bridges, in this order, and ends at a BAR of function k
+abbrev pub Crosses : Packet → List ℕ → List ℕ → ℕ → Type 0
+Crosses p t bridges k = Trail (tallyFor (aimOf p) t) (root t) bridges k
+
+-- What becomes of a header that is read as p, such a request, over a sheet t of board b
+pub record Routed (b t header : List ℕ) (p : Packet) (sp : Space) (address : ℕ) : Type 0 where
+  -- "It is delivered to a function exactly when one of that function's BARs in the request's space holds its start address and that function, and
+  -- each bridge above it, has that space enabled."
+  pub delivered-exactly : (k : ℕ) → DeliveredTo header t k ↔ Owns b t sp address k
+  -- "Otherwise it is refused with 40, no owner."
+  pub else-no-owner : (routeNumber header t ≡ 40) ↔ ((k : ℕ) → ¬ Owns b t sp address k)
+  -- one or the other: never 41, and no other number
+  pub delivered-or-40 : ((k : ℕ) × DeliveredTo header t k) ⊎ (routeNumber header t ≡ 40)
+  pub one-owner : (j k : ℕ) → Owns b t sp address j → Owns b t sp address k → j ≡ k
+  -- "A delivered request arrives unchanged."
+  pub arrives-unchanged : (k count : ℕ) (q : Packet) → routeOf header t ≡ Delivered k count q → q ≡ p
+  -- "It crosses exactly the bridges above the owner, ..": those and no others, the uppermost first
+  pub crosses-exactly : (k count : ℕ) (q : Packet) → routeOf header t ≡ Delivered k count q
+      → (bridges : List ℕ) → Crosses p t bridges k ↔ (bridges ≡ reverse (bridgesAbove b k))
+  -- ".. and their number, at most 16, is the one reported."
+  pub count-reported : (k count : ℕ) (q : Packet) → routeOf header t ≡ Delivered k count q → (count ≡ length (bridgesAbove b k)) × (count ≤ 16)
+
+-- ## The demand
+
+pub record Demand3 : Type 0 where
+  -- "Given room for its sheet, a lawful board is refused exactly when its bus numbers, or one of three address pools, run out under document 01's
+  -- placing rule."
+  pub refused-exactly : (b room : List ℕ) → Lawful b → lengthOfSheet b ≤ length room → (¬ (planNumber b room ≡ 0)) ↔ RunsOut b
+  -- with these numbers; an unlawful board has its own, in any room
+  pub answers-by-number : (b room : List ℕ) → Lawful b → AnswersByNumber b room
+  pub unlawful-by-number : (b room : List ℕ) → ¬ Lawful b → planNumber b room ≡ boardNumber b
+  -- the placing rule: on the root bus from the pool's base on, "inside a window at window start plus offset"
+  pub placed-by-rule : (b : List ℕ) → Lawful b → WellPlaced (host b) (functions b)
+  -- a board that is refused leaves the room as it was, one that is planned what lies past its sheet
+  pub refused-keeps-room : (b room : List ℕ) (n : ℕ) → planning b (length room) ≡ Refused n → sheetAfter b room ≡ room
+  pub planned-keeps-rest : (b room : List ℕ) (n : ℕ) → planning b (length room) ≡ Planned n → drop n (sheetAfter b room) ≡ drop n room
+  -- "If it is planned, bus ranges, BARs and open windows lie within their parent's, and siblings never overlap."
+  pub nested-and-apart : (b room : List ℕ) (n : ℕ) → Bytes b → planning b (length room) ≡ Planned n → NestedAndApart (host b) (functions b)
+  -- and so no two functions have BARs over one address: "one owner for each address"
+  pub one-holder : (b room : List ℕ) (n : ℕ) → Bytes b → planning b (length room) ≡ Planned n
+      → (sp : Space) (address j k : ℕ) → HasBarOver b sp address j → HasBarOver b sp address k → j ≡ k
+  -- its sheet says the same, "as planned or rewritten since"
+  pub sheet-says : (b room : List ℕ) (n : ℕ) → Bytes b → planning b (length room) ≡ Planned n
+      → (t : List ℕ) → SameButCommands (take n (sheetAfter b room)) t → SheetSays b t
+  -- "Then take any accepted memory or I/O request entering from the host, whatever the sheet's command words say, as planned or rewritten since."
+  pub requests-routed : (b room : List ℕ) (n : ℕ) → Bytes b → planning b (length room) ≡ Planned n
+      → (t : List ℕ) → SameButCommands (take n (sheetAfter b room)) t
+      → (header : List ℕ) (p : Packet) → readOf header ≡ Accepted p
+      → (sp : Space) (address : ℕ) → IsRequest p sp address → Routed b t header p sp address

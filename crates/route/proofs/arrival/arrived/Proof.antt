@@ -1,0 +1,34 @@
+-- `route::arrival::arrived`: one return for each kind of packet. Assumes nothing.
+use borrow.Author.Needs.{needs}
+use Rattle.route.proofs.arrival.arrived.Statement.{statement}
+use Rattle.route.proofs.arrival.arrived.Tie as tie
+
+enum-known-p : tie.Need-enum-known-p
+enum-known-p c = search needs
+
+enum-known-p-2 : tie.Need-enum-known-p-2
+enum-known-p-2 c = search needs
+
+enum-known-p-3 : tie.Need-enum-known-p-3
+enum-known-p-3 c = search needs
+
+last-kind-requires : tie.Need-last-kind-requires
+last-kind-requires c κs = search needs
+
+enum-known-p-4 : tie.Need-enum-known-p-4
+enum-known-p-4 c = search needs
+
+returns : tie.Need-returns
+returns c = rw (c .before .p .given .1)
+
+returns-2 : tie.Need-returns-2
+returns-2 c = rw (c .before .p2 .given .1)
+
+returns-3 : tie.Need-returns-3
+returns-3 c = rw (c .before .before .p3 .given .1, c .last-kind .ensures)
+
+returns-4 : tie.Need-returns-4
+returns-4 c = rw (c .before .p4 .given .1)
+
+pub arrived-spec : {M : Type 1} → statement M
+arrived-spec = tie.close (tie.spec enum-known-p enum-known-p-2 enum-known-p-3 last-kind-requires enum-known-p-4 returns returns-2 returns-3 returns-4)

@@ -1,0 +1,139 @@
+-- Worked examples of routing, as one table under one claim: P10's reads, foreign sheets, routing by ID, and each number in its order.
+-- Assumes nothing.
+use mathlib.Core.Path.{_≡_, refl}
+use mathlib.Core.List.{List, [], _∷_, flatMap}
+use Prim.Native.Nat.{ℕ}
+use lib.ListN.{set}
+use Rattle.endian.specs.Endian.{be, le}
+use Rattle.pairs.specs.Pairs.{table, first, findPair, pairOf}
+use Rattle.packet.specs.Rules.{reservedSet, fixedWrong, upperZero, enablesWrong, crossesPage, statusWrong, fromRule5, fromRule6, fromRule7, fromRule8, fromRule9, ruleNumber}
+use Rattle.tlp.specs.declared.Reading.{Reading}
+use Rattle.tlp.specs.declared.Reading.the-variants.{Accepted, Refused as NotRead}
+use Rattle.tlp.specs.Reading.{headAt, enablesAt, addressAt, targetAt, outcomeAt, unnamed, unnamedTarget, unnamedLower, judged, readOf}
+use Rattle.bar.specs.Bar.{sizeFrom, sized, ioSlot, narrowSlot, wideSlot, slotHere, slots}
+use Rattle.bar.specs.Values.{isBarValue, valuesFit}
+use Rattle.window.specs.Window.{closed, start, stop, isNibbled}
+use Rattle.records.specs.Records.{nextOf, partsOver, partsOf}
+use Rattle.walk.specs.Lists.{All, select}
+use Rattle.walk.specs.Registers.{itemsOf, items, enabledIn}
+use Rattle.walk.specs.Tally.{join, tallyOn}
+use Rattle.walk.specs.Walk.{walkOver, walkFrom}
+use Rattle.walk.specs.Ids.{tallyById}
+use Rattle.sheet.specs.Entry.{dwords, windowOf, entryOf}
+use Rattle.sheet.specs.Sheet.{allSized, isFramed, entriesFrom, commandsOf, allZero, readBacksWrong, breaks, anyBreaks, hasId, idTwice}
+use Rattle.sheet.specs.Sheet.{from29, from25, from28, from27, from24, from22, from20, from21, sheetNumber}
+use Rattle.sheet.specs.Spaces.{barsFrom, functionsFrom, nodesFrom}
+use Rattle.sheet.specs.Examples.{p8, p10, sunk}
+use Rattle.route.specs.declared.Routing.{Routing}
+use Rattle.route.specs.declared.Routing.the-variants.{Delivered, Refused}
+use Rattle.route.specs.Route.{routeOf, fromSheet, from40, from42}
+
+-- ## Headers of twelve bytes, by byte 0
+
+-- a request of one dword: what its bytes 8 to 11 are
+abbrev pub request : ℕ → List ℕ → List ℕ
+request pair rest = pair ∷ 0 ∷ 0 ∷ 1 ∷ 0 ∷ 0 ∷ 0 ∷ 0x0F ∷ rest
+
+-- a completion without data, for a requester
+abbrev pub completion : ℕ → ℕ → List ℕ
+completion bus devfn = 0x0A ∷ 0 ∷ 0 ∷ 0 ∷ 0 ∷ 0 ∷ 0 ∷ 4 ∷ bus ∷ devfn ∷ 0 ∷ 0 ∷ []
+
+abbrev pub MRd : List ℕ → List ℕ
+MRd rest = request 0x00 rest
+
+abbrev pub IORd : List ℕ → List ℕ
+IORd rest = request 0x02 rest
+
+abbrev pub CfgWr0 : List ℕ → List ℕ
+CfgWr0 rest = request 0x44 rest
+
+abbrev pub CfgWr1 : List ℕ → List ℕ
+CfgWr1 rest = request 0x45 rest
+
+-- register 04h of a target
+abbrev pub target : ℕ → ℕ → List ℕ
+target bus devfn = bus ∷ devfn ∷ 0 ∷ 4 ∷ []
+
+abbrev pub F9000FFC : List ℕ
+F9000FFC = 0xF9 ∷ 0 ∷ 0x0F ∷ 0xFC ∷ []
+
+abbrev pub F9001000 : List ℕ
+F9001000 = 0xF9 ∷ 0 ∷ 0x10 ∷ 0 ∷ []
+
+abbrev pub FA000000 : List ℕ
+FA000000 = 0xFA ∷ 0 ∷ 0 ∷ 0 ∷ []
+
+abbrev pub h4000 : List ℕ
+h4000 = 0 ∷ 0 ∷ 0x40 ∷ 0 ∷ []
+
+-- ## P10's sheet rewritten
+
+-- the bridge's command word, and the function's
+abbrev pub bridge-command : ℕ → List ℕ
+bridge-command c = set p10 9 c
+
+abbrev pub function-command : ℕ → List ℕ
+function-command c = set p10 101 c
+
+-- the function's low BAR at FA000000, outside the window above it
+abbrev pub bar-outside : List ℕ
+bar-outside = set p10 116 0xFA
+
+-- the bridge's high window over its low one
+abbrev pub two-windows : List ℕ
+two-windows = set (set (set (set (set p10 42 0xF9) 43 0x01) 44 0xF9) 45 0) 49 0
+
+-- ## The table
+
+-- a header over a sheet goes to a record over so many bridges and arrives as another header would be read, or is refused by number
+pub data Claim : Type 0 where
+  goes : List ℕ → List ℕ → ℕ → ℕ → List ℕ → Claim
+  refuses : List ℕ → List ℕ → ℕ → Claim
+
+abbrev pub delivers : ℕ → ℕ → Reading → Routing
+delivers number bridges (Accepted p) = Delivered number bridges p
+delivers number bridges (NotRead n) = Refused n
+
+abbrev pub Holds : Claim → Type 0
+Holds (goes h s number bridges arrives) = routeOf h s ≡ delivers number bridges (readOf arrives)
+Holds (refuses h s n) = routeOf h s ≡ Refused n
+
+abbrev pub unchanged : List ℕ → List ℕ → ℕ → ℕ → Claim
+unchanged h s number bridges = goes h s number bridges h
+
+abbrev pub examples : List Claim
+examples =
+    -- P10
+    unchanged (MRd F9000FFC) p10 2 1
+    ∷ refuses (MRd F9001000) p10 40
+    -- the same over foreign sheets: a BAR outside the window above it, two windows over one address
+    ∷ refuses (MRd FA000000) bar-outside 40
+    ∷ refuses (MRd F9000FFC) two-windows 41
+    -- I/O goes by command bit 0, memory by bit 1, of the function and of the bridge above it
+    ∷ unchanged (IORd h4000) p10 2 1
+    ∷ unchanged (IORd h4000) (bridge-command 1) 2 1
+    ∷ refuses (IORd h4000) (bridge-command 2) 40
+    ∷ refuses (IORd h4000) (function-command 2) 40
+    ∷ unchanged (MRd F9000FFC) (bridge-command 2) 2 1
+    ∷ refuses (MRd F9000FFC) (bridge-command 1) 40
+    ∷ refuses (MRd F9000FFC) (function-command 1) 40
+    -- by ID, whatever the command words; type 1 arrives as type 0
+    ∷ unchanged (CfgWr0 (target 0 0)) p10 1 0
+    ∷ goes (CfgWr1 (target 1 0)) (bridge-command 0) 2 1 (CfgWr0 (target 1 0))
+    ∷ refuses (CfgWr1 (target 1 8)) p10 40
+    ∷ refuses (CfgWr1 (target 5 0)) p10 40
+    ∷ unchanged (completion 1 0) p10 2 1
+    ∷ unchanged (completion 0 0) p10 1 0
+    ∷ refuses (completion 0 8) p10 40
+    -- type 0 for another bus, type 1 for the root bus
+    ∷ refuses (CfgWr0 (target 1 0)) p10 42
+    ∷ refuses (CfgWr1 (target 0 0)) p10 42
+    -- 40 for no functions is tried before 42, the sheet before both, the header before the sheet
+    ∷ refuses (CfgWr0 (target 1 0)) p8 40
+    ∷ refuses (CfgWr0 (target 1 0)) (sunk p10) 27
+    ∷ refuses (MRd []) (sunk p10) 1
+    ∷ []
+
+pub examples-hold : All Holds examples
+unfolding All flatMap routeOf fromSheet from40 from42 readOf pairOf findPair first table judged headAt enablesAt addressAt targetAt outcomeAt unnamed unnamedTarget unnamedLower ruleNumber fromRule5 fromRule6 fromRule7 fromRule8 fromRule9 reservedSet fixedWrong upperZero enablesWrong crossesPage statusWrong walkFrom walkOver tallyOn tallyById join select itemsOf items enabledIn sheetNumber from21 from20 from22 from24 from27 from28 from25 from29 isFramed allSized entriesFrom commandsOf breaks anyBreaks allZero readBacksWrong hasId idTwice entryOf dwords windowOf barsFrom functionsFrom nodesFrom be le nextOf partsOver partsOf closed start stop isNibbled isBarValue valuesFit slots slotHere wideSlot narrowSlot ioSlot sized sizeFrom
+examples-hold = (refl, (refl, (refl, (refl, (refl, (refl, (refl, (refl, (refl, (refl, (refl, (refl, (refl, (refl, (refl, (refl, (refl, (refl, (refl, (refl, (refl, (refl, (refl, tt)))))))))))))))))))))))

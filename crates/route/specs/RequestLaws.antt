@@ -1,0 +1,85 @@
+-- A memory or I/O request over a sheet that passes its checks comes to what the walk makes of it, and arrives unchanged. Assumes nothing.
+use mathlib.Core.Path.{_≡_, refl, sym, ap, _∙_}
+use mathlib.Core.Logic.{_↔_}
+use mathlib.Core.Bool.{Bool, true, false, cond}
+use mathlib.Core.List.{List, [], _∷_}
+use Prim.Native.Nat.{ℕ}
+use native.Mathlib.Nat.{suc-ne-zero}
+use lib.ListN.{length}
+use lib.Dec.{eqb}
+use borrow.Author.Tests.{eq-eqb, eqb-true}
+use Rattle.packet.specs.declared.Packet.{Packet}
+use Rattle.packet.specs.declared.Packet.the-variants.{Memory, Io, Config, Completion}
+use Rattle.tlp.specs.declared.Reading.the-variants.{Accepted}
+use Rattle.tlp.specs.Reading.{readOf}
+use Rattle.walk.specs.Walk.{Outcome, delivered, refused, noOwner}
+use Rattle.walk.specs.WalkLaws.{walk-none}
+use Rattle.walk.specs.TallyLaws.{tally-nil}
+use Rattle.walk.specs.Tally.{tallyOn}
+use Rattle.sheet.specs.declared.Space.{Space}
+use Rattle.sheet.specs.Entry.{Entry}
+use Rattle.sheet.specs.Sheet.{entriesOf, sheetNumber}
+use Rattle.sheet.specs.Spaces.{functionsFrom, nodesFrom, nodesOf, enabledOf}
+use Rattle.claims.specs.declared.Aim.the-variants.{Address}
+use Rattle.route.specs.declared.Routing.the-variants.{Delivered, Refused}
+use Rattle.route.specs.Route.{aimOf, typeWrong, arrived, answer, walked, root, from42, from40, fromSheet, routeOf}
+
+module _ (space : Space) (address : ℕ) where
+  -- 42 is of configuration alone
+  never-wrong : (p : Packet) → aimOf p ≡ Address space address → (top : ℕ) → typeWrong top p ≡ false
+  never-wrong (Memory k h e a) q top = refl
+  never-wrong (Io k h e a) q top = refl
+  never-wrong (Config k h e t) q top = absurd (suc-ne-zero 0 (cc))
+  never-wrong (Completion k h o) q top = refl
+
+  pub arrives-unchanged : (p : Packet) → aimOf p ≡ Address space address → arrived p ≡ p
+  arrives-unchanged (Memory k h e a) q = refl
+  arrives-unchanged (Io k h e a) q = refl
+  arrives-unchanged (Config k h e t) q = absurd (suc-ne-zero 0 (cc))
+  arrives-unchanged (Completion k h o) q = refl
+
+  -- over no functions the walk has no owner either
+  walk-nobody : (s : List ℕ) (es : List Entry) → entriesOf s ≡ es → length (nodesFrom 1 es) ≡ 0 → walked (Address space address) s (root s) 0 ≡ refused noOwner
+  unfolding nodesFrom functionsFrom
+  walk-nobody s [] e z =
+      walk-none _ (root s) 0
+      (ap (λ (es : List Entry). tallyOn (enabledOf space s) (functionsFrom space 1 es) address (root s)) e ∙ tally-nil (enabledOf space s) address (root s))
+  walk-nobody s (x ∷ es) e z = absurd (suc-ne-zero _ z)
+
+  module _ (header s : List ℕ) (p : Packet) (read : readOf header ≡ Accepted p) (aim : aimOf p ≡ Address space address) (passes : sheetNumber s ≡ 0) where
+    request-from-40 : (b : Bool) → eqb (length (nodesOf s)) 0 ≡ b → cond b (Refused noOwner) (from42 p s) ≡ answer p (walked (Address space address) s (root s) 0)
+    unfolding from42
+    request-from-40 true e = sym (ap (answer p) (walk-nobody s (entriesOf s) refl (eqb-true (length (nodesOf s)) 0 e)))
+    request-from-40 false e = rw (never-wrong p aim (root s), aim)
+
+    pub route-request : routeOf header s ≡ answer p (walked (Address space address) s (root s) 0)
+    unfolding routeOf fromSheet from40
+    route-request = rw (read, eq-eqb (sheetNumber s) 0 passes) (request-from-40 (eqb (length (nodesOf s)) 0) refl)
+
+    -- delivered just where the walk delivers, with its record and its count, and unchanged
+    pub request-delivered-iff : (number bridges : ℕ)
+        → (routeOf header s ≡ Delivered number bridges p) ↔ (walked (Address space address) s (root s) 0 ≡ delivered number bridges)
+    request-delivered-iff number bridges = (to, from)
+      where
+        go : (o : Outcome) → answer p o ≡ Delivered number bridges p → o ≡ delivered number bridges
+        go (delivered n k) e = cc
+        go (refused n) e = absurd (suc-ne-zero 0 (cc))
+
+        to : routeOf header s ≡ Delivered number bridges p → walked (Address space address) s (root s) 0 ≡ delivered number bridges
+        to e = go (walked (Address space address) s (root s) 0) (sym route-request ∙ e)
+
+        from : walked (Address space address) s (root s) 0 ≡ delivered number bridges → routeOf header s ≡ Delivered number bridges p
+        from e = route-request ∙ ap (answer p) e ∙ ap (Delivered number bridges) (arrives-unchanged p aim)
+
+    pub request-refused-iff : (number : ℕ) → (routeOf header s ≡ Refused number) ↔ (walked (Address space address) s (root s) 0 ≡ refused number)
+    request-refused-iff number = (to, from)
+      where
+        go : (o : Outcome) → answer p o ≡ Refused number → o ≡ refused number
+        go (delivered n k) e = absurd (suc-ne-zero 0 (cc))
+        go (refused n) e = cc
+
+        to : routeOf header s ≡ Refused number → walked (Address space address) s (root s) 0 ≡ refused number
+        to e = go (walked (Address space address) s (root s) 0) (sym route-request ∙ e)
+
+        from : walked (Address space address) s (root s) 0 ≡ refused number → routeOf header s ≡ Refused number
+        from e = route-request ∙ ap (answer p) e
