@@ -1,4 +1,5 @@
--- Text put into lent bytes: what is stored, the next place, and a number's digits.
+-- Text put into lent bytes: what is stored, the next place, and a number's digits; hexadecimal digits read back.
 pub mod Text
 pub mod TextLaws
+pub mod Digits
 pub mod Examples

@@ -1,6 +1,8 @@
--- Text put into lent bytes: what is stored, the next place, and a number's digits in ASCII. Assumes nothing.
+-- Text put into lent bytes: what is stored, the next place, and a word and a number's digits in ASCII. Assumes nothing.
 use mathlib.Core.Path.{_≡_}
 use Prim.Native.Nat.{ℕ, zero, suc, _+_, _/_, _%_, min}
+use Prim.Native.Char.{code}
+use Prim.Native.String.{String, [] as []ˢ, _∷_ as _∷ˢ_}
 use mathlib.Core.Bool.{cond}
 use mathlib.Core.List.{List, [], _∷_, _++_}
 use lib.ListN.{length}
@@ -12,6 +14,11 @@ use lib.Seq.{sets}
 pub record Put (bytes : List ℕ) (at : ℕ) (text : List ℕ) (after : List ℕ) (next : ℕ) : Type 0 where
   pub stored : after ≡ sets bytes at text
   pub place : next ≡ min (at + length text) (length bytes)
+
+-- the bytes of a word
+unfoldable pub ascii : String → List ℕ
+ascii []ˢ = []
+ascii (c ∷ˢ s) = code c ∷ ascii s
 
 -- 0 to 9, then A to F
 abbrev pub digit : ℕ → ℕ

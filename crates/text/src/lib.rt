@@ -1,6 +1,8 @@
 // Text put into lent bytes: a byte, a word, a number in decimal and in upper-case hexadecimal.
 // Each call stores what fits from a place on and answers the next place, so a line is a chain of
 // calls that asks nothing of its caller. The definitions stand in specs/Text.
+pub mod digits;
+
 ghost use mathlib.Core.Path.{_≡_};
 ghost use Prim.Native.Nat.{_<_};
 ghost use mathlib.Core.List.{[], _∷_, _++_};
@@ -74,6 +76,14 @@ pub fn put_named_hexadecimal(
     put_hexadecimal(out, next, width, number)
 }
 
+// The next place when nothing is put.
+pub fn place(out: &[u8], at: usize) -> usize
+    ensures { λ r. ⌜ Put (now (out .entry)) at [] (now (out .entry)) r ⌝ }
+{
+    let size = out.len();
+    if at < size { at } else { size }
+}
+
 // The first `count` bytes, or all: what was put, for a writer.
 pub fn front(bytes: &[u8], count: usize) -> &[u8]
     ensures { λ r. ⌜ now r ≡ take count (now (bytes .entry)) ⌝ }
@@ -93,12 +103,4 @@ fn digit(value: u64) -> u8
     } else {
         55 + value as u8
     }
-}
-
-// The next place when nothing is put.
-fn place(out: &[u8], at: usize) -> usize
-    ensures { λ r. ⌜ Put (now (out .entry)) at [] (now (out .entry)) r ⌝ }
-{
-    let size = out.len();
-    if at < size { at } else { size }
 }

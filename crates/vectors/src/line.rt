@@ -1,5 +1,7 @@
 // A line of input as a state that each byte moves on. The bytes of its header are kept in lent room.
 use crate::answer;
+use text::digits;
+use text::digits::Digit;
 
 // What a line has shown so far.
 pub enum Line {
@@ -60,7 +62,7 @@ fn between(count: usize, byte: u8) -> Line {
     if byte == b' ' {
         return Line::Whole(count);
     }
-    match digit_of(byte) {
+    match digits::value_of(byte) {
         Digit::Value(high) => Line::Half(count, high),
         Digit::Nothing => Line::Wrong,
     }
@@ -68,27 +70,8 @@ fn between(count: usize, byte: u8) -> Line {
 
 // The second digit of a byte, which is then kept as long as there is room.
 fn second(count: usize, high: u8, byte: u8, header: &mut [u8]) -> Line {
-    match digit_of(byte) {
-        Digit::Value(low) => Line::Whole(text::put_byte(header, count, joined(high, low))),
+    match digits::value_of(byte) {
+        Digit::Value(low) => Line::Whole(text::put_byte(header, count, digits::joined(high, low))),
         Digit::Nothing => Line::Wrong,
     }
-}
-
-enum Digit {
-    Value(u8),
-    Nothing,
-}
-
-fn digit_of(byte: u8) -> Digit {
-    match byte {
-        b'0'..=b'9' => Digit::Value(byte - b'0'),
-        b'A'..=b'F' => Digit::Value(byte - b'A' + 10),
-        b'a'..=b'f' => Digit::Value(byte - b'a' + 10),
-        _ => Digit::Nothing,
-    }
-}
-
-// Two digits as a byte. Both are below 16, so the remainders change nothing: they say so to the check.
-fn joined(high: u8, low: u8) -> u8 {
-    high % 16 * 16 + low % 16
 }

@@ -1,0 +1,24 @@
+-- `input::Input::print` meets its contract: the plan, put whole, since no answer is longer than the room. Assumes nothing.
+use borrow.Author.Needs.{needs}
+use native.Mathlib.Omega.{arith}
+use mathlib.Core.Path.{refl}
+use Rattle.listing.specs.LengthLaws.{put-whole}
+use Rattle.input.specs.Input.{answerOf}
+use Rattle.input.proofs.Input.print.Statement.{statement}
+use Rattle.input.proofs.Input.print.Tie as tie
+
+plan-requires : tie.Need-plan-requires
+plan-requires c κs = search needs
+
+put-planning-requires : tie.Need-put-planning-requires
+put-planning-requires c κs = search needs
+
+same-length : tie.Need-same-length
+same-length c = search needs
+
+returns : tie.Need-returns
+unfolding answerOf
+returns c = let w = put-whole (omega (arith, c .before .before .put-planning-arg .given .0 .1, c .put-planning .ensures .1)) (c .put-planning .ensures .0) in rw (← c .before .before .before .before .before .plan .ensures .0, ← c .before .before .before .before .before .plan .ensures .1) (w .0, rw (w .0) (w .1), refl)
+
+pub print-spec : {M : Type 1} → statement M
+print-spec = tie.close (tie.spec plan-requires put-planning-requires same-length returns)

@@ -1,0 +1,13 @@
+-- `input::Input::start` meets its contract, by its callee's. Assumes nothing.
+use borrow.Author.Needs.{needs}
+use Rattle.input.proofs.Input.start.Statement.{statement}
+use Rattle.input.proofs.Input.start.Tie as tie
+
+start-requires : tie.Need-start-requires
+start-requires c κs = search needs
+
+returns : tie.Need-returns
+returns c = rw (c .start .ensures)
+
+pub start-spec : {M : Type 1} → statement M
+start-spec = tie.close (tie.spec start-requires returns)

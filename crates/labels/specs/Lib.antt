@@ -1,0 +1,3 @@
+-- A packet as text.
+pub mod Labels
+pub mod Examples
