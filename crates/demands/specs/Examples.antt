@@ -1,9 +1,11 @@
 -- Document 01, "Examples (P: to be proved together)": one table of examples under one claim. Assumes nothing.
 use Prim.Native.Nat.{ℕ}
+use Prim.Native.String.{String}
 use mathlib.Core.Path.{_≡_, refl}
 use mathlib.Core.List.{List, [], _∷_, _++_, map, flatMap}
 use lib.ListN.{length, replicate}
 use Rattle.endian.specs.Endian.{be, beBytes, le, leBytes}
+use Rattle.text.specs.Text.{ascii, hexadecimal, decimalOver, decimal}
 use Rattle.pairs.specs.Pairs.{table, first, findPair, pairOf}
 use Rattle.packet.specs.Fields.{headOf}
 use Rattle.packet.specs.Rules.{reservedSet, fixedWrong, upperZero, enablesWrong, crossesPage, statusWrong, fromRule5, fromRule6, fromRule7, fromRule8, fromRule9, ruleNumber}
@@ -39,6 +41,8 @@ use Rattle.walk.specs.Tally.{join, tallyOn}
 use Rattle.walk.specs.Walk.{walkOver, walkFrom}
 use Rattle.planning.specs.declared.Planning.the-variants.{Planned}
 use Rattle.planning.specs.Plan.{barStart, windowFor, valuesFrom, plannedFrom, planOf, onRoom, onBoard, planning, numberOf as planningNumber, sheetAfter}
+use Rattle.listing.specs.Listing.{words, windowText, bridgeText, endText, lineOf, countText, planText}
+use Rattle.listing.specs.BoardText.{boardText}
 use Rattle.route.specs.declared.Routing.{Routing}
 use Rattle.route.specs.declared.Routing.the-variants.{Delivered, Refused as NotDelivered}
 use Rattle.route.specs.Route.{numberOf as routingNumber, routeOf, fromSheet, from40, from42}
@@ -68,6 +72,8 @@ pub data Claim : Type 0 where
   -- planning a board answers this number (0: accepted), or leaves this sheet in room of its length
   plans : List ℕ → ℕ → Claim
   leaves : List ℕ → List ℕ → Claim
+  -- a board's plan is printed so
+  prints : List ℕ → String → Claim
   -- over a sheet a header goes to a record, so many bridges on, or is refused
   goes : List ℕ → List ℕ → ℕ → ℕ → Claim
   refuses : List ℕ → List ℕ → ℕ → Claim
@@ -77,6 +83,7 @@ Holds (reads s n) = readingNumber (readOf s) ≡ n
 Holds (reads-length s n) = lengthRead (readOf s) ≡ n
 Holds (plans b n) = planningNumber (planning b fullRoom) ≡ n
 Holds (leaves b s) = (planning b (length s) ≡ Planned (length s)) × (sheetAfter b (replicate (length s) 0) ≡ s)
+Holds (prints b text) = boardText b fullRoom ≡ ascii text
 Holds (goes header s k count) = (recordOf (routeOf header s) ≡ k) × (crossed (routeOf header s) ≡ count)
 Holds (refuses header s n) = routingNumber (routeOf header s) ≡ n
 
@@ -139,15 +146,16 @@ examples =
     ∷ P 8 (leaves (1 ∷ host) (1 ∷ []))
     -- the read-back F0FFF000
     ∷ P 9 (plans (1 ∷ host ++ card 0 0 0xF0FFF000) 25)
-    -- the board after source document 004: its sheet, and a read of F9000FFC and of F9001000 over it
+    -- the board after source document 004: its sheet, its plan printed whole, and a read of F9000FFC and of F9001000 over the sheet
     ∷ P 10 (leaves p10 p10-sheet)
+    ∷ P 10 (prints p10 "plan 2\n0000 bridge 00000000 00000000 00 01 01 40 40 F900 F900 4001 43F1 00000002 00000002\n0100 end F9000000 4000000C 00000002 00004001 00000000 00000000\n")
     ∷ P 10 (goes (readAt 0x0F 0xFC) p10-sheet 2 1)
     ∷ P 10 (refuses (readAt 0x10 0x00) p10-sheet 40)
     ∷ []
 
 pub examples-hold : All examples
-unfolding examples readOf pairOf findPair first table judged headAt enablesAt addressAt unnamed be ruleNumber fromRule5 fromRule6 fromRule7 fromRule8 fromRule9 reservedSet fixedWrong upperZero enablesWrong crossesPage statusWrong row planning onBoard onRoom boardNumber fromVersion fromFrame fromCount fromHeaders fromEdges fromOrder fromReadbacks misframed above parents lastSibling misplaced anyMisplaced functionOfPart headerWrong readbacksWrong hostOfPart poolWrong hostWrong beBytes nextOf partsOver partsOf anyPart any sizeFrom sized ioSlot narrowSlot wideSlot slotHere slots anyBad hostOf functionsOf refusalOf outOfPool place placed pieces ownPieces windowPieces barPieces layoutEnd largestAlign keep alignUp bridges barsFrom sheetAfter sheetBytes flatMap recordBytes partBytes configBytes commonBytes bodyBytes bridgeBytes endBytes dwordBytes planOf plannedFrom valuesFrom windowFor barStart closed opened busNumber subordinateOf greatestBelow le leBytes routeOf fromSheet from40 from42 walkFrom walkOver tallyOn join select itemsOf items enabledIn sheetNumber from21 from20 from22 from24 from27 from28 from25 from29 isFramed allSized entriesFrom commandsOf breaks anyBreaks allZero readBacksWrong hasId idTwice entryOf dwords windowOf rangesFrom functionsFrom nodesFrom start stop isNibbled isBarValue valuesFit
+unfolding examples ascii words windowText bridgeText endText lineOf countText planText boardText hexadecimal decimalOver decimal readOf pairOf findPair first table judged headAt enablesAt addressAt unnamed be ruleNumber fromRule5 fromRule6 fromRule7 fromRule8 fromRule9 reservedSet fixedWrong upperZero enablesWrong crossesPage statusWrong row planning onBoard onRoom boardNumber fromVersion fromFrame fromCount fromHeaders fromEdges fromOrder fromReadbacks misframed above parents lastSibling misplaced anyMisplaced functionOfPart headerWrong readbacksWrong hostOfPart poolWrong hostWrong beBytes nextOf partsOver partsOf anyPart any sizeFrom sized ioSlot narrowSlot wideSlot slotHere slots anyBad hostOf functionsOf refusalOf outOfPool place placed pieces ownPieces windowPieces barPieces layoutEnd largestAlign keep alignUp bridges barsFrom sheetAfter sheetBytes flatMap recordBytes partBytes configBytes commonBytes bodyBytes bridgeBytes endBytes dwordBytes planOf plannedFrom valuesFrom windowFor barStart closed opened busNumber subordinateOf greatestBelow le leBytes routeOf fromSheet from40 from42 walkFrom walkOver tallyOn join select itemsOf items enabledIn sheetNumber from21 from20 from22 from24 from27 from28 from25 from29 isFramed allSized entriesFrom commandsOf breaks anyBreaks allZero readBacksWrong hasId idTwice entryOf dwords windowOf rangesFrom functionsFrom nodesFrom start stop isNibbled isBarValue valuesFit
 examples-hold = (
   refl,
-  (refl, (refl, (refl, (refl, (refl, (refl, (refl, (refl, (refl, (refl, (refl, (refl, ((refl, refl), (refl, ((refl, refl), ((refl, refl), (refl, tt))))))))))))))))),
+  (refl, (refl, (refl, (refl, (refl, (refl, (refl, (refl, (refl, (refl, (refl, (refl, ((refl, refl), (refl, ((refl, refl), (refl, ((refl, refl), (refl, tt)))))))))))))))))),
 )
