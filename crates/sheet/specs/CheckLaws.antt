@@ -1,19 +1,19 @@
 -- One turn of each pass over a framed sheet, in the words of the code: the record at the cursor is the part that the code takes. Assumes nothing.
 use mathlib.Core.Path.{_≡_, refl, sym, ap, _∙_}
-use mathlib.Core.Bool.{Bool, true, false, cond, not, _&&_, _||_, and-true}
+use mathlib.Core.Bool.{Bool, true, false, not, _&&_, and-true}
 use mathlib.Core.List.{List, [], _∷_}
 use Prim.Native.Nat.{ℕ, _+_, _-_, _*_, _≤_}
 use native.Mathlib.Omega.{arith}
 use lib.ListN.{length, take, drop, length-drop, length-map}
 use lib.Seq.{length-take-le}
-use lib.Dec.{eqb, ltb}
+use lib.Dec.{ltb}
 use borrow.Author.Tests.{eq-eqb, ne-eqb, ltb-true, ltb-false}
 use Rattle.sheet.specs.declared.Found.the-variants.{At, Nothing}
 use Rattle.sheet.specs.declared.Rule.{Rule}
 use Rattle.endian.specs.Endian.{be, le}
 use Rattle.bar.specs.Values.{valuesLawful}
 use Rattle.sheet.specs.Entry.{recordSize, Entry, dwords, idOf, headerOf, isBridge, entryOf}
-use Rattle.sheet.specs.Sheet.{Framed, partsIn, entriesFrom, breaks, anyBreaks, findFrom, hasId, idTwice, allZero, readBacksWrong}
+use Rattle.sheet.specs.Sheet.{Framed, partsIn, entriesFrom, breaks, anyBreaks, findFrom, allZero, readBacksWrong}
 use Rattle.sheet.specs.FrameLaws.{FramedAt, framed-at, parts-past, length-framed}
 
 -- the record's part, by its two ends
@@ -48,14 +48,6 @@ module _ (s : List ℕ) (at : ℕ) (a : FramedAt s at) where
   unfolding findFrom entryOf
   find-miss id e = ap (findFrom id at) entries-on ∙ rw (ne-eqb (idOf (partFrom s at)) id e)
 
-  pub twice-hit : hasId (idOf (partFrom s at)) (entriesFrom s (at + 92)) ≡ true → idTwice (entriesFrom s at) ≡ true
-  unfolding idTwice entryOf
-  twice-hit e = ap idTwice entries-on ∙ rw e
-
-  pub twice-miss : hasId (idOf (partFrom s at)) (entriesFrom s (at + 92)) ≡ false → idTwice (entriesFrom s at) ≡ idTwice (entriesFrom s (at + 92))
-  unfolding idTwice entryOf
-  twice-miss e = ap idTwice entries-on ∙ rw e
-
 module _ (s : List ℕ) (at : ℕ) (h : length s ≤ at) where
   pub entries-past : entriesFrom s at ≡ []
   unfolding entriesFrom
@@ -68,10 +60,6 @@ module _ (s : List ℕ) (at : ℕ) (h : length s ≤ at) where
   pub find-past : (id : ℕ) → findFrom id at (entriesFrom s at) ≡ Nothing
   unfolding findFrom
   find-past id = ap (findFrom id at) entries-past
-
-  pub twice-past : idTwice (entriesFrom s at) ≡ false
-  unfolding idTwice
-  twice-past = ap idTwice entries-past
 
 -- ## The records from a place on, by cases
 
@@ -103,25 +91,6 @@ past-of-nil s at f e = go (ltb at (length s)) refl
         let h = framed-at s at (f .sized) (ltb-true at (length s) l) in
         absurd (let z : _≡_ {A = ℕ} 0 1 = cc (entries-on s at h, e) in omega arith)
     go false l = ltb-false at (length s) l
-
--- an ID is among the records exactly where it is found
-pub has-of-found : (id at n : ℕ) (es : List Entry) → findFrom id at es ≡ At n → hasId id es ≡ true
-unfolding findFrom hasId
-has-of-found id at n [] e = absurd (let z : _≡_ {A = ℕ} 0 1 = cc in omega arith)
-has-of-found id at n (x ∷ es) e = go (eqb (x .id) id) e (λ f. has-of-found id (at + 92) n es f)
-  where
-    go : (b : Bool) → cond b (At at) (findFrom id (at + 92) es) ≡ At n → (findFrom id (at + 92) es ≡ At n → hasId id es ≡ true) → (b || hasId id es) ≡ true
-    go true e on = refl
-    go false e on = on e
-
-pub not-of-nothing : (id at : ℕ) (es : List Entry) → findFrom id at es ≡ Nothing → hasId id es ≡ false
-unfolding findFrom hasId
-not-of-nothing id at [] e = refl
-not-of-nothing id at (x ∷ es) e = go (eqb (x .id) id) e (λ f. not-of-nothing id (at + 92) es f)
-  where
-    go : (b : Bool) → cond b (At at) (findFrom id (at + 92) es) ≡ Nothing → (findFrom id (at + 92) es ≡ Nothing → hasId id es ≡ false) → (b || hasId id es) ≡ false
-    go true e on = absurd (let z : _≡_ {A = ℕ} 0 1 = cc in omega arith)
-    go false e on = on e
 
 -- over 256 records, by the sheet's length
 pub count-entries : (s : List ℕ) → Framed 1 s → length s ≡ 1 + 92 * length (entriesFrom s 1)

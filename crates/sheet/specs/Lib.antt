@@ -4,9 +4,11 @@ pub mod Sheet
 pub mod Lookup
 pub mod Spaces
 pub mod Commands
+pub mod Marks
 pub mod Examples
 pub mod FrameLaws
 pub mod CheckLaws
+pub mod MarksLaws
 pub mod IndexLaws
 pub mod SpacesLaws
 pub mod EntryLaws

@@ -1,13 +1,14 @@
 // The register sheet: its checks, by number, and what its records say. A sheet is the version byte 1 and then a record of 90 bytes for each function,
 // each after its own two-byte length.
 pub mod claims;
+pub mod marks;
 pub mod record;
 
 ghost use mathlib.Core.Path.{_≡_};
 ghost use Prim.Native.Nat.{_+_, _*_, _≤_};
 ghost use lib.ListN.{length, drop};
 ghost use Rattle.sheet.specs.Lookup.{lookupOf, lookupNumber, registerBytes, withCommand};
-ghost use Rattle.sheet.specs.Sheet.{isFramed, Framed, partAt, entriesOf, entriesFrom, anyBreaks, findFrom, hasId, idTwice, from24, sheetNumber};
+ghost use Rattle.sheet.specs.Sheet.{isFramed, Framed, partAt, entriesOf, entriesFrom, anyBreaks, findFrom, idTwice, from24, sheetNumber};
 use records::Next;
 
 // The address spaces. Memory has two pools, low and high.
@@ -94,32 +95,24 @@ fn find_from(sheet: &[u8], from: usize, id: u16) -> Found
     Found::Nothing
 }
 
-// 28: each record's ID is looked for among the later ones.
+// 28: a record's ID that an earlier record has is met marked.
 fn id_twice(sheet: &[u8]) -> bool
     requires { ⌜ Framed 1 (now sheet) ⌝ }
     ensures { λ r. ⌜ r ≡ idTwice (entriesOf (now (sheet .entry))) ⌝ }
 {
+    let mut seen = [0u64; 1024];
     let mut at: usize = 1;
     while at < sheet.len() {
         let start = at + 2;
         let end = at + 92;
         let id = record::id_of(&sheet[start..end]);
-        if has_id_from(sheet, end, id) {
+        if marks::is_marked(&seen, id) {
             return true;
         }
+        marks::mark(&mut seen, id);
         at = end;
     }
     false
-}
-
-fn has_id_from(sheet: &[u8], from: usize, id: u16) -> bool
-    requires { ⌜ Framed from (now sheet) ⌝ }
-    ensures { λ r. ⌜ r ≡ hasId id (entriesFrom (now (sheet .entry)) from) ⌝ }
-{
-    match find_from(sheet, from, id) {
-        Found::At(_) => true,
-        Found::Nothing => false,
-    }
 }
 
 // Any bytes: 0 for a sheet that passes, or the number of the first check that it fails.
