@@ -419,7 +419,7 @@ fn all_rows() -> [Row; ROWS]
 }
 
 // Enums are compared by number.
-fn kind_number(kind: Kind) -> u8
+pub fn kind_number(kind: Kind) -> u8
     ensures { λ r. ⌜ r ≡ kindNumber kind ⌝ }
 {
     match kind {

@@ -1,0 +1,42 @@
+-- `capi::cartsundial_route` meets its contract: by what the router answers. Assumes nothing.
+use borrow.Author.Needs.{needs}
+use mathlib.Core.Path.{sym, _∙_}
+use Rattle.capi.proofs.cartsundial_route.Statement.{statement}
+use Rattle.capi.proofs.cartsundial_route.Tie as tie
+
+route-requires : tie.Need-route-requires
+route-requires c κs = search needs
+
+enum-known-number : tie.Need-enum-known-number
+enum-known-number c = search needs
+
+give-delivery-requires : tie.Need-give-delivery-requires
+give-delivery-requires c κs = search needs
+
+enum-known-n : tie.Need-enum-known-n
+enum-known-n c = search needs
+
+cast-result : tie.Need-cast-result
+cast-result c = search needs
+
+same-length : tie.Need-same-length
+same-length c = search needs
+
+returns : tie.Need-returns
+returns c = rw (sym (c .before .before .before .before .before .before .before .route .ensures) ∙ c .before .before .before .before .before .number .given .1) (c .before .before .give-delivery .ensures)
+
+returns-2 : tie.Need-returns-2
+returns-2 c = let e = sym (c .before .before .before .route .ensures) ∙ c .before .n .given .1 in (rw e, rw e)
+
+pub cartsundial-route-spec : {M : Type 1} → statement M
+cartsundial-route-spec =
+    tie.close
+    (tie.spec
+    route-requires
+    enum-known-number
+    give-delivery-requires
+    enum-known-n
+    cast-result
+    same-length
+    returns
+    returns-2)

@@ -1,0 +1,108 @@
+-- What each call of the C boundary answers, from document 01's definitions, and what a room or a sheet that it was lent to write then holds.
+-- Assumes nothing.
+use Prim.Native.Nat.{ℕ}
+use mathlib.Core.Bool.{cond}
+use mathlib.Core.List.{List, [], _∷_}
+use lib.ListN.{length}
+use lib.Dec.{ltb, eqb}
+use Rattle.packet.specs.declared.Verdict.{Verdict}
+use Rattle.packet.specs.declared.Verdict.the-variants.{Lawful, Refused as Unlawful}
+use Rattle.numbers.specs.declared.Parsed.{Parsed}
+use Rattle.numbers.specs.declared.Parsed.the-variants.{Accepted as Taken, Refused as NotTaken}
+use Rattle.numbers.specs.Numbers.{numbersOf}
+use Rattle.numbers.specs.Parsing.{packetOf}
+use Rattle.tlp.specs.declared.Reading.{Reading}
+use Rattle.tlp.specs.declared.Reading.the-variants.{Accepted, Refused as NotRead}
+use Rattle.tlp.specs.declared.Writing.{Writing}
+use Rattle.tlp.specs.declared.Writing.the-variants.{Written, Refused as NotWritten}
+use Rattle.tlp.specs.Reading.{readOf}
+use Rattle.tlp.specs.Writing.{writeOf, roomAfter}
+use Rattle.sheet.specs.declared.Lookup.{Lookup}
+use Rattle.sheet.specs.declared.Lookup.the-variants.{Registers, Refused as NotFound}
+use Rattle.sheet.specs.Sheet.{sheetNumber}
+use Rattle.sheet.specs.Lookup.{lookupOf, lookupNumber, withCommand}
+use Rattle.route.specs.declared.Routing.{Routing}
+use Rattle.route.specs.declared.Routing.the-variants.{Delivered, Refused as NotDelivered}
+use Rattle.route.specs.Route.{routeOf}
+use Rattle.planning.specs.declared.Planning.{Planning}
+use Rattle.planning.specs.declared.Planning.the-variants.{Planned, Refused as NotPlanned}
+use Rattle.planning.specs.Plan.{planning, sheetAfter}
+use Rattle.capi.specs.Answers.{Answer, refuses, gives}
+
+-- ## Reading: the packet's twenty numbers
+
+abbrev pub onReading : Reading → Answer
+onReading (Accepted p) = gives (numbersOf p)
+onReading (NotRead n) = refuses n
+
+abbrev pub readAnswer : List ℕ → Answer
+readAnswer header = onReading (readOf header)
+
+-- ## Writing: how many bytes
+
+abbrev pub onWriting : Writing → Answer
+onWriting (Written n) = gives (n ∷ [])
+onWriting (NotWritten n) = refuses n
+
+abbrev pub onParsed : Parsed → ℕ → Answer
+onParsed (Taken p) room = onWriting (writeOf p room)
+onParsed (NotTaken n) room = refuses n
+
+abbrev pub writeAnswer : List ℕ → ℕ → Answer
+writeAnswer packet room = onParsed (packetOf packet) room
+
+abbrev pub roomOf : Parsed → List ℕ → List ℕ
+roomOf (Taken p) room = roomAfter p room
+roomOf (NotTaken n) room = room
+
+-- with no room for the answer nothing is written
+abbrev pub roomLeft : List ℕ → List ℕ → List ℕ → List ℕ
+roomLeft packet room written = cond (eqb (length written) 0) room (roomOf (packetOf packet) room)
+
+-- the number then: the packet's own, or else 11, since a short room is 11 as well
+abbrev pub unwrittenOf : Verdict → ℕ
+unwrittenOf (Lawful row) = 11
+unwrittenOf (Unlawful n) = n
+
+-- ## Lookup: where the 64 register bytes start
+
+abbrev pub onLookup : Lookup → Answer
+onLookup (Registers at) = gives (at ∷ [])
+onLookup (NotFound n) = refuses n
+
+-- the number for an ID that no function has: the sheet's own, or else 40
+abbrev pub unownedOf : List ℕ → ℕ
+unownedOf s = cond (eqb (sheetNumber s) 0) 40 (sheetNumber s)
+
+-- ## A command word: a value above FFFFh is 10, tried before the sheet is read
+
+abbrev pub word : ℕ
+word = 65535
+
+unfoldable pub commandNumber : List ℕ → ℕ → ℕ → ℕ
+commandNumber sheet id command = cond (ltb word command) 10 (lookupNumber (lookupOf sheet id))
+
+unfoldable pub commandLeft : List ℕ → ℕ → ℕ → List ℕ
+commandLeft sheet id command = cond (ltb word command) sheet (withCommand (lookupOf sheet id) sheet command)
+
+-- ## Routing: record, bridges, and the packet as it arrives
+
+abbrev pub onRouting : Routing → Answer
+onRouting (Delivered number bridges p) = gives (number ∷ bridges ∷ numbersOf p)
+onRouting (NotDelivered n) = refuses n
+
+abbrev pub routeAnswer : List ℕ → List ℕ → Answer
+routeAnswer header sheet = onRouting (routeOf header sheet)
+
+-- ## Planning: the sheet's length
+
+abbrev pub onPlanning : Planning → Answer
+onPlanning (Planned n) = gives (n ∷ [])
+onPlanning (NotPlanned n) = refuses n
+
+abbrev pub planAnswer : List ℕ → ℕ → Answer
+planAnswer board room = onPlanning (planning board room)
+
+-- with no room for the answer nothing is planned
+abbrev pub sheetLeft : List ℕ → List ℕ → List ℕ → List ℕ
+sheetLeft board sheet written = cond (eqb (length written) 0) sheet (sheetAfter board sheet)

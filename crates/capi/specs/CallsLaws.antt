@@ -1,0 +1,176 @@
+-- The calls one step each, in the words of the code. Assumes nothing.
+use Prim.Native.Nat.{ℕ, _+_, _-_, _<_, _≤_}
+use native.Mathlib.Omega.{arith}
+use native.Mathlib.Nat.{zero-add}
+use mathlib.Core.Path.{_≡_, refl, sym, ap, _∙_}
+use mathlib.Core.Bool.{Bool, true, false, cond}
+use mathlib.Core.List.{List, [], _∷_}
+use lib.ListN.{length, drop}
+use lib.Seq.{sets, sets-eq}
+use lib.Dec.{ltb, eqb}
+use borrow.Author.Tests.{lt-ltb, le-ltb, eq-eqb, ne-eqb, eqb-true}
+use Rattle.endian.specs.Endian.{Bytes}
+use Rattle.endian.specs.EndianLaws.{be-lt}
+use Rattle.endian.specs.BytesLaws.{bytes-take, bytes-drop}
+use Rattle.packet.specs.declared.Packet.{Packet}
+use Rattle.packet.specs.declared.Verdict.{Verdict}
+use Rattle.packet.specs.declared.Verdict.the-variants.{Lawful, Refused as Unlawful}
+use Rattle.packet.specs.Verdict.{verdictOf}
+use Rattle.tlp.specs.declared.Writing.{Writing}
+use Rattle.tlp.specs.declared.Writing.the-variants.{Written, Refused as NotWritten}
+use Rattle.tlp.specs.Writing.{size, writeOf, roomAfter}
+use Rattle.sheet.specs.declared.Found.{Found}
+use Rattle.sheet.specs.declared.Found.the-variants.{At, Nothing}
+use Rattle.sheet.specs.declared.Lookup.the-variants.{Refused as NotFound}
+use Rattle.sheet.specs.Sheet.{Framed, entriesOf, findFrom, sheetNumber}
+use Rattle.sheet.specs.SheetLaws.{checked-of-zero}
+use Rattle.sheet.specs.Lookup.{placed, lookupOf, lookupNumber, withCommand}
+use Rattle.sheet.specs.LookupLaws.{found-at}
+use Rattle.sheet.specs.CheckLaws.{partFrom}
+use Rattle.placing.specs.Refusals.{refusalOf}
+use Rattle.board.specs.Board.{boardNumber, hostOf, functionsOf}
+use Rattle.board.specs.ToPlacing.{toHost, toPlacing}
+use Rattle.layout.specs.Layout.{sheetLength}
+use Rattle.planning.specs.declared.Planning.{Planning}
+use Rattle.planning.specs.declared.Planning.the-variants.{Planned, Refused as NotPlanned}
+use Rattle.planning.specs.Plan.{onRoom, onBoard, planning, numberOf as planningNumber, sheetAfter}
+use Rattle.capi.specs.Answers.{Answer, gives, returned, filled}
+use Rattle.capi.specs.Calls.{onWriting, unwrittenOf, unownedOf, word, commandNumber, commandLeft, onPlanning, planAnswer, sheetLeft}
+
+-- what was returned and what the slice holds after, together
+abbrev pub Answered : Answer → List ℕ → ℕ → List ℕ → Type 0
+Answered a slice r after = (r ≡ returned a slice) × (after ≡ filled a slice)
+
+-- the number with no room for the answer
+abbrev shortOf : Writing → ℕ
+shortOf (Written n) = 11
+shortOf (NotWritten n) = n
+
+-- ## The answer slice
+
+module _ (ns slice : List ℕ) where
+  pub answered-short : length slice < length ns → Answered (gives ns) slice 11 slice
+  answered-short h = (rw (lt-ltb (length slice) (length ns) h), rw (lt-ltb (length slice) (length ns) h))
+
+  pub answered-filled : {after : List ℕ} → length ns ≤ length slice → after ≡ sets slice 0 ns → Answered (gives ns) slice 0 after
+  answered-filled h e =
+      (rw (le-ltb (length slice) (length ns) h), rw (le-ltb (length slice) (length ns) h) (e ∙ sets-eq ns slice 0 (omega arith) ∙ rw zero-add))
+
+-- ## Writing
+
+pub cond-same : (b : Bool) (s : List ℕ) → s ≡ cond b s s
+cond-same true s = refl
+cond-same false s = refl
+
+-- the room, the answer and the length's slice after, together
+abbrev pub WroteFor : Packet → List ℕ → List ℕ → ℕ → List ℕ → List ℕ → Type 0
+WroteFor p room written r after slice =
+    (r ≡ returned (onWriting (writeOf p (length room))) written)
+    × (after ≡ cond (eqb (length written) 0) room (roomAfter p room))
+    × (slice ≡ filled (onWriting (writeOf p (length room))) written)
+
+module _ (p : Packet) (room written : List ℕ) where
+  -- with no room for the answer
+  answer-short : length written ≡ 0 → (w : Writing) → Answered (onWriting w) written (shortOf w) written
+  answer-short z (Written n) = answered-short (n ∷ []) written (omega arith)
+  answer-short z (NotWritten n) = (refl, refl)
+
+  short-of-verdict : (v : Verdict) → verdictOf p ≡ v → shortOf (writeOf p (length room)) ≡ unwrittenOf v
+  unfolding writeOf
+  short-of-verdict (Unlawful n) e = rw e
+  short-of-verdict (Lawful row) e = rw e (go (ltb (length room) (size p)))
+    where
+      go : (b : Bool) → shortOf (cond b (NotWritten 11) (Written (size p))) ≡ 11
+      go true = refl
+      go false = refl
+
+  pub wrote-nothing : (r : ℕ) → r ≡ unwrittenOf (verdictOf p) → length written ≡ 0 → WroteFor p room written r room written
+  wrote-nothing r e z =
+      let a = answer-short z (writeOf p (length room)) in
+      (e ∙ sym (short-of-verdict (verdictOf p) refl) ∙ a .0, rw (eq-eqb (length written) 0 z), a .1)
+
+  module _ (more : length written ≡ 0 → ⊥) (w : Writing) (e : w ≡ writeOf p (length room)) (after : List ℕ) (f : after ≡ roomAfter p room) where
+    pub wrote : (r : ℕ) (slice : List ℕ) → Answered (onWriting w) written r slice → WroteFor p room written r after slice
+    wrote r slice a = (a .0 ∙ ap (λ (x : Writing). returned (onWriting x) written) e, f ∙ sym (rw (ne-eqb (length written) 0 more)), a .1 ∙ ap (λ (x : Writing). filled (onWriting x) written) e)
+
+-- ## An ID above FFFFh
+
+-- no function has it
+pub lookup-wide : (s : List ℕ) (id : ℕ) → Bytes s → word < id → NotFound (unownedOf s) ≡ lookupOf s id
+unfolding lookupOf
+lookup-wide s id bytes wide = go (eqb (sheetNumber s) 0) refl
+  where
+    found : Framed 1 s → (x : Found) → findFrom id 1 (entriesOf s) ≡ x → NotFound 40 ≡ placed x
+    found f Nothing e = refl
+    found f (At at) e =
+        let part = bytes-take (at + 92 - (at + 2)) (drop (at + 2) s) (bytes-drop (at + 2) s bytes) in
+        absurd (omega (arith, found-at s 1 id at f e .id-is, be-lt 2 (partFrom s at) 0 part))
+
+    go : (b : Bool) → eqb (sheetNumber s) 0 ≡ b → NotFound (cond b 40 (sheetNumber s)) ≡ cond b (placed (findFrom id 1 (entriesOf s))) (NotFound (sheetNumber s))
+    go true z = found (checked-of-zero s (eqb-true (sheetNumber s) 0 z) .framed) (findFrom id 1 (entriesOf s)) refl
+    go false z = refl
+
+-- ## A command word
+
+module _ (s : List ℕ) (id command : ℕ) where
+  abbrev pub Commanded : ℕ → List ℕ → Type 0
+  Commanded r after = (r ≡ commandNumber s id command) × (after ≡ commandLeft s id command)
+
+  pub command-too-wide : word < command → Commanded 10 s
+  unfolding commandNumber commandLeft
+  command-too-wide h = (rw (lt-ltb word command h), rw (lt-ltb word command h))
+
+  module _ (fits : command ≤ word) where
+    pub commanded : (r : ℕ) (after : List ℕ) → (r ≡ lookupNumber (lookupOf s id)) × (after ≡ withCommand (lookupOf s id) s command) → Commanded r after
+    unfolding commandNumber commandLeft
+    commanded r after e = (rw (le-ltb word command fits) (e .0), rw (le-ltb word command fits) (e .1))
+
+    pub command-unowned : (r : ℕ) → Bytes s → word < id → r ≡ unownedOf s → Commanded r s
+    command-unowned r bytes wide e = commanded r s (rw (← lookup-wide s id bytes wide) (e, refl))
+
+-- ## Planning
+
+-- the sheet, the answer and the length's slice after, together
+abbrev pub PlannedFor : List ℕ → List ℕ → List ℕ → ℕ → List ℕ → List ℕ → Type 0
+PlannedFor board sheet written r after slice =
+    (r ≡ returned (planAnswer board (length sheet)) written) × (after ≡ sheetLeft board sheet written) × (slice ≡ filled (planAnswer board (length sheet)) written)
+
+-- the number with no room for the answer
+abbrev unplannedOf : Planning → ℕ
+unplannedOf (Planned n) = 11
+unplannedOf (NotPlanned n) = n
+
+-- what would be planned is short of room in an empty sheet: the two tests are the board's own number and 30 to 33
+without-room : (accepted kept : Bool) (own out size room : ℕ) → 0 < size
+    → planningNumber (cond accepted (cond kept (onRoom size 0) (NotPlanned out)) (NotPlanned own))
+    ≡ unplannedOf (cond accepted (cond kept (onRoom size room) (NotPlanned out)) (NotPlanned own))
+unfolding onRoom
+without-room false kept own out size room h = refl
+without-room true false own out size room h = refl
+without-room true true own out size room h = rw (lt-ltb 0 size h) (go (ltb room size))
+  where
+    go : (b : Bool) → 11 ≡ unplannedOf (cond b (NotPlanned 11) (Planned size))
+    go true = refl
+    go false = refl
+
+module _ (board sheet written : List ℕ) where
+  plan-short : length written ≡ 0 → (a : Planning) → Answered (onPlanning a) written (unplannedOf a) written
+  plan-short z (Planned n) = answered-short (n ∷ []) written (omega arith)
+  plan-short z (NotPlanned n) = (refl, refl)
+
+  plan-empty : (room : ℕ) → planningNumber (planning board 0) ≡ unplannedOf (planning board room)
+  unfolding planning onBoard
+  plan-empty room =
+      let fs = functionsOf board in
+      let out = refusalOf (toHost (hostOf board)) (toPlacing fs) in
+      without-room (eqb (boardNumber board) 0) (eqb out 0) (boardNumber board) out (sheetLength (length fs)) room (omega arith)
+
+  pub planned-nothing : (r : ℕ) → r ≡ planningNumber (planning board 0) → length written ≡ 0 → PlannedFor board sheet written r sheet written
+  planned-nothing r e z =
+      let a = plan-short z (planning board (length sheet)) in
+      (e ∙ plan-empty (length sheet) ∙ a .0, rw (eq-eqb (length written) 0 z), a .1)
+
+  module _ (more : length written ≡ 0 → ⊥) (w : Planning) (e : w ≡ planning board (length sheet)) (after : List ℕ) (f : after ≡ sheetAfter board sheet) where
+    pub planned : (r : ℕ) (slice : List ℕ) → Answered (onPlanning w) written r slice → PlannedFor board sheet written r after slice
+    planned r slice a =
+        (a .0 ∙ ap (λ (x : Planning). returned (onPlanning x) written) e, f ∙ sym (rw (ne-eqb (length written) 0 more)), a .1 ∙ ap (λ (x : Planning). filled (onPlanning x) written) e)

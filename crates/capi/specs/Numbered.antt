@@ -1,0 +1,260 @@
+-- No refusal has the number 0, so a call returns 0 just where it is accepted and its answer slice has room. Assumes nothing.
+use Prim.Native.Nat.{ℕ, zero, suc, _+_, _*_, _<_, _≤_}
+use native.Mathlib.Omega.{arith}
+use mathlib.Core.Path.{_≡_, refl}
+use mathlib.Core.Bool.{Bool, true, false, cond, _||_}
+use mathlib.Core.List.{List, _++_}
+use lib.ListN.{length, getD, drop}
+use lib.Dec.{ltb, eqb}
+use borrow.Author.Tests.{eqb-false, ltb-false}
+use Rattle.pairs.specs.declared.Kind.{Kind}
+use Rattle.pairs.specs.declared.Kind.the-variants.{Memory as MemoryKind, Io as IoKind, Config as ConfigKind, Completion as CompletionKind, Msg, MsgD, FetchAdd, Swap, Cas}
+use Rattle.pairs.specs.declared.Row.{Row}
+use Rattle.pairs.specs.declared.Pair.{Pair}
+use Rattle.pairs.specs.declared.Pair.the-variants.{Carried, NotCarried, Unknown}
+use Rattle.pairs.specs.Pairs.{pairOf, rowOf}
+use Rattle.packet.specs.declared.Packet.{Packet}
+use Rattle.packet.specs.declared.Verdict.{Verdict}
+use Rattle.packet.specs.declared.Verdict.the-variants.{Lawful, Refused as Unlawful}
+use Rattle.packet.specs.Fields.{kindOf, headOf}
+use Rattle.packet.specs.Widths.{fieldsFit}
+use Rattle.packet.specs.Rules.{ruleNumber}
+use Rattle.packet.specs.Verdict.{onRules, onFields, onPair as verdictFrom, verdictOf}
+use Rattle.numbers.specs.declared.Parsed.{Parsed}
+use Rattle.numbers.specs.declared.Parsed.the-variants.{Accepted as Taken, Refused as NotTaken}
+use Rattle.numbers.specs.Parsing.{kindAt, byAddress, byTarget, completing, anyAbove, packetAs, onPair, onKind, fromKind, packetOf}
+use Rattle.tlp.specs.declared.Reading.{Reading}
+use Rattle.tlp.specs.declared.Reading.the-variants.{Accepted, Refused as NotRead}
+use Rattle.tlp.specs.Reading.{unnamed, unnamedTarget, unnamedLower, judged, readAs, readPair, readOf}
+use Rattle.tlp.specs.declared.Writing.the-variants.{Written, Refused as NotWritten}
+use Rattle.tlp.specs.Writing.{size, writeAs, writeOf}
+use Rattle.walk.specs.Registers.{bar, window}
+use Rattle.walk.specs.Tally.{Tally, none, one, several}
+use Rattle.walk.specs.Walk.{settle, walkOver, walkFrom}
+use Rattle.sheet.specs.declared.Found.{Found}
+use Rattle.sheet.specs.declared.Found.the-variants.{At, Nothing}
+use Rattle.sheet.specs.declared.Lookup.{Lookup}
+use Rattle.sheet.specs.Sheet.{entriesOf, findFrom, sheetNumber}
+use Rattle.sheet.specs.Lookup.{placed, lookupOf}
+use Rattle.sheet.specs.Spaces.{nodesOf}
+use Rattle.claims.specs.Claims.{tallyFor}
+use Rattle.route.specs.declared.Routing.{Routing}
+use Rattle.route.specs.declared.Routing.the-variants.{Refused as NotDelivered}
+use Rattle.route.specs.Route.{aimOf, typeWrong, answer, walked, root, from42, from40, fromSheet, fromReading, routeOf}
+use Rattle.placing.specs.Refusals.{refusalOf}
+use Rattle.board.specs.Board.{boardNumber, hostOf, functionsOf}
+use Rattle.board.specs.ToPlacing.{toHost, toPlacing}
+use Rattle.layout.specs.Layout.{sheetLength}
+use Rattle.planning.specs.declared.Planning.{Planning}
+use Rattle.planning.specs.declared.Planning.the-variants.{Planned, Refused as NotPlanned}
+use Rattle.planning.specs.Plan.{onRoom, onBoard, planning}
+use Rattle.capi.specs.Answers.{Answer, refuses, gives, returned, filled}
+use Rattle.capi.specs.Calls.{onReading, readAnswer, onWriting, onParsed, writeAnswer, onLookup, onRouting, routeAnswer, onPlanning, planAnswer}
+
+abbrev pub Numbered : Answer → Type 0
+Numbered (gives ns) = Unit
+Numbered (refuses n) = 0 < n
+
+-- ## What 0 says
+
+-- numbers that the slice has room for
+pub record Given (a : Answer) (slice : List ℕ) : Type 0 where
+  pub numbers : List ℕ
+  pub answer-is : a ≡ gives numbers
+  pub fits : length numbers ≤ length slice
+  pub slice-is : filled a slice ≡ numbers ++ drop (length numbers) slice
+
+pub given-of-zero : (a : Answer) (slice : List ℕ) → Numbered a → returned a slice ≡ 0 → Given a slice
+given-of-zero (refuses n) slice h z = absurd (omega arith)
+given-of-zero (gives ns) slice h z = go (ltb (length slice) (length ns)) refl z
+  where
+    go : (b : Bool) → ltb (length slice) (length ns) ≡ b → _≡_ {A = ℕ} (cond b 11 0) 0 → Given (gives ns) slice
+    go true e z = absurd (omega arith)
+    go false e z = record { numbers = ns; answer-is = refl; fits = ltb-false (length slice) (length ns) e; slice-is = rw e }
+
+-- ## A test between two answers, and a number that is given back where it is not 0
+
+module _ {A : Type 0} (P : A → Type 0) where
+  either : (b : Bool) (x y : A) → P x → P y → P (cond b x y)
+  either true x y p q = p
+  either false x y p q = q
+
+  unless-zero : (n : ℕ) (x y : A) → P x → (0 < n → P y) → P (cond (eqb n 0) x y)
+  unless-zero n x y p q = go (eqb n 0) refl
+    where
+      go : (b : Bool) → eqb n 0 ≡ b → P (cond b x y)
+      go true e = p
+      go false e = q (omega (arith, eqb-false n 0 e))
+
+-- ## Reading
+
+abbrev NumberedReading : Reading → Type 0
+NumberedReading r = Numbered (onReading r)
+
+numbered-judged : (stray : Bool) (p : Packet) → NumberedReading (judged stray p)
+unfolding judged
+numbered-judged stray p =
+    let n = ruleNumber p in
+    let rest = cond (eqb n 0) (Accepted p) (NotRead n) in
+    either NumberedReading stray (NotRead 4) rest (omega arith) (unless-zero NumberedReading n (Accepted p) (NotRead n) tt (λ h. h))
+
+numbered-as : (kind : Kind) (form : ℕ) (s : List ℕ) → NumberedReading (readAs kind form s)
+numbered-as (MemoryKind k) form s = numbered-judged (unnamed s) _
+numbered-as (IoKind k) form s = numbered-judged (unnamed s) _
+numbered-as (ConfigKind k) form s = numbered-judged (unnamed s || unnamedTarget s) _
+numbered-as (CompletionKind k) form s = numbered-judged (unnamed s || unnamedLower s) _
+numbered-as Msg form s = omega arith
+numbered-as MsgD form s = omega arith
+numbered-as FetchAdd form s = omega arith
+numbered-as Swap form s = omega arith
+numbered-as Cas form s = omega arith
+
+numbered-pair : (pair : Pair) (s : List ℕ) → NumberedReading (readPair pair s)
+numbered-pair Unknown s = omega arith
+numbered-pair NotCarried s = omega arith
+numbered-pair (Carried row) s =
+    either NumberedReading (ltb (length s) (4 * row .form)) (NotRead 1) (readAs (row .kind) (row .form) s) (omega arith) (numbered-as (row .kind) (row .form) s)
+
+pub numbered-read : (header : List ℕ) → Numbered (readAnswer header)
+unfolding readOf
+numbered-read s =
+    let pair = pairOf (getD s 0 0) in
+    either NumberedReading (ltb (length s) 12) (NotRead 1) (readPair pair s) (omega arith) (numbered-pair pair s)
+
+-- ## Writing
+
+abbrev NumberedVerdict : Verdict → Type 0
+NumberedVerdict (Lawful row) = Unit
+NumberedVerdict (Unlawful n) = 0 < n
+
+numbered-fields : (row : Row) (p : Packet) → NumberedVerdict (onFields row p)
+unfolding onFields onRules
+numbered-fields row p =
+    let n = ruleNumber p in
+    either NumberedVerdict (fieldsFit p) (cond (eqb n 0) (Lawful row) (Unlawful n)) (Unlawful 10) (unless-zero NumberedVerdict n (Lawful row) (Unlawful n) tt (λ h. h)) (omega arith)
+
+numbered-verdict : (p : Packet) → NumberedVerdict (verdictOf p)
+unfolding verdictOf
+numbered-verdict p = go (rowOf (kindOf p) (headOf p .form))
+  where
+    go : (pair : Pair) → NumberedVerdict (verdictFrom pair p)
+    go (Carried row) = numbered-fields row p
+    go NotCarried = omega arith
+    go Unknown = omega arith
+
+numbered-writing : (p : Packet) (room : ℕ) → Numbered (onWriting (writeOf p room))
+unfolding writeOf
+numbered-writing p room = go (verdictOf p) (numbered-verdict p)
+  where
+    short : (b : Bool) → Numbered (onWriting (cond b (NotWritten 11) (Written (size p))))
+    short true = omega arith
+    short false = tt
+
+    go : (v : Verdict) → NumberedVerdict v → Numbered (onWriting (writeAs v (size p) room))
+    go (Unlawful n) h = h
+    go (Lawful row) h = short (ltb room (size p))
+
+abbrev NumberedParsed : Parsed → Type 0
+NumberedParsed (Taken p) = Unit
+NumberedParsed (NotTaken n) = 0 < n
+
+numbered-fitting : (b : Bool) (p : Packet) → NumberedParsed (cond b (NotTaken 10) (Taken p))
+numbered-fitting true p = omega arith
+numbered-fitting false p = tt
+
+numbered-packet-as : (kind : Kind) (ns : List ℕ) → NumberedParsed (packetAs kind ns)
+numbered-packet-as (MemoryKind k) ns = numbered-fitting (anyAbove byAddress ns) _
+numbered-packet-as (IoKind k) ns = numbered-fitting (anyAbove byAddress ns) _
+numbered-packet-as (ConfigKind k) ns = numbered-fitting (anyAbove byTarget ns) _
+numbered-packet-as (CompletionKind k) ns = numbered-fitting (anyAbove completing ns) _
+numbered-packet-as Msg ns = omega arith
+numbered-packet-as MsgD ns = omega arith
+numbered-packet-as FetchAdd ns = omega arith
+numbered-packet-as Swap ns = omega arith
+numbered-packet-as Cas ns = omega arith
+
+numbered-kind : (pair : Pair) (kind : Kind) (ns : List ℕ) → NumberedParsed (onPair pair kind ns)
+numbered-kind (Carried row) kind ns = numbered-packet-as kind ns
+numbered-kind NotCarried kind ns = omega arith
+numbered-kind Unknown kind ns = omega arith
+
+numbered-parsed : (ns : List ℕ) → NumberedParsed (packetOf ns)
+unfolding packetOf fromKind onKind
+numbered-parsed ns =
+    let kind = kindAt (getD ns 0 0) in
+    let pair = rowOf kind (getD ns 1 0) in
+    let outside = ltb 12 (getD ns 0 0) || ltb 4 (getD ns 1 0) in
+    either NumberedParsed (ltb (length ns) 20) (NotTaken 11) (fromKind ns) (omega arith)
+    (either NumberedParsed outside (NotTaken 2) (onPair pair kind ns) (omega arith) (numbered-kind pair kind ns))
+
+pub numbered-write : (packet : List ℕ) (room : ℕ) → Numbered (writeAnswer packet room)
+numbered-write packet room = go (packetOf packet) (numbered-parsed packet)
+  where
+    go : (q : Parsed) → NumberedParsed q → Numbered (onParsed q room)
+    go (Taken p) h = numbered-writing p room
+    go (NotTaken n) h = h
+
+-- ## Lookup
+
+abbrev NumberedLookup : Lookup → Type 0
+NumberedLookup l = Numbered (onLookup l)
+
+pub numbered-lookup : (sheet : List ℕ) (id : ℕ) → Numbered (onLookup (lookupOf sheet id))
+unfolding lookupOf
+numbered-lookup sheet id = unless-zero NumberedLookup (sheetNumber sheet) _ _ (found (findFrom id 1 (entriesOf sheet))) (λ h. h)
+  where
+    found : (x : Found) → NumberedLookup (placed x)
+    found (At at) = tt
+    found Nothing = omega arith
+
+-- ## Routing
+
+abbrev NumberedRouting : Routing → Type 0
+NumberedRouting r = Numbered (onRouting r)
+
+numbered-walk : (n : ℕ) (p : Packet) (tally : ℕ → Tally) (bus crossed : ℕ) → NumberedRouting (answer p (walkOver n tally bus crossed))
+unfolding walkOver
+numbered-walk zero p tally bus crossed = omega arith
+numbered-walk (suc n) p tally bus crossed = go (tally bus) (λ b. numbered-walk n p tally b (crossed + 1))
+  where
+    go : (t : Tally) → ((b : ℕ) → NumberedRouting (answer p (walkOver n tally b (crossed + 1))))
+        → NumberedRouting (answer p (settle t crossed (λ b. walkOver n tally b (crossed + 1))))
+    go none h = omega arith
+    go several h = omega arith
+    go (one (bar k)) h = tt
+    go (one (window k secondary)) h = h secondary
+
+numbered-from-walk : (p : Packet) (s : List ℕ) → NumberedRouting (answer p (walked (aimOf p) s (root s) 0))
+unfolding walkFrom
+numbered-from-walk p s = numbered-walk 256 p (tallyFor (aimOf p) s) (root s) 0
+
+numbered-from-sheet : (p : Packet) (s : List ℕ) → NumberedRouting (fromSheet p s)
+unfolding fromSheet from40 from42
+numbered-from-sheet p s =
+    let walk = answer p (walked (aimOf p) s (root s) 0) in
+    let typed = either NumberedRouting (typeWrong (root s) p) (NotDelivered 42) walk (omega arith) (numbered-from-walk p s) in
+    let peopled = either NumberedRouting (eqb (length (nodesOf s)) 0) (NotDelivered 40) (cond (typeWrong (root s) p) (NotDelivered 42) walk) (omega arith) typed in
+    unless-zero NumberedRouting (sheetNumber s) (from40 p s) (NotDelivered (sheetNumber s)) peopled (λ h. h)
+
+pub numbered-route : (header sheet : List ℕ) → Numbered (routeAnswer header sheet)
+unfolding routeOf
+numbered-route header sheet = go (readOf header) (numbered-read header)
+  where
+    go : (r : Reading) → NumberedReading r → NumberedRouting (fromReading r sheet)
+    go (Accepted p) h = numbered-from-sheet p sheet
+    go (NotRead n) h = h
+
+-- ## Planning
+
+abbrev NumberedPlanning : Planning → Type 0
+NumberedPlanning a = Numbered (onPlanning a)
+
+pub numbered-plan : (board : List ℕ) (room : ℕ) → Numbered (planAnswer board room)
+unfolding planning onBoard onRoom
+numbered-plan board room =
+    let fs = functionsOf board in
+    let out = refusalOf (toHost (hostOf board)) (toPlacing fs) in
+    let size = sheetLength (length fs) in
+    let roomy = either NumberedPlanning (ltb room size) (NotPlanned 11) (Planned size) (omega arith) tt in
+    let kept = unless-zero NumberedPlanning out (cond (ltb room size) (NotPlanned 11) (Planned size)) (NotPlanned out) roomy (λ h. h) in
+    unless-zero NumberedPlanning (boardNumber board) (onBoard (hostOf board) fs room) (NotPlanned (boardNumber board)) kept (λ h. h)

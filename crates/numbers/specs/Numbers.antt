@@ -1,0 +1,45 @@
+-- A packet as twenty numbers: kind, form, TC, Attr, TD, EP, AT, Length, requester, tag, last enables, first enables, address, target, register,
+-- completer, status, BCM, byte count, lower address. A field that the kind does not have is 0. Assumes nothing.
+use Prim.Native.Nat.{ℕ}
+use mathlib.Core.Bool.{Bool, true, false}
+use mathlib.Core.List.{List, [], _∷_, _++_}
+use Rattle.pairs.specs.Pairs.{kindNumber}
+use Rattle.packet.specs.declared.Head.{Head}
+use Rattle.packet.specs.declared.Enables.{Enables}
+use Rattle.packet.specs.declared.Outcome.{Outcome}
+use Rattle.packet.specs.declared.Packet.{Packet}
+use Rattle.packet.specs.declared.Packet.the-variants.{Memory, Io, Config, Completion}
+use Rattle.packet.specs.Fields.{kindOf, headOf}
+
+abbrev pub bit : Bool → ℕ
+bit true = 1
+bit false = 0
+
+-- places 0 to 9; the kind by its number in the table of pairs
+abbrev pub headNumbers : ℕ → Head → List ℕ
+headNumbers kind h =
+    kind ∷ h .form ∷ h .tc ∷ h .attr ∷ bit (h .td)
+    ∷ bit (h .ep) ∷ h .at ∷ h .length ∷ h .requester ∷ h .tag
+    ∷ []
+
+-- places 10 to 14
+abbrev pub requestNumbers : Enables → ℕ → ℕ → ℕ → List ℕ
+requestNumbers e address target register = e .last ∷ e .first ∷ address ∷ target ∷ register ∷ []
+
+-- places 15 to 19
+abbrev pub outcomeNumbers : Outcome → List ℕ
+outcomeNumbers o = o .completer ∷ o .status ∷ bit (o .bcm) ∷ o .count ∷ o .lower ∷ []
+
+-- five fields that the kind does not have
+abbrev pub absent : List ℕ
+absent = 0 ∷ 0 ∷ 0 ∷ 0 ∷ 0 ∷ []
+
+-- places 10 to 19
+abbrev pub bodyNumbers : Packet → List ℕ
+bodyNumbers (Memory k h e a) = requestNumbers e a 0 0 ++ absent
+bodyNumbers (Io k h e a) = requestNumbers e a 0 0 ++ absent
+bodyNumbers (Config k h e t) = requestNumbers e 0 (t .id) (t .register) ++ absent
+bodyNumbers (Completion k h o) = absent ++ outcomeNumbers o
+
+unfoldable pub numbersOf : Packet → List ℕ
+numbersOf p = headNumbers (kindNumber (kindOf p)) (headOf p) ++ bodyNumbers p

@@ -1,0 +1,100 @@
+-- Twenty numbers, place by place: the test of the greatest one step at a time and what it says of every place. Assumes nothing.
+use Prim.Native.Nat.{ℕ, zero, suc, _+_, _≤_, _<_}
+use native.Mathlib.Nat.{add-zero, zero-add, add-suc, suc-add}
+use native.Mathlib.Numerals.{add-one}
+use native.Mathlib.Omega.{arith}
+use mathlib.Core.Path.{_≡_, refl, sym, _∙_}
+use mathlib.Core.Bool.{Bool, true, false, _||_}
+use mathlib.Core.List.{List, [], _∷_}
+use lib.ListN.{length, getD, drop, drop-of-length-le}
+use lib.Seq.{drop-cons}
+use lib.Dec.{ltb}
+use borrow.Author.Tests.{lt-ltb, le-ltb, ltb-false}
+use Rattle.pairs.specs.declared.Kind.{Kind}
+use Rattle.pairs.specs.declared.Pair.{Pair}
+use Rattle.pairs.specs.Pairs.{rowOf}
+use Rattle.packet.specs.declared.Packet.{Packet}
+use Rattle.packet.specs.declared.Packet.the-variants.{Memory, Io, Config, Completion}
+use Rattle.numbers.specs.declared.Parsed.the-variants.{Refused}
+use Rattle.numbers.specs.Numbers.{numbersOf}
+use Rattle.numbers.specs.Parsing.{size, lastKind, kindAt, anyAbove, Within, onPair, onKind, fromKind, packetOf}
+
+pub length-numbersOf : (p : Packet) → length (numbersOf p) ≡ size
+unfolding numbersOf
+length-numbersOf (Memory k h e a) = refl
+length-numbersOf (Io k h e a) = refl
+length-numbersOf (Config k h e t) = refl
+length-numbersOf (Completion k h o) = refl
+
+-- ## One step of the test, in the words of the code
+
+module _ (ms ns : List ℕ) (i : ℕ) (inside : i < length ms) (given : i < length ns) where
+  pub above-here : getD ms i 0 < getD ns i 0 → true ≡ anyAbove (drop i ms) (drop i ns)
+  unfolding anyAbove
+  above-here h = rw (drop-cons ms i 0 inside, drop-cons ns i 0 given, lt-ltb (getD ms i 0) (getD ns i 0) h)
+
+  pub above-later : getD ns i 0 ≤ getD ms i 0 → anyAbove (drop (i + 1) ms) (drop (i + 1) ns) ≡ anyAbove (drop i ms) (drop i ns)
+  unfolding anyAbove
+  above-later h = rw (add-one i, drop-cons ms i 0 inside, drop-cons ns i 0 given, le-ltb (getD ms i 0) (getD ns i 0) h)
+
+pub above-nowhere : (ms ns : List ℕ) (i : ℕ) → length ms ≤ i → false ≡ anyAbove (drop i ms) (drop i ns)
+unfolding anyAbove
+above-nowhere ms ns i h = rw (drop-of-length-le ms h)
+
+-- ## What the test says of every place
+
+pub or-elim : (a b : Bool) → a || b ≡ false → (a ≡ false) × (b ≡ false)
+or-elim true b e = (e, absurd (let z : _≡_ {A = ℕ} 0 1 = cc in omega arith))
+or-elim false b e = (refl, e)
+
+pub at-most : (ms ns : List ℕ) → anyAbove ms ns ≡ false → length ms ≤ length ns → (i : ℕ) → i < length ms → getD ns i 0 ≤ getD ms i 0
+unfolding anyAbove
+at-most [] ns e l i h = absurd (omega arith)
+at-most (m ∷ ms) [] e l i h = absurd (omega arith)
+at-most (m ∷ ms) (n ∷ ns) e l zero h = ltb-false m n (or-elim (ltb m n) (anyAbove ms ns) e .0)
+at-most (m ∷ ms) (n ∷ ns) e l (suc i) h = at-most ms ns (or-elim (ltb m n) (anyAbove ms ns) e .1) (omega arith) i (omega arith)
+
+none-of-most : (ms ns : List ℕ) → ((i : ℕ) → i < length ms → getD ns i 0 ≤ getD ms i 0) → anyAbove ms ns ≡ false
+unfolding anyAbove
+none-of-most [] ns h = refl
+none-of-most (m ∷ ms) [] h = refl
+none-of-most (m ∷ ms) (n ∷ ns) h = rw (le-ltb m n (h 0 (omega arith))) (none-of-most ms ns (λ i l. h (suc i) (omega arith)))
+
+within-elim : (at : ℕ) (ms ns : List ℕ) → Within at ms ns → (i : ℕ) → i < length ms → getD ns (at + i) 0 ≤ getD ms i 0
+within-elim at [] ns w i h = absurd (omega arith)
+within-elim at (m ∷ ms) ns w zero h = rw (add-zero at) (w .0)
+within-elim at (m ∷ ms) ns w (suc i) h = rw (add-suc at i, ← suc-add at i) (within-elim (suc at) ms ns (w .1) i (omega arith))
+
+pub within-intro : (at : ℕ) (ms ns : List ℕ) → ((i : ℕ) → i < length ms → getD ns (at + i) 0 ≤ getD ms i 0) → Within at ms ns
+within-intro at [] ns h = tt
+within-intro at (m ∷ ms) ns h = (
+  rw (add-zero at) at (h 0 (omega arith)),
+  within-intro (suc at) ms ns (λ i l. rw (add-suc at i, ← suc-add at i) at (h (suc i) (omega arith))),
+)
+
+pub within-of-none : (ms ns : List ℕ) → anyAbove ms ns ≡ false → length ms ≤ length ns → Within 0 ms ns
+within-of-none ms ns e l = within-intro 0 ms ns (λ i h. rw (zero-add i) (at-most ms ns e l i h))
+
+pub none-of-within : (ms ns : List ℕ) → Within 0 ms ns → anyAbove ms ns ≡ false
+none-of-within ms ns w = none-of-most ms ns (λ i h. rw (zero-add i) at (within-elim 0 ms ns w i h))
+
+-- ## What numbers are taken for, in the words of the code
+
+pub too-few : (ns : List ℕ) → length ns < size → Refused 11 ≡ packetOf ns
+unfolding packetOf
+too-few ns h = rw (lt-ltb (length ns) size h)
+
+module _ (ns : List ℕ) (enough : size ≤ length ns) where
+  past-few : packetOf ns ≡ fromKind ns
+  unfolding packetOf
+  past-few = rw (le-ltb (length ns) size enough)
+
+  pub outside-list : ltb lastKind (getD ns 0 0) || ltb 4 (getD ns 1 0) ≡ true → Refused 2 ≡ packetOf ns
+  unfolding fromKind
+  outside-list e = sym (past-few ∙ rw e)
+
+  module _ (inside : ltb lastKind (getD ns 0 0) || ltb 4 (getD ns 1 0) ≡ false) (kind : Kind) (named : kind ≡ kindAt (getD ns 0 0)) where
+    -- pair is what the table says of the kind and form
+    pub parsed-as : (pair found : Pair) → pair ≡ rowOf kind (getD ns 1 0) → pair ≡ found → onPair found kind ns ≡ packetOf ns
+    unfolding fromKind onKind
+    parsed-as pair found e f = rw (← f, e) (rw named (sym (past-few ∙ rw inside)))

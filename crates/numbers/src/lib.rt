@@ -1,0 +1,372 @@
+// A packet as twenty numbers, for callers that have no enums: kind, form, TC, Attr, TD, EP, AT, Length, requester, tag, last enables, first enables,
+// address, target, register, completer, status, BCM, byte count, lower address. A field that the kind does not have is 0.
+ghost use mathlib.Core.Path.{_≡_};
+ghost use mathlib.Core.List.{[], _∷_, _++_};
+ghost use Prim.Native.Nat.{_+_, _≤_};
+ghost use lib.ListN.{length};
+ghost use lib.Seq.{sets};
+ghost use Rattle.numbers.specs.Numbers.{bit as bitOf, headNumbers, requestNumbers, outcomeNumbers, absent, bodyNumbers, numbersOf};
+ghost use Rattle.numbers.specs.Parsing.{byte, word, headMost, outcomeMost, kindAt, anyAbove, Within};
+ghost use Rattle.numbers.specs.Parsing.{headFrom, enablesFrom, targetFrom, outcomeFrom, packetAs, packetOf};
+use packet::Enables;
+use packet::Head;
+use packet::Outcome;
+use packet::Packet;
+use packet::Target;
+use pairs::CompletionKind;
+use pairs::ConfigKind;
+use pairs::IoKind;
+use pairs::Kind;
+use pairs::MemoryKind;
+use pairs::Pair;
+
+// Numbers that were taken for a packet, or the number of the first check that they fail.
+pub enum Parsed {
+    Accepted(Packet),
+    Refused(u8),
+}
+
+// How many numbers a packet has.
+pub const SIZE: usize = 20;
+
+// The kinds in the order of their numbers.
+const KINDS: [Kind; 13] = [
+    Kind::Memory(MemoryKind::MRd),
+    Kind::Memory(MemoryKind::MRdLk),
+    Kind::Memory(MemoryKind::MWr),
+    Kind::Io(IoKind::IORd),
+    Kind::Io(IoKind::IOWr),
+    Kind::Config(ConfigKind::CfgRd0),
+    Kind::Config(ConfigKind::CfgWr0),
+    Kind::Config(ConfigKind::CfgRd1),
+    Kind::Config(ConfigKind::CfgWr1),
+    Kind::Completion(CompletionKind::Cpl),
+    Kind::Completion(CompletionKind::CplD),
+    Kind::Completion(CompletionKind::CplLk),
+    Kind::Completion(CompletionKind::CplDLk),
+];
+
+const LAST_KIND: u64 = 12;
+
+// The greatest number that each type of field holds.
+const FLAG: u64 = 1;
+
+const BYTE: u64 = 255;
+
+const WORD: u64 = 65535;
+
+const QWORD: u64 = 18446744073709551615;
+
+// The greatest number at each place of a packet, by what its kind has: 0 where it has no such field.
+const BY_ADDRESS: [u64; SIZE] = [
+    LAST_KIND, // kind
+    4, // form
+    BYTE, // TC
+    BYTE, // Attr
+    FLAG, // TD
+    FLAG, // EP
+    BYTE, // AT
+    WORD, // Length
+    WORD, // requester
+    WORD, // tag
+    BYTE, // last enables
+    BYTE, // first enables
+    QWORD, // address
+    0, // target
+    0, // register
+    0, // completer
+    0, // status
+    0, // BCM
+    0, // byte count
+    0, // lower address
+];
+
+const BY_TARGET: [u64; SIZE] = [
+    LAST_KIND, // kind
+    4, // form
+    BYTE, // TC
+    BYTE, // Attr
+    FLAG, // TD
+    FLAG, // EP
+    BYTE, // AT
+    WORD, // Length
+    WORD, // requester
+    WORD, // tag
+    BYTE, // last enables
+    BYTE, // first enables
+    0, // address
+    WORD, // target
+    WORD, // register
+    0, // completer
+    0, // status
+    0, // BCM
+    0, // byte count
+    0, // lower address
+];
+
+const COMPLETING: [u64; SIZE] = [
+    LAST_KIND, // kind
+    4, // form
+    BYTE, // TC
+    BYTE, // Attr
+    FLAG, // TD
+    FLAG, // EP
+    BYTE, // AT
+    WORD, // Length
+    WORD, // requester
+    WORD, // tag
+    0, // last enables
+    0, // first enables
+    0, // address
+    0, // target
+    0, // register
+    WORD, // completer
+    BYTE, // status
+    FLAG, // BCM
+    WORD, // byte count
+    BYTE, // lower address
+];
+
+// ---- numbers to a packet
+
+// The packet that the first twenty numbers are: 11 for fewer, 2 for a kind and form not carried, 10 for a number too large for its field or in a field
+// that the kind does not have. Later numbers are not looked at.
+pub fn packet_of(numbers: &[u64]) -> Parsed
+    ensures { λ r. ⌜ r ≡ packetOf (now (numbers .entry)) ⌝ }
+{
+    if numbers.len() < SIZE {
+        return Parsed::Refused(11);
+    }
+    if (LAST_KIND < numbers[0]) | (4 < numbers[1]) {
+        return Parsed::Refused(2);
+    }
+    let kind = kind_at(numbers[0] as usize);
+    match pairs::row_of(kind, numbers[1] as u8) {
+        Pair::Carried(_) => packet_as(kind, numbers),
+        Pair::NotCarried => Parsed::Refused(2),
+        Pair::Unknown => Parsed::Refused(2),
+    }
+}
+
+fn kind_at(n: usize) -> Kind
+    requires { ⌜ n ≤ 12 ⌝ }
+    ensures { λ r. ⌜ r ≡ kindAt n ⌝ }
+{
+    KINDS[n]
+}
+
+fn packet_as(kind: Kind, numbers: &[u64]) -> Parsed
+    requires { ⌜ 20 ≤ length (now numbers) ⌝ }
+    ensures { λ r. ⌜ r ≡ packetAs kind (now (numbers .entry)) ⌝ }
+{
+    match kind {
+        Kind::Memory(k) => {
+            if any_above(BY_ADDRESS, numbers) {
+                return Parsed::Refused(10);
+            }
+            Parsed::Accepted(Packet::Memory(
+                k,
+                head_from(numbers),
+                enables_from(numbers),
+                numbers[12],
+            ))
+        }
+        Kind::Io(k) => {
+            if any_above(BY_ADDRESS, numbers) {
+                return Parsed::Refused(10);
+            }
+            Parsed::Accepted(Packet::Io(k, head_from(numbers), enables_from(numbers), numbers[12]))
+        }
+        Kind::Config(k) => {
+            if any_above(BY_TARGET, numbers) {
+                return Parsed::Refused(10);
+            }
+            Parsed::Accepted(Packet::Config(
+                k,
+                head_from(numbers),
+                enables_from(numbers),
+                target_from(numbers),
+            ))
+        }
+        Kind::Completion(k) => {
+            if any_above(COMPLETING, numbers) {
+                return Parsed::Refused(10);
+            }
+            Parsed::Accepted(Packet::Completion(k, head_from(numbers), outcome_from(numbers)))
+        }
+        Kind::Msg => Parsed::Refused(2),
+        Kind::MsgD => Parsed::Refused(2),
+        Kind::FetchAdd => Parsed::Refused(2),
+        Kind::Swap => Parsed::Refused(2),
+        Kind::Cas => Parsed::Refused(2),
+    }
+}
+
+// Some number is greater than its field's greatest.
+fn any_above(most: [u64; SIZE], numbers: &[u64]) -> bool
+    requires { ⌜ 20 ≤ length (now numbers) ⌝ }
+    ensures { λ r. ⌜ r ≡ anyAbove most (now (numbers .entry)) ⌝ }
+{
+    let mut i: usize = 0;
+    while i < SIZE {
+        if most[i] < numbers[i] {
+            return true;
+        }
+        i += 1;
+    }
+    false
+}
+
+fn head_from(numbers: &[u64]) -> Head
+    requires { ⌜ (20 ≤ length (now numbers)) × Within 1 (4 ∷ headMost) (now numbers) ⌝ }
+    ensures { λ r. ⌜ r ≡ headFrom (now (numbers .entry)) ⌝ }
+{
+    Head {
+        form: numbers[1] as u8,
+        tc: numbers[2] as u8,
+        attr: numbers[3] as u8,
+        td: numbers[4] == 1,
+        ep: numbers[5] == 1,
+        at: numbers[6] as u8,
+        length: numbers[7] as u16,
+        requester: numbers[8] as u16,
+        tag: numbers[9] as u16,
+    }
+}
+
+fn enables_from(numbers: &[u64]) -> Enables
+    requires { ⌜ (20 ≤ length (now numbers)) × Within 10 (byte ∷ byte ∷ []) (now numbers) ⌝ }
+    ensures { λ r. ⌜ r ≡ enablesFrom (now (numbers .entry)) ⌝ }
+{
+    Enables {
+        last: numbers[10] as u8,
+        first: numbers[11] as u8,
+    }
+}
+
+fn target_from(numbers: &[u64]) -> Target
+    requires { ⌜ (20 ≤ length (now numbers)) × Within 13 (word ∷ word ∷ []) (now numbers) ⌝ }
+    ensures { λ r. ⌜ r ≡ targetFrom (now (numbers .entry)) ⌝ }
+{
+    Target {
+        id: numbers[13] as u16,
+        register: numbers[14] as u16,
+    }
+}
+
+fn outcome_from(numbers: &[u64]) -> Outcome
+    requires { ⌜ (20 ≤ length (now numbers)) × Within 15 outcomeMost (now numbers) ⌝ }
+    ensures { λ r. ⌜ r ≡ outcomeFrom (now (numbers .entry)) ⌝ }
+{
+    Outcome {
+        completer: numbers[15] as u16,
+        status: numbers[16] as u8,
+        bcm: numbers[17] == 1,
+        count: numbers[18] as u16,
+        lower: numbers[19] as u8,
+    }
+}
+
+// ---- a packet to numbers
+
+// Stores the packet's twenty numbers from a place on.
+pub fn put_packet(out: &mut [u64], at: usize, p: Packet)
+    requires { ⌜ at + 20 ≤ length (now out) ⌝ }
+    ensures { λ _. ⌜ now (out .exit) ≡ sets (now (out .entry)) at (numbersOf p) ⌝ }
+{
+    put_head(
+        out,
+        at,
+        pairs::kind_number(packet::kind_of(p)),
+        packet::head_of(p),
+    );
+    put_body(out, at + 10, p);
+}
+
+fn put_head(out: &mut [u64], at: usize, kind: u8, h: Head)
+    requires { ⌜ at + 10 ≤ length (now out) ⌝ }
+    ensures { λ _. ⌜ now (out .exit) ≡ sets (now (out .entry)) at (headNumbers kind h) ⌝ }
+{
+    let td = bit(h.td);
+    let ep = bit(h.ep);
+    put_five(
+        out,
+        at,
+        kind as u64,
+        h.form as u64,
+        h.tc as u64,
+        h.attr as u64,
+        td,
+    );
+    put_five(
+        out,
+        at + 5,
+        ep,
+        h.at as u64,
+        h.length as u64,
+        h.requester as u64,
+        h.tag as u64,
+    );
+}
+
+fn put_body(out: &mut [u64], at: usize, p: Packet)
+    requires { ⌜ at + 10 ≤ length (now out) ⌝ }
+    ensures { λ _. ⌜ now (out .exit) ≡ sets (now (out .entry)) at (bodyNumbers p) ⌝ }
+{
+    match p {
+        Packet::Memory(_, _, e, a) => put_request(out, at, e, a, 0, 0),
+        Packet::Io(_, _, e, a) => put_request(out, at, e, a, 0, 0),
+        Packet::Config(_, _, e, t) => put_request(out, at, e, 0, t.id as u64, t.register as u64),
+        Packet::Completion(_, _, o) => put_outcome(out, at, o),
+    }
+}
+
+fn put_request(out: &mut [u64], at: usize, e: Enables, address: u64, target: u64, register: u64)
+    requires { ⌜ at + 10 ≤ length (now out) ⌝ }
+    ensures { λ _. ⌜ now (out .exit) ≡ sets (now (out .entry)) at (requestNumbers e address target register ++ absent) ⌝ }
+{
+    put_five(
+        out,
+        at,
+        e.last as u64,
+        e.first as u64,
+        address,
+        target,
+        register,
+    );
+    put_five(out, at + 5, 0, 0, 0, 0, 0);
+}
+
+fn put_outcome(out: &mut [u64], at: usize, o: Outcome)
+    requires { ⌜ at + 10 ≤ length (now out) ⌝ }
+    ensures { λ _. ⌜ now (out .exit) ≡ sets (now (out .entry)) at (absent ++ outcomeNumbers o) ⌝ }
+{
+    let bcm = bit(o.bcm);
+    put_five(out, at, 0, 0, 0, 0, 0);
+    put_five(
+        out,
+        at + 5,
+        o.completer as u64,
+        o.status as u64,
+        bcm,
+        o.count as u64,
+        o.lower as u64,
+    );
+}
+
+fn put_five(out: &mut [u64], at: usize, a: u64, b: u64, c: u64, d: u64, e: u64)
+    requires { ⌜ at + 5 ≤ length (now out) ⌝ }
+    ensures { λ _. ⌜ now (out .exit) ≡ sets (now (out .entry)) at (a ∷ b ∷ c ∷ d ∷ e ∷ []) ⌝ }
+{
+    out[at] = a;
+    out[at + 1] = b;
+    out[at + 2] = c;
+    out[at + 3] = d;
+    out[at + 4] = e;
+}
+
+fn bit(b: bool) -> u64
+    ensures { λ r. ⌜ r ≡ bitOf b ⌝ }
+{
+    if b { 1 } else { 0 }
+}

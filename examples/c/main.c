@@ -1,0 +1,98 @@
+/*
+ * Plans document 01's board P10, looks its functions up, and routes memory reads over the sheet. examples/c/run builds it and compares what it prints.
+ */
+#include <inttypes.h>
+#include <stdio.h>
+
+#include "cartsundial.h"
+
+static const uint8_t board[] = {
+    0x01,
+    /* host: buses 00 to FF, the low, high and I/O pool */
+    0x00, 0x1E, 0x00, 0xFF, 0xF9, 0x00, 0x00, 0x00, 0xF9, 0xFF, 0xFF, 0xFF,
+    0x00, 0x00, 0x00, 0x02, 0x40, 0x00, 0x00, 0x00, 0x00, 0x00, 0x00, 0x02, 0x7F, 0xFF, 0xFF, 0xFF,
+    0x40, 0x00, 0x4F, 0xFF,
+    /* record 1: a bridge on the root bus, memory and I/O enabled */
+    0x00, 0x0E, 0x00, 0x00, 0x00, 0x01, 0x00, 0x03, 0x00, 0x00, 0x00, 0x00, 0x00, 0x00, 0x00, 0x00,
+    /* record 2: a function below it, with a 4 KiB low, a 64 MiB high and a 256-byte I/O BAR */
+    0x00, 0x1E, 0x00, 0x01, 0x00, 0x00, 0x00, 0x03, 0xFF, 0xFF, 0xF0, 0x00, 0xFC, 0x00, 0x00, 0x0C,
+    0xFF, 0xFF, 0xFF, 0xFF, 0xFF, 0xFF, 0xFF, 0x01, 0x00, 0x00, 0x00, 0x00, 0x00, 0x00, 0x00, 0x00,
+};
+
+static uint8_t sheet[CARTSUNDIAL_SHEET_BYTES];
+static size_t sheet_len;
+
+/* A four-byte read at an address below 4 GiB, built as numbers and written as a header. */
+static uint32_t read_request(uint64_t address, uint8_t header[CARTSUNDIAL_HEADER_BYTES], size_t *header_len)
+{
+    uint64_t packet[CARTSUNDIAL_PACKET_NUMBERS] = {0};
+    uint64_t written[1];
+    uint32_t number;
+
+    packet[CARTSUNDIAL_KIND] = CARTSUNDIAL_MRD;
+    packet[CARTSUNDIAL_FORM] = 3;
+    packet[CARTSUNDIAL_LENGTH] = 1;
+    packet[CARTSUNDIAL_FIRST_ENABLES] = 0xF;
+    packet[CARTSUNDIAL_ADDRESS] = address;
+    number = cartsundial_write(packet, CARTSUNDIAL_PACKET_NUMBERS, header, CARTSUNDIAL_HEADER_BYTES, written, 1);
+    if (number == CARTSUNDIAL_ACCEPTED)
+        *header_len = (size_t)written[0];
+    return number;
+}
+
+static void route_read(uint64_t address)
+{
+    uint8_t header[CARTSUNDIAL_HEADER_BYTES];
+    uint64_t answer[CARTSUNDIAL_ROUTE_NUMBERS];
+    size_t header_len = 0;
+    uint32_t number = read_request(address, header, &header_len);
+
+    if (number == CARTSUNDIAL_ACCEPTED)
+        number = cartsundial_route(header, header_len, sheet, sheet_len, answer, CARTSUNDIAL_ROUTE_NUMBERS);
+    if (number == CARTSUNDIAL_ACCEPTED)
+        printf("read %08" PRIX64 ": record %" PRIu64 " bridges %" PRIu64 " address %08" PRIX64 "\n", address, answer[0], answer[1],
+               answer[2 + CARTSUNDIAL_ADDRESS]);
+    else
+        printf("read %08" PRIX64 ": refused %" PRIu32 "\n", address, number);
+}
+
+/* Registers 10h to 1Fh of a function, as configuration space has them: BARs, and of a bridge its buses and I/O window. */
+static void print_registers(uint32_t id)
+{
+    uint64_t offset[1];
+    uint32_t number = cartsundial_lookup(sheet, sheet_len, id, offset, 1);
+    size_t i;
+
+    if (number != CARTSUNDIAL_ACCEPTED) {
+        printf("%04" PRIX32 ": refused %" PRIu32 "\n", id, number);
+        return;
+    }
+    printf("%04" PRIX32 " at %" PRIu64 ":", id, offset[0]);
+    for (i = 0x10; i < 0x20; i++)
+        printf(" %02X", sheet[offset[0] + i]);
+    printf("\n");
+}
+
+int main(void)
+{
+    uint64_t written[1];
+    uint32_t number = cartsundial_plan(board, sizeof board, sheet, sizeof sheet, written, 1);
+
+    if (number != CARTSUNDIAL_ACCEPTED) {
+        printf("refused %" PRIu32 "\n", number);
+        return 1;
+    }
+    sheet_len = (size_t)written[0];
+    printf("planned: %zu bytes, check %" PRIu32 "\n", sheet_len, cartsundial_check(sheet, sheet_len));
+    print_registers(0x0000);
+    print_registers(0x0100);
+    print_registers(0x10000);
+    route_read(0xF9000FFC);
+    route_read(0xF9001000);
+
+    /* memory switched off at the bridge: nobody below it has an address */
+    number = cartsundial_command(sheet, sheet_len, 0x0000, 0x0001);
+    printf("command 0001 at 0000: %" PRIu32 "\n", number);
+    route_read(0xF9000FFC);
+    return 0;
+}

@@ -1,0 +1,176 @@
+/*
+ * Cartsundial for C: read and write PCI Express headers, plan a board's register sheet, look functions up in it, and route packets over it.
+ *
+ * Build:  rt staticlib capi          proves everything, then writes target/staticlib/libcapi.a
+ *         gcc -Iinclude main.c target/staticlib/libcapi.a
+ *
+ * The archive is for x86-64, System V calling convention, position independent, with SSE2. Of a C library it calls memset and nothing else.
+ *
+ * Every call takes any bytes and any numbers, always returns, and answers
+ *
+ *     0                  accepted
+ *     any other number   refused, and nothing that was lent has been changed
+ *
+ * The numbers are document 01's (the enumeration below). What each call returns and what every lent slice holds afterwards is proved, as an
+ * equation with a definition: crates/capi/src/lib.rt has the contracts, crates/capi/specs the definitions.
+ *
+ * Slices. A pointer and the number of elements behind it, bytes or 64-bit numbers. The proofs stand on what C promises here and nothing checks:
+ *   - the pointer is not null, is aligned for its type, and the elements are there, also for a length of 0;
+ *   - a slice that a call may write overlaps no other slice of that call, and nobody else touches it until the call returns.
+ * Nothing is kept after a call returns. There is no state, no allocation and no I/O, so calls on different slices may run at the same time.
+ *
+ * Stack to allow, measured with room to spare and not proved: cartsundial_plan 32 KiB; cartsundial_route 16 KiB over a planned sheet, which has at most
+ * 16 bridges in a row, and 96 KiB over a foreign one with 255; every other call 12 KiB.
+ *
+ * Answer slices (packet of cartsundial_read, answer, written, offset). The call writes the numbers that it names, and leaves the numbers past them
+ * as they were. A slice too short for them is CARTSUNDIAL_SHORT, tried last: a header, board or sheet that is refused gets its own number first.
+ */
+#ifndef CARTSUNDIAL_H
+#define CARTSUNDIAL_H
+
+#include <stddef.h>
+#include <stdint.h>
+
+#ifdef __cplusplus
+extern "C" {
+#endif
+
+/* ---- numbers given back ---- */
+
+enum cartsundial_number {
+    CARTSUNDIAL_ACCEPTED = 0,
+    CARTSUNDIAL_HEADER_SHORT = 1,      /* header under 12 bytes, or under 16 in the four-dword form */
+    CARTSUNDIAL_PAIR_UNKNOWN = 2,      /* Fmt and Type unknown; written: kind and form not carried */
+    CARTSUNDIAL_NOT_CARRIED = 3,       /* messages, AtomicOps, prefixes */
+    CARTSUNDIAL_RESERVED = 4,          /* a bit that the layout does not name, TH, an address's low two bits, memory AT 11, completion AT not 00 */
+    CARTSUNDIAL_FIXED = 5,             /* I/O and configuration: TC, Attr, AT 0, Length 1, last enables 0; Cpl and CplLk: no Length */
+    CARTSUNDIAL_UPPER_ZERO = 6,        /* 64-bit form with upper half zero */
+    CARTSUNDIAL_ENABLES = 7,           /* memory byte enables */
+    CARTSUNDIAL_PAGE = 8,              /* a memory request crosses a 4 KiB boundary */
+    CARTSUNDIAL_STATUS = 9,            /* completion status not 000, 001, 010 or 100 */
+    CARTSUNDIAL_WIDTH = 10,            /* a value too wide for its field, or in a field that the kind does not have */
+    CARTSUNDIAL_SHORT = 11,            /* a lent slice is too short */
+    CARTSUNDIAL_FRAME = 20,            /* empty; lengths not ending at the end; host record missing or not 30; function under 6; sheet record not 90 */
+    CARTSUNDIAL_VERSION = 21,          /* version not 1 */
+    CARTSUNDIAL_FUNCTIONS = 22,        /* over 256 functions */
+    CARTSUNDIAL_ORDER = 23,            /* parent, order, depth or function 0 */
+    CARTSUNDIAL_HEADER_TYPE = 24,      /* header type not 0 or 1, or a wrong length for it */
+    CARTSUNDIAL_READBACK = 25,         /* read-back; on a sheet also a BAR value */
+    CARTSUNDIAL_HOST = 26,             /* first bus above last, or a pool's edges */
+    CARTSUNDIAL_BUSES = 27,            /* sheet: not own bus = primary < secondary <= subordinate */
+    CARTSUNDIAL_ID_TWICE = 28,         /* sheet: an ID twice */
+    CARTSUNDIAL_NIBBLES = 29,          /* sheet: window nibbles */
+    CARTSUNDIAL_OUT_OF_BUSES = 30,     /* bus numbers run out */
+    CARTSUNDIAL_OUT_OF_LOW = 31,       /* the low memory pool runs out */
+    CARTSUNDIAL_OUT_OF_HIGH = 32,      /* the high memory pool runs out */
+    CARTSUNDIAL_OUT_OF_IO = 33,        /* the I/O pool runs out */
+    CARTSUNDIAL_NO_OWNER = 40,         /* no function has the address or the ID */
+    CARTSUNDIAL_CONTESTED = 41,        /* two claims to it on one bus */
+    CARTSUNDIAL_CONFIG_TYPE = 42       /* configuration type 0 for another bus than the root bus, or type 1 for the root bus */
+};
+
+/* ---- a packet as twenty numbers ---- */
+
+enum cartsundial_kind {
+    CARTSUNDIAL_MRD = 0,
+    CARTSUNDIAL_MRDLK = 1,
+    CARTSUNDIAL_MWR = 2,
+    CARTSUNDIAL_IORD = 3,
+    CARTSUNDIAL_IOWR = 4,
+    CARTSUNDIAL_CFGRD0 = 5,
+    CARTSUNDIAL_CFGWR0 = 6,
+    CARTSUNDIAL_CFGRD1 = 7,
+    CARTSUNDIAL_CFGWR1 = 8,
+    CARTSUNDIAL_CPL = 9,
+    CARTSUNDIAL_CPLD = 10,
+    CARTSUNDIAL_CPLLK = 11,
+    CARTSUNDIAL_CPLDLK = 12
+};
+
+/* Places in a packet. A field that the kind does not have is 0 when read; when written, any other value there is 10. */
+enum cartsundial_field {
+    CARTSUNDIAL_KIND = 0,
+    CARTSUNDIAL_FORM = 1,              /* the header's dwords: 3, or 4 for memory requests */
+    CARTSUNDIAL_TC = 2,
+    CARTSUNDIAL_ATTR = 3,              /* Attr2 is bit 2 */
+    CARTSUNDIAL_TD = 4,                /* 0 or 1 */
+    CARTSUNDIAL_EP = 5,                /* 0 or 1 */
+    CARTSUNDIAL_AT = 6,
+    CARTSUNDIAL_LENGTH = 7,            /* dwords, 1 to 1024; 0 for Cpl and CplLk */
+    CARTSUNDIAL_REQUESTER = 8,         /* an ID: bus 8, device 5, function 3 bits */
+    CARTSUNDIAL_TAG = 9,
+    CARTSUNDIAL_LAST_ENABLES = 10,     /* requests */
+    CARTSUNDIAL_FIRST_ENABLES = 11,    /* requests */
+    CARTSUNDIAL_ADDRESS = 12,          /* memory and I/O requests */
+    CARTSUNDIAL_TARGET = 13,           /* configuration requests: an ID */
+    CARTSUNDIAL_REGISTER = 14,         /* configuration requests: ten bits, the extended four high */
+    CARTSUNDIAL_COMPLETER = 15,        /* completions, as the four that follow: an ID */
+    CARTSUNDIAL_STATUS_CODE = 16,
+    CARTSUNDIAL_BCM = 17,              /* 0 or 1 */
+    CARTSUNDIAL_BYTE_COUNT = 18,
+    CARTSUNDIAL_LOWER_ADDRESS = 19,
+    CARTSUNDIAL_PACKET_NUMBERS = 20    /* how many numbers a packet has */
+};
+
+/* Sizes that are always enough. */
+enum cartsundial_size {
+    CARTSUNDIAL_HEADER_BYTES = 16,     /* a header written: 12 or 16 bytes */
+    CARTSUNDIAL_SHEET_BYTES = 23553,   /* a sheet of 256 functions */
+    CARTSUNDIAL_REGISTER_BYTES = 64,   /* a function's configuration header */
+    CARTSUNDIAL_ROUTE_NUMBERS = 22     /* record, bridges, and a packet */
+};
+
+/* ---- headers ---- */
+
+/*
+ * Reads the header at the front of any bytes. packet: its twenty numbers. Later bytes are not looked at.
+ * Refused: 1 to 9, then 11 for a packet slice of fewer than twenty numbers.
+ */
+uint32_t cartsundial_read(const uint8_t *header, size_t header_len, uint64_t *packet, size_t packet_len);
+
+/*
+ * Writes the packet that the first twenty numbers are, 12 or 16 bytes at the front of the room and nothing past them. written: how many.
+ * Refused: 11 for fewer than twenty numbers, tried first; 2 for a kind or form outside the list, or not carried together; 10 for a number too large for
+ * its field, or other than 0 in a field that the kind does not have; 4 to 9; 11 for a short room, or a written slice of no numbers.
+ * What cartsundial_read gave is written back to the same bytes, and what was written is read back as the same twenty numbers.
+ */
+uint32_t cartsundial_write(const uint64_t *packet, size_t packet_len, uint8_t *room, size_t room_len, uint64_t *written, size_t written_len);
+
+/* ---- boards and sheets ---- */
+
+/*
+ * Plans a board: numbers its buses, places every BAR and window, and writes the register sheet at the front of sheet, nothing past it.
+ * written: the sheet's length, at most CARTSUNDIAL_SHEET_BYTES.
+ * Refused: 20 to 26 (the board), 30 to 33 (what runs out), then 11 for a short sheet, or a written slice of no numbers.
+ */
+uint32_t cartsundial_plan(const uint8_t *board, size_t board_len, uint8_t *sheet, size_t sheet_len, uint64_t *written, size_t written_len);
+
+/* 0 for a sheet that passes its checks, or the number of the first that it fails, 20 to 29. Give the sheet's own length, not the buffer's. */
+uint32_t cartsundial_check(const uint8_t *sheet, size_t sheet_len);
+
+/*
+ * Finds the function with an ID. offset: where its 64 register bytes start in the sheet.
+ * Refused: the sheet's number, then 40 where no function has the ID (an ID above FFFFh is no function's), then 11 for an offset slice of no numbers.
+ */
+uint32_t cartsundial_lookup(const uint8_t *sheet, size_t sheet_len, uint32_t id, uint64_t *offset, size_t offset_len);
+
+/*
+ * Rewrites the command word of the function with an ID, and no other byte.
+ * Refused: 10 for a command above FFFFh, tried before the sheet is read, then the sheet's number, then 40.
+ */
+uint32_t cartsundial_command(uint8_t *sheet, size_t sheet_len, uint32_t id, uint32_t command);
+
+/* ---- routing ---- */
+
+/*
+ * Walks a header from the host over a sheet. answer: the number of the record that gets the packet (from 1, in the sheet's order), how many bridges it
+ * crossed, and the twenty numbers of the packet as it arrives: configuration type 1 arrives as type 0, everything else unchanged.
+ * Refused: the header's number, 1 to 9, before the sheet is read; the sheet's number, 20 to 29; 40, 41 or 42; then 11 for fewer than 22 numbers.
+ */
+uint32_t cartsundial_route(const uint8_t *header, size_t header_len, const uint8_t *sheet, size_t sheet_len, uint64_t *answer, size_t answer_len);
+
+#ifdef __cplusplus
+}
+#endif
+
+#endif
