@@ -11,7 +11,7 @@ use lib.Seq.{drop-cons}
 use Rattle.pairs.specs.declared.Row.{Row}
 use Rattle.pairs.specs.declared.Looked.{Looked}
 use Rattle.pairs.specs.declared.Looked.the-variants.{Found, Missing}
-use Rattle.pairs.specs.Pairs.{table, noRow, first}
+use Rattle.pairs.specs.Pairs.{table, noRow, rowAt, first}
 
 -- the search from row i on, by what the test says of row i
 first-drop : (p : Row → Bool) (rows : List Row) (i : ℕ) (d : Row) → i < length rows
@@ -19,12 +19,12 @@ first-drop : (p : Row → Bool) (rows : List Row) (i : ℕ) (d : Row) → i < le
 unfolding first
 first-drop p rows i d below = rw (add-one, drop-cons rows i d)
 
-module _ (p : Row → Bool) (rows : List Row) (i : ℕ) (below : i < 38) {b : Bool} (same : rows ≡ table) (test : b ≡ p (getD rows i noRow)) where
-  first-step : first p (drop i table) ≡ cond b (Found (getD rows i noRow)) (first p (drop (i + 1) table))
-  unfolding table
+module _ (p : Row → Bool) (i : ℕ) (below : i < 38) {row : Row} {b : Bool} (same : row ≡ rowAt i) (test : b ≡ p row) where
+  first-step : first p (drop i table) ≡ cond b (Found row) (first p (drop (i + 1) table))
+  unfolding table rowAt
   first-step = rw (test, same) (first-drop p table i noRow below)
 
-  pub first-hit : {whole : Looked} → b ≡ true → first p (drop i table) ≡ whole → Found (getD rows i noRow) ≡ whole
+  pub first-hit : {whole : Looked} → b ≡ true → first p (drop i table) ≡ whole → Found row ≡ whole
   first-hit hit rest = sym (rw hit at first-step) ∙ rest
 
   pub first-miss : {whole : Looked} → b ≡ false → first p (drop i table) ≡ whole → first p (drop (i + 1) table) ≡ whole

@@ -4,6 +4,7 @@ use mathlib.Core.List.{List, [], _∷_}
 use mathlib.Core.Bool.{Bool, true, false, cond, _&&_}
 use Prim.Native.Nat.{ℕ, _/_, _%_}
 use lib.Dec.{eqb}
+use lib.ListN.{getD}
 use Rattle.pairs.specs.declared.Row.{Row}
 use Rattle.pairs.specs.declared.Kind.{Kind}
 use Rattle.pairs.specs.declared.Kind.the-variants.{Memory, Io, Config, Completion, Msg, MsgD, FetchAdd, Swap, Cas}
@@ -69,6 +70,9 @@ table =
 -- what stands past the table's end
 abbrev pub noRow : Row
 noRow = knows 0 0 (Memory MRd) 0
+
+unfoldable pub rowAt : ℕ → Row
+rowAt i = getD table i noRow
 
 -- kinds are told apart by number
 abbrev pub kindNumber : Kind → ℕ

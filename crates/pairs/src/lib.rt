@@ -1,6 +1,7 @@
 // The Fmt and Type pairs of a TLP header's byte 0: one constant table, searched by pair for the reader and by kind and form for the writer.
 ghost use mathlib.Core.Path.{_≡_};
-ghost use Rattle.pairs.specs.Pairs.{table, kindNumber, isPair, isKind, findPair, findKind, answerOf, pairOf, rowOf};
+ghost use Prim.Native.Nat.{_<_};
+ghost use Rattle.pairs.specs.Pairs.{table, rowAt, kindNumber, isPair, isKind, findPair, findKind, answerOf, pairOf, rowOf};
 
 pub enum MemoryKind {
     MRd,
@@ -67,273 +68,349 @@ const PREFIX_FMT: u8 = 0b100;
 // The rows in document 01's order: the carried pairs, then Type 10rrr and the AtomicOps.
 const ROWS: usize = 38;
 
+const MRD_3: Row = Row {
+    fmt: 0b000,
+    typ: 0b00000,
+    kind: Kind::Memory(MemoryKind::MRd),
+    form: 3,
+    carried: true,
+};
+
+const MRD_4: Row = Row {
+    fmt: 0b001,
+    typ: 0b00000,
+    kind: Kind::Memory(MemoryKind::MRd),
+    form: 4,
+    carried: true,
+};
+
+const MRD_LK_3: Row = Row {
+    fmt: 0b000,
+    typ: 0b00001,
+    kind: Kind::Memory(MemoryKind::MRdLk),
+    form: 3,
+    carried: true,
+};
+
+const MRD_LK_4: Row = Row {
+    fmt: 0b001,
+    typ: 0b00001,
+    kind: Kind::Memory(MemoryKind::MRdLk),
+    form: 4,
+    carried: true,
+};
+
+const MWR_3: Row = Row {
+    fmt: 0b010,
+    typ: 0b00000,
+    kind: Kind::Memory(MemoryKind::MWr),
+    form: 3,
+    carried: true,
+};
+
+const MWR_4: Row = Row {
+    fmt: 0b011,
+    typ: 0b00000,
+    kind: Kind::Memory(MemoryKind::MWr),
+    form: 4,
+    carried: true,
+};
+
+const IO_RD: Row = Row {
+    fmt: 0b000,
+    typ: 0b00010,
+    kind: Kind::Io(IoKind::IORd),
+    form: 3,
+    carried: true,
+};
+
+const IO_WR: Row = Row {
+    fmt: 0b010,
+    typ: 0b00010,
+    kind: Kind::Io(IoKind::IOWr),
+    form: 3,
+    carried: true,
+};
+
+const CFG_RD_0: Row = Row {
+    fmt: 0b000,
+    typ: 0b00100,
+    kind: Kind::Config(ConfigKind::CfgRd0),
+    form: 3,
+    carried: true,
+};
+
+const CFG_WR_0: Row = Row {
+    fmt: 0b010,
+    typ: 0b00100,
+    kind: Kind::Config(ConfigKind::CfgWr0),
+    form: 3,
+    carried: true,
+};
+
+const CFG_RD_1: Row = Row {
+    fmt: 0b000,
+    typ: 0b00101,
+    kind: Kind::Config(ConfigKind::CfgRd1),
+    form: 3,
+    carried: true,
+};
+
+const CFG_WR_1: Row = Row {
+    fmt: 0b010,
+    typ: 0b00101,
+    kind: Kind::Config(ConfigKind::CfgWr1),
+    form: 3,
+    carried: true,
+};
+
+const CPL: Row = Row {
+    fmt: 0b000,
+    typ: 0b01010,
+    kind: Kind::Completion(CompletionKind::Cpl),
+    form: 3,
+    carried: true,
+};
+
+const CPL_D: Row = Row {
+    fmt: 0b010,
+    typ: 0b01010,
+    kind: Kind::Completion(CompletionKind::CplD),
+    form: 3,
+    carried: true,
+};
+
+const CPL_LK: Row = Row {
+    fmt: 0b000,
+    typ: 0b01011,
+    kind: Kind::Completion(CompletionKind::CplLk),
+    form: 3,
+    carried: true,
+};
+
+const CPL_D_LK: Row = Row {
+    fmt: 0b010,
+    typ: 0b01011,
+    kind: Kind::Completion(CompletionKind::CplDLk),
+    form: 3,
+    carried: true,
+};
+
+const MSG_0: Row = Row {
+    fmt: 0b001,
+    typ: 0b10000,
+    kind: Kind::Msg,
+    form: 4,
+    carried: false,
+};
+
+const MSG_1: Row = Row {
+    fmt: 0b001,
+    typ: 0b10001,
+    kind: Kind::Msg,
+    form: 4,
+    carried: false,
+};
+
+const MSG_2: Row = Row {
+    fmt: 0b001,
+    typ: 0b10010,
+    kind: Kind::Msg,
+    form: 4,
+    carried: false,
+};
+
+const MSG_3: Row = Row {
+    fmt: 0b001,
+    typ: 0b10011,
+    kind: Kind::Msg,
+    form: 4,
+    carried: false,
+};
+
+const MSG_4: Row = Row {
+    fmt: 0b001,
+    typ: 0b10100,
+    kind: Kind::Msg,
+    form: 4,
+    carried: false,
+};
+
+const MSG_5: Row = Row {
+    fmt: 0b001,
+    typ: 0b10101,
+    kind: Kind::Msg,
+    form: 4,
+    carried: false,
+};
+
+const MSG_6: Row = Row {
+    fmt: 0b001,
+    typ: 0b10110,
+    kind: Kind::Msg,
+    form: 4,
+    carried: false,
+};
+
+const MSG_7: Row = Row {
+    fmt: 0b001,
+    typ: 0b10111,
+    kind: Kind::Msg,
+    form: 4,
+    carried: false,
+};
+
+const MSG_D_0: Row = Row {
+    fmt: 0b011,
+    typ: 0b10000,
+    kind: Kind::MsgD,
+    form: 4,
+    carried: false,
+};
+
+const MSG_D_1: Row = Row {
+    fmt: 0b011,
+    typ: 0b10001,
+    kind: Kind::MsgD,
+    form: 4,
+    carried: false,
+};
+
+const MSG_D_2: Row = Row {
+    fmt: 0b011,
+    typ: 0b10010,
+    kind: Kind::MsgD,
+    form: 4,
+    carried: false,
+};
+
+const MSG_D_3: Row = Row {
+    fmt: 0b011,
+    typ: 0b10011,
+    kind: Kind::MsgD,
+    form: 4,
+    carried: false,
+};
+
+const MSG_D_4: Row = Row {
+    fmt: 0b011,
+    typ: 0b10100,
+    kind: Kind::MsgD,
+    form: 4,
+    carried: false,
+};
+
+const MSG_D_5: Row = Row {
+    fmt: 0b011,
+    typ: 0b10101,
+    kind: Kind::MsgD,
+    form: 4,
+    carried: false,
+};
+
+const MSG_D_6: Row = Row {
+    fmt: 0b011,
+    typ: 0b10110,
+    kind: Kind::MsgD,
+    form: 4,
+    carried: false,
+};
+
+const MSG_D_7: Row = Row {
+    fmt: 0b011,
+    typ: 0b10111,
+    kind: Kind::MsgD,
+    form: 4,
+    carried: false,
+};
+
+const FETCH_ADD_3: Row = Row {
+    fmt: 0b010,
+    typ: 0b01100,
+    kind: Kind::FetchAdd,
+    form: 3,
+    carried: false,
+};
+
+const FETCH_ADD_4: Row = Row {
+    fmt: 0b011,
+    typ: 0b01100,
+    kind: Kind::FetchAdd,
+    form: 4,
+    carried: false,
+};
+
+const SWAP_3: Row = Row {
+    fmt: 0b010,
+    typ: 0b01101,
+    kind: Kind::Swap,
+    form: 3,
+    carried: false,
+};
+
+const SWAP_4: Row = Row {
+    fmt: 0b011,
+    typ: 0b01101,
+    kind: Kind::Swap,
+    form: 4,
+    carried: false,
+};
+
+const CAS_3: Row = Row {
+    fmt: 0b010,
+    typ: 0b01110,
+    kind: Kind::Cas,
+    form: 3,
+    carried: false,
+};
+
+const CAS_4: Row = Row {
+    fmt: 0b011,
+    typ: 0b01110,
+    kind: Kind::Cas,
+    form: 4,
+    carried: false,
+};
+
 const TABLE: [Row; ROWS] = [
-    Row {
-        fmt: 0b000,
-        typ: 0b00000,
-        kind: Kind::Memory(MemoryKind::MRd),
-        form: 3,
-        carried: true,
-    },
-    Row {
-        fmt: 0b001,
-        typ: 0b00000,
-        kind: Kind::Memory(MemoryKind::MRd),
-        form: 4,
-        carried: true,
-    },
-    Row {
-        fmt: 0b000,
-        typ: 0b00001,
-        kind: Kind::Memory(MemoryKind::MRdLk),
-        form: 3,
-        carried: true,
-    },
-    Row {
-        fmt: 0b001,
-        typ: 0b00001,
-        kind: Kind::Memory(MemoryKind::MRdLk),
-        form: 4,
-        carried: true,
-    },
-    Row {
-        fmt: 0b010,
-        typ: 0b00000,
-        kind: Kind::Memory(MemoryKind::MWr),
-        form: 3,
-        carried: true,
-    },
-    Row {
-        fmt: 0b011,
-        typ: 0b00000,
-        kind: Kind::Memory(MemoryKind::MWr),
-        form: 4,
-        carried: true,
-    },
-    Row {
-        fmt: 0b000,
-        typ: 0b00010,
-        kind: Kind::Io(IoKind::IORd),
-        form: 3,
-        carried: true,
-    },
-    Row {
-        fmt: 0b010,
-        typ: 0b00010,
-        kind: Kind::Io(IoKind::IOWr),
-        form: 3,
-        carried: true,
-    },
-    Row {
-        fmt: 0b000,
-        typ: 0b00100,
-        kind: Kind::Config(ConfigKind::CfgRd0),
-        form: 3,
-        carried: true,
-    },
-    Row {
-        fmt: 0b010,
-        typ: 0b00100,
-        kind: Kind::Config(ConfigKind::CfgWr0),
-        form: 3,
-        carried: true,
-    },
-    Row {
-        fmt: 0b000,
-        typ: 0b00101,
-        kind: Kind::Config(ConfigKind::CfgRd1),
-        form: 3,
-        carried: true,
-    },
-    Row {
-        fmt: 0b010,
-        typ: 0b00101,
-        kind: Kind::Config(ConfigKind::CfgWr1),
-        form: 3,
-        carried: true,
-    },
-    Row {
-        fmt: 0b000,
-        typ: 0b01010,
-        kind: Kind::Completion(CompletionKind::Cpl),
-        form: 3,
-        carried: true,
-    },
-    Row {
-        fmt: 0b010,
-        typ: 0b01010,
-        kind: Kind::Completion(CompletionKind::CplD),
-        form: 3,
-        carried: true,
-    },
-    Row {
-        fmt: 0b000,
-        typ: 0b01011,
-        kind: Kind::Completion(CompletionKind::CplLk),
-        form: 3,
-        carried: true,
-    },
-    Row {
-        fmt: 0b010,
-        typ: 0b01011,
-        kind: Kind::Completion(CompletionKind::CplDLk),
-        form: 3,
-        carried: true,
-    },
-    Row {
-        fmt: 0b001,
-        typ: 0b10000,
-        kind: Kind::Msg,
-        form: 4,
-        carried: false,
-    },
-    Row {
-        fmt: 0b001,
-        typ: 0b10001,
-        kind: Kind::Msg,
-        form: 4,
-        carried: false,
-    },
-    Row {
-        fmt: 0b001,
-        typ: 0b10010,
-        kind: Kind::Msg,
-        form: 4,
-        carried: false,
-    },
-    Row {
-        fmt: 0b001,
-        typ: 0b10011,
-        kind: Kind::Msg,
-        form: 4,
-        carried: false,
-    },
-    Row {
-        fmt: 0b001,
-        typ: 0b10100,
-        kind: Kind::Msg,
-        form: 4,
-        carried: false,
-    },
-    Row {
-        fmt: 0b001,
-        typ: 0b10101,
-        kind: Kind::Msg,
-        form: 4,
-        carried: false,
-    },
-    Row {
-        fmt: 0b001,
-        typ: 0b10110,
-        kind: Kind::Msg,
-        form: 4,
-        carried: false,
-    },
-    Row {
-        fmt: 0b001,
-        typ: 0b10111,
-        kind: Kind::Msg,
-        form: 4,
-        carried: false,
-    },
-    Row {
-        fmt: 0b011,
-        typ: 0b10000,
-        kind: Kind::MsgD,
-        form: 4,
-        carried: false,
-    },
-    Row {
-        fmt: 0b011,
-        typ: 0b10001,
-        kind: Kind::MsgD,
-        form: 4,
-        carried: false,
-    },
-    Row {
-        fmt: 0b011,
-        typ: 0b10010,
-        kind: Kind::MsgD,
-        form: 4,
-        carried: false,
-    },
-    Row {
-        fmt: 0b011,
-        typ: 0b10011,
-        kind: Kind::MsgD,
-        form: 4,
-        carried: false,
-    },
-    Row {
-        fmt: 0b011,
-        typ: 0b10100,
-        kind: Kind::MsgD,
-        form: 4,
-        carried: false,
-    },
-    Row {
-        fmt: 0b011,
-        typ: 0b10101,
-        kind: Kind::MsgD,
-        form: 4,
-        carried: false,
-    },
-    Row {
-        fmt: 0b011,
-        typ: 0b10110,
-        kind: Kind::MsgD,
-        form: 4,
-        carried: false,
-    },
-    Row {
-        fmt: 0b011,
-        typ: 0b10111,
-        kind: Kind::MsgD,
-        form: 4,
-        carried: false,
-    },
-    Row {
-        fmt: 0b010,
-        typ: 0b01100,
-        kind: Kind::FetchAdd,
-        form: 3,
-        carried: false,
-    },
-    Row {
-        fmt: 0b011,
-        typ: 0b01100,
-        kind: Kind::FetchAdd,
-        form: 4,
-        carried: false,
-    },
-    Row {
-        fmt: 0b010,
-        typ: 0b01101,
-        kind: Kind::Swap,
-        form: 3,
-        carried: false,
-    },
-    Row {
-        fmt: 0b011,
-        typ: 0b01101,
-        kind: Kind::Swap,
-        form: 4,
-        carried: false,
-    },
-    Row {
-        fmt: 0b010,
-        typ: 0b01110,
-        kind: Kind::Cas,
-        form: 3,
-        carried: false,
-    },
-    Row {
-        fmt: 0b011,
-        typ: 0b01110,
-        kind: Kind::Cas,
-        form: 4,
-        carried: false,
-    },
+    MRD_3,
+    MRD_4,
+    MRD_LK_3,
+    MRD_LK_4,
+    MWR_3,
+    MWR_4,
+    IO_RD,
+    IO_WR,
+    CFG_RD_0,
+    CFG_WR_0,
+    CFG_RD_1,
+    CFG_WR_1,
+    CPL,
+    CPL_D,
+    CPL_LK,
+    CPL_D_LK,
+    MSG_0,
+    MSG_1,
+    MSG_2,
+    MSG_3,
+    MSG_4,
+    MSG_5,
+    MSG_6,
+    MSG_7,
+    MSG_D_0,
+    MSG_D_1,
+    MSG_D_2,
+    MSG_D_3,
+    MSG_D_4,
+    MSG_D_5,
+    MSG_D_6,
+    MSG_D_7,
+    FETCH_ADD_3,
+    FETCH_ADD_4,
+    SWAP_3,
+    SWAP_4,
+    CAS_3,
+    CAS_4,
 ];
 
 // The pair in byte 0 of a header.
@@ -371,10 +448,9 @@ fn answer(looked: Looked) -> Pair
 fn find_pair(fmt: u8, typ: u8) -> Looked
     ensures { λ r. ⌜ r ≡ findPair fmt typ ⌝ }
 {
-    let rows = all_rows();
     let mut i: usize = 0;
     while i < ROWS {
-        let row = rows[i];
+        let row = row_at(i);
         if is_pair(row, fmt, typ) {
             return Looked::Found(row);
         }
@@ -386,10 +462,9 @@ fn find_pair(fmt: u8, typ: u8) -> Looked
 fn find_kind(kind: Kind, form: u8) -> Looked
     ensures { λ r. ⌜ r ≡ findKind kind form ⌝ }
 {
-    let rows = all_rows();
     let mut i: usize = 0;
     while i < ROWS {
-        let row = rows[i];
+        let row = row_at(i);
         if is_kind(row, kind, form) {
             return Looked::Found(row);
         }
@@ -411,11 +486,58 @@ fn is_kind(row: Row, kind: Kind, form: u8) -> bool
     (kind_number(own) == kind_number(kind)) & (row.form == form)
 }
 
-// The only function that sees the table's content. A search takes the whole table once: an index into the constant would build it anew at each turn.
-fn all_rows() -> [Row; ROWS]
+// The whole table.
+pub fn rows() -> [Row; ROWS]
     ensures { λ r. ⌜ r ≡ table ⌝ }
 {
     TABLE
+}
+
+// Row i alone, so that a search does not build the whole table.
+fn row_at(i: usize) -> Row
+    requires { ⌜ i < 38 ⌝ }
+    ensures { λ r. ⌜ r ≡ rowAt i ⌝ }
+{
+    match i {
+        0 => MRD_3,
+        1 => MRD_4,
+        2 => MRD_LK_3,
+        3 => MRD_LK_4,
+        4 => MWR_3,
+        5 => MWR_4,
+        6 => IO_RD,
+        7 => IO_WR,
+        8 => CFG_RD_0,
+        9 => CFG_WR_0,
+        10 => CFG_RD_1,
+        11 => CFG_WR_1,
+        12 => CPL,
+        13 => CPL_D,
+        14 => CPL_LK,
+        15 => CPL_D_LK,
+        16 => MSG_0,
+        17 => MSG_1,
+        18 => MSG_2,
+        19 => MSG_3,
+        20 => MSG_4,
+        21 => MSG_5,
+        22 => MSG_6,
+        23 => MSG_7,
+        24 => MSG_D_0,
+        25 => MSG_D_1,
+        26 => MSG_D_2,
+        27 => MSG_D_3,
+        28 => MSG_D_4,
+        29 => MSG_D_5,
+        30 => MSG_D_6,
+        31 => MSG_D_7,
+        32 => FETCH_ADD_3,
+        33 => FETCH_ADD_4,
+        34 => SWAP_3,
+        35 => SWAP_4,
+        36 => CAS_3,
+        _ => CAS_4,
+    }
 }
 
 // Enums are compared by number.

@@ -10,29 +10,23 @@ use Rattle.pairs.proofs.find_kind.Statement.{statement}
 use Rattle.pairs.proofs.find_kind.Tie as tie
 
 abbrev Inv-loop : tie.InvT-loop
-Inv-loop kind form rows i₀ i = (i ≤ 38) × (first (isKind kind form) (drop i table) ≡ findKind kind form)
+Inv-loop kind form i₀ i = (i ≤ 38) × (first (isKind kind form) (drop i table) ≡ findKind kind form)
 
 abbrev μ-loop : tie.MeasureT-loop
-μ-loop kind form rows i₀ i = 38 - i
-
-all-rows-requires : tie.Need-all-rows-requires Inv-loop μ-loop
-all-rows-requires c κs = tt
+μ-loop kind form i₀ i = 38 - i
 
 loop-holds : tie.Need-loop-holds Inv-loop μ-loop
 unfolding findKind
 loop-holds c = (omega arith, refl)
 
-mul-row : tie.Need-mul-row Inv-loop μ-loop
-mul-row c = omega arith
-
-array-copy-out-row : tie.Need-array-copy-out-row Inv-loop μ-loop
-array-copy-out-row c = omega arith
+row-at-requires : tie.Need-row-at-requires Inv-loop μ-loop
+row-at-requires c κs = omega arith
 
 is-kind-requires : tie.Need-is-kind-requires Inv-loop μ-loop
 is-kind-requires c κs = tt
 
 returns : tie.Need-returns Inv-loop μ-loop
-returns c = first-hit _ _ _ (omega arith) (c .before .before .before .before .before .all-rows .ensures) (c .before .is-kind .ensures) (c .if1 .taken) (c .before .before .before .before .loop .inv .1)
+returns c = first-hit _ _ (omega arith) (c .before .before .row-at .ensures) (c .before .is-kind .ensures) (c .if1 .taken) (c .before .before .before .before .loop .inv .1)
 
 add-i : tie.Need-add-i Inv-loop μ-loop
 add-i c = omega arith
@@ -41,7 +35,7 @@ loop-less : tie.Need-loop-less Inv-loop μ-loop
 loop-less c = omega arith
 
 loop-again : tie.Need-loop-again Inv-loop μ-loop
-loop-again c = (omega arith, first-miss _ _ _ (omega arith) (c .before .before .before .before .before .all-rows .ensures) (c .before .is-kind .ensures) (c .if1 .left) (c .before .before .before .before .loop .inv .1))
+loop-again c = (omega arith, first-miss _ _ (omega arith) (c .before .before .row-at .ensures) (c .before .is-kind .ensures) (c .if1 .left) (c .before .before .before .before .loop .inv .1))
 
 returns-2 : tie.Need-returns-2 Inv-loop μ-loop
 returns-2 c = first-none _ (c .before .loop .i) (omega arith) (omega arith) (c .before .loop .inv .1)
@@ -52,10 +46,8 @@ find-kind-spec =
     (tie.spec
     Inv-loop
     μ-loop
-    all-rows-requires
     loop-holds
-    mul-row
-    array-copy-out-row
+    row-at-requires
     is-kind-requires
     returns
     add-i

@@ -10,29 +10,23 @@ use Rattle.pairs.proofs.find_pair.Statement.{statement}
 use Rattle.pairs.proofs.find_pair.Tie as tie
 
 abbrev Inv-loop : tie.InvT-loop
-Inv-loop fmt typ rows i₀ i = (i ≤ 38) × (first (isPair fmt typ) (drop i table) ≡ findPair fmt typ)
+Inv-loop fmt typ i₀ i = (i ≤ 38) × (first (isPair fmt typ) (drop i table) ≡ findPair fmt typ)
 
 abbrev μ-loop : tie.MeasureT-loop
-μ-loop fmt typ rows i₀ i = 38 - i
-
-all-rows-requires : tie.Need-all-rows-requires Inv-loop μ-loop
-all-rows-requires c κs = tt
+μ-loop fmt typ i₀ i = 38 - i
 
 loop-holds : tie.Need-loop-holds Inv-loop μ-loop
 unfolding findPair
 loop-holds c = (omega arith, refl)
 
-mul-row : tie.Need-mul-row Inv-loop μ-loop
-mul-row c = omega arith
-
-array-copy-out-row : tie.Need-array-copy-out-row Inv-loop μ-loop
-array-copy-out-row c = omega arith
+row-at-requires : tie.Need-row-at-requires Inv-loop μ-loop
+row-at-requires c κs = omega arith
 
 is-pair-requires : tie.Need-is-pair-requires Inv-loop μ-loop
 is-pair-requires c κs = tt
 
 returns : tie.Need-returns Inv-loop μ-loop
-returns c = first-hit _ _ _ (omega arith) (c .before .before .before .before .before .all-rows .ensures) (c .before .is-pair .ensures) (c .if1 .taken) (c .before .before .before .before .loop .inv .1)
+returns c = first-hit _ _ (omega arith) (c .before .before .row-at .ensures) (c .before .is-pair .ensures) (c .if1 .taken) (c .before .before .before .before .loop .inv .1)
 
 add-i : tie.Need-add-i Inv-loop μ-loop
 add-i c = omega arith
@@ -41,7 +35,7 @@ loop-less : tie.Need-loop-less Inv-loop μ-loop
 loop-less c = omega arith
 
 loop-again : tie.Need-loop-again Inv-loop μ-loop
-loop-again c = (omega arith, first-miss _ _ _ (omega arith) (c .before .before .before .before .before .all-rows .ensures) (c .before .is-pair .ensures) (c .if1 .left) (c .before .before .before .before .loop .inv .1))
+loop-again c = (omega arith, first-miss _ _ (omega arith) (c .before .before .row-at .ensures) (c .before .is-pair .ensures) (c .if1 .left) (c .before .before .before .before .loop .inv .1))
 
 returns-2 : tie.Need-returns-2 Inv-loop μ-loop
 returns-2 c = first-none _ (c .before .loop .i) (omega arith) (omega arith) (c .before .loop .inv .1)
@@ -52,10 +46,8 @@ find-pair-spec =
     (tie.spec
     Inv-loop
     μ-loop
-    all-rows-requires
     loop-holds
-    mul-row
-    array-copy-out-row
+    row-at-requires
     is-pair-requires
     returns
     add-i

@@ -1,7 +1,7 @@
 -- `pairs::pair_of` meets its contract: Fmt 100 first, then the table. Assumes nothing.
 use borrow.Author.Needs.{needs}
 use borrow.Author.Tests.{eq-eqb, ne-eqb}
-use Rattle.pairs.specs.Pairs.{answerOf, pairOf}
+use Rattle.pairs.specs.Pairs.{pairOf}
 use Rattle.pairs.proofs.pair_of.Statement.{statement}
 use Rattle.pairs.proofs.pair_of.Tie as tie
 

@@ -1,0 +1,107 @@
+//! Times the proved library and the plain implementation side by side, and prints a table.
+//!
+//! `cargo run --release --offline -p bench`
+
+mod measure;
+mod subjects;
+
+use measure::{compare, Times, ROUNDS};
+use std::hint::black_box;
+use subjects::{plain_calls, proved_calls, Backplane};
+
+/// What happens to the buffer that a call writes.
+const NONE: &str = "none";
+const REUSED: &str = "reused, not cleared";
+const FRESH: &str = "new and zeroed, within the time";
+
+fn main() {
+    println!(
+        "Nanoseconds a call, median of {ROUNDS} rounds. The two take turns, a round each, in one run, on the same"
+    );
+    println!("input; both are release builds. The proved calls go through the C ABI into the archive, the plain ones");
+    println!("through functions that are never inlined. Each side has its own Rust types; \"as numbers\" leaves the");
+    println!("types out on both. Every call starts from bytes: plan checks its board, route its header and its sheet.");
+    println!();
+    println!("| call | input | buffer written | plain ns | proved ns | proved/plain |");
+    println!("|---|---|---|---:|---:|---:|");
+    let headers = subjects::headers();
+    headers.iter().for_each(|(name, header)| read(name, header));
+    headers.iter().for_each(|(name, header)| write(name, header));
+    let backplanes = [16, 64, 256].map(Backplane::new);
+    backplanes.iter().for_each(plan);
+    backplanes.iter().for_each(plan_fresh);
+    backplanes.iter().for_each(check);
+    backplanes.iter().for_each(route);
+}
+
+fn row(call: &str, input: &str, buffer: &str, times: Times) {
+    let ratio = times.proved / times.plain;
+    println!("| {call} | {input} | {buffer} | {:.1} | {:.1} | {ratio:.2} |", times.plain, times.proved);
+}
+
+fn read(name: &str, header: &[u8]) {
+    let times =
+        compare(|| plain_calls::read(black_box(header)).is_ok(), || proved_calls::read(black_box(header)).is_ok());
+    row("read", name, NONE, times);
+    let mut answers = ([0; 20], [0; 20]);
+    let times = compare(
+        || plain_calls::read_numbers(black_box(header), black_box(&mut answers.0)),
+        || proved_calls::read_numbers(black_box(header), black_box(&mut answers.1)),
+    );
+    assert_eq!(answers.0, answers.1);
+    row("read, as numbers", name, REUSED, times);
+}
+
+fn write(name: &str, header: &[u8]) {
+    let packets = (plain::read(header), cartsundial::read(header));
+    let (Ok(plain_packet), Ok(proved_packet)) = packets else { panic!("{name} is lawful") };
+    let mut rooms = ([0; 16], [0; 16]);
+    let times = compare(
+        || plain_calls::write(black_box(&plain_packet), black_box(&mut rooms.0)).is_ok(),
+        || proved_calls::write(black_box(&proved_packet), black_box(&mut rooms.1)).is_ok(),
+    );
+    assert_eq!(rooms.0, rooms.1);
+    row("write", name, REUSED, times);
+    let numbers = proved_packet.to_numbers();
+    let times = compare(
+        || plain_calls::write_numbers(black_box(&numbers), black_box(&mut rooms.0)).is_ok(),
+        || proved_calls::write_numbers(black_box(&numbers), black_box(&mut rooms.1)),
+    );
+    row("write, as numbers", name, REUSED, times);
+}
+
+fn plan(backplane: &Backplane) {
+    let board = &backplane.board;
+    let mut sheets = (vec![0; plain::FULL_SHEET], vec![0; plain::FULL_SHEET]);
+    let times = compare(
+        || plain_calls::plan(black_box(board), black_box(&mut sheets.0)).is_ok(),
+        || proved_calls::plan(black_box(board), black_box(&mut sheets.1)).is_ok(),
+    );
+    assert!(sheets.0 == sheets.1);
+    row("plan", &backplane.name, REUSED, times);
+}
+
+fn plan_fresh(backplane: &Backplane) {
+    let board = &backplane.board;
+    let fresh = || vec![0; plain::FULL_SHEET];
+    let times = compare(
+        || plain_calls::plan(black_box(board), black_box(&mut fresh())).is_ok(),
+        || proved_calls::plan(black_box(board), black_box(&mut fresh())).is_ok(),
+    );
+    row("plan", &backplane.name, FRESH, times);
+}
+
+fn check(backplane: &Backplane) {
+    let sheet = &backplane.sheet;
+    let times = compare(|| plain_calls::check(black_box(sheet)), || proved_calls::check(black_box(sheet)).is_ok());
+    row("check", &backplane.name, NONE, times);
+}
+
+fn route(backplane: &Backplane) {
+    let Backplane { header, sheet, .. } = backplane;
+    let times = compare(
+        || plain_calls::route(black_box(header), black_box(sheet)).is_ok(),
+        || proved_calls::route(black_box(header), black_box(sheet)).is_ok(),
+    );
+    row("route", &format!("{}, memory read of the last record", backplane.name), NONE, times);
+}

@@ -1,0 +1,154 @@
+//! What is timed: the calls of both sides, and their inputs.
+
+use inputs::board::{high, memory, Board};
+use inputs::foreign::{completion, request, CPLD, MRD};
+
+/// The plain calls, each in a function of its own, as the proved ones are behind the C ABI.
+pub mod plain_calls {
+    #[inline(never)]
+    pub fn read(header: &[u8]) -> Result<plain::Packet, u8> {
+        plain::read(header)
+    }
+
+    #[inline(never)]
+    pub fn read_numbers(header: &[u8], numbers: &mut [u64; 20]) -> u8 {
+        match plain::read(header) {
+            Ok(packet) => {
+                *numbers = plain::to_numbers(&packet);
+                0
+            }
+            Err(number) => number,
+        }
+    }
+
+    #[inline(never)]
+    pub fn write(packet: &plain::Packet, room: &mut [u8]) -> Result<usize, u8> {
+        plain::write(packet, room)
+    }
+
+    #[inline(never)]
+    pub fn write_numbers(numbers: &[u64; 20], room: &mut [u8]) -> Result<usize, u8> {
+        plain::write_numbers(numbers, room)
+    }
+
+    #[inline(never)]
+    pub fn plan(board: &[u8], sheet: &mut [u8]) -> Result<usize, u8> {
+        plain::plan(board, sheet)
+    }
+
+    #[inline(never)]
+    pub fn check(sheet: &[u8]) -> u8 {
+        plain::check(sheet)
+    }
+
+    #[inline(never)]
+    pub fn route(header: &[u8], sheet: &[u8]) -> Result<(u16, u8, plain::Packet), u8> {
+        plain::route(header, sheet)
+    }
+}
+
+/// The proved calls with Rust types, likewise.
+pub mod proved_calls {
+    use cartsundial::{calls, Delivery, Packet, Refusal};
+
+    #[inline(never)]
+    pub fn read(header: &[u8]) -> Result<Packet, Refusal> {
+        cartsundial::read(header)
+    }
+
+    #[inline(never)]
+    pub fn read_numbers(header: &[u8], numbers: &mut [u64; 20]) -> u32 {
+        calls::read(header, numbers)
+    }
+
+    #[inline(never)]
+    pub fn write(packet: &Packet, room: &mut [u8]) -> Result<usize, Refusal> {
+        cartsundial::write(packet, room)
+    }
+
+    #[inline(never)]
+    pub fn write_numbers(numbers: &[u64; 20], room: &mut [u8]) -> u32 {
+        calls::write(numbers, room, &mut [0])
+    }
+
+    #[inline(never)]
+    pub fn plan(board: &[u8], sheet: &mut [u8]) -> Result<usize, Refusal> {
+        cartsundial::plan(board, sheet)
+    }
+
+    #[inline(never)]
+    pub fn check(sheet: &[u8]) -> Result<(), Refusal> {
+        cartsundial::check(sheet)
+    }
+
+    #[inline(never)]
+    pub fn route(header: &[u8], sheet: &[u8]) -> Result<Delivery, Refusal> {
+        cartsundial::route(header, sheet)
+    }
+}
+
+/// Lawful headers of three shapes.
+pub fn headers() -> [(&'static str, Vec<u8>); 3] {
+    [
+        ("memory read, 12 bytes", request(MRD, 0xF900_0FFC)),
+        ("memory read, 16 bytes", request(MRD, 0x2_4000_0000)),
+        ("completion, 12 bytes", completion(CPLD, 0x0100)),
+    ]
+}
+
+/// Functions in a chain with its endpoints, at most.
+const CHAIN: usize = 64;
+/// The most bridges above any function.
+const DEPTH: usize = 16;
+
+/// A board of chains of bridges with endpoints behind the last, its sheet, and a request for the last endpoint.
+pub struct Backplane {
+    pub name: String,
+    pub board: Vec<u8>,
+    pub sheet: Vec<u8>,
+    pub header: Vec<u8>,
+    depth: usize,
+}
+
+impl Backplane {
+    /// Chains of up to 64 functions: 16 bridges, or half of the functions, then endpoints with a low and a high BAR.
+    pub fn new(functions: usize) -> Backplane {
+        let mut board = Board::new();
+        let chain = functions.min(CHAIN);
+        let depth = DEPTH.min(chain / 2);
+        let card = [memory(14), high(20)[0], high(20)[1]];
+        for number in 0..functions / chain {
+            let last = board.chain(0, (number << 3) as u8, depth);
+            for end in 0..chain - depth {
+                // Several functions to a device.
+                board.add(last, end as u8, 0x80, &card);
+            }
+        }
+        let board = board.bytes();
+        let mut sheet = vec![0; plain::FULL_SHEET];
+        let length = plain::plan(&board, &mut sheet).expect("the board is lawful and there is room");
+        sheet.truncate(length);
+        let header = request(MRD, last_bar(&sheet));
+        Backplane { name: format!("{functions} functions, depth {depth}"), board, sheet, header, depth }
+            .tried(functions)
+    }
+
+    /// Both sides plan this board to this sheet, and deliver the request to the last record.
+    fn tried(self, functions: usize) -> Backplane {
+        let mut sheet = vec![0; plain::FULL_SHEET];
+        assert_eq!(cartsundial::plan(&self.board, &mut sheet), Ok(self.sheet.len()));
+        assert_eq!(sheet[..self.sheet.len()], self.sheet);
+        let delivery = cartsundial::route(&self.header, &self.sheet).expect("the request has an owner");
+        assert_eq!((usize::from(delivery.record), usize::from(delivery.bridges)), (functions, self.depth));
+        let (record, bridges, _) = plain::route(&self.header, &self.sheet).expect("the request has an owner");
+        assert_eq!((record, bridges), (delivery.record, delivery.bridges));
+        self
+    }
+}
+
+/// BAR 0 of the last record.
+fn last_bar(sheet: &[u8]) -> u64 {
+    let at = sheet.len() - 92 + 4 + 0x10;
+    let bar = u32::from_le_bytes([sheet[at], sheet[at + 1], sheet[at + 2], sheet[at + 3]]);
+    u64::from(bar & !15)
+}

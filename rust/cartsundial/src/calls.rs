@@ -1,0 +1,124 @@
+//! The library's seven calls as it has them: slices in, numbers out.
+//!
+//! Each returns 0 or document 01's number. A refused call changes nothing that it was lent. An answer slice that is too
+//! short is 11, tried last; numbers past the answer's own are left as they were.
+
+#![allow(unsafe_code)]
+
+/// How many numbers a packet has: kind, form, TC, Attr, TD, EP, AT, Length, requester, tag, last enables, first
+/// enables, address, target, register, completer, status, BCM, byte count, lower address. A field that the kind does
+/// not have is 0.
+pub const PACKET: usize = 20;
+
+/// How many numbers a delivery has: record, bridges, and the packet as it arrives.
+pub const DELIVERY: usize = 2 + PACKET;
+
+mod c {
+    extern "C" {
+        pub fn cartsundial_read(header: *const u8, header_len: usize, packet: *mut u64, packet_len: usize) -> u32;
+        pub fn cartsundial_write(
+            packet: *const u64,
+            packet_len: usize,
+            room: *mut u8,
+            room_len: usize,
+            written: *mut u64,
+            written_len: usize,
+        ) -> u32;
+        pub fn cartsundial_plan(
+            board: *const u8,
+            board_len: usize,
+            sheet: *mut u8,
+            sheet_len: usize,
+            written: *mut u64,
+            written_len: usize,
+        ) -> u32;
+        pub fn cartsundial_check(sheet: *const u8, sheet_len: usize) -> u32;
+        pub fn cartsundial_lookup(
+            sheet: *const u8,
+            sheet_len: usize,
+            id: u32,
+            offset: *mut u64,
+            offset_len: usize,
+        ) -> u32;
+        pub fn cartsundial_command(sheet: *mut u8, sheet_len: usize, id: u32, command: u32) -> u32;
+        pub fn cartsundial_route(
+            header: *const u8,
+            header_len: usize,
+            sheet: *const u8,
+            sheet_len: usize,
+            answer: *mut u64,
+            answer_len: usize,
+        ) -> u32;
+    }
+}
+
+// SAFETY, of every call below: each pointer comes from a slice and goes with that slice's length; a slice's pointer is
+// never null, not even of an empty one. The borrows last for the call, and a slice that is written is borrowed alone.
+// The library is proved to touch nothing else, for any contents and any lengths.
+
+/// Reads the header at the start of `header` into the first [`PACKET`] numbers of `packet`.
+pub fn read(header: &[u8], packet: &mut [u64]) -> u32 {
+    unsafe { c::cartsundial_read(header.as_ptr(), header.len(), packet.as_mut_ptr(), packet.len()) }
+}
+
+/// Writes the packet that the first [`PACKET`] numbers are to the start of `room`, and the header's length to
+/// `written`.
+///
+/// Fewer numbers are 11, before anything else; a number that its field cannot hold, and one in a field that the kind
+/// does not have, are 10.
+pub fn write(packet: &[u64], room: &mut [u8], written: &mut [u64]) -> u32 {
+    unsafe {
+        c::cartsundial_write(
+            packet.as_ptr(),
+            packet.len(),
+            room.as_mut_ptr(),
+            room.len(),
+            written.as_mut_ptr(),
+            written.len(),
+        )
+    }
+}
+
+/// Plans a board to the start of `sheet`, and writes the sheet's length to `written`.
+pub fn plan(board: &[u8], sheet: &mut [u8], written: &mut [u64]) -> u32 {
+    unsafe {
+        c::cartsundial_plan(
+            board.as_ptr(),
+            board.len(),
+            sheet.as_mut_ptr(),
+            sheet.len(),
+            written.as_mut_ptr(),
+            written.len(),
+        )
+    }
+}
+
+/// Checks a sheet.
+pub fn check(sheet: &[u8]) -> u32 {
+    unsafe { c::cartsundial_check(sheet.as_ptr(), sheet.len()) }
+}
+
+/// Writes to `offset` where in the sheet the 64 register bytes of the function with this ID start. No function has an
+/// ID above FFFFh.
+pub fn lookup(sheet: &[u8], id: u32, offset: &mut [u64]) -> u32 {
+    unsafe { c::cartsundial_lookup(sheet.as_ptr(), sheet.len(), id, offset.as_mut_ptr(), offset.len()) }
+}
+
+/// Rewrites the command word of the function with this ID. A word above FFFFh is 10, before the sheet is read.
+pub fn command(sheet: &mut [u8], id: u32, command: u32) -> u32 {
+    unsafe { c::cartsundial_command(sheet.as_mut_ptr(), sheet.len(), id, command) }
+}
+
+/// Routes a header over a sheet into the first [`DELIVERY`] numbers of `answer`.
+pub fn route(header: &[u8], sheet: &[u8], answer: &mut [u64]) -> u32 {
+    unsafe {
+        c::cartsundial_route(
+            header.as_ptr(),
+            header.len(),
+            sheet.as_ptr(),
+            sheet.len(),
+            answer.as_mut_ptr(),
+            answer.len(),
+        )
+    }
+}

@@ -1,0 +1,129 @@
+//! A PCI Express header codec, board planner and packet router: Rust types over the proved library.
+//!
+//! The archive `libcapi.a` is compiled from proved code: what each call answers, and what the lent bytes then hold, is an
+//! equation with document 01's definitions, for every input. This crate adds types and no rules of its own. Any bytes
+//! may be given; each call ends with an answer or a [`Refusal`], and a refused call changes no lent byte.
+//!
+//! No call allocates, keeps anything or waits. A stack of 128 KiB holds the deepest board and the deepest sheet; that is
+//! tested, not proved.
+//!
+//! | for | call |
+//! |---|---|
+//! | a header's bytes as a packet, and back | [`read()`], [`write()`] |
+//! | a board as a register sheet | [`plan`] |
+//! | a sheet: is it lawful, a function's registers, its command word | [`check`], [`registers`], [`set_command`] |
+//! | the function that a packet goes to | [`route`] |
+//! | the same calls with numbers in place of types | [`calls`] |
+//!
+//! ```
+//! use cartsundial::{plan, route, Refusal, FULL_SHEET};
+//!
+//! // A host without functions.
+//! let mut board = vec![1, 0, 30, 0, 255];
+//! board.extend([0xF9, 0, 0, 0, 0xF9, 0xFF, 0xFF, 0xFF]);
+//! board.extend([0, 0, 0, 2, 0x40, 0, 0, 0, 0, 0, 0, 2, 0x7F, 0xFF, 0xFF, 0xFF]);
+//! board.extend([0x40, 0, 0x4F, 0xFF]);
+//! let mut sheet = vec![0; FULL_SHEET];
+//! assert_eq!(plan(&board, &mut sheet), Ok(1));
+//! assert_eq!(sheet[0], 1);
+//!
+//! // A memory read of one dword at F9000FFC.
+//! let header = [0, 0, 0, 1, 0, 0, 0x21, 0x0F, 0xF9, 0, 0x0F, 0xFC];
+//! assert_eq!(route(&header, &sheet[..1]), Err(Refusal::NoOwner));
+//! ```
+
+#![deny(unsafe_code, missing_docs)]
+
+pub mod calls;
+mod packet;
+mod refusal;
+
+pub use packet::{Body, CompletionKind, ConfigurationKind, Enables, Form, Id, IoKind, MemoryKind, Packet};
+pub use refusal::Refusal;
+
+use calls::{DELIVERY, PACKET};
+
+/// The length of the largest sheet: a version byte and 256 records.
+pub const FULL_SHEET: usize = 23_553;
+
+/// The length of a function's configuration header.
+pub const REGISTERS: usize = 64;
+
+/// Where a packet goes.
+#[derive(Clone, Copy, Debug, PartialEq, Eq, Hash)]
+pub struct Delivery {
+    /// The sheet's record of the function that gets the packet, from 1.
+    pub record: u16,
+    /// How many bridges the packet crosses.
+    pub bridges: u8,
+    /// The packet as it arrives: configuration type 1 has become type 0, nothing else changes.
+    pub packet: Packet,
+}
+
+/// Reads the header at the start of `header`. Later bytes are not looked at.
+///
+/// ```
+/// # use cartsundial::{read, Body, Refusal};
+/// let header = [0, 0, 0, 1, 0, 0, 0x21, 0x0F, 0xF9, 0, 0x0F, 0xFC];
+/// let packet = read(&header).unwrap();
+/// assert!(matches!(packet.body, Body::Memory { address: 0xF900_0FFC, .. }));
+/// assert_eq!(read(&header[..11]), Err(Refusal::ShortHeader));
+/// ```
+pub fn read(header: &[u8]) -> Result<Packet, Refusal> {
+    let mut numbers = [0; PACKET];
+    accepted(calls::read(header, &mut numbers))?;
+    Ok(packet_of(&numbers))
+}
+
+/// Writes the packet's header at the start of `room` and returns its length, 12 or 16. Nothing past it is written.
+pub fn write(packet: &Packet, room: &mut [u8]) -> Result<usize, Refusal> {
+    let mut written = [0];
+    accepted(calls::write(&packet.to_numbers(), room, &mut written))?;
+    Ok(written[0] as usize)
+}
+
+/// Plans `board` at the start of `sheet` and returns the sheet's length, at most [`FULL_SHEET`]. Nothing past it is
+/// written. A board is planned whole or refused.
+pub fn plan(board: &[u8], sheet: &mut [u8]) -> Result<usize, Refusal> {
+    let mut written = [0];
+    accepted(calls::plan(board, sheet, &mut written))?;
+    Ok(written[0] as usize)
+}
+
+/// Checks a sheet: 20 to 29 in document 01's order. The whole slice is the sheet.
+pub fn check(sheet: &[u8]) -> Result<(), Refusal> {
+    accepted(calls::check(sheet))
+}
+
+/// The 64 register bytes of the function with this ID, inside the lent sheet.
+pub fn registers(sheet: &[u8], id: Id) -> Result<&[u8; REGISTERS], Refusal> {
+    let mut offset = [0];
+    accepted(calls::lookup(sheet, id.0.into(), &mut offset))?;
+    let part = sheet.get(offset[0] as usize..).and_then(<[u8]>::first_chunk);
+    Ok(part.expect("a function's registers lie inside its sheet"))
+}
+
+/// Rewrites the command word of the function with this ID, and no other byte.
+pub fn set_command(sheet: &mut [u8], id: Id, command: u16) -> Result<(), Refusal> {
+    accepted(calls::command(sheet, id.0.into(), command.into()))
+}
+
+/// Routes the header from the host over the sheet. A header that is refused is refused before the sheet is read.
+pub fn route(header: &[u8], sheet: &[u8]) -> Result<Delivery, Refusal> {
+    let mut numbers = [0; DELIVERY];
+    accepted(calls::route(header, sheet, &mut numbers))?;
+    let [record, bridges, packet @ ..] = numbers;
+    Ok(Delivery { record: record as u16, bridges: bridges as u8, packet: packet_of(&packet) })
+}
+
+/// 0 is accepted, any other number the refusal.
+fn accepted(number: u32) -> Result<(), Refusal> {
+    match number {
+        0 => Ok(()),
+        _ => Err(Refusal::from_number(number).expect("the library answers with document 01's numbers")),
+    }
+}
+
+fn packet_of(numbers: &[u64; PACKET]) -> Packet {
+    Packet::from_numbers(numbers).expect("the library answers with a packet's numbers")
+}

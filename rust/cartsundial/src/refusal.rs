@@ -1,0 +1,156 @@
+//! Document 01's refusal numbers.
+
+use std::error::Error;
+use std::fmt;
+
+/// Why a call was refused: document 01's number and its meaning.
+#[derive(Clone, Copy, Debug, PartialEq, Eq, PartialOrd, Ord, Hash)]
+#[repr(u8)]
+pub enum Refusal {
+    /// A header under 12 bytes, or under 16 in the four-dword form.
+    ShortHeader = 1,
+    /// A Fmt and Type pair that is unknown; of the writer, a kind and form not carried.
+    UnknownPair = 2,
+    /// A pair that is known but not carried.
+    NotCarried = 3,
+    /// A bit that has no name, an address's low two or TH set; memory AT 11, completion AT not 00.
+    ReservedBits = 4,
+    /// I/O and configuration: TC, Attr, AT or last enables not zero, or Length not 1. Cpl and CplLk: Length code not 0.
+    FixedFields = 5,
+    /// The 64-bit form with upper half zero.
+    UpperHalfZero = 6,
+    /// Memory byte enables.
+    ByteEnables = 7,
+    /// A memory request crosses a 4,096-byte boundary.
+    BoundaryCrossed = 8,
+    /// A completion status that is not 000, 001, 010 or 100.
+    Status = 9,
+    /// A value too wide for its field, a Length outside 1 to 1,024, or an address of 4 GiB or more in the three-dword
+    /// form.
+    TooWide = 10,
+    /// Short room.
+    ShortRoom = 11,
+    /// Empty; lengths not ending at the end; no host record, or host not 30; function under 6; sheet record not 90.
+    Frame = 20,
+    /// Version not 1.
+    Version = 21,
+    /// Over 256 functions.
+    TooManyFunctions = 22,
+    /// Parent, order, depth or function 0.
+    Tree = 23,
+    /// Header type's low seven bits not 0 or 1, or wrong length for it.
+    HeaderType = 24,
+    /// A read-back; on a sheet also a BAR value that does not fit its read-back.
+    ReadBack = 25,
+    /// First bus above last, or a pool's edges.
+    Host = 26,
+    /// Sheet: not own bus = primary < secondary <= subordinate.
+    BusRange = 27,
+    /// Sheet: ID twice.
+    IdTwice = 28,
+    /// Sheet: window nibbles.
+    WindowNibbles = 29,
+    /// First bus + bridges > last bus.
+    NoBuses = 30,
+    /// A low item ends past its pool.
+    NoLowRoom = 31,
+    /// A high item ends past its pool.
+    NoHighRoom = 32,
+    /// An I/O item ends past its pool.
+    NoIoRoom = 33,
+    /// No owner.
+    NoOwner = 40,
+    /// Contested: two claims.
+    Contested = 41,
+    /// Wrong configuration type.
+    ConfigurationType = 42,
+}
+
+impl Refusal {
+    /// Every refusal, by rising number.
+    pub const ALL: [Refusal; 28] = [
+        Refusal::ShortHeader,
+        Refusal::UnknownPair,
+        Refusal::NotCarried,
+        Refusal::ReservedBits,
+        Refusal::FixedFields,
+        Refusal::UpperHalfZero,
+        Refusal::ByteEnables,
+        Refusal::BoundaryCrossed,
+        Refusal::Status,
+        Refusal::TooWide,
+        Refusal::ShortRoom,
+        Refusal::Frame,
+        Refusal::Version,
+        Refusal::TooManyFunctions,
+        Refusal::Tree,
+        Refusal::HeaderType,
+        Refusal::ReadBack,
+        Refusal::Host,
+        Refusal::BusRange,
+        Refusal::IdTwice,
+        Refusal::WindowNibbles,
+        Refusal::NoBuses,
+        Refusal::NoLowRoom,
+        Refusal::NoHighRoom,
+        Refusal::NoIoRoom,
+        Refusal::NoOwner,
+        Refusal::Contested,
+        Refusal::ConfigurationType,
+    ];
+
+    /// Document 01's number.
+    pub const fn number(self) -> u8 {
+        self as u8
+    }
+
+    /// The refusal with this number.
+    pub fn from_number(number: u32) -> Option<Refusal> {
+        Refusal::ALL.into_iter().find(|refusal| u32::from(refusal.number()) == number)
+    }
+
+    /// Document 01's meaning.
+    pub const fn meaning(self) -> &'static str {
+        match self {
+            Refusal::ShortHeader => "header under 12 bytes, or under 16 in the four-dword form",
+            Refusal::UnknownPair => "Fmt and Type pair unknown, or kind and form not carried",
+            Refusal::NotCarried => "Fmt and Type pair known but not carried",
+            Refusal::ReservedBits => "a bit without a name, an address's low two, TH, or AT",
+            Refusal::FixedFields => {
+                "TC, Attr, AT, Length or last enables of I/O or configuration, or Length of Cpl or CplLk"
+            }
+            Refusal::UpperHalfZero => "64-bit form with upper half zero",
+            Refusal::ByteEnables => "memory byte enables",
+            Refusal::BoundaryCrossed => "memory request crosses a 4,096-byte boundary",
+            Refusal::Status => "status not 000, 001, 010 or 100",
+            Refusal::TooWide => "value too wide for its field",
+            Refusal::ShortRoom => "short room",
+            Refusal::Frame => "empty, or lengths of records",
+            Refusal::Version => "version not 1",
+            Refusal::TooManyFunctions => "over 256 functions",
+            Refusal::Tree => "parent, order, depth or function 0",
+            Refusal::HeaderType => "header type, or wrong length for it",
+            Refusal::ReadBack => "read-back, or BAR value",
+            Refusal::Host => "first bus above last, or a pool's edges",
+            Refusal::BusRange => "not own bus = primary < secondary <= subordinate",
+            Refusal::IdTwice => "ID twice",
+            Refusal::WindowNibbles => "window nibbles",
+            Refusal::NoBuses => "first bus + bridges > last bus",
+            Refusal::NoLowRoom => "low item ends past its pool",
+            Refusal::NoHighRoom => "high item ends past its pool",
+            Refusal::NoIoRoom => "I/O item ends past its pool",
+            Refusal::NoOwner => "no owner",
+            Refusal::Contested => "contested",
+            Refusal::ConfigurationType => "wrong configuration type",
+        }
+    }
+}
+
+/// `refused 40: no owner`.
+impl fmt::Display for Refusal {
+    fn fmt(&self, f: &mut fmt::Formatter<'_>) -> fmt::Result {
+        write!(f, "refused {}: {}", self.number(), self.meaning())
+    }
+}
+
+impl Error for Refusal {}

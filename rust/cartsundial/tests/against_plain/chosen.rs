@@ -1,0 +1,54 @@
+//! The chosen cases of the scripts, once, whatever the rounds.
+
+use crate::tally::Tally;
+use crate::{boards, headers, routes, sheets};
+use inputs::random::Random;
+
+pub fn compare(random: &mut Random, _: u64, tally: &mut Tally) {
+    for script in [scripts::boards(), scripts::routes()] {
+        let mut sheet = Vec::new();
+        for line in script.lines() {
+            request(line, &mut sheet, random, tally);
+        }
+    }
+}
+
+/// One line. A board that is planned, and a sheet, become the current sheet.
+fn request(line: &str, sheet: &mut Vec<u8>, random: &mut Random, tally: &mut Tally) {
+    let (word, rest) = line.split_once(' ').unwrap_or((line, ""));
+    match word {
+        "" | "#" => {}
+        "board" => {
+            let board = bytes(rest);
+            boards::plan(&board, random, tally);
+            let mut room = vec![0; plain::FULL_SHEET];
+            if let Ok(length) = plain::plan(&board, &mut room) {
+                room.truncate(length);
+                *sheet = room;
+            }
+        }
+        "sheet" => {
+            *sheet = bytes(rest);
+            sheets::check(sheet, random, tally);
+        }
+        "command" => {
+            let (id, word) = rest.split_once(' ').unwrap_or_else(|| panic!("{line}"));
+            sheets::command(sheet, number(id), number(word), random, tally);
+        }
+        "lookup" => sheets::lookup(sheet, number(rest), random, tally),
+        "header" => {
+            headers::read(&bytes(rest), random, tally);
+            routes::route(&bytes(rest), sheet, random, tally);
+        }
+        _ => panic!("{line}"),
+    }
+}
+
+fn number(text: &str) -> u32 {
+    u32::from_str_radix(text.trim(), 16).unwrap_or_else(|error| panic!("{text}: {error}"))
+}
+
+fn bytes(text: &str) -> Vec<u8> {
+    let digits: Vec<u8> = text.chars().filter_map(|digit| digit.to_digit(16)).map(|digit| digit as u8).collect();
+    digits.chunks(2).map(|pair| pair[0] << 4 | pair[1]).collect()
+}

@@ -1,0 +1,132 @@
+//! How often each call gave each number, and how large what it accepted was.
+
+use std::fmt;
+
+#[derive(Clone, Copy, Debug, PartialEq, Eq)]
+pub enum Call {
+    Read,
+    Write,
+    Plan,
+    Check,
+    Lookup,
+    Command,
+    Route,
+}
+
+const CALLS: [Call; 7] = [Call::Read, Call::Write, Call::Plan, Call::Check, Call::Lookup, Call::Command, Call::Route];
+
+/// One more than the greatest number.
+const NUMBERS: usize = 43;
+
+impl Call {
+    /// The numbers that the call can give, by document 01 and, for 11, by the boundary's answer slices.
+    fn numbers(self) -> &'static [usize] {
+        match self {
+            Call::Read => &[0, 1, 2, 3, 4, 5, 6, 7, 8, 9, 11],
+            Call::Write => &[0, 2, 4, 5, 6, 7, 8, 9, 10, 11],
+            Call::Plan => &[0, 11, 20, 21, 22, 23, 24, 25, 26, 30, 31, 32, 33],
+            Call::Check => &[0, 20, 21, 22, 24, 25, 27, 28, 29],
+            Call::Lookup => &[0, 11, 20, 21, 22, 24, 25, 27, 28, 29, 40],
+            Call::Command => &[0, 10, 20, 21, 22, 24, 25, 27, 28, 29, 40],
+            Call::Route => &[0, 1, 2, 3, 4, 5, 6, 7, 8, 9, 11, 20, 21, 22, 24, 25, 27, 28, 29, 40, 41, 42],
+        }
+    }
+}
+
+pub struct Tally {
+    numbers: [[u64; NUMBERS]; CALLS.len()],
+    /// Boards planned, by their functions.
+    functions: [u64; 257],
+    /// Packets delivered, by the bridges that they crossed.
+    bridges: [u64; 256],
+}
+
+impl Default for Tally {
+    fn default() -> Tally {
+        Tally { numbers: [[0; NUMBERS]; CALLS.len()], functions: [0; 257], bridges: [0; 256] }
+    }
+}
+
+impl Tally {
+    pub fn count(&mut self, call: Call, number: u32) {
+        match self.numbers[call as usize].get_mut(number as usize) {
+            Some(count) => *count += 1,
+            None => panic!("{call:?} gave {number}, which is no number of document 01"),
+        }
+    }
+
+    pub fn planned(&mut self, functions: usize) {
+        self.functions[functions] += 1;
+    }
+
+    pub fn delivered(&mut self, bridges: u8) {
+        self.bridges[usize::from(bridges)] += 1;
+    }
+
+    pub fn total(&self) -> u64 {
+        self.numbers.iter().flatten().sum()
+    }
+
+    /// The numbers that never came back and should have, and those that came back and should not.
+    pub fn faults(&self) -> String {
+        let mut faults = Vec::new();
+        for call in CALLS {
+            for number in 0..NUMBERS {
+                let seen = self.numbers[call as usize][number] > 0;
+                match (seen, call.numbers().contains(&number)) {
+                    (false, true) => faults.push(format!("{call:?} never gave {number}")),
+                    (true, false) => faults.push(format!("{call:?} gave {number}")),
+                    _ => {}
+                }
+            }
+        }
+        if self.functions[256] == 0 {
+            faults.push("no board of 256 functions was planned".into());
+        }
+        if self.bridges[..=16].contains(&0) || self.bridges[255] == 0 {
+            faults.push("some number of bridges, 0 to 16 or 255, was never crossed".into());
+        }
+        faults.join("\n")
+    }
+}
+
+/// Counts by size, in a few parts.
+fn by_size(counts: &[u64]) -> String {
+    let parts = [0..=0, 1..=1, 2..=4, 5..=15, 16..=16, 17..=64, 65..=254, 255..=255, 256..=256];
+    let parts = parts.into_iter().filter(|part| *part.end() < counts.len()).map(|part| {
+        let count: u64 = counts[part.clone()].iter().sum();
+        if part.start() == part.end() {
+            format!("{}: {count}", part.start())
+        } else {
+            format!("{} to {}: {count}", part.start(), part.end())
+        }
+    });
+    parts.collect::<Vec<_>>().join(", ")
+}
+
+impl fmt::Display for Tally {
+    fn fmt(&self, f: &mut fmt::Formatter<'_>) -> fmt::Result {
+        write!(f, "number")?;
+        for call in CALLS {
+            write!(f, " {:>8}", format!("{call:?}").to_lowercase())?;
+        }
+        writeln!(f)?;
+        for number in (0..NUMBERS).filter(|number| CALLS.iter().any(|call| call.numbers().contains(number))) {
+            write!(f, "{number:>6}")?;
+            for call in CALLS {
+                match self.numbers[call as usize][number] {
+                    0 if !call.numbers().contains(&number) => write!(f, " {:>8}", ".")?,
+                    count => write!(f, " {count:>8}")?,
+                }
+            }
+            writeln!(f)?;
+        }
+        write!(f, "   all")?;
+        for call in CALLS {
+            write!(f, " {:>8}", self.numbers[call as usize].iter().sum::<u64>())?;
+        }
+        writeln!(f)?;
+        writeln!(f, "boards planned, by functions: {}", by_size(&self.functions))?;
+        writeln!(f, "packets delivered, by bridges crossed: {}", by_size(&self.bridges))
+    }
+}

@@ -1,0 +1,13 @@
+//! Inputs for the tests: chosen ones, and random ones that are the same at every run with the same seed.
+
+#![forbid(unsafe_code)]
+
+pub mod aim;
+pub mod board;
+pub mod damage;
+pub mod foreign;
+pub mod header;
+pub mod numbers;
+pub mod random;
+pub mod registers;
+pub mod trees;

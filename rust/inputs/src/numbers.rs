@@ -1,0 +1,203 @@
+//! Packets as twenty numbers, lawful or not, and the headers that they make.
+
+use crate::random::Random;
+use std::ops::Range;
+
+pub type Numbers = [u64; 20];
+
+/// The places of the fields.
+pub const KIND: usize = 0;
+pub const FORM: usize = 1;
+pub const TC: usize = 2;
+pub const ATTR: usize = 3;
+pub const TD: usize = 4;
+pub const EP: usize = 5;
+pub const AT: usize = 6;
+pub const LENGTH: usize = 7;
+pub const REQUESTER: usize = 8;
+pub const TAG: usize = 9;
+pub const LAST: usize = 10;
+pub const FIRST: usize = 11;
+pub const ADDRESS: usize = 12;
+pub const TARGET: usize = 13;
+pub const REGISTER: usize = 14;
+pub const COMPLETER: usize = 15;
+pub const STATUS: usize = 16;
+pub const BCM: usize = 17;
+pub const COUNT: usize = 18;
+pub const LOWER: usize = 19;
+
+/// Byte 0 of each kind in the three-dword form.
+const BYTE0: [u32; 13] = [0x00, 0x01, 0x40, 0x02, 0x42, 0x04, 0x44, 0x05, 0x45, 0x0A, 0x4A, 0x0B, 0x4B];
+
+/// How many bits each field has in a header.
+const WIDTHS: [u32; 20] = [8, 3, 3, 3, 1, 1, 2, 10, 16, 8, 4, 4, 64, 16, 10, 16, 3, 1, 12, 7];
+
+/// A lawful packet of any kind.
+pub fn lawful(random: &mut Random) -> Numbers {
+    match random.below(8) {
+        0..=3 => memory(random),
+        4 => io(random),
+        5 => configuration(random),
+        _ => completion(random),
+    }
+}
+
+/// A lawful memory request.
+pub fn memory(random: &mut Random) -> Numbers {
+    let mut numbers = start(random, 0..3);
+    numbers[TC] = random.below(8);
+    numbers[ATTR] = random.below(8);
+    numbers[AT] = random.below(3);
+    let length = match random.below(8) {
+        0..=2 => 1,
+        3 => 2,
+        4 => 1024,
+        5 => 1 + random.below(1024),
+        _ => 3 + random.below(16),
+    };
+    numbers[LENGTH] = length;
+    set_enables(&mut numbers, random);
+    // Often up to the very end of the page.
+    let room = 1024 - length;
+    let offset = if random.chance(1, 4) { room } else { random.below(room + 1) };
+    let page = match random.below(4) {
+        0 => 0,
+        1 => 0xF_FFFF,
+        _ => random.below(1 << 20),
+    };
+    numbers[ADDRESS] = page << 12 | offset << 2;
+    if random.chance(1, 2) {
+        numbers[FORM] = 4;
+        numbers[ADDRESS] |= upper(random) << 32;
+    }
+    numbers
+}
+
+/// A nonzero upper half, often of one bit.
+fn upper(random: &mut Random) -> u64 {
+    match random.below(4) {
+        0 => 1 << random.below(32),
+        1 => 0xFFFF_FFFF,
+        _ => 1 + random.below(0xFFFF_FFFF),
+    }
+}
+
+/// Lawful enables for the packet's Length.
+fn set_enables(numbers: &mut Numbers, random: &mut Random) {
+    (numbers[LAST], numbers[FIRST]) = match numbers[LENGTH] {
+        1 => (0, random.below(16)),
+        2 => (1 + random.below(15), 1 + random.below(15)),
+        _ => (0xF >> random.below(4), 0xF << random.below(4) & 0xF),
+    };
+}
+
+/// A lawful I/O request.
+pub fn io(random: &mut Random) -> Numbers {
+    let mut numbers = start(random, 3..5);
+    numbers[LENGTH] = 1;
+    numbers[FIRST] = random.below(16);
+    numbers[ADDRESS] = random.word() & if random.chance(1, 2) { 0xFFFC } else { 0xFFFF_FFFC };
+    numbers
+}
+
+/// A lawful configuration request.
+pub fn configuration(random: &mut Random) -> Numbers {
+    let mut numbers = start(random, 5..9);
+    numbers[LENGTH] = 1;
+    numbers[FIRST] = random.below(16);
+    numbers[TARGET] = random.below(1 << 16);
+    numbers[REGISTER] = random.below(1 << 10);
+    numbers
+}
+
+/// A lawful completion.
+pub fn completion(random: &mut Random) -> Numbers {
+    let mut numbers = start(random, 9..13);
+    numbers[TC] = random.below(8);
+    numbers[ATTR] = random.below(8);
+    // Cpl and CplLk have no Length.
+    numbers[LENGTH] = if numbers[KIND] % 2 == 1 { 0 } else { 1 + random.below(1024) };
+    numbers[COMPLETER] = random.below(1 << 16);
+    numbers[STATUS] = [0, 0, 1, 2, 4][random.below(5) as usize];
+    numbers[BCM] = random.below(2);
+    numbers[COUNT] = random.below(1 << 12);
+    numbers[LOWER] = random.below(1 << 7);
+    numbers
+}
+
+/// What every kind has.
+fn start(random: &mut Random, kinds: Range<u64>) -> Numbers {
+    let mut numbers = [0; 20];
+    numbers[KIND] = kinds.start + random.below(kinds.end - kinds.start);
+    numbers[FORM] = 3;
+    numbers[TD] = random.below(2);
+    numbers[EP] = random.below(2);
+    numbers[REQUESTER] = random.below(1 << 16);
+    numbers[TAG] = random.below(1 << 8);
+    numbers
+}
+
+/// A lawful memory or I/O request of one dword, or of as many as the page has room for, at an address.
+pub fn request(random: &mut Random, is_io: bool, address: u64) -> Numbers {
+    if is_io {
+        let mut numbers = io(random);
+        numbers[ADDRESS] = address & 0xFFFF_FFFC;
+        return numbers;
+    }
+    let mut numbers = memory(random);
+    numbers[ADDRESS] = address & !3;
+    numbers[FORM] = if address >> 32 == 0 { 3 } else { 4 };
+    if (address & 0xFFC) + 4 * numbers[LENGTH] > 0x1000 {
+        numbers[LENGTH] = 1;
+        set_enables(&mut numbers, random);
+    }
+    numbers
+}
+
+/// Gives one or two fields another value: at an edge of the field, past it, or any.
+pub fn spoil(numbers: &mut Numbers, random: &mut Random) {
+    for _ in 0..1 + random.below(2) {
+        let field = random.below(20) as usize;
+        let most = u64::MAX >> (64 - WIDTHS[field]);
+        numbers[field] = match random.below(10) {
+            0 => 0,
+            1 => 1,
+            2 => most,
+            3 => most.wrapping_add(1),
+            4 => numbers[field] ^ 1 << random.below(u64::from(WIDTHS[field])),
+            5 => [0xFF, 0x100, 0xFFFF, 0x1_0000, 0xFFFF_FFFF, 1 << 32][random.below(6) as usize],
+            6 => u64::MAX,
+            7 => numbers[field].wrapping_add(1),
+            8 => random.word(),
+            _ => random.word() & most,
+        };
+    }
+}
+
+/// The header of these numbers by the layout alone: of a value too wide for its field the low bits are taken.
+pub fn header(numbers: &Numbers) -> Vec<u8> {
+    let field = |field: usize| (numbers[field] & (u64::MAX >> (64 - WIDTHS[field]))) as u32;
+    let kind = numbers[KIND] as usize % BYTE0.len();
+    let has_four = numbers[FORM] == 4;
+    let first = (BYTE0[kind] | u32::from(has_four) << 5) << 24
+        | field(TC) << 20
+        | (field(ATTR) & 4) << 16
+        | field(TD) << 15
+        | field(EP) << 14
+        | (field(ATTR) & 3) << 12
+        | field(AT) << 10
+        | field(LENGTH);
+    let asker = field(REQUESTER) << 16 | field(TAG) << 8;
+    let request = asker | field(LAST) << 4 | field(FIRST);
+    let completion = field(COMPLETER) << 16 | field(STATUS) << 13 | field(BCM) << 12 | field(COUNT);
+    let mut dwords = match kind {
+        0..=4 => vec![first, request, numbers[ADDRESS] as u32],
+        5..=8 => vec![first, request, field(TARGET) << 16 | field(REGISTER) << 2],
+        _ => vec![first, completion, asker | field(LOWER)],
+    };
+    if has_four {
+        dwords.insert(2, (numbers[ADDRESS] >> 32) as u32);
+    }
+    dwords.into_iter().flat_map(u32::to_be_bytes).collect()
+}

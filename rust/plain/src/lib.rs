@@ -1,0 +1,19 @@
+//! Document 01 in plain, safe Rust: the header codec, the board planner and the packet router.
+//!
+//! Written from the document alone. The proved library is compared with it, and the stored answers of the test
+//! programs come from it. Every refusal is document 01's number.
+
+#![forbid(unsafe_code)]
+
+mod bar;
+mod board;
+mod packet;
+mod plan;
+mod pool;
+mod route;
+mod sheet;
+
+pub use packet::{read, to_numbers, write, write_numbers, Form, Kind, Packet};
+pub use plan::plan;
+pub use route::route;
+pub use sheet::{check, listing, lookup, set_command, Sheet, FULL_SHEET};

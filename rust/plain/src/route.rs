@@ -1,0 +1,132 @@
+//! The router: the walk of a packet from the host over a sheet's registers.
+
+use crate::bar::{self, Bar};
+use crate::packet::{self, Family, Kind, Packet};
+use crate::pool::Pool;
+use crate::sheet::{Record, Sheet};
+
+/// Routes the header over the sheet: the owner's record number, the bridges crossed, and the packet as it arrives.
+pub fn route(header: &[u8], sheet: &[u8]) -> Result<(u16, u8, Packet), u8> {
+    let packet = packet::read(header)?;
+    Sheet::new(sheet)?.route(packet)
+}
+
+/// What an address finds on a bus.
+enum Claim {
+    /// A BAR of the record with this index.
+    Bar(usize),
+    /// A window to this bus.
+    Window(u8),
+}
+
+#[derive(Clone, Copy, PartialEq, Eq)]
+enum Space {
+    Io,
+    Memory,
+}
+
+impl Space {
+    /// The command bit that enables the space.
+    fn enable(self) -> u16 {
+        match self {
+            Space::Io => 1,
+            Space::Memory => 2,
+        }
+    }
+
+    fn windows(self) -> &'static [Pool] {
+        match self {
+            Space::Io => &[Pool::Io],
+            Space::Memory => &[Pool::Low, Pool::High],
+        }
+    }
+}
+
+impl Sheet<'_> {
+    /// Routes an accepted packet.
+    pub fn route(&self, mut packet: Packet) -> Result<(u16, u8, Packet), u8> {
+        let root = self.records().next().ok_or(40)?.bus();
+        let (index, bridges) = match packet.kind.family() {
+            Family::Memory => self.walk_by_address(root, Space::Memory, packet.address)?,
+            Family::Io => self.walk_by_address(root, Space::Io, packet.address)?,
+            Family::Completion => self.walk_by_id(root, packet.requester)?,
+            Family::Configuration => {
+                let on_root = packet.target.to_be_bytes()[0] == root;
+                let is_type0 = matches!(packet.kind, Kind::CfgRd0 | Kind::CfgWr0);
+                if on_root != is_type0 {
+                    return Err(42);
+                }
+                let owner = self.walk_by_id(root, packet.target)?;
+                packet.kind = match packet.kind {
+                    Kind::CfgRd1 => Kind::CfgRd0,
+                    Kind::CfgWr1 => Kind::CfgWr0,
+                    kind => kind,
+                };
+                owner
+            }
+        };
+        // A sheet has at most 256 records.
+        Ok((index as u16 + 1, bridges, packet))
+    }
+
+    /// The bus number rises at each bridge, so there are at most 255.
+    fn walk_by_address(&self, root: u8, space: Space, address: u64) -> Result<(usize, u8), u8> {
+        let (mut bus, mut bridges) = (root, 0);
+        loop {
+            match self.claim(bus, space, address)? {
+                Claim::Bar(index) => return Ok((index, bridges)),
+                Claim::Window(secondary) => bus = secondary,
+            }
+            bridges += 1;
+        }
+    }
+
+    /// The one claim of an address on a bus, or 40 or 41.
+    fn claim(&self, bus: u8, space: Space, address: u64) -> Result<Claim, u8> {
+        let mut claim = None;
+        for (index, record) in self.records().enumerate() {
+            if record.bus() != bus || record.command() & space.enable() == 0 {
+                continue;
+            }
+            let bars = bars_that_hold(record, space, address).map(|_| Claim::Bar(index));
+            let windows = windows_that_hold(record, space, address).map(|_| Claim::Window(record.secondary()));
+            for found in bars.chain(windows) {
+                if claim.replace(found).is_some() {
+                    return Err(41);
+                }
+            }
+        }
+        claim.ok_or(40)
+    }
+
+    fn walk_by_id(&self, root: u8, id: u16) -> Result<(usize, u8), u8> {
+        let target = id.to_be_bytes()[0];
+        let (mut bus, mut bridges) = (root, 0);
+        while bus != target {
+            let mut towards = self.records().filter(|record| record.leads(bus, target));
+            let secondary = towards.next().ok_or(40)?.secondary();
+            if towards.next().is_some() {
+                return Err(41);
+            }
+            bus = secondary;
+            bridges += 1;
+        }
+        let index = self.records().position(|record| record.id() == id).ok_or(40)?;
+        Ok((index, bridges))
+    }
+}
+
+/// The BARs of the record that hold the address.
+fn bars_that_hold(record: Record<'_>, space: Space, address: u64) -> impl Iterator<Item = Bar> + '_ {
+    bar::bars(record.read_backs())
+        .filter(move |bar| bar.is_io == (space == Space::Io) && bar.holds(record.value(bar), address))
+}
+
+/// The windows of the record that hold the address; only a bridge has any.
+fn windows_that_hold(record: Record<'_>, space: Space, address: u64) -> impl Iterator<Item = Pool> + '_ {
+    let pools = if record.is_bridge() { space.windows() } else { &[] };
+    pools.iter().copied().filter(move |&pool| {
+        let (first, last) = record.window(pool);
+        first <= address && address <= last
+    })
+}

@@ -1,0 +1,237 @@
+//! The router: demand 3 on planned sheets, and any sheet against the walk written out word for word.
+
+use inputs::board::{self, Board, Style};
+use inputs::foreign::{completion, configuration, request};
+use inputs::random::Random;
+use inputs::registers;
+use plain::Kind;
+
+/// A function of a sheet as the rules see it; ranges over 128-bit numbers, ends inside.
+struct Function {
+    id: u16,
+    command: u16,
+    bridge: Option<(u8, u8)>,
+    bars: Vec<(bool, u128, u128)>,
+    windows: Vec<(bool, u128, u128)>,
+}
+
+fn little(bytes: &[u8]) -> u128 {
+    bytes.iter().rev().fold(0, |number, &byte| number << 8 | u128::from(byte))
+}
+
+fn functions(sheet: &[u8]) -> Vec<Function> {
+    sheet[1..].chunks_exact(92).map(function).collect()
+}
+
+fn function(record: &[u8]) -> Function {
+    let registers = &record[4..68];
+    let is_bridge = registers[0x0E] & 0x7F == 1;
+    let mut bars = Vec::new();
+    let mut slot = 0;
+    while slot < if is_bridge { 2 } else { 6 } {
+        let read_back = u32::from_be_bytes(record[68 + 4 * slot..72 + 4 * slot].try_into().unwrap());
+        let value = little(&registers[0x10 + 4 * slot..0x14 + 4 * slot]);
+        if read_back & 1 == 1 {
+            let size = 1u128 << (read_back & 0xFFFC).trailing_zeros();
+            bars.push((true, value - 1, value - 1 + size - 1));
+        } else if read_back & 4 == 4 {
+            let upper = u32::from_be_bytes(record[72 + 4 * slot..76 + 4 * slot].try_into().unwrap());
+            let mask = u64::from(upper) << 32 | u64::from(read_back & !15);
+            let start = little(&registers[0x14 + 4 * slot..0x18 + 4 * slot]) << 32 | value & !15;
+            bars.push((false, start, start + (1u128 << mask.trailing_zeros()) - 1));
+            slot += 1;
+        } else if read_back != 0 {
+            let start = value & !15;
+            bars.push((false, start, start + (1u128 << (read_back & !15).trailing_zeros()) - 1));
+        }
+        slot += 1;
+    }
+    let mut windows = Vec::new();
+    if is_bridge {
+        windows.push((true, little(&registers[0x1C..0x1D]) << 8, (little(&registers[0x1D..0x1E]) << 8) + 0xFFF));
+        windows.push((false, little(&registers[0x20..0x22]) << 16, (little(&registers[0x22..0x24]) << 16) + 0xF_FFFF));
+        let base = little(&registers[0x28..0x2C]) << 32 | (little(&registers[0x24..0x26]) - 1) << 16;
+        let limit = little(&registers[0x2C..0x30]) << 32 | (little(&registers[0x26..0x28]) - 1) << 16;
+        windows.push((false, base, limit + 0xF_FFFF));
+    }
+    Function {
+        id: u16::from_be_bytes([record[2], record[3]]),
+        command: u16::from_le_bytes([registers[4], registers[5]]),
+        bridge: is_bridge.then_some((registers[0x19], registers[0x1A])),
+        bars,
+        windows,
+    }
+}
+
+/// The walk: record and bridges.
+fn walk(functions: &[Function], packet: &plain::Packet) -> Result<(u16, u8), u8> {
+    let root = (functions.first().ok_or(40)?.id >> 8) as u8;
+    let is_io = matches!(packet.kind, Kind::IORd | Kind::IOWr);
+    match packet.kind {
+        Kind::MRd | Kind::MRdLk | Kind::MWr | Kind::IORd | Kind::IOWr => {
+            by_address(functions, root, is_io, packet.address.into(), 0)
+        }
+        Kind::Cpl | Kind::CplD | Kind::CplLk | Kind::CplDLk => by_id(functions, root, packet.requester, 0),
+        Kind::CfgRd0 | Kind::CfgWr0 if (packet.target >> 8) as u8 != root => Err(42),
+        Kind::CfgRd1 | Kind::CfgWr1 if (packet.target >> 8) as u8 == root => Err(42),
+        _ => by_id(functions, root, packet.target, 0),
+    }
+}
+
+fn by_address(functions: &[Function], bus: u8, is_io: bool, address: u128, crossed: u8) -> Result<(u16, u8), u8> {
+    let mut claims: Vec<(u16, Option<u8>)> = Vec::new();
+    for (record, function) in (1..).zip(functions) {
+        if (function.id >> 8) as u8 != bus || function.command & if is_io { 1 } else { 2 } == 0 {
+            continue;
+        }
+        let holds = |range: &&(bool, u128, u128)| range.0 == is_io && range.1 <= address && address <= range.2;
+        claims.extend(function.bars.iter().filter(holds).map(|_| (record, None)));
+        let secondary = function.bridge.map(|range| range.0);
+        claims.extend(function.windows.iter().filter(holds).map(|_| (record, secondary)));
+    }
+    match claims[..] {
+        [] => Err(40),
+        [(record, None)] => Ok((record, crossed)),
+        [(_, Some(secondary))] => by_address(functions, secondary, is_io, address, crossed + 1),
+        _ => Err(41),
+    }
+}
+
+fn by_id(functions: &[Function], bus: u8, id: u16, crossed: u8) -> Result<(u16, u8), u8> {
+    let target = (id >> 8) as u8;
+    if target == bus {
+        let index = functions.iter().position(|function| function.id == id).ok_or(40)?;
+        return Ok((index as u16 + 1, crossed));
+    }
+    let ways: Vec<u8> = functions
+        .iter()
+        .filter(|function| (function.id >> 8) as u8 == bus)
+        .filter_map(|function| function.bridge)
+        .filter(|range| range.0 <= target && target <= range.1)
+        .map(|range| range.0)
+        .collect();
+    match ways[..] {
+        [] => Err(40),
+        [secondary] => by_id(functions, secondary, id, crossed + 1),
+        _ => Err(41),
+    }
+}
+
+/// A board with random command words, and its sheet.
+fn planned(numbers: &mut Random) -> Option<(Board, Vec<u8>)> {
+    let style = Style {
+        functions: 1 + numbers.below(30) as usize,
+        bridges: 20 + numbers.below(50),
+        memory_bits: 6 + numbers.below(18) as u32,
+        io_bits: 3 + numbers.below(6) as u32,
+    };
+    let mut board = board::random(numbers, &style);
+    for function in &mut board.functions {
+        function.command |= if numbers.chance(4, 5) { 3 } else { 0 };
+    }
+    let mut room = vec![0; plain::FULL_SHEET];
+    let length = plain::plan(&board.bytes(), &mut room).ok()?;
+    room.truncate(length);
+    Some((board, room))
+}
+
+/// Addresses at and around the edges of BARs and windows, as headers.
+fn requests(functions: &[Function], numbers: &mut Random) -> Vec<Vec<u8>> {
+    let mut headers = Vec::new();
+    for function in functions {
+        for &(is_io, first, last) in function.bars.iter().chain(&function.windows) {
+            let inside = first + u128::from(numbers.word()) % (last.saturating_sub(first) + 1);
+            for address in [first.wrapping_sub(4), first, inside & !3, last & !3, last + 1] {
+                let limit = if is_io { 1 << 32 } else { 1 << 64 };
+                if address < limit {
+                    let byte0 = [[0x00, 0x40], [0x02, 0x42]][usize::from(is_io)][numbers.below(2) as usize];
+                    headers.push(request(byte0, address as u64));
+                }
+            }
+        }
+    }
+    headers
+}
+
+#[test]
+fn demand_3() {
+    let mut numbers = Random::new(5);
+    let (mut delivered, mut refused) = (0, 0);
+    for _ in 0..600 {
+        let Some((board, mut sheet)) = planned(&mut numbers) else { continue };
+        for _ in 0..numbers.below(3) {
+            let index = numbers.below(board.functions.len() as u64) as usize;
+            let id = functions(&sheet)[index].id;
+            assert_eq!(plain::set_command(&mut sheet, id, numbers.word() as u16), 0);
+        }
+        let functions = functions(&sheet);
+        for header in requests(&functions, &mut numbers) {
+            let packet = plain::read(&header).unwrap();
+            let is_io = matches!(packet.kind, Kind::IORd | Kind::IOWr);
+            let address = u128::from(packet.address);
+            let owners: Vec<usize> = (0..functions.len())
+                .filter(|&index| {
+                    functions[index].bars.iter().any(|bar| bar.0 == is_io && bar.1 <= address && address <= bar.2)
+                })
+                .collect();
+            assert!(owners.len() < 2);
+            let mut expected = Err(40);
+            if let [owner] = owners[..] {
+                let enabled = |index: usize| functions[index].command & if is_io { 1 } else { 2 } != 0;
+                let (mut above, mut count, mut all) = (board.functions[owner].parent, 0, enabled(owner));
+                while above != 0 {
+                    count += 1;
+                    all &= enabled(usize::from(above) - 1);
+                    above = board.functions[usize::from(above) - 1].parent;
+                }
+                if all {
+                    expected = Ok((owner as u16 + 1, count, packet));
+                }
+            }
+            assert_eq!(plain::route(&header, &sheet), expected);
+            match expected {
+                Ok(_) => delivered += 1,
+                Err(_) => refused += 1,
+            }
+        }
+    }
+    assert!(delivered > 10_000 && refused > 10_000, "{delivered} {refused}");
+}
+
+#[test]
+fn any_sheet() {
+    let mut numbers = Random::new(6);
+    let mut seen = [0; 43];
+    let mut sheets = 0;
+    for _ in 0..6000 {
+        let Some((_, mut sheet)) = planned(&mut numbers) else { continue };
+        registers::rewrite(&mut sheet, &mut numbers);
+        if plain::check(&sheet) != 0 {
+            continue;
+        }
+        sheets += 1;
+        let functions = functions(&sheet);
+        let mut headers = requests(&functions, &mut numbers);
+        headers.truncate(60);
+        for _ in 0..10 {
+            let near = functions[numbers.below(functions.len() as u64) as usize].id;
+            let id = near.wrapping_add([0, 0, 0, 1, 0x100, 0x8][numbers.below(6) as usize]);
+            let byte0 = [0x04, 0x44, 0x05, 0x45][numbers.below(4) as usize];
+            headers.push(configuration(byte0, id, numbers.below(1024) as u16));
+            headers.push(completion([0x0A, 0x4A, 0x0B, 0x4B][numbers.below(4) as usize], id));
+        }
+        for header in headers {
+            let mut packet = plain::read(&header).unwrap();
+            let expected = walk(&functions, &packet);
+            packet.kind = match packet.kind {
+                Kind::CfgRd1 => Kind::CfgRd0,
+                Kind::CfgWr1 => Kind::CfgWr0,
+                kind => kind,
+            };
+            seen[usize::from(expected.err().unwrap_or(0))] += 1;
+            assert_eq!(plain::route(&header, &sheet), expected.map(|(record, bridges)| (record, bridges, packet)));
+        }
+    }
+    assert!(sheets > 1000, "{sheets}");
+    assert!([0, 40, 41, 42].iter().all(|&number| seen[number] > 300), "{seen:?}");
+}

@@ -1,0 +1,877 @@
+//! The router's script: planned sheets at their edges, command words, sheets that no planner wrote, and refusals.
+
+use crate::script::Script;
+use inputs::board::{self, memory, wide, Board, Style};
+use inputs::foreign::*;
+use inputs::random::Random;
+
+pub fn script() -> String {
+    let mut script = Script::default();
+    no_sheet(&mut script);
+    example(&mut script);
+    command_words(&mut script);
+    tree(&mut script);
+    depth(&mut script);
+    edges(&mut script);
+    outside(&mut script);
+    contested(&mut script);
+    tops(&mut script);
+    io_windows(&mut script);
+    closed_spellings(&mut script);
+    odd_buses(&mut script);
+    long_chains(&mut script);
+    no_functions(&mut script);
+    damaged_headers(&mut script);
+    damaged_sheets(&mut script);
+    two_faults(&mut script);
+    full_sheets(&mut script);
+    script.0
+}
+
+/// A sheet, then headers over it.
+fn put(script: &mut Script, why: &str, records: &[Record], headers: &[Vec<u8>]) {
+    script.note(why);
+    script.sheet(&sheet(records));
+    for header in headers {
+        script.header(header);
+    }
+}
+
+fn no_sheet(script: &mut Script) {
+    script.note("before any sheet");
+    script.header(&request(MRD, 0xF900_0FFC));
+    script.header(&request(MRD, 0xF900_0FFD));
+    script.header(&[]);
+    script.lookup(0x0000);
+    script.command(0x0000, 0x0003);
+}
+
+fn example(script: &mut Script) {
+    script.note("P10");
+    script.board(&board::p10().bytes());
+    for address in [0xF900_0FFC, 0xF900_1000, 0xF900_0000, 0xF8FF_FFFC, 0xF90F_FFFC] {
+        script.header(&request(MRD, address));
+    }
+    for address in [0x2_4000_0000, 0x2_43FF_FFFC, 0x2_4400_0000, 0x2_3FFF_FFFC, 0x1_F900_0000, 0x4000_0000] {
+        script.header(&request(MWR, address));
+    }
+    for address in [0x4000, 0x40FC, 0x4100, 0x3FFC, 0x1_4000 & 0xFFFF_FFFF] {
+        script.header(&request(IORD, address));
+    }
+    for header in [
+        configuration(CFGRD0, 0x0000, 0),
+        configuration(CFGRD1, 0x0000, 0),
+        configuration(CFGRD0, 0x0100, 0),
+        configuration(CFGRD1, 0x0100, 0x3FF),
+        configuration(CFGWR1, 0x0100, 0x041),
+        configuration(CFGWR0, 0x0000, 0x100),
+        configuration(CFGWR0, 0x0008, 0),
+        configuration(CFGWR1, 0x0101, 0),
+        configuration(CFGWR1, 0x0200, 0),
+        configuration(CFGWR0, 0x0200, 0),
+        completion(CPL, 0x0000),
+        completion(CPLD, 0x0100),
+        completion(CPLLK, 0x0100),
+        completion(CPLDLK, 0x0108),
+        completion(CPLD, 0x0200),
+    ] {
+        script.header(&header);
+    }
+    script.note("small letters and spaces");
+    script.raw("header 00 00 00 01 00 00 21 0f f9 00 0f fc");
+    script.raw("header 0000 0001 0000210F  f9000FfC");
+    script.note("a request arrives with every field as it was");
+    script.header(&[0x60, 0x54, 0xF4, 0x10, 0xBE, 0xEF, 0xA5, 0x1E, 0, 0, 0, 2, 0x40, 0, 0x0F, 0xC0, 0xDE, 0xAD]);
+    script.header(&[0x01, 0x70, 0x48, 0x02, 0x12, 0x34, 0x00, 0x5A, 0xF9, 0x00, 0x0F, 0xF8]);
+    script.header(&[0x20, 0x00, 0x00, 0x00, 0x00, 0x08, 0x80, 0xFF, 0, 0, 0, 2, 0x42, 0x00, 0x00, 0x00]);
+    script.header(&[0x4A, 0x34, 0xD0, 0x00, 0xFE, 0xDC, 0x5F, 0xFF, 0x01, 0x00, 0xFF, 0x7F]);
+    for id in [0x0000, 0x0100, 0x0101, 0xFFFF] {
+        script.lookup(id);
+    }
+}
+
+fn command_words(script: &mut Script) {
+    script.note("P10 with command words rewritten");
+    script.board(&board::p10().bytes());
+    let words = [
+        (0x0000, 0x0000),
+        (0x0000, 0x0001),
+        (0x0000, 0x0002),
+        (0x0000, 0xFFFF),
+        (0x0100, 0x0001),
+        (0x0100, 0x0002),
+        (0x0100, 0x0004),
+        (0x0100, 0xFFFC),
+        (0x0100, 0x0403),
+    ];
+    for (id, word) in words {
+        script.command(id, word);
+        script.header(&request(MRD, 0xF900_0000));
+        script.header(&request(MRD, 0x2_4000_0000));
+        script.header(&request(IOWR, 0x4000));
+        script.header(&configuration(CFGRD1, 0x0100, 1));
+    }
+    script.header(&completion(CPL, 0x0100));
+    script.command(0x0200, 0x0003);
+    script.command(0x0001, 0x0003);
+    script.header(&request(MRD, 0xF900_0000));
+    let mut board = Board::new();
+    let bridge = board.add(0, 0, 1, &[memory(12), board::io(4)]);
+    board.end(bridge, 0, &[memory(12), board::io(4)]);
+    board.functions[0].command = 0;
+    board.functions[1].command = 0;
+    script.note("a bridge with BARs of its own, nothing enabled");
+    script.board(&board.bytes());
+    for (id, word) in [(0x0000, 0), (0x0000, 1), (0x0000, 2), (0x0100, 2), (0x0100, 1), (0x0000, 3), (0x0100, 3)] {
+        script.command(id, word);
+        for address in [0x8000_0000, 0x8010_0000] {
+            script.header(&request(MRD, address));
+        }
+        for address in [0x1000, 0x2000] {
+            script.header(&request(IORD, address));
+        }
+    }
+}
+
+fn tree(script: &mut Script) {
+    script.note("source document 001's tree: every bus");
+    script.board(&board::document_001().bytes());
+    for bus in 0..=11 {
+        script.header(&configuration(CFGRD1, bus << 8, 2));
+        script.header(&configuration(CFGWR0, bus << 8, 2));
+        script.header(&completion(CPLD, bus << 8 | 8));
+    }
+    script.header(&completion(CPL, 0x0301));
+    script.header(&configuration(CFGRD1, 0x0301, 2));
+    script.header(&configuration(CFGRD1, 0x0610, 2));
+    script.header(&configuration(CFGRD1, 0xFF00, 2));
+    for id in [0x0000, 0x0008, 0x0610, 0x0A00, 0x0A08] {
+        script.lookup(id);
+    }
+}
+
+fn depth(script: &mut Script) {
+    let mut board = Board::new();
+    let last = board.chain(0, 0, 16);
+    board.end(last, 0x18, &[memory(12), board::io(8), board::high(24)[0], board::high(24)[1]]);
+    script.note("16 bridges");
+    script.board(&board.bytes());
+    for header in [
+        request(MRD, 0x8000_0FFC),
+        request(MRD, 0x8000_1000),
+        request(IORD, 0x10FC),
+        request(IORD, 0x1100),
+        request(MWR, 0x10_00FF_FFFC),
+        request(MWR, 0x10_0100_0000),
+        configuration(CFGRD1, 0x1018, 0),
+        configuration(CFGRD1, 0x0F00, 0),
+        completion(CPL, 0x1018),
+        completion(CPL, 0x1100),
+    ] {
+        script.header(&header);
+    }
+    script.command(0x0800, 0x0001);
+    script.header(&request(MRD, 0x8000_0000));
+    script.header(&request(IORD, 0x1000));
+    script.header(&configuration(CFGRD1, 0x1018, 0));
+    script.command(0x1018, 0x0002);
+    script.header(&request(IORD, 0x1000));
+}
+
+/// The first, last and next dword of every BAR and window of planned sheets, each register read from the sheet.
+fn edges(script: &mut Script) {
+    let mut numbers = Random::new(10_004);
+    let styles = [
+        Style { functions: 5, bridges: 40, memory_bits: 20, io_bits: 8 },
+        Style { functions: 9, bridges: 40, memory_bits: 22, io_bits: 6 },
+        Style { functions: 14, bridges: 50, memory_bits: 24, io_bits: 4 },
+    ];
+    for style in &styles {
+        let mut room = vec![0; plain::FULL_SHEET];
+        let mut board = board::random(&mut numbers, style);
+        for function in &mut board.functions {
+            // Most functions are enabled.
+            function.command |= if numbers.chance(5, 6) { 3 } else { 0 };
+        }
+        let Ok(length) = plain::plan(&board.bytes(), &mut room) else { continue };
+        script.note("a planned sheet: first, last and next dword of BARs and windows");
+        script.board(&board.bytes());
+        let mut requests = Vec::new();
+        for record in room[1..length].chunks_exact(92) {
+            bar_edges(record, &mut requests);
+            window_edges(record, &mut requests);
+        }
+        let keep = requests.len().div_ceil(24);
+        let start = numbers.below(keep as u64) as usize;
+        for header in requests.iter().skip(start).step_by(keep) {
+            script.header(header);
+        }
+    }
+}
+
+fn register(record: &[u8], at: usize, width: usize) -> u64 {
+    record[4 + at..4 + at + width].iter().rev().fold(0, |number, &byte| number << 8 | u64::from(byte))
+}
+
+fn around(requests: &mut Vec<Vec<u8>>, byte0: u8, first: u64, size: u64) {
+    requests.push(request(byte0, first));
+    requests.push(request(byte0, first + size - 4));
+    requests.push(request(byte0, first + size));
+}
+
+fn bar_edges(record: &[u8], requests: &mut Vec<Vec<u8>>) {
+    let slots = if record[4 + 0x0E] & 0x7F == 1 { 2 } else { 6 };
+    let mut slot = 0;
+    while slot < slots {
+        let at = 68 + 4 * slot;
+        let read_back = u32::from_be_bytes(record[at..at + 4].try_into().unwrap());
+        let is_wide = read_back & 7 == 4;
+        if read_back & 1 == 1 {
+            let size = 1 << (read_back & 0xFFFC).trailing_zeros();
+            around(requests, IORD, register(record, 0x10 + 4 * slot, 4) & !3, size);
+        } else if read_back != 0 {
+            let upper = if is_wide { register(record, 0x14 + 4 * slot, 4) } else { 0 };
+            // The sizes here are below 4 GiB.
+            let size = 1 << (read_back & !15).trailing_zeros();
+            around(requests, MWR, upper << 32 | register(record, 0x10 + 4 * slot, 4) & !15, size);
+        }
+        slot += 1 + usize::from(is_wide);
+    }
+}
+
+fn window_edges(record: &[u8], requests: &mut Vec<Vec<u8>>) {
+    if record[4 + 0x0E] & 0x7F != 1 {
+        return;
+    }
+    let (base, limit) = (register(record, 0x1C, 1) << 8, register(record, 0x1D, 1) << 8);
+    if base <= limit {
+        around(requests, IOWR, base, limit + 0x1000 - base);
+    }
+    let (base, limit) = (register(record, 0x20, 2) << 16, register(record, 0x22, 2) << 16);
+    if base <= limit {
+        around(requests, MRD, base, limit + 0x10_0000 - base);
+    }
+    let half = |at, upper| register(record, upper, 4) << 32 | (register(record, at, 2) & 0xFFF0) << 16;
+    let (base, limit) = (half(0x24, 0x28), half(0x26, 0x2C));
+    if base <= limit {
+        around(requests, MRD, base, limit + 0x10_0000 - base);
+    }
+}
+
+/// A bridge to bus 1 with a low window of 16 MiB at F9000000, and a function behind it.
+fn bridge_and_end() -> [Record; 2] {
+    [Record::bridge(0x0000, 1, 1).low(0xF900, 0xF9F0), Record::end(0x0100).bar(0, memory(12), 0xF900_0000)]
+}
+
+fn outside(script: &mut Script) {
+    let [bridge, end] = bridge_and_end();
+    let wide_end = |start| Record::end(0x0100).wide(2, 12, 20, start);
+    put(
+        script,
+        "a BAR outside the window above it: 40",
+        &[bridge.clone(), end.clone().value(0, 0xFA00_0000)],
+        &[request(MRD, 0xFA00_0000), request(MRD, 0xF900_0000)],
+    );
+    put(
+        script,
+        "half of a BAR outside the window above it",
+        &[bridge.clone().low(0xF900, 0xF900), Record::end(0x0100).bar(1, memory(21), 0xF900_0000 & !0x1F_FFFF)],
+        &[request(MRD, 0xF900_0000), request(MRD, 0xF90F_FFFC), request(MRD, 0xF910_0000)],
+    );
+    put(
+        script,
+        "a 64-bit BAR in the low window, and one in the high",
+        &[
+            bridge.clone().high(0x0011, 0x0011, 9, 9),
+            wide_end(0xF9F0_0000),
+            Record::end(0x0108).wide(4, 4, 20, 0x9_0010_0000),
+        ],
+        &[request(MRD, 0xF9F0_0000), request(MWR, 0x9_0010_0000), request(MWR, 0x9_0020_0000), request(MRD, 0x10_0000)],
+    );
+    put(
+        script,
+        "a 32-bit BAR holds nothing above 4 GiB",
+        &[bridge.clone().high(0xF901, 0xF901, 1, 1), end.clone()],
+        &[request(MRD, 0xF900_0000), request(MRD, 0x1_F900_0000)],
+    );
+    put(
+        script,
+        "a BAR at address 0 and an unused slot",
+        &[Record::end(0x0000).bar(5, memory(4), 0).bar(1, 0xFFFF_FFFD, 1)],
+        &[request(MRD, 0), request(MRD, 12), request(MRD, 16), request(IORD, 0), request(IORD, 4)],
+    );
+    put(
+        script,
+        "every byte that no rule names is free",
+        &[
+            bridge.set(0x00, 0x86).set(0x06, 0xFF).set(0x1B, 9).set(0x1E, 0xA0).set(0x30, 0x11).set(0x3F, 0xFF),
+            end.set(0x02, 0x34).set(0x28, 0x55).set(0x2C, 1).set(0x30, 1).set(0x3D, 1).set(0x0E, 0x80),
+        ],
+        &[request(MRD, 0xF900_0000), configuration(CFGRD1, 0x0100, 0)],
+    );
+}
+
+fn contested(script: &mut Script) {
+    let [bridge, end] = bridge_and_end();
+    let twin = Record::bridge(0x0008, 2, 2).low(0xF9F0, 0xFA00);
+    put(
+        script,
+        "two windows over one address: 41",
+        &[bridge.clone(), end.clone(), twin.clone()],
+        &[request(MRD, 0xF9F0_0000), request(MRD, 0xF900_0000), request(MRD, 0xFA00_0000), request(MRD, 0xF9EF_FFFC)],
+    );
+    put(
+        script,
+        "the same with the second disabled, then the first",
+        &[bridge.clone().low(0xF900, 0xFA00), end.clone(), twin.clone().low(0xF900, 0xFA00).command(1)],
+        &[request(MRD, 0xF900_0000)],
+    );
+    script.command(0x0008, 0x0002);
+    script.header(&request(MRD, 0xF900_0000));
+    script.command(0x0000, 0x0001);
+    script.header(&request(MRD, 0xF900_0000));
+    put(
+        script,
+        "two functions' BARs over one address",
+        &[
+            bridge.clone(),
+            end.clone(),
+            Record::end(0x0101).bar(0, memory(13), 0xF900_0000),
+            Record::end(0x0102).bar(3, memory(12), 0xF900_1000).command(1),
+        ],
+        &[request(MRD, 0xF900_0000), request(MRD, 0xF900_0FFC), request(MRD, 0xF900_1000)],
+    );
+    script.command(0x0101, 0x0000);
+    script.header(&request(MRD, 0xF900_0000));
+    script.header(&request(MRD, 0xF900_1000));
+    put(
+        script,
+        "two BARs of one function",
+        &[Record::end(0x0000).bar(0, memory(12), 0x1000).bar(1, memory(5), 0x1FE0).wide(3, 12, 4, 0x1000)],
+        &[request(MRD, 0x1000), request(MRD, 0x1010), request(MRD, 0x1FDC), request(MRD, 0x1FE0)],
+    );
+    put(
+        script,
+        "a bridge's BAR inside its own window",
+        &[bridge.clone().bar(1, memory(20), 0xF900_0000), end.clone()],
+        &[request(MRD, 0xF900_0000), request(MRD, 0xF910_0000)],
+    );
+    put(
+        script,
+        "low and high window of one bridge over one address",
+        &[bridge.clone().high(0xF901, 0xF911, 0, 0), Record::end(0x0100).bar(0, memory(22), 0xF900_0000)],
+        &[request(MRD, 0xF900_0000), request(MRD, 0xF91F_FFFC), request(MRD, 0xF920_0000)],
+    );
+    put(
+        script,
+        "a BAR of the other space is no claim",
+        &[Record::end(0x0000).bar(0, memory(8), 0x4000).bar(1, 0xFFFF_FF01, 0x4001)],
+        &[request(MRD, 0x4000), request(IORD, 0x4000), request(IORD, 0x40FC), request(IORD, 0x4100)],
+    );
+    put(
+        script,
+        "contested on the second bus only",
+        &[
+            bridge.clone(),
+            Record::bridge(0x0100, 2, 2).low(0xF900, 0xF900),
+            Record::end(0x0108).bar(0, memory(20), 0xF900_0000),
+            Record::end(0x0200).bar(0, memory(20), 0xF900_0000),
+        ],
+        &[request(MRD, 0xF900_0000), request(MRD, 0xF910_0000)],
+    );
+    put(
+        script,
+        "two I/O windows, and an I/O BAR beside one",
+        &[
+            Record::bridge(0x0000, 1, 1).io(0x20, 0x30),
+            Record::bridge(0x0008, 2, 2).io(0x30, 0x40),
+            Record::end(0x0010).bar(0, 0xFFFF_F001, 0x4001),
+            Record::end(0x0100).bar(0, 0xFFFF_E001, 0x2001),
+        ],
+        &[request(IORD, 0x2FFC), request(IORD, 0x3000), request(IORD, 0x4000), request(IORD, 0x5000)],
+    );
+}
+
+fn tops(script: &mut Script) {
+    let top = u64::MAX - 0xF;
+    put(
+        script,
+        "BARs that end at 2^64",
+        &[
+            Record::end(0x0000).wide(0, 12, 4, top).wide(2, 4, 62, 1 << 63),
+            Record::end(0x0008).wide(4, 4, 20, u64::MAX - 0xFFFF_FFFF),
+        ],
+        &[
+            request(MRD, top),
+            request(MRD, u64::MAX - 3),
+            request(MRD, top - 4),
+            request(MRD, 1 << 63),
+            request(MRD, (1 << 63) + (1 << 62) - 4),
+            request(MRD, (1 << 63) + (1 << 62)),
+            request(MRD, 0),
+            request(MRD, 0xFFFF_FFFF_0000_0000),
+        ],
+    );
+    put(
+        script,
+        "a BAR of 2^63 bytes, and both halves",
+        &[Record::end(0x0000).wide(0, 12, 63, 1 << 63), Record::end(0x0008).wide(1, 12, 63, 0)],
+        &[
+            request(MRD, 0),
+            request(MRD, (1 << 63) - 4),
+            request(MRD, 1 << 63),
+            request(MRD, u64::MAX - 3),
+            request(MRD, 1 << 32),
+        ],
+    );
+    put(
+        script,
+        "windows that end at 2^64 and at 2^32",
+        &[
+            Record::bridge(0x0000, 1, 1).high(0x0001, 0xFFF1, 0xFFFF_FFFF, 0xFFFF_FFFF).low(0x8000, 0xFFF0),
+            Record::end(0x0100).wide(0, 12, 4, top).bar(2, memory(16), 0xFFFF_0000),
+        ],
+        &[
+            request(MRD, u64::MAX - 3),
+            request(MRD, top - 4),
+            request(MRD, 0xFFFF_FFFC),
+            request(MRD, 0xFFFF_0000),
+            request(MRD, 0xFFFF_FFFF_0000_0000),
+            request(MRD, 0),
+        ],
+    );
+    put(
+        script,
+        "a high window over everything",
+        &[
+            Record::bridge(0x0000, 1, 1).high(0x0001, 0xFFF1, 0, 0xFFFF_FFFF),
+            Record::end(0x0100).bar(2, memory(31), 0x8000_0000).wide(4, 4, 32, u64::MAX << 32),
+        ],
+        &[
+            request(MRD, 0x8000_0000),
+            request(MRD, 0xFFFF_FFFC),
+            request(MRD, 0x7FFF_FFFC),
+            request(MRD, u64::MAX - 3),
+            request(MRD, (u64::MAX << 32) - 4),
+        ],
+    );
+}
+
+fn io_windows(script: &mut Script) {
+    put(
+        script,
+        "I/O windows hold nothing above FFFFh",
+        &[
+            Record::bridge(0x0000, 1, 1).io(0xF0, 0xF0),
+            Record::bridge(0x0008, 2, 2).io(0x00, 0x00),
+            Record::end(0x0100).bar(0, 0x0000_FF01, 0xFF01).bar(1, 0xFFFF_FF01, 0xF001),
+            Record::end(0x0200).bar(0, 0xFFFF_F001, 0x0001),
+        ],
+        &[
+            request(IORD, 0xFFFC),
+            request(IORD, 0xFF00),
+            request(IORD, 0xFEFC),
+            request(IORD, 0xF000),
+            request(IORD, 0x1_F000),
+            request(IORD, 0x1_FFFC),
+            request(IORD, 0x1_0000),
+            request(IORD, 0x0FFC),
+            request(IORD, 0x1000),
+            request(IOWR, 0xFFFF_FFFC),
+            request(IOWR, 0xFFFF_F000),
+        ],
+    );
+    put(
+        script,
+        "I/O BARs on the root bus hold nothing above FFFFh",
+        &[Record::end(0x0000).bar(0, 0xFFFF_8001, 0x8001).bar(2, 0x0000_8001, 0x0001)],
+        &[
+            request(IORD, 0),
+            request(IORD, 0x7FFC),
+            request(IORD, 0x8000),
+            request(IORD, 0xFFFC),
+            request(IORD, 0x1_8000),
+        ],
+    );
+}
+
+fn closed_spellings(script: &mut Script) {
+    let behind =
+        Record::end(0x0100).bar(0, memory(20), 0x8000_0000).bar(1, 0xFFFF_F001, 0x2001).wide(2, 12, 20, 0x1_8000_0000);
+    let headers = [request(MRD, 0x8000_0000), request(IORD, 0x2000), request(MRD, 0x1_8000_0000)];
+    let bridge = || Record::bridge(0x0000, 1, 1);
+    let spellings = [
+        ("open by one granule each", bridge().low(0x8000, 0x8000).io(0x20, 0x20).high(0x8001, 0x8001, 1, 1)),
+        ("closed by one granule each", bridge().low(0x8010, 0x8000).io(0x30, 0x20).high(0x8011, 0x8001, 1, 1)),
+        ("closed below the address", bridge().low(0x8000, 0x7FF0).io(0x20, 0x10).high(0x8001, 0x7FF1, 1, 1)),
+        ("closed by the upper words", bridge().low(0xFFF0, 0x8000).io(0xF0, 0x20).high(0x0001, 0xFFF1, 2, 1)),
+        ("open by the upper words", bridge().low(0x0000, 0xFFF0).io(0x00, 0xF0).high(0xFFF1, 0x0001, 0, 2)),
+        ("registers of 0 are open at 0", bridge().low(0, 0).io(0, 0).high(1, 1, 0, 0)),
+        ("the usual spelling with upper words", bridge().high(0xFFF1, 0x0001, 0xFFFF_FFFF, 0)),
+    ];
+    for (why, bridge) in spellings {
+        put(script, &format!("windows: {why}"), &[bridge, behind.clone()], &headers);
+    }
+    script.header(&request(MRD, 0));
+    put(
+        script,
+        "registers of 0 contest the first MiB",
+        &[bridge().low(0, 0).high(1, 1, 0, 0), Record::end(0x0100).bar(0, memory(20), 0)],
+        &[request(MRD, 0), request(MRD, 0x10_0000)],
+    );
+}
+
+fn odd_buses(script: &mut Script) {
+    let card = |id: u16, start| Record::end(id).bar(0, memory(20), start);
+    put(
+        script,
+        "two bridges to one bus",
+        &[
+            Record::bridge(0x0000, 3, 3).low(0x1000, 0x1000),
+            Record::bridge(0x0008, 3, 3).low(0x1010, 0x1010),
+            card(0x0300, 0x1000_0000),
+            card(0x0308, 0x1010_0000),
+        ],
+        &[
+            request(MRD, 0x1000_0000),
+            request(MRD, 0x1010_0000),
+            request(MRD, 0x1020_0000),
+            configuration(CFGRD1, 0x0300, 0),
+            completion(CPL, 0x0308),
+        ],
+    );
+    put(
+        script,
+        "the first record is on bus 5, a bridge above it is never met",
+        &[
+            card(0x0500, 0x1000_0000),
+            Record::bridge(0x0000, 5, 9).low(0x1000, 0x1FF0),
+            Record::bridge(0x0508, 9, 9).low(0x1010, 0x1010),
+            card(0x0900, 0x1010_0000),
+            card(0x0008, 0x1020_0000),
+        ],
+        &[
+            request(MRD, 0x1000_0000),
+            request(MRD, 0x1010_0000),
+            request(MRD, 0x1020_0000),
+            configuration(CFGRD0, 0x0500, 0),
+            configuration(CFGRD0, 0x0000, 0),
+            configuration(CFGRD1, 0x0000, 0),
+            configuration(CFGRD1, 0x0500, 0),
+            configuration(CFGRD1, 0x0900, 0),
+            completion(CPLD, 0x0008),
+            completion(CPLD, 0x0508),
+        ],
+    );
+    script.lookup(0x0008);
+    script.lookup(0x0900);
+    put(
+        script,
+        "bus ranges that overlap, and one that promises too much",
+        &[
+            Record::bridge(0x0000, 1, 6),
+            Record::bridge(0x0008, 5, 9),
+            Record::bridge(0x0100, 3, 3),
+            Record::end(0x0300),
+            Record::end(0x0500),
+            Record::bridge(0x0508, 7, 8),
+            Record::end(0x0700),
+            Record::end(0x0A00),
+        ],
+        &[
+            configuration(CFGRD1, 0x0100, 0),
+            configuration(CFGRD1, 0x0300, 0),
+            configuration(CFGRD1, 0x0200, 0),
+            configuration(CFGRD1, 0x0400, 0),
+            configuration(CFGRD1, 0x0500, 0),
+            configuration(CFGRD1, 0x0600, 0),
+            configuration(CFGRD1, 0x0700, 0),
+            configuration(CFGRD1, 0x0800, 0),
+            configuration(CFGRD1, 0x0900, 0),
+            configuration(CFGRD1, 0x0A00, 0),
+            completion(CPL, 0x0500),
+            completion(CPL, 0x0508),
+            completion(CPL, 0x0000),
+            completion(CPL, 0x0018),
+        ],
+    );
+    script.command(0x0008, 0);
+    script.command(0x0508, 0);
+    script.header(&configuration(CFGWR1, 0x0700, 0));
+    script.header(&completion(CPL, 0x0700));
+    put(
+        script,
+        "buses up to 255",
+        &[
+            Record::bridge(0xFD00, 0xFE, 0xFF).low(0x1000, 0x1000),
+            Record::bridge(0xFE00, 0xFF, 0xFF).low(0x1000, 0x1000),
+            card(0xFFFF, 0x1000_0000),
+        ],
+        &[
+            request(MRD, 0x1000_0000),
+            configuration(CFGRD1, 0xFFFF, 0),
+            configuration(CFGRD1, 0xFE00, 0),
+            configuration(CFGRD0, 0xFD00, 0),
+            configuration(CFGRD0, 0xFFFF, 0),
+            completion(CPL, 0xFFF8),
+            completion(CPL, 0xFC00),
+        ],
+    );
+    put(
+        script,
+        "a window to a bus without functions",
+        &[Record::bridge(0x0000, 1, 3).low(0x1000, 0x1000), card(0x0200, 0x1000_0000)],
+        &[request(MRD, 0x1000_0000), configuration(CFGRD1, 0x0200, 0), configuration(CFGRD1, 0x0100, 0)],
+    );
+}
+
+fn long_chains(script: &mut Script) {
+    for count in [20, 255] {
+        let mut records: Vec<Record> = (0..count)
+            .map(|bus: u16| Record::bridge(bus << 8, bus as u8 + 1, count as u8).low(0x1000, 0x1000).io(0x30, 0x30))
+            .collect();
+        records.push(Record::end(count << 8).bar(0, memory(4), 0x1000_0010).bar(1, 0xFFFF_FFFD, 0x3001));
+        put(
+            script,
+            &format!("{count} bridges in a row"),
+            &records,
+            &[
+                request(MRD, 0x1000_0010),
+                request(MRD, 0x1000_0020),
+                request(IORD, 0x3000),
+                configuration(CFGRD1, count << 8, 0),
+                completion(CPL, (count - 1) << 8),
+            ],
+        );
+        script.command((count - 1) << 8, 2);
+        script.header(&request(MRD, 0x1000_0010));
+        script.header(&request(IORD, 0x3000));
+        script.lookup(count << 8);
+    }
+}
+
+fn no_functions(script: &mut Script) {
+    script.note("no functions: 40 before 42");
+    script.board(&Board::new().bytes());
+    for header in [
+        request(MRD, 0x8000_0000),
+        request(IORD, 0x1000),
+        configuration(CFGRD0, 0x0000, 0),
+        configuration(CFGRD1, 0x0000, 0),
+        configuration(CFGWR0, 0x0100, 0),
+        completion(CPL, 0x0000),
+        request(MRD, 0x8000_0001),
+    ] {
+        script.header(&header);
+    }
+    script.lookup(0x0000);
+    script.command(0x0000, 0x0003);
+}
+
+fn damaged_headers(script: &mut Script) {
+    let with = |header: Vec<u8>, changes: &[(usize, u8)]| {
+        let mut header = header;
+        for &(at, byte) in changes {
+            header[at] = byte;
+        }
+        header
+    };
+    let low = || request(MRD, 0xF900_0000);
+    let high = || request(MRD, 0x2_4000_0000);
+    let headers: Vec<Vec<u8>> = vec![
+        low()[..11].to_vec(),
+        high()[..15].to_vec(),
+        high()[..12].to_vec(),
+        with(low(), &[(0, 0x1F)]),
+        with(low(), &[(0, 0x22)]),
+        with(low(), &[(0, 0xA0)]),
+        with(low(), &[(0, 0x30)]),
+        with(low(), &[(0, 0x80)]),
+        with(low(), &[(0, 0x6D)]),
+        with(low(), &[(1, 0x80)]),
+        with(low(), &[(1, 0x01)]),
+        with(low(), &[(2, 0x0C)]),
+        with(low(), &[(11, 0x02)]),
+        with(request(IORD, 0x4000), &[(11, 0x01)]),
+        with(configuration(CFGRD1, 0x0100, 0), &[(10, 0x10)]),
+        with(completion(CPL, 0x0100), &[(2, 0x04)]),
+        with(request(IORD, 0x4000), &[(2, 0x0C)]),
+        with(request(IORD, 0x4000), &[(3, 2)]),
+        with(configuration(CFGRD1, 0x0100, 0), &[(1, 0x04)]),
+        with(configuration(CFGRD1, 0x0100, 0), &[(7, 0x1F)]),
+        with(completion(CPLLK, 0x0100), &[(3, 1)]),
+        with(high(), &[(11, 0)]),
+        with(low(), &[(7, 0x1F)]),
+        with(low(), &[(3, 3), (7, 0xF5)]),
+        with(low(), &[(3, 2), (7, 0xF0)]),
+        with(low(), &[(2, 3), (3, 0xFF), (7, 0xFF), (11, 8)]),
+        with(low(), &[(3, 0), (7, 0xFF), (11, 4)]),
+        with(completion(CPL, 0x0100), &[(6, 0x60)]),
+        with(completion(CPLD, 0x0100), &[(6, 0xA0)]),
+    ];
+    script.note("damaged headers over P10's sheet");
+    script.board(&board::p10().bytes());
+    for header in &headers {
+        script.header(header);
+    }
+    script.note("and over a sheet that fails its checks");
+    script.sheet(&sheet(&[Record::end(0x0100), Record::end(0x0100)]));
+    for header in headers.iter().step_by(4) {
+        script.header(header);
+    }
+    script.header(&low());
+    script.header(&configuration(CFGRD0, 0x0200, 0));
+    script.lookup(0x0100);
+    script.lookup(0x0200);
+    script.command(0x0100, 0x0000);
+    script.note("a refused board leaves the sheet before it");
+    script.board(&board::p10().bytes());
+    script.board(&[1]);
+    script.header(&low());
+}
+
+fn damaged_sheets(script: &mut Script) {
+    let good = || {
+        vec![
+            Record::bridge(0x0000, 1, 2).low(0xF900, 0xF900).bar(0, 0xFFFF_FF01, 0x4001),
+            Record::end(0x0100).bar(0, memory(12), 0xF900_0000).wide(1, 12, 33, 0x6_0000_0000),
+        ]
+    };
+    put(script, "a good sheet, damaged below", &good(), &[request(MRD, 0xF900_0000)]);
+    let bytes = sheet(&good());
+    let shortened = |mut bytes: Vec<u8>, at: usize, byte: u8| {
+        bytes[at] = byte;
+        bytes
+    };
+    let raw: [(&str, Vec<u8>); 11] = [
+        ("20: no byte", vec![]),
+        ("20: a stray byte", [&bytes[..], &[0]].concat()),
+        ("20: the last byte is missing", bytes[..bytes.len() - 1].to_vec()),
+        ("20: record length 89", shortened(bytes.clone(), 2, 89)),
+        ("20: record length 91", shortened(bytes.clone(), 94, 91)),
+        ("20: record length 90 + 256", shortened(bytes.clone(), 93, 1)),
+        ("20: a record of no bytes", [&bytes[..], &[0, 0]].concat()),
+        ("20: a record of 89 bytes, whole", [&[1, 0, 89], &bytes[3..92]].concat()),
+        ("21: version 0", shortened(bytes.clone(), 0, 0)),
+        ("21: version 2 alone", vec![2]),
+        ("the version alone", vec![1]),
+    ];
+    for (why, bytes) in raw {
+        script.note(why);
+        script.sheet(&bytes);
+    }
+    let change = |index: usize, change: &dyn Fn(Record) -> Record| {
+        let mut records = good();
+        records[index] = change(records[index].clone());
+        records
+    };
+    let sheets: Vec<(&str, Vec<Record>)> = vec![
+        ("24: header type 2", change(1, &|r| r.set(0x0E, 2))),
+        ("24: header type FF", change(0, &|r| r.set(0x0E, 0xFF))),
+        ("header type 81 is a bridge", change(0, &|r| r.set(0x0E, 0x81))),
+        ("27: primary is not the own bus", change(0, &|r| r.set(0x18, 1).set(0x19, 2))),
+        ("27: secondary is the own bus", change(0, &|r| r.set(0x19, 0))),
+        ("27: subordinate below secondary", change(0, &|r| r.set(0x19, 2).set(0x1A, 1))),
+        ("a type 0 function has no bus numbers", change(1, &|r| r.set(0x2C, 9))),
+        (
+            "28: an ID twice",
+            change(1, &|mut r| {
+                r.id = 0;
+                r
+            }),
+        ),
+        ("25: read-back F0FFF000", change(1, &|r| r.read_back(0, 0xF0FF_F000))),
+        ("25: a value off its size", change(1, &|r| r.value(0, 0xF900_0800))),
+        ("25: a value without its type bits", change(1, &|r| r.value(1, 0))),
+        ("25: a value with type bits that it lacks", change(1, &|r| r.value(0, 0xF900_0008))),
+        ("25: an upper half off its size", change(1, &|r| r.value(2, 7))),
+        ("25: a nonzero value in an unused slot", change(1, &|r| r.value(4, 0x10))),
+        ("25: a nonzero value in a bridge's unused slot", change(0, &|r| r.value(1, 1))),
+        ("25: an I/O BAR above FFFFh", change(0, &|r| r.value(0, 0x1_4001))),
+        ("25: an I/O BAR of type memory", change(0, &|r| r.value(0, 0x4000))),
+        ("25: an I/O BAR with bit 1", change(0, &|r| r.value(0, 0x4003))),
+        ("25: an I/O read-back that is neither", change(0, &|r| r.read_back(0, 0x00FF_FF01))),
+        ("25: a bridge's third read-back", change(0, &|r| r.read_back(2, memory(12)))),
+        ("25: a bridge's last read-back", change(0, &|r| r.read_back(5, 1))),
+        ("25: a 64-bit BAR in a bridge's slot 1", change(0, &|r| r.bar(1, wide(12)[0], 4))),
+        ("25: a 64-bit BAR in slot 5", change(1, &|r| r.bar(5, wide(12)[0], 4))),
+        ("29: I/O base", change(0, &|r| r.io(0xF1, 0))),
+        ("29: I/O limit", change(0, &|r| r.io(0xF0, 0x01))),
+        ("29: low base", change(0, &|r| r.low(0xF901, 0xF900))),
+        ("29: low limit", change(0, &|r| r.low(0xF900, 0xF908))),
+        ("29: high base", change(0, &|r| r.high(0xFFF0, 0x0001, 0, 0))),
+        ("29: high limit", change(0, &|r| r.high(0xFFF1, 0x0003, 0, 0))),
+    ];
+    for (why, records) in sheets {
+        put(script, why, &records, &[]);
+    }
+    script.header(&request(MRD, 0xF900_0000));
+    script.lookup(0x0000);
+    script.command(0x0000, 0);
+}
+
+/// Sheets with two faults, whose numbers show the order of the checks.
+fn two_faults(script: &mut Script) {
+    type Damage = fn(&mut Vec<Record>);
+    let good = vec![
+        Record::end(0x0008).bar(0, memory(12), 0xF900_0000),
+        Record::bridge(0x0000, 1, 2),
+        Record::bridge(0x0010, 3, 3),
+        Record::end(0x0018),
+    ];
+    let faults: [(u8, Damage); 6] = [
+        (20, |records| records[3].length = 91),
+        (24, |records| records[3].registers[0x0E] = 2),
+        (27, |records| records[2].registers[0x19] = 0),
+        (28, |records| records[0].id = 0x0000),
+        (25, |records| records[0].registers[0x10] = 1),
+        (29, |records| records[1].registers[0x1C] = 0xF2),
+    ];
+    let mut bytes = sheet(&good);
+    bytes[0] = 2;
+    bytes.push(0);
+    script.note("21 before 20");
+    script.sheet(&bytes);
+    for (i, (first, damage)) in faults.iter().enumerate() {
+        for (second, other) in &faults[i + 1..] {
+            let mut records = good.clone();
+            other(&mut records);
+            damage(&mut records);
+            script.note(&format!("{first} before {second}"));
+            script.sheet(&sheet(&records));
+        }
+    }
+}
+
+/// A full sheet, and one record more.
+fn full_sheets(script: &mut Script) {
+    let mut board = Board { io: (0, 0xFFFF), ..Board::new() };
+    for device in 0..16 {
+        let bridge = board.bridge(0, device << 3);
+        for end in 0..15 {
+            board.end(bridge, end << 3, &[memory(12), board::io(4)]);
+        }
+    }
+    script.note("a full sheet");
+    script.board(&board.bytes());
+    for header in [
+        request(MRD, 0x8000_0000),
+        request(MRD, 0x80F0_EFFC),
+        request(MRD, 0x80F0_F000),
+        request(IORD, 0xF0EC),
+        request(IORD, 0xF0F0),
+        configuration(CFGRD1, 0x1070, 0),
+        completion(CPL, 0x1070),
+    ] {
+        script.header(&header);
+    }
+    for id in [0x0000, 0x0170, 0x1070, 0x1078] {
+        script.lookup(id);
+    }
+    script.command(0x1070, 0);
+    script.header(&request(MRD, 0x80F0_EFFC));
+    let mut records: Vec<Record> = (0..257).map(Record::end).collect();
+    records[200].registers[0x0E] = 5;
+    records[256].id = 0;
+    put(script, "22 before 24 and 28", &records, &[request(MRD, 0)]);
+}
