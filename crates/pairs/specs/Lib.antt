@@ -1,3 +1,4 @@
 pub mod Pairs
 pub mod FirstLaws
 pub mod PairsLaws
+pub mod Starts

@@ -96,7 +96,7 @@ kindNumber Swap = 16
 kindNumber Cas = 17
 
 abbrev pub isPair : ℕ → ℕ → Row → Bool
-isPair fmt typ row = eqb (row .fmt) fmt && eqb (row .typ) typ
+isPair fmt typ row = eqb (row .typ) typ && eqb (row .fmt) fmt
 
 abbrev pub isKind : Kind → ℕ → Row → Bool
 isKind kind form row = eqb (kindNumber (row .kind)) (kindNumber kind) && eqb (row .form) form

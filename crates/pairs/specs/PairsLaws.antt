@@ -227,8 +227,8 @@ pair-row b {row} h = go (eqb (b / 32) 4) h
     go true h = let z : _≡_ {A = ℕ} 0 1 = cc in absurd (omega arith)
     go false h =
         let f = found-carried (isPair (b / 32) (b % 32)) h in
-        let e = and-eq-true-iff (eqb (row .fmt) (b / 32)) (eqb (row .typ) (b % 32)) .0 (f .0) in
-        (omega (arith, eqb-true (row .fmt) (b / 32) (e .0), eqb-true (row .typ) (b % 32) (e .1)), f .1)
+        let e = and-eq-true-iff (eqb (row .typ) (b % 32)) (eqb (row .fmt) (b / 32)) .0 (f .0) in
+        (omega (arith, eqb-true (row .typ) (b % 32) (e .0), eqb-true (row .fmt) (b / 32) (e .1)), f .1)
 
 -- what the writer finds is of the kind and form asked for, and the reader finds it in the byte written
 pub row-pair : (k : Kind) (f : ℕ) {row : Row} → rowOf k f ≡ Carried row → (row .kind ≡ k) × (row .form ≡ f) × CarriedRow row

@@ -1,6 +1,7 @@
 // The Fmt and Type pairs of a TLP header's byte 0: one constant table, searched by pair for the reader and by kind and form for the writer.
 ghost use mathlib.Core.Path.{_≡_};
-ghost use Prim.Native.Nat.{_<_};
+ghost use Prim.Native.Nat.{_≤_, _<_};
+ghost use Rattle.pairs.specs.Starts.{startOf, kindStart};
 ghost use Rattle.pairs.specs.Pairs.{table, rowAt, kindNumber, isPair, isKind, findPair, findKind, answerOf, pairOf, rowOf};
 
 pub enum MemoryKind {
@@ -448,7 +449,7 @@ fn answer(looked: Looked) -> Pair
 fn find_pair(fmt: u8, typ: u8) -> Looked
     ensures { λ r. ⌜ r ≡ findPair fmt typ ⌝ }
 {
-    let mut i: usize = 0;
+    let mut i = start_of(typ);
     while i < ROWS {
         let row = row_at(i);
         if is_pair(row, fmt, typ) {
@@ -462,7 +463,7 @@ fn find_pair(fmt: u8, typ: u8) -> Looked
 fn find_kind(kind: Kind, form: u8) -> Looked
     ensures { λ r. ⌜ r ≡ findKind kind form ⌝ }
 {
-    let mut i: usize = 0;
+    let mut i = kind_start(kind);
     while i < ROWS {
         let row = row_at(i);
         if is_kind(row, kind, form) {
@@ -476,7 +477,7 @@ fn find_kind(kind: Kind, form: u8) -> Looked
 fn is_pair(row: Row, fmt: u8, typ: u8) -> bool
     ensures { λ r. ⌜ r ≡ isPair fmt typ row ⌝ }
 {
-    (row.fmt == fmt) & (row.typ == typ)
+    (row.typ == typ) & (row.fmt == fmt)
 }
 
 fn is_kind(row: Row, kind: Kind, form: u8) -> bool
@@ -537,6 +538,47 @@ fn row_at(i: usize) -> Row
         35 => SWAP_4,
         36 => CAS_3,
         _ => CAS_4,
+    }
+}
+
+// Completions stand after the requests, so a search for one starts there.
+fn start_of(typ: u8) -> usize
+    ensures { λ r. ⌜ (r ≡ startOf typ) × (r ≤ 38) ⌝ }
+{
+    if typ / 2 == 5 { 12 } else { 0 }
+}
+
+// The rows of a kind stand together. What is not carried starts at row 16.
+fn kind_start(kind: Kind) -> usize
+    ensures { λ r. ⌜ (r ≡ kindStart kind) × (r ≤ 38) ⌝ }
+{
+    match kind {
+        Kind::Memory(k) => match k {
+            MemoryKind::MRd => 0,
+            MemoryKind::MRdLk => 2,
+            MemoryKind::MWr => 4,
+        },
+        Kind::Io(k) => match k {
+            IoKind::IORd => 6,
+            IoKind::IOWr => 7,
+        },
+        Kind::Config(k) => match k {
+            ConfigKind::CfgRd0 => 8,
+            ConfigKind::CfgWr0 => 9,
+            ConfigKind::CfgRd1 => 10,
+            ConfigKind::CfgWr1 => 11,
+        },
+        Kind::Completion(k) => match k {
+            CompletionKind::Cpl => 12,
+            CompletionKind::CplD => 13,
+            CompletionKind::CplLk => 14,
+            CompletionKind::CplDLk => 15,
+        },
+        Kind::Msg => 16,
+        Kind::MsgD => 16,
+        Kind::FetchAdd => 16,
+        Kind::Swap => 16,
+        Kind::Cas => 16,
     }
 }
 

@@ -1,11 +1,12 @@
 -- `pairs::find_kind` meets its contract. The loop's invariant: the search of the rows from `i` on is the search of the table.
 -- The measure is the number of rows left. Assumes nothing.
-use mathlib.Core.Path.{_≡_, refl}
-use Prim.Native.Nat.{_≤_, _-_}
+use mathlib.Core.Path.{_≡_, ap, _∙_}
+use Prim.Native.Nat.{ℕ, _≤_, _-_}
 use native.Mathlib.Omega.{arith}
 use lib.ListN.{drop}
 use Rattle.pairs.specs.Pairs.{table, isKind, first, findKind}
 use Rattle.pairs.specs.FirstLaws.{first-hit, first-miss, first-none}
+use Rattle.pairs.specs.Starts.{first-of-kind}
 use Rattle.pairs.proofs.find_kind.Statement.{statement}
 use Rattle.pairs.proofs.find_kind.Tie as tie
 
@@ -15,9 +16,11 @@ Inv-loop kind form i₀ i = (i ≤ 38) × (first (isKind kind form) (drop i tabl
 abbrev μ-loop : tie.MeasureT-loop
 μ-loop kind form i₀ i = 38 - i
 
+kind-start-requires : tie.Need-kind-start-requires Inv-loop μ-loop
+kind-start-requires c κs = tt
+
 loop-holds : tie.Need-loop-holds Inv-loop μ-loop
-unfolding findKind
-loop-holds c = (omega arith, refl)
+loop-holds c = (c .kind-start .ensures .1, ap (λ (n : ℕ). first (isKind (c .before .args .kind) (c .before .args .form)) (drop n table)) (c .kind-start .ensures .0) ∙ first-of-kind (c .before .args .kind) (c .before .args .form))
 
 row-at-requires : tie.Need-row-at-requires Inv-loop μ-loop
 row-at-requires c κs = omega arith
@@ -46,6 +49,7 @@ find-kind-spec =
     (tie.spec
     Inv-loop
     μ-loop
+    kind-start-requires
     loop-holds
     row-at-requires
     is-kind-requires

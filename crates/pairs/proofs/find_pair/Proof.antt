@@ -1,11 +1,12 @@
 -- `pairs::find_pair` meets its contract. The loop's invariant: the search of the rows from `i` on is the search of the table.
 -- The measure is the number of rows left. Assumes nothing.
-use mathlib.Core.Path.{_≡_, refl}
-use Prim.Native.Nat.{_≤_, _-_}
+use mathlib.Core.Path.{_≡_, ap, _∙_}
+use Prim.Native.Nat.{ℕ, _≤_, _-_}
 use native.Mathlib.Omega.{arith}
 use lib.ListN.{drop}
 use Rattle.pairs.specs.Pairs.{table, isPair, first, findPair}
 use Rattle.pairs.specs.FirstLaws.{first-hit, first-miss, first-none}
+use Rattle.pairs.specs.Starts.{first-from}
 use Rattle.pairs.proofs.find_pair.Statement.{statement}
 use Rattle.pairs.proofs.find_pair.Tie as tie
 
@@ -15,9 +16,11 @@ Inv-loop fmt typ i₀ i = (i ≤ 38) × (first (isPair fmt typ) (drop i table) �
 abbrev μ-loop : tie.MeasureT-loop
 μ-loop fmt typ i₀ i = 38 - i
 
+start-of-requires : tie.Need-start-of-requires Inv-loop μ-loop
+start-of-requires c κs = tt
+
 loop-holds : tie.Need-loop-holds Inv-loop μ-loop
-unfolding findPair
-loop-holds c = (omega arith, refl)
+loop-holds c = (c .start-of .ensures .1, ap (λ (n : ℕ). first (isPair (c .before .args .fmt) (c .before .args .typ)) (drop n table)) (c .start-of .ensures .0) ∙ first-from (c .before .args .fmt) (c .before .args .typ))
 
 row-at-requires : tie.Need-row-at-requires Inv-loop μ-loop
 row-at-requires c κs = omega arith
@@ -46,6 +49,7 @@ find-pair-spec =
     (tie.spec
     Inv-loop
     μ-loop
+    start-of-requires
     loop-holds
     row-at-requires
     is-pair-requires
