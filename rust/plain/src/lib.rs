@@ -1,6 +1,7 @@
 //! Document 01 in plain, safe Rust: the header codec, the board planner and the packet router.
 //!
-//! Written from the document alone. The proved library is compared with it, and the stored answers of the test
+//! Written from the document and the readings of its open points in docs/DECISIONS.md, not from the proved code. The
+//! proved library is compared with it, and the stored answers of the test
 //! programs come from it. Every refusal is document 01's number.
 
 #![forbid(unsafe_code)]
