@@ -72,7 +72,7 @@ pub struct Delivery {
 pub fn read(header: &[u8]) -> Result<Packet, Refusal> {
     let mut numbers = [0; PACKET];
     accepted(calls::read(header, &mut numbers))?;
-    Ok(packet_of(&numbers))
+    Ok(Packet::from_answer(&numbers))
 }
 
 /// Writes the packet's header at the start of `room` and returns its length, 12 or 16. Nothing past it is written.
@@ -113,7 +113,7 @@ pub fn route(header: &[u8], sheet: &[u8]) -> Result<Delivery, Refusal> {
     let mut numbers = [0; DELIVERY];
     accepted(calls::route(header, sheet, &mut numbers))?;
     let [record, bridges, packet @ ..] = numbers;
-    Ok(Delivery { record: record as u16, bridges: bridges as u8, packet: packet_of(&packet) })
+    Ok(Delivery { record: record as u16, bridges: bridges as u8, packet: Packet::from_answer(&packet) })
 }
 
 /// 0 is accepted, any other number the refusal.
@@ -122,8 +122,4 @@ fn accepted(number: u32) -> Result<(), Refusal> {
         0 => Ok(()),
         _ => Err(Refusal::from_number(number).expect("the library answers with document 01's numbers")),
     }
-}
-
-fn packet_of(numbers: &[u64; PACKET]) -> Packet {
-    Packet::from_numbers(numbers).expect("the library answers with a packet's numbers")
 }

@@ -181,22 +181,56 @@ pub enum CompletionKind {
     CplDLk = 12,
 }
 
+// Each kind by its number, which is one of the kind's own.
+
 impl MemoryKind {
-    const ALL: [MemoryKind; 3] = [MemoryKind::MRd, MemoryKind::MRdLk, MemoryKind::MWr];
+    const fn of(number: u64) -> MemoryKind {
+        match number {
+            0 => MemoryKind::MRd,
+            1 => MemoryKind::MRdLk,
+            _ => MemoryKind::MWr,
+        }
+    }
 }
 
 impl IoKind {
-    const ALL: [IoKind; 2] = [IoKind::IORd, IoKind::IOWr];
+    const fn of(number: u64) -> IoKind {
+        match number {
+            3 => IoKind::IORd,
+            _ => IoKind::IOWr,
+        }
+    }
 }
 
 impl ConfigurationKind {
-    const ALL: [ConfigurationKind; 4] =
-        [ConfigurationKind::CfgRd0, ConfigurationKind::CfgWr0, ConfigurationKind::CfgRd1, ConfigurationKind::CfgWr1];
+    const fn of(number: u64) -> ConfigurationKind {
+        match number {
+            5 => ConfigurationKind::CfgRd0,
+            6 => ConfigurationKind::CfgWr0,
+            7 => ConfigurationKind::CfgRd1,
+            _ => ConfigurationKind::CfgWr1,
+        }
+    }
 }
 
 impl CompletionKind {
-    const ALL: [CompletionKind; 4] =
-        [CompletionKind::Cpl, CompletionKind::CplD, CompletionKind::CplLk, CompletionKind::CplDLk];
+    const fn of(number: u64) -> CompletionKind {
+        match number {
+            9 => CompletionKind::Cpl,
+            10 => CompletionKind::CplD,
+            11 => CompletionKind::CplLk,
+            _ => CompletionKind::CplDLk,
+        }
+    }
+}
+
+impl Form {
+    const fn of(dwords: u64) -> Form {
+        match dwords {
+            3 => Form::ThreeDwords,
+            _ => Form::FourDwords,
+        }
+    }
 }
 
 impl Packet {
@@ -243,44 +277,33 @@ impl Packet {
     /// The packet that these numbers are. `None` where the kind and form are not carried, or where a number does not
     /// fit its Rust type or stands in a field that the kind does not have.
     pub fn from_numbers(numbers: &[u64; PACKET]) -> Option<Packet> {
+        are_packet(numbers).then(|| Packet::from_answer(numbers))
+    }
+
+    /// The packet that the library answered with: its numbers are a packet's, which is proved, and are not tried again.
+    pub(crate) fn from_answer(numbers: &[u64; PACKET]) -> Packet {
         let [kind, form, tc, attr, td, ep, at, length, requester, tag, ..] = *numbers;
         let [.., last, first, address, target, register, completer, status, bcm, byte_count, lower_address] = *numbers;
-        let bytes = tc | attr | at | last | first | status | lower_address;
-        let words = length | requester | tag | target | register | completer | byte_count;
-        if bytes >> 8 | words >> 16 | (td | ep | bcm) >> 1 != 0 {
-            return None;
-        }
-        let request = last | first;
-        let place = target | register;
-        let outcome = completer | status | bcm | byte_count | lower_address;
         let enables = Enables { last: last as u8, first: first as u8 };
-        let body = match (kind, form) {
-            (0..=2, 3 | 4) if place | outcome == 0 => Body::Memory {
-                kind: MemoryKind::ALL[kind as usize],
-                form: if form == 3 { Form::ThreeDwords } else { Form::FourDwords },
-                enables,
-                address,
-            },
-            (3..=4, 3) if place | outcome | address >> 32 == 0 => {
-                Body::Io { kind: IoKind::ALL[kind as usize - 3], enables, address: address as u32 }
-            }
-            (5..=8, 3) if address | outcome == 0 => Body::Configuration {
-                kind: ConfigurationKind::ALL[kind as usize - 5],
+        let body = match kind {
+            0..=2 => Body::Memory { kind: MemoryKind::of(kind), form: Form::of(form), enables, address },
+            3..=4 => Body::Io { kind: IoKind::of(kind), enables, address: address as u32 },
+            5..=8 => Body::Configuration {
+                kind: ConfigurationKind::of(kind),
                 enables,
                 target: Id(target as u16),
                 register: register as u16,
             },
-            (9..=12, 3) if request | address | place == 0 => Body::Completion {
-                kind: CompletionKind::ALL[kind as usize - 9],
+            _ => Body::Completion {
+                kind: CompletionKind::of(kind),
                 completer: Id(completer as u16),
                 status: status as u8,
                 bcm: bcm == 1,
                 byte_count: byte_count as u16,
                 lower_address: lower_address as u8,
             },
-            _ => return None,
         };
-        Some(Packet {
+        Packet {
             tc: tc as u8,
             attr: attr as u8,
             td: td == 1,
@@ -290,7 +313,7 @@ impl Packet {
             requester: Id(requester as u16),
             tag: tag as u16,
             body,
-        })
+        }
     }
 
     /// The kind's number and the form's.
@@ -302,6 +325,25 @@ impl Packet {
             Body::Completion { kind, .. } => (kind as u8, 3),
         }
     }
+}
+
+/// Every number fits its field's Rust type, and a field that the kind does not have is 0.
+fn are_packet(numbers: &[u64; PACKET]) -> bool {
+    let [kind, form, tc, attr, td, ep, at, length, requester, tag, ..] = *numbers;
+    let [.., last, first, address, target, register, completer, status, bcm, byte_count, lower_address] = *numbers;
+    let bytes = tc | attr | at | last | first | status | lower_address;
+    let words = length | requester | tag | target | register | completer | byte_count;
+    let request = last | first;
+    let place = target | register;
+    let outcome = completer | status | bcm | byte_count | lower_address;
+    let absent = match (kind, form) {
+        (0..=2, 3 | 4) => place | outcome,
+        (3..=4, 3) => place | outcome | address >> 32,
+        (5..=8, 3) => address | outcome,
+        (9..=12, 3) => request | address | place,
+        _ => return false,
+    };
+    bytes >> 8 | words >> 16 | (td | ep | bcm) >> 1 | absent == 0
 }
 
 /// One line: `MRd 3dw tc 0 attr 0 td 0 ep 0 at 0 length 1 requester 0000 tag 021 last 0 first F address ..`.
