@@ -147,11 +147,16 @@ fn leaf_registers(f: Function, first: u8, counts: &[u16], values: [u32; 6]) -> R
     }
 }
 
-fn place_leaf(f: Function, first: u8, counts: &[u16], cursors: &mut [u64]) -> Registers
-    requires { ⌜ Placeable first (now counts) (now cursors) f ⌝ }
+fn place_leaf(
+    f: Function,
+    bars: BarsPlaced,
+    first: u8,
+    counts: &[u16],
+    cursors: &mut [u64],
+) -> Registers
+    requires { ⌜ Placeable first (now counts) (now cursors) f × (bars ≡ barsIn (now cursors) f) ⌝ }
     ensures { λ r. ⌜ (r ≡ leafRegisters first (now (counts .entry)) (now (cursors .entry)) f) × (now (cursors .exit) ≡ leafNext (now (cursors .entry)) f) ⌝ }
 {
-    let bars = own_bars(f, cursors);
     let values = bars.values;
     let r = leaf_registers(f, first, counts, values);
     let after = bars.cursors;
@@ -204,17 +209,17 @@ fn bridge_registers(
 // A bridge starts the bus below it.
 fn place_bridge(
     f: Function,
+    bars: BarsPlaced,
     i: usize,
     first: u8,
     counts: &[u16],
     memo: &[u64],
     cursors: &mut [u64],
 ) -> Registers
-    requires { ⌜ Placeable first (now counts) (now cursors) f × Bridged first (now counts) (now memo) (now cursors) i ⌝ }
+    requires { ⌜ Placeable first (now counts) (now cursors) f × Bridged first (now counts) (now memo) (now cursors) i × (bars ≡ barsIn (now cursors) f) ⌝ }
     ensures { λ r. ⌜ (r ≡ bridgeRegisters first (now (counts .entry)) (now (memo .entry)) (now (cursors .entry)) i f) × (now (cursors .exit) ≡ bridgeNext (now (memo .entry)) (now (cursors .entry)) i f) ⌝ }
 {
     let k = i + 1;
-    let bars = own_bars(f, cursors);
     let after = bars.cursors;
     let w = own_windows(i, memo, cursors, after);
     let values = bars.values;
@@ -226,7 +231,7 @@ fn place_bridge(
     r
 }
 
-// Record i + 1: its registers, and the cursors after it.
+// Record i + 1: its registers, and the cursors after it. Its BARs are placed here for both kinds: one call is inlined, two are not.
 pub fn place_record(
     f: Function,
     i: usize,
@@ -238,10 +243,11 @@ pub fn place_record(
     requires { ⌜ Placeable first (now counts) (now cursors) f × (isBridgeOf f ≡ true → Bridged first (now counts) (now memo) (now cursors) i) ⌝ }
     ensures { λ r. ⌜ (r ≡ registersOf first (now (counts .entry)) (now (memo .entry)) (now (cursors .entry)) i f) × (now (cursors .exit) ≡ cursorsNext (now (memo .entry)) (now (cursors .entry)) i f) ⌝ }
 {
+    let bars = own_bars(f, cursors);
     if is_bridge(f) {
-        return place_bridge(f, i, first, counts, memo, cursors);
+        return place_bridge(f, bars, i, first, counts, memo, cursors);
     }
-    place_leaf(f, first, counts, cursors)
+    place_leaf(f, bars, first, counts, cursors)
 }
 
 // ---- all records

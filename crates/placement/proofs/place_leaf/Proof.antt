@@ -4,9 +4,6 @@ use borrow.Author.Needs.{needs}
 use Rattle.placement.proofs.place_leaf.Statement.{statement}
 use Rattle.placement.proofs.place_leaf.Tie as tie
 
-own-bars-requires : tie.Need-own-bars-requires
-own-bars-requires c κs = search needs
-
 leaf-registers-requires : tie.Need-leaf-registers-requires
 leaf-registers-requires c κs = search needs
 
@@ -20,13 +17,12 @@ same-length : tie.Need-same-length
 same-length c = search needs
 
 returns : tie.Need-returns
-returns c = (leaf-registers-join _ _ _ _ (c .before .before .before .before .before .before .before .before .own-bars .ensures) (c .before .before .before .before .before .before .leaf-registers .ensures), leaf-next-join _ _ (c .before .before .before .before .before .before .before .before .own-bars .ensures) (c .before .before .store-cursors .ensures))
+returns c = (leaf-registers-join _ _ _ _ (c .before .before .before .before .before .before .before .before .before .before .pre .1) (c .before .before .before .before .before .before .leaf-registers .ensures), leaf-next-join _ _ (c .before .before .before .before .before .before .before .before .before .before .pre .1) (c .before .before .store-cursors .ensures))
 
 pub place-leaf-spec : {M : Type 1} → statement M
 place-leaf-spec =
     tie.close
     (tie.spec
-    own-bars-requires
     leaf-registers-requires
     cast-store-cursors
     store-cursors-requires

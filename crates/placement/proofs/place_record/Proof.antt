@@ -4,11 +4,14 @@ use borrow.Author.Needs.{needs}
 use Rattle.placement.proofs.place_record.Statement.{statement}
 use Rattle.placement.proofs.place_record.Tie as tie
 
+own-bars-requires : tie.Need-own-bars-requires
+own-bars-requires c κs = search needs
+
 is-bridge-requires : tie.Need-is-bridge-requires
 is-bridge-requires c κs = search needs
 
 place-bridge-requires : tie.Need-place-bridge-requires
-place-bridge-requires c κs = (c .before .before .before .before .before .before .pre .0, c .before .before .before .before .before .before .pre .1 (sym (c .before .before .is-bridge .ensures) ∙ c .before .if1 .taken))
+place-bridge-requires c κs = (c .before .before .before .before .before .before .before .before .pre .0, c .before .before .before .before .before .before .before .before .pre .1 (sym (c .before .before .is-bridge .ensures) ∙ c .before .if1 .taken), c .before .before .before .own-bars .ensures)
 
 same-length : tie.Need-same-length
 same-length c = search needs
@@ -29,6 +32,7 @@ pub place-record-spec : {M : Type 1} → statement M
 place-record-spec =
     tie.close
     (tie.spec
+    own-bars-requires
     is-bridge-requires
     place-bridge-requires
     same-length
