@@ -11,7 +11,7 @@ use borrow.Author.Tests.{lt-ltb, le-ltb}
 -- src/lib.rt:34:9
 returns : tie.Need-returns
 unfolding readOf
-returns c = rw (lt-ltb _ _ (c .if1 .taken))
+returns c = rw (lt-ltb _ 12 (c .if1 .taken))
 
 -- src/lib.rt:36:26
 shared-slice-read-pair-of : tie.Need-shared-slice-read-pair-of
@@ -40,17 +40,17 @@ read-row-requires c κs = search needs
 -- src/lib.rt:30:1
 returns-2 : tie.Need-returns-2
 unfolding readOf
-returns-2 c = rw (le-ltb _ _ (c .before .before .before .before .if1 .left), ← c .before .before .pair-of .ensures, c .enum-told .given .1)
+returns-2 c = rw (le-ltb _ 12 (c .before .before .before .before .if1 .left), ← c .before .before .pair-of .ensures, c .enum-told .given .1)
 
 -- src/lib.rt:30:1
 returns-3 : tie.Need-returns-3
 unfolding readOf
-returns-3 c = rw (le-ltb _ _ (c .before .before .before .before .if1 .left), ← c .before .before .pair-of .ensures, c .enum-told2 .given .1)
+returns-3 c = rw (le-ltb _ 12 (c .before .before .before .before .if1 .left), ← c .before .before .pair-of .ensures, c .enum-told2 .given .1)
 
 -- src/lib.rt:30:1
 returns-4 : tie.Need-returns-4
 unfolding readOf
-returns-4 c = rw (le-ltb _ _ (c .before .before .before .before .before .before .if1 .left), ← c .before .before .before .before .pair-of .ensures, c .before .before .row .given .1) (c .read-row .ensures)
+returns-4 c = rw (le-ltb _ 12 (c .before .before .before .before .before .before .if1 .left), ← c .before .before .before .before .pair-of .ensures, c .before .before .row .given .1) (c .read-row .ensures)
 
 pub read-spec : {M : Type 1} → statement M
 read-spec =
