@@ -1,7 +1,9 @@
 -- `sizing::window_size` meets its contract: a granule is a power of two. Assumes nothing.
+use mathlib.Core.Path.{ap₂, _∙_}
 use borrow.Author.Needs.{needs}
 use Rattle.sizing.proofs.window_size.Statement.{statement}
 use Rattle.sizing.proofs.window_size.Tie as tie
+use Rattle.placing.specs.Align.{alignUp}
 use Rattle.placing.specs.PoolLaws.{granule-power}
 
 granule-requires : tie.Need-granule-requires
@@ -14,7 +16,7 @@ align-up-requires : tie.Need-align-up-requires
 align-up-requires c κs = (rw (c .before .granule .ensures) (granule-power (c .before .before .args .q)), c .cap .ensures .1)
 
 returns : tie.Need-returns
-returns c = cc
+returns c = c .align-up .ensures ∙ ap₂ alignUp (c .before .before .granule .ensures) (c .before .cap .ensures .0)
 
 pub window-size-spec : {M : Type 1} → statement M
 window-size-spec = tie.close (tie.spec granule-requires cap-requires align-up-requires returns)
