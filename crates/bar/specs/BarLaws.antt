@@ -1,15 +1,15 @@
 -- Slots: the slots of a set step by step, and the bounds of a BAR's size. Assumes nothing.
-use mathlib.Core.Path.{_≡_, refl, sym, ap, ap₂, _∙_}
-use mathlib.Core.Bool.{Bool, true, false, true≢false, cond}
+use mathlib.Core.Path.{_≡_, refl, sym, ap, _∙_}
+use mathlib.Core.Bool.{Bool, true, false, true≢false, cond, _&&_}
 use mathlib.Core.List.{List, [], _∷_}
 use mathlib.Core.Logic.{⊎-elim}
 use Prim.Native.Nat.{ℕ, zero, suc, _+_, _/_, _%_, _<_, _≤_, min}
 use native.Mathlib.Omega.{arith}
 use native.Mathlib.Numerals.{add-one}
-use borrow.Author.Tests.{eqb-false}
-use lib.Dec.{eqb}
+use borrow.Author.Tests.{eqb-false, ltb-true, ltb-false}
+use lib.Dec.{eqb, ltb}
 use lib.ListN.{length, getD, take, drop, length-take, length-drop, drop-of-length-le}
-use lib.Seq.{drop-cons, drop-drop, getD-take}
+use lib.Seq.{drop-cons, drop-drop}
 use Rattle.pools.specs.declared.Pool.{Pool}
 use Rattle.pools.specs.declared.Pool.the-variants.{Low, Io}
 use Rattle.bar.specs.declared.Slot.{Slot}
@@ -82,34 +82,29 @@ pub slot-here-last : (s : List ℕ) (i : ℕ) → i < length s → length s ≤ 
 unfolding slotHere
 slot-here-last s i h l = rw (drop-cons s i 0 h, drop-of-length-le s {i = suc i} (omega arith))
 
-pub slot-here-pair : (s : List ℕ) (i : ℕ) (b : Bool) → i + 1 < length s → isWide (getD s i 0) ≡ b
-    → slotHere (drop i s) ≡ cond b (wideSlot (getD s i 0) (getD s (i + 1) 0)) (narrowSlot (getD s i 0))
+pub slot-here-pair : (s : List ℕ) (i : ℕ) → i + 1 < length s
+    → slotHere (drop i s) ≡ cond (isWide (getD s i 0)) (wideSlot (getD s i 0) (getD s (i + 1) 0)) (narrowSlot (getD s i 0))
 unfolding slotHere
-slot-here-pair s i b h e =
+slot-here-pair s i h =
     let f : i < length s = omega arith in
     let g : suc i < length s = omega arith in
-    rw (drop-cons s i 0 f, drop-cons s (suc i) 0 g, e, add-one i)
+    rw (drop-cons s i 0 f, drop-cons s (suc i) 0 g, add-one i)
 
--- the same of the first n of a set of six, in the words of the code
+-- the same in the words of the code: m read-backs, r at the place and u at the next
+pub slot-here-at : (s : List ℕ) (i m r u : ℕ) → m ≡ length s → i < m → r ≡ getD s i 0 → u ≡ getD s (i + 1) 0
+    → slotHere (drop i s) ≡ cond (ltb (i + 1) m && isWide r) (wideSlot r u) (narrowSlot r)
+slot-here-at s i m r u l h e f = go (ltb (i + 1) m) refl
+  where
+    go : (b : Bool) → ltb (i + 1) m ≡ b → slotHere (drop i s) ≡ cond (b && isWide r) (wideSlot r u) (narrowSlot r)
+    go true t = rw (e, f) (slot-here-pair s i (omega (arith, ltb-true (i + 1) m t)))
+    go false t = rw e (slot-here-last s i (omega arith) (omega (arith, ltb-false (i + 1) m t)))
+
+-- the first n of a set of six
 pub length-first : (set : List ℕ) (n : ℕ) → length set ≡ 6 → length (take n set) ≡ min n 6
 length-first set n six = length-take n set ∙ ap (min n) six
 
-module _ (set : List ℕ) (n i : ℕ) (six : length set ≡ 6) where
-  pub slot-at-none : min n 6 ≤ i → slotHere (drop i (take n set)) ≡ Unused
-  slot-at-none h = slot-here-none (take n set) i (omega (arith, length-first set n six))
-
-  pub slot-at-last : i < min n 6 → min n 6 ≤ i + 1 → slotHere (drop i (take n set)) ≡ narrowSlot (getD set i 0)
-  slot-at-last h l =
-      slot-here-last (take n set) i (omega (arith, length-first set n six)) (omega (arith, length-first set n six))
-      ∙ ap narrowSlot (getD-take n set i 0 (omega arith))
-
-  pub slot-at-pair : (b : Bool) → i + 1 < min n 6 → isWide (getD set i 0) ≡ b
-      → slotHere (drop i (take n set)) ≡ cond b (wideSlot (getD set i 0) (getD set (i + 1) 0)) (narrowSlot (getD set i 0))
-  slot-at-pair b h e =
-      let r = getD-take n set i 0 (omega arith) in
-      let u = getD-take n set (i + 1) 0 (omega arith) in
-      slot-here-pair (take n set) i b (omega (arith, length-first set n six)) (ap isWide r ∙ e)
-      ∙ ap₂ (λ (x y : ℕ). cond b (wideSlot x y) (narrowSlot x)) r u
+pub slot-at-none : (set : List ℕ) (n i : ℕ) → length set ≡ 6 → min n 6 ≤ i → slotHere (drop i (take n set)) ≡ Unused
+slot-at-none set n i six h = slot-here-none (take n set) i (omega (arith, length-first set n six))
 
 -- ## The slots of a set, step by step
 

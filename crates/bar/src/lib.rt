@@ -1,9 +1,9 @@
 // BARs: what a function's set of six read-backs says of its slots, and what the values in its registers say.
 // A set is six numbers, handed on together; the first n count: 6 for header type 0, 2 for type 1.
 ghost use mathlib.Core.Path.{_≡_};
-ghost use mathlib.Core.Bool.{not};
+ghost use mathlib.Core.Bool.{cond, not, _&&_};
 ghost use Prim.Native.Nat.{ℕ, _+_, _^_, _<_, _≤_, min};
-ghost use lib.ListN.{getD, take, drop};
+ghost use lib.ListN.{length, getD, take, drop};
 ghost use Rattle.bar.specs.Bar.{sizeOf, sized as sizedOf, joined as joinedOf, isIoBar, ioWrong, typeOf, withoutType, ioSlot, isWide, narrowSlot, wideSlot, slotHere, slots, isBad, anyBad, takesNext, span as spanOf, SizedSlot};
 ghost use Rattle.pools.specs.Pools.{isIo};
 ghost use Rattle.bar.specs.PowerOfTwo.{PowerOfTwo};
@@ -130,22 +130,44 @@ fn count(n: usize) -> usize
     if n < 6 { n } else { 6 }
 }
 
-// The slot of the BAR that starts at place i of the first n read-backs.
-pub fn slot_at(set: [u32; 6], n: usize, i: usize) -> Slot
-    ensures { λ s. ⌜ s ≡ slotHere (drop i (take n set)) ⌝ }
+// What stands at place i of the first n, and 0 past them.
+fn entry(set: &[u32; 6], n: usize, i: usize) -> u32
+    requires { ⌜ length (now set) ≡ 6 ⌝ }
+    ensures { λ r. ⌜ r ≡ getD (take n (now (set .entry))) i 0 ⌝ }
+{
+    if count(n) <= i {
+        return 0;
+    }
+    set[i]
+}
+
+// A 64-bit read-back takes the next one where there is one.
+fn slot_of(r: u32, paired: bool, next: u32) -> Slot
+    ensures { λ s. ⌜ s ≡ cond (paired && isWide r) (wideSlot r next) (narrowSlot r) ⌝ }
+{
+    if paired & is_wide(r) {
+        return wide_slot(r, next);
+    }
+    narrow_slot(r)
+}
+
+// The slot at a place of a set that is read where it stands: a set passed on by value is copied each time.
+fn slot_in(set: &[u32; 6], n: usize, i: usize) -> Slot
+    requires { ⌜ length (now set) ≡ 6 ⌝ }
+    ensures { λ s. ⌜ s ≡ slotHere (drop i (take n (now (set .entry)))) ⌝ }
 {
     let m = count(n);
     if m <= i {
         return Slot::Unused;
     }
-    let r = set[i];
-    if m <= i + 1 {
-        return narrow_slot(r);
-    }
-    if is_wide(r) {
-        return wide_slot(r, set[i + 1]);
-    }
-    narrow_slot(r)
+    slot_of(entry(set, n, i), i + 1 < m, entry(set, n, i + 1))
+}
+
+// The slot of the BAR that starts at place i of the first n read-backs.
+pub fn slot_at(set: [u32; 6], n: usize, i: usize) -> Slot
+    ensures { λ s. ⌜ s ≡ slotHere (drop i (take n set)) ⌝ }
+{
+    slot_in(&set, n, i)
 }
 
 // The places that a lawful slot takes.
@@ -178,7 +200,7 @@ pub fn is_lawful(set: [u32; 6], n: usize) -> bool
     let m = count(n);
     let mut i: usize = 0;
     while i < m {
-        let s = slot_at(set, n, i);
+        let s = slot_in(&set, n, i);
         if is_bad(s) {
             return false;
         }
@@ -188,16 +210,6 @@ pub fn is_lawful(set: [u32; 6], n: usize) -> bool
 }
 
 // ## Values
-
-// What stands at place i of the first n, and 0 past them.
-fn entry(set: [u32; 6], n: usize, i: usize) -> u32
-    ensures { λ r. ⌜ r ≡ getD (take n set) i 0 ⌝ }
-{
-    if count(n) <= i {
-        return 0;
-    }
-    set[i]
-}
 
 // A 64-bit BAR takes the next place too.
 fn takes_next(x: Slot) -> bool
@@ -212,15 +224,22 @@ fn takes_next(x: Slot) -> bool
 }
 
 // The number in the registers of the slot x at place i.
-pub fn value_here(x: Slot, values: [u32; 6], n: usize, i: usize) -> u64
-    requires { ⌜ i < 6 ⌝ }
-    ensures { λ r. ⌜ r ≡ valueHere x (drop i (take n values)) ⌝ }
+fn value_in(x: Slot, values: &[u32; 6], n: usize, i: usize) -> u64
+    requires { ⌜ (length (now values) ≡ 6) × (i < 6) ⌝ }
+    ensures { λ r. ⌜ r ≡ valueHere x (drop i (take n (now (values .entry)))) ⌝ }
 {
     let low = entry(values, n, i);
     if takes_next(x) {
         return joined(low, entry(values, n, i + 1));
     }
     low as u64
+}
+
+pub fn value_here(x: Slot, values: [u32; 6], n: usize, i: usize) -> u64
+    requires { ⌜ i < 6 ⌝ }
+    ensures { λ r. ⌜ r ≡ valueHere x (drop i (take n values)) ⌝ }
+{
+    value_in(x, &values, n, i)
 }
 
 // A register's type bits: I/O bits 1:0, memory bits 3:0.
@@ -279,8 +298,8 @@ pub fn values_lawful(set: [u32; 6], values: [u32; 6], n: usize) -> bool
     let m = count(n);
     let mut i: usize = 0;
     while i < m {
-        let x = slot_at(set, n, i);
-        let v = value_here(x, values, n, i);
+        let x = slot_in(&set, n, i);
+        let v = value_in(x, &values, n, i);
         if is_value(x, set[i], v) {
             i += span(x);
         } else {
@@ -323,13 +342,13 @@ pub fn base_at(set: [u32; 6], values: [u32; 6], n: usize, i: usize) -> u64
     if 6 <= i {
         return 0;
     }
-    let slot = slot_at(set, n, i);
-    base_of(slot, value_here(slot, values, n, i))
+    let slot = slot_in(&set, n, i);
+    base_of(slot, value_in(slot, &values, n, i))
 }
 
 // What the registers of the BAR that starts at place i hold once it is placed at the base.
 pub fn value_at(set: [u32; 6], n: usize, i: usize, base: u64) -> u64
     ensures { λ v. ⌜ v ≡ placedHere (drop i (take n set)) base ⌝ }
 {
-    value_of(slot_at(set, n, i), entry(set, n, i), base)
+    value_of(slot_in(&set, n, i), entry(&set, n, i), base)
 }

@@ -12,7 +12,7 @@ use Rattle.sheet.specs.declared.Found.the-variants.{At, Nothing}
 use Rattle.sheet.specs.declared.Rule.{Rule}
 use Rattle.endian.specs.Endian.{be, le}
 use Rattle.bar.specs.Values.{valuesLawful}
-use Rattle.sheet.specs.Entry.{recordSize, Entry, dwords, idOf, headerOf, isBridge, entryOf}
+use Rattle.sheet.specs.Entry.{recordSize, Entry, dwords, idOf, headerOf, isBridge, slotCount, entryOf}
 use Rattle.sheet.specs.Sheet.{Framed, partsIn, entriesFrom, breaks, anyBreaks, findFrom, allZero, readBacksWrong}
 use Rattle.sheet.specs.FrameLaws.{FramedAt, framed-at, parts-past, length-framed}
 
@@ -99,14 +99,14 @@ count-entries s f = rw (length-map (partsIn s) entryOf) (length-framed s f)
 
 -- ## Check 25, in the words of the code
 
-module _ (p rs vs : List ℕ) (r : rs ≡ dwords (be 4) 6 p 66) (v : vs ≡ dwords (le 4) 6 p 18) where
-  pub read-backs-of-bridge : (lawful rest : Bool) → isBridge (headerOf p) ≡ true → lawful ≡ valuesLawful (take 2 rs) (take 2 vs)
-      → rest ≡ allZero (dwords (be 4) 4 p 74) → not (lawful && rest) ≡ readBacksWrong (entryOf p)
+module _ (p rs vs : List ℕ) (n : ℕ) (lawful : Bool) (r : rs ≡ dwords (be 4) 6 p 66) (v : vs ≡ dwords (le 4) 6 p 18)
+    (c : n ≡ slotCount (headerOf p)) (l : lawful ≡ valuesLawful (take n rs) (take n vs)) where
+  pub read-backs-of-bridge : (rest : Bool) → isBridge (headerOf p) ≡ true → rest ≡ allZero (dwords (be 4) 4 p 74)
+      → not (lawful && rest) ≡ readBacksWrong (entryOf p)
   unfolding entryOf dwords readBacksWrong
-  read-backs-of-bridge lawful rest b l z = rw (l, z, r, v, b)
+  read-backs-of-bridge rest b z = rw (l, z, c, r, v, b)
 
-  pub read-backs-of-end : (lawful : Bool) → isBridge (headerOf p) ≡ false → lawful ≡ valuesLawful (take 6 rs) (take 6 vs)
-      → not lawful ≡ readBacksWrong (entryOf p)
+  pub read-backs-of-end : isBridge (headerOf p) ≡ false → not lawful ≡ readBacksWrong (entryOf p)
   unfolding entryOf dwords readBacksWrong allZero
-  read-backs-of-end lawful b l = rw (l, r, v, b)
+  read-backs-of-end b = rw (l, c, r, v, b)
       (ap not (sym (and-true (valuesLawful (take 6 (dwords (be 4) 6 p 66)) (take 6 (dwords (le 4) 6 p 18))))))

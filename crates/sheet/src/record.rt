@@ -176,10 +176,11 @@ fn read_backs_wrong(part: &[u8]) -> bool
 {
     let set = readbacks_of(part);
     let values = values_of(part);
+    let lawful = bar::values_lawful(set, values, slot_count(part));
     if is_bridge(part) {
-        return !(bar::values_lawful(set, values, 2) & rest_zero(part));
+        return !(lawful & rest_zero(part));
     }
-    !bar::values_lawful(set, values, 6)
+    !lawful
 }
 
 // The record breaks the rule.

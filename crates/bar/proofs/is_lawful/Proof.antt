@@ -12,10 +12,10 @@ use Rattle.bar.proofs.is_lawful.Statement.{statement}
 use Rattle.bar.proofs.is_lawful.Tie as tie
 
 abbrev Inv-loop : tie.InvT-loop
-Inv-loop set n m i₀ i = anyBad (slots (drop i (take n set))) ≡ anyBad (slots (take n set))
+Inv-loop n set m i₀ i = anyBad (slots (drop i (take n set))) ≡ anyBad (slots (take n set))
 
 abbrev μ-loop : tie.MeasureT-loop
-μ-loop set n m i₀ i = 6 - i
+μ-loop n set m i₀ i = 6 - i
 
 count-requires : tie.Need-count-requires Inv-loop μ-loop
 count-requires c κs = search needs
@@ -23,18 +23,18 @@ count-requires c κs = search needs
 loop-holds : tie.Need-loop-holds Inv-loop μ-loop
 loop-holds c = refl
 
-slot-at-requires : tie.Need-slot-at-requires Inv-loop μ-loop
-slot-at-requires c κs = search needs
+slot-in-requires : tie.Need-slot-in-requires Inv-loop μ-loop
+slot-in-requires c κs = search needs
 
 is-bad-requires : tie.Need-is-bad-requires Inv-loop μ-loop
 is-bad-requires c κs = search needs
 
 returns : tie.Need-returns Inv-loop μ-loop
 returns c =
-    let a = c .before .before .before .before .before .before .args in
-    let six : length (a .set) ≡ 6 = search needs in
-    let l = length-first (a .set) (a .n) six in
-    ap not (sym (any-bad-of-bad (take (a .n) (a .set)) (c .before .before .before .before .loop .i) _ (omega arith) (c .before .before .slot-at .ensures) (sym (c .before .is-bad .ensures) ∙ c .if1 .taken)) ∙ c .before .before .before .before .loop .inv)
+    let a = c .before .before .before .before .before .before .before .args in
+    let six : length (a .t1) ≡ 6 = search needs in
+    let l = length-first (a .t1) (a .n) six in
+    ap not (sym (any-bad-of-bad (take (a .n) (a .t1)) (c .before .before .before .before .before .loop .i) _ (omega arith) (c .before .before .slot-in .ensures) (sym (c .before .is-bad .ensures) ∙ c .if1 .taken)) ∙ c .before .before .before .before .before .loop .inv)
 
 span-requires : tie.Need-span-requires Inv-loop μ-loop
 span-requires c κs = search needs
@@ -47,19 +47,20 @@ loop-less c = omega arith
 
 loop-again : tie.Need-loop-again Inv-loop μ-loop
 loop-again c =
-    let a = c .before .before .before .before .before .before .before .args in
-    let six : length (a .set) ≡ 6 = search needs in
-    let l = length-first (a .set) (a .n) six in
-    ap (λ (k : ℕ). anyBad (slots (drop (c .before .before .before .before .before .loop .i + k) (take (a .n) (a .set))))) (c .span .ensures .0)
-    ∙ any-bad-step (take (a .n) (a .set)) (c .before .before .before .before .before .loop .i) _ (omega arith) (c .before .before .before .slot-at .ensures) (sym (c .before .before .is-bad .ensures) ∙ c .before .if1 .left)
-    ∙ c .before .before .before .before .before .loop .inv
+    let a = c .before .before .before .before .before .before .before .before .args in
+    let i = c .before .before .before .before .before .before .loop .i in
+    let six : length (a .t1) ≡ 6 = search needs in
+    let l = length-first (a .t1) (a .n) six in
+    ap (λ (k : ℕ). anyBad (slots (drop (i + k) (take (a .n) (a .t1))))) (c .span .ensures .0)
+    ∙ any-bad-step (take (a .n) (a .t1)) i _ (omega arith) (c .before .before .before .slot-in .ensures) (sym (c .before .before .is-bad .ensures) ∙ c .before .if1 .left)
+    ∙ c .before .before .before .before .before .before .loop .inv
 
 returns-2 : tie.Need-returns-2 Inv-loop μ-loop
 returns-2 c =
     let a = c .before .before .before .args in
-    let six : length (a .set) ≡ 6 = search needs in
-    let l = length-first (a .set) (a .n) six in
-    ap not (sym (any-bad-end (take (a .n) (a .set)) (c .before .loop .i) (omega arith)) ∙ c .before .loop .inv)
+    let six : length (a .t1) ≡ 6 = search needs in
+    let l = length-first (a .t1) (a .n) six in
+    ap not (sym (any-bad-end (take (a .n) (a .t1)) (c .before .loop .i) (omega arith)) ∙ c .before .loop .inv)
 
 pub is-lawful-spec : {M : Type 1} → statement M
 is-lawful-spec =
@@ -69,7 +70,7 @@ is-lawful-spec =
     μ-loop
     count-requires
     loop-holds
-    slot-at-requires
+    slot-in-requires
     is-bad-requires
     returns
     span-requires

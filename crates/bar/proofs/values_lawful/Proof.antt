@@ -13,10 +13,10 @@ use Rattle.bar.proofs.values_lawful.Statement.{statement}
 use Rattle.bar.proofs.values_lawful.Tie as tie
 
 abbrev Inv-loop : tie.InvT-loop
-Inv-loop values n set m i₀ i = valuesFrom (take n set) (take n values) i ≡ valuesLawful (take n set) (take n values)
+Inv-loop n set values m i₀ i = valuesFrom (take n set) (take n values) i ≡ valuesLawful (take n set) (take n values)
 
 abbrev μ-loop : tie.MeasureT-loop
-μ-loop values n set m i₀ i = 6 - i
+μ-loop n set values m i₀ i = 6 - i
 
 count-requires : tie.Need-count-requires Inv-loop μ-loop
 count-requires c κs = search needs
@@ -24,11 +24,11 @@ count-requires c κs = search needs
 loop-holds : tie.Need-loop-holds Inv-loop μ-loop
 loop-holds c = refl
 
-slot-at-requires : tie.Need-slot-at-requires Inv-loop μ-loop
-slot-at-requires c κs = search needs
+slot-in-requires : tie.Need-slot-in-requires Inv-loop μ-loop
+slot-in-requires c κs = search needs
 
-value-here-requires : tie.Need-value-here-requires Inv-loop μ-loop
-value-here-requires c κs = omega arith
+value-in-requires : tie.Need-value-in-requires Inv-loop μ-loop
+value-in-requires c κs = omega arith
 
 mul-is-value : tie.Need-mul-is-value Inv-loop μ-loop
 mul-is-value c = search needs
@@ -37,7 +37,7 @@ array-read-is-value : tie.Need-array-read-is-value Inv-loop μ-loop
 array-read-is-value c = omega arith
 
 is-value-requires : tie.Need-is-value-requires Inv-loop μ-loop
-is-value-requires c κs = subst SizedSlot (sym (c .before .slot-at .ensures)) (sized-here _)
+is-value-requires c κs = subst SizedSlot (sym (c .before .before .slot-in .ensures)) (sized-here _)
 
 span-requires : tie.Need-span-requires Inv-loop μ-loop
 span-requires c κs = search needs
@@ -50,19 +50,19 @@ loop-less c = omega arith
 
 loop-again : tie.Need-loop-again Inv-loop μ-loop
 loop-again c =
-    let a = c .before .before .before .before .before .before .before .before .args in
-    let i = c .before .before .before .before .before .before .loop .i in
+    let a = c .before .before .before .before .before .before .before .before .before .before .args in
+    let i = c .before .before .before .before .before .before .before .before .loop .i in
     let six : length (a .t1) ≡ 6 = search needs in
-    ap (λ (k : ℕ). valuesFrom (take (a .n) (a .t1)) (take (a .n) (a .values)) (i + k)) (c .span .ensures .0)
-    ∙ values-on (a .t1) (a .values) (a .n) i _ _ _ six (omega arith) (c .before .before .before .before .slot-at .ensures) (c .before .before .before .value-here .ensures) (c .before .before .is-value .ensures) (c .before .if1 .taken)
-    ∙ c .before .before .before .before .before .before .loop .inv
+    ap (λ (k : ℕ). valuesFrom (take (a .n) (a .t1)) (take (a .n) (a .t2)) (i + k)) (c .span .ensures .0)
+    ∙ values-on (a .t1) (a .t2) (a .n) i _ _ _ six (omega arith) (c .before .before .before .before .before .slot-in .ensures) (c .before .before .before .value-in .ensures) (c .before .before .is-value .ensures) (c .before .if1 .taken)
+    ∙ c .before .before .before .before .before .before .before .before .loop .inv
 
 returns : tie.Need-returns Inv-loop μ-loop
 returns c =
-    let a = c .before .before .before .before .before .before .before .args in
-    let i = c .before .before .before .before .before .loop .i in
+    let a = c .before .before .before .before .before .before .before .before .before .args in
+    let i = c .before .before .before .before .before .before .before .loop .i in
     let six : length (a .t1) ≡ 6 = search needs in
-    sym (values-off (a .t1) (a .values) (a .n) i _ _ _ six (omega arith) (c .before .before .before .slot-at .ensures) (c .before .before .value-here .ensures) (c .before .is-value .ensures) (c .if1 .left)) ∙ c .before .before .before .before .before .loop .inv
+    sym (values-off (a .t1) (a .t2) (a .n) i _ _ _ six (omega arith) (c .before .before .before .before .slot-in .ensures) (c .before .before .value-in .ensures) (c .before .is-value .ensures) (c .if1 .left)) ∙ c .before .before .before .before .before .before .before .loop .inv
 
 returns-2 : tie.Need-returns-2 Inv-loop μ-loop
 returns-2 c =
@@ -70,7 +70,7 @@ returns-2 c =
     let i = c .before .loop .i in
     let six : length (a .t1) ≡ 6 = search needs in
     let l = length-first (a .t1) (a .n) six in
-    sym (values-from-end (take (a .n) (a .t1)) (take (a .n) (a .values)) i (omega arith)) ∙ c .before .loop .inv
+    sym (values-from-end (take (a .n) (a .t1)) (take (a .n) (a .t2)) i (omega arith)) ∙ c .before .loop .inv
 
 pub values-lawful-spec : {M : Type 1} → statement M
 values-lawful-spec =
@@ -80,8 +80,8 @@ values-lawful-spec =
     μ-loop
     count-requires
     loop-holds
-    slot-at-requires
-    value-here-requires
+    slot-in-requires
+    value-in-requires
     mul-is-value
     array-read-is-value
     is-value-requires

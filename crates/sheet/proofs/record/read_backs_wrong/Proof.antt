@@ -1,4 +1,4 @@
--- `sheet::record::read_backs_wrong` meets its contract: two slots of a bridge with four read-backs of zero, else six slots. Assumes nothing.
+-- `sheet::record::read_backs_wrong` meets its contract: the slots that the function has, and of a bridge four read-backs of zero. Assumes nothing.
 use borrow.Author.Needs.{needs}
 use mathlib.Core.Path.{sym, _∙_}
 use Rattle.sheet.specs.CheckLaws.{read-backs-of-bridge, read-backs-of-end}
@@ -11,23 +11,23 @@ readbacks-of-requires c κs = search needs
 values-of-requires : tie.Need-values-of-requires
 values-of-requires c κs = search needs
 
-is-bridge-requires : tie.Need-is-bridge-requires
-is-bridge-requires c κs = search needs
+slot-count-requires : tie.Need-slot-count-requires
+slot-count-requires c κs = search needs
 
 values-lawful-requires : tie.Need-values-lawful-requires
 values-lawful-requires c κs = search needs
+
+is-bridge-requires : tie.Need-is-bridge-requires
+is-bridge-requires c κs = search needs
 
 rest-zero-requires : tie.Need-rest-zero-requires
 rest-zero-requires c κs = search needs
 
 returns : tie.Need-returns
-returns c = read-backs-of-bridge _ _ _ (c .before .before .before .before .before .readbacks-of .ensures) (c .before .before .before .before .values-of .ensures) _ _ (sym (c .before .before .before .is-bridge .ensures) ∙ c .before .before .if1 .taken) (c .before .values-lawful .ensures) (c .rest-zero .ensures)
-
-values-lawful-requires-2 : tie.Need-values-lawful-requires-2
-values-lawful-requires-2 c κs = search needs
+returns c = read-backs-of-bridge _ _ _ _ _ (c .before .before .before .before .before .before .readbacks-of .ensures) (c .before .before .before .before .before .values-of .ensures) (c .before .before .before .before .slot-count .ensures) (c .before .before .before .values-lawful .ensures) _ (sym (c .before .before .is-bridge .ensures) ∙ c .before .if1 .taken) (c .rest-zero .ensures)
 
 returns-2 : tie.Need-returns-2
-returns-2 c = read-backs-of-end _ _ _ (c .before .before .before .before .readbacks-of .ensures) (c .before .before .before .values-of .ensures) _ (sym (c .before .before .is-bridge .ensures) ∙ c .before .if1 .left) (c .values-lawful2 .ensures)
+returns-2 c = read-backs-of-end _ _ _ _ _ (c .before .before .before .before .before .readbacks-of .ensures) (c .before .before .before .before .values-of .ensures) (c .before .before .before .slot-count .ensures) (c .before .before .values-lawful .ensures) (sym (c .before .is-bridge .ensures) ∙ c .if1 .left)
 
 pub read-backs-wrong-spec : {M : Type 1} → statement M
 read-backs-wrong-spec =
@@ -35,9 +35,9 @@ read-backs-wrong-spec =
     (tie.spec
     readbacks-of-requires
     values-of-requires
-    is-bridge-requires
+    slot-count-requires
     values-lawful-requires
+    is-bridge-requires
     rest-zero-requires
     returns
-    values-lawful-requires-2
     returns-2)

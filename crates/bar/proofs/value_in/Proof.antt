@@ -1,11 +1,11 @@
--- `bar::value_here`: one register or two. Assumes nothing.
+-- `bar::value_in`: one register or two. Assumes nothing.
 use mathlib.Core.Path.{sym, ap₂, _∙_}
 use borrow.Author.Needs.{needs}
 use lib.ListN.{take}
 use Rattle.bar.specs.Bar.{joined}
 use Rattle.bar.specs.ValuesLaws.{value-here-at}
-use Rattle.bar.proofs.value_here.Statement.{statement}
-use Rattle.bar.proofs.value_here.Tie as tie
+use Rattle.bar.proofs.value_in.Statement.{statement}
+use Rattle.bar.proofs.value_in.Tie as tie
 
 entry-requires : tie.Need-entry-requires
 entry-requires c κs = search needs
@@ -27,7 +27,7 @@ returns c =
     let a = c .before .before .before .before .before .args in
     let t = sym (c .before .before .before .takes-next .ensures) ∙ c .before .before .if1 .taken in
     c .joined .ensures .0 ∙ ap₂ joined (c .before .before .before .before .entry .ensures) (c .before .entry2 .ensures)
-    ∙ sym (value-here-at (a .x) (take (a .n) (a .values)) (a .i) ∙ rw t)
+    ∙ sym (value-here-at (a .x) (take (a .n) (a .values .now)) (a .i) ∙ rw t)
 
 cast-result : tie.Need-cast-result
 cast-result c = search needs
@@ -36,10 +36,10 @@ returns-2 : tie.Need-returns-2
 returns-2 c =
     let a = c .before .before .before .args in
     let t = sym (c .before .takes-next .ensures) ∙ c .if1 .left in
-    c .before .before .entry .ensures ∙ sym (value-here-at (a .x) (take (a .n) (a .values)) (a .i) ∙ rw t)
+    c .before .before .entry .ensures ∙ sym (value-here-at (a .x) (take (a .n) (a .values .now)) (a .i) ∙ rw t)
 
-pub value-here-spec : {M : Type 1} → statement M
-value-here-spec =
+pub value-in-spec : {M : Type 1} → statement M
+value-in-spec =
     tie.close
     (tie.spec
     entry-requires
