@@ -9,7 +9,8 @@ use native.Mathlib.Omega.{arith}
 use borrow.Author.Tests.{eqb-true, eq-eqb, leb-true, le-leb}
 use lib.Arith.{digits-lt, digits-div, digits-mod}
 use lib.Pow.{pow-pos, pow-mono, pow-add, mod-mod-pow, ones-lt}
-use lib.Dec.{leb}
+use lib.Bits.{bitAnd}
+use lib.Dec.{eqb, leb}
 use lib.ListN.{length, getD, take, drop, length-drop, drop-of-length-le, List·getD-eq-default}
 use lib.Seq.{drop-drop, getD-drop, getD-take}
 use Rattle.pools.specs.declared.Pool.{Pool}
@@ -19,6 +20,7 @@ use Rattle.bar.specs.declared.Slot.{Slot}
 use Rattle.bar.specs.declared.Slot.the-variants.{Unused, Bar, Upper, Bad}
 use Rattle.bar.specs.Bar.{typeBits, leastBit, width, typeOf, withoutType, joined, slotHere, slots, isBad, anyBad, takesNext, span, BarSize}
 use Rattle.bar.specs.BarLaws.{length-first, slots-head, slots-at-step}
+use Rattle.bar.specs.PowerOfTwo.{PowerOfTwo, and-pred-power}
 use Rattle.bar.specs.Values.{valueHere, isBarValue, isValue, valuesFit, baseOf, valueOf, registersOf}
 
 -- ## Multiples of powers of two
@@ -106,6 +108,13 @@ bar-value-elim pool size r v e =
       multiple = eqb-true _ _ (b .1);
       io = λ h. leb-true v 65535 (rw h at (a .1));
     }
+
+-- the test in the words of the code: the mask of a power of two takes the remainder
+pub is-bar-value-masked : (pool : Pool) (size r v t u w : ℕ) (io : Bool) → PowerOfTwo size
+    → t ≡ typeOf pool v → u ≡ typeOf pool r → w ≡ withoutType pool v → io ≡ isIo pool
+    → (eqb t u && eqb (bitAnd w (size - 1)) 0 && (not io || leb v 65535)) ≡ isBarValue pool size r v
+unfolding isBarValue
+is-bar-value-masked pool size r v t u w io p e f g h = rw (and-pred-power w size p, e, f, g, h)
 
 -- the base written again gives the value back
 pub value-base : (pool : Pool) (wide : Bool) (size r v : ℕ) → BarValue pool size r v → valueOf (Bar pool wide size) r (baseOf (Bar pool wide size) v) ≡ v

@@ -1,7 +1,8 @@
 -- `bar::io_slot`: an I/O read-back, its size by `size_of` at 16 bits. Assumes nothing.
-use mathlib.Core.Path.{refl, sym, _∙_}
+use mathlib.Core.Path.{_≡_, refl, sym, _∙_}
+use mathlib.Core.Bool.{true, false}
 use borrow.Author.Needs.{needs}
-use Rattle.bar.specs.Bar.{ioSlot}
+use Rattle.bar.specs.Bar.{ioWrong, ioSlot}
 use Rattle.bar.proofs.io_slot.Statement.{statement}
 use Rattle.bar.proofs.io_slot.Tie as tie
 
@@ -10,7 +11,9 @@ io-wrong-requires c κs = search needs
 
 returns : tie.Need-returns
 unfolding ioSlot
-returns c = simp (sym (c .before .io-wrong .ensures) ∙ c .if1 .taken)
+returns c =
+    let w : ioWrong (c .before .before .args .r) ≡ true = sym (c .before .io-wrong .ensures) ∙ c .if1 .taken in
+    simp w
 
 mul-size-of : tie.Need-mul-size-of
 mul-size-of c = search needs
@@ -26,7 +29,9 @@ sized-requires c κs = search needs
 
 returns-2 : tie.Need-returns-2
 unfolding ioSlot
-returns-2 c = simp (sym (c .before .before .before .io-wrong .ensures) ∙ c .before .before .if1 .left) (rw (← c .before .size-of .ensures 16 2 refl refl) (c .sized .ensures))
+returns-2 c =
+    let w : ioWrong (c .before .before .before .before .args .r) ≡ false = sym (c .before .before .before .io-wrong .ensures) ∙ c .before .before .if1 .left in
+    simp w (rw (← c .before .size-of .ensures 16 2 refl refl) (c .sized .ensures))
 
 pub io-slot-spec : {M : Type 1} → statement M
 io-slot-spec =

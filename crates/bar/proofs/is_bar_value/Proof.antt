@@ -2,8 +2,7 @@
 use native.Mathlib.Omega.{arith}
 use borrow.Author.Needs.{needs}
 use lib.Pow.{pow-pos}
-use Rattle.bar.specs.PowerOfTwo.{and-pred-power}
-use Rattle.bar.specs.Values.{isBarValue}
+use Rattle.bar.specs.ValuesLaws.{is-bar-value-masked}
 use Rattle.bar.proofs.is_bar_value.Statement.{statement}
 use Rattle.bar.proofs.is_bar_value.Tie as tie
 
@@ -23,9 +22,9 @@ is-io-pool-requires : tie.Need-is-io-pool-requires
 is-io-pool-requires c κs = search needs
 
 returns : tie.Need-returns
-unfolding isBarValue
 returns c =
-    rw (and-pred-power (c .before .without-type .result) (c .before .before .before .before .args .size) (c .before .before .before .before .pre), c .before .before .before .type-of .ensures, c .before .before .type-of2 .ensures, c .before .without-type .ensures, c .is-io-pool .ensures)
+    let a = c .before .before .before .before .args in
+    is-bar-value-masked (a .pool) (a .size) (a .r) (a .v) _ _ _ _ (c .before .before .before .before .pre) (c .before .before .before .type-of .ensures) (c .before .before .type-of2 .ensures) (c .before .without-type .ensures) (c .is-io-pool .ensures)
 
 pub is-bar-value-spec : {M : Type 1} → statement M
 is-bar-value-spec =

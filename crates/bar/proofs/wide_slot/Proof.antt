@@ -1,8 +1,8 @@
 -- `bar::wide_slot`: a 64-bit read-back on the joined bits, in the high pool or the low one. Assumes nothing.
-use mathlib.Core.Path.{refl}
+use mathlib.Core.Path.{_≡_, refl}
 use borrow.Author.Tests.{eq-eqb, ne-eqb}
 use borrow.Author.Needs.{needs}
-use Rattle.bar.specs.Bar.{wideSlot}
+use Rattle.bar.specs.Bar.{joined, wideSlot}
 use Rattle.bar.proofs.wide_slot.Statement.{statement}
 use Rattle.bar.proofs.wide_slot.Tie as tie
 
@@ -24,14 +24,16 @@ sized-requires-2 c κs = search needs
 returns : tie.Need-returns
 unfolding wideSlot
 returns c =
-    let j = c .before .before .before .joined .ensures .0 in
+    let a = c .before .before .before .before .args in
+    let j : c .before .before .before .joined .result ≡ joined (a .r) (a .upper) = c .before .before .before .joined .ensures .0 in
     let z = rw j at (c .before .before .size-of .ensures 64 4 refl refl) in
     simp (eq-eqb _ _ (c .before .if1 .taken)) (rw (← z) (c .sized .ensures))
 
 returns-2 : tie.Need-returns-2
 unfolding wideSlot
 returns-2 c =
-    let j = c .before .before .before .joined .ensures .0 in
+    let a = c .before .before .before .before .args in
+    let j : c .before .before .before .joined .result ≡ joined (a .r) (a .upper) = c .before .before .before .joined .ensures .0 in
     let z = rw j at (c .before .before .size-of .ensures 64 4 refl refl) in
     simp (ne-eqb _ _ (c .before .if1 .left)) (rw (← z) (c .sized2 .ensures))
 
