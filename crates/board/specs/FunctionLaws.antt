@@ -1,16 +1,16 @@
 -- What a function record whose header type passed its check keeps, and both checks of one function by what the code looks at. Assumes nothing.
-use mathlib.Core.Path.{_≡_, refl, sym, ap, _∙_}
-use mathlib.Core.Bool.{Bool, true, false, cond, not, _&&_, _||_, and-true}
-use mathlib.Core.List.{List}
-use Prim.Native.Nat.{ℕ, _≤_, _<_}
+use mathlib.Core.Path.{_≡_, refl, sym, ap, ap₂, _∙_}
+use mathlib.Core.Bool.{Bool, true, false, cond, not, _&&_, _||_, and-true, and-eq-true-iff}
+use mathlib.Core.List.{List, [], _∷_}
+use Prim.Native.Nat.{ℕ, zero, suc, _+_, _*_, _≤_, _<_}
 use native.Mathlib.Omega.{arith}
 use lib.ListN.{length, getD, take, List·getD-eq-default}
-use lib.Dec.{eqb}
-use borrow.Author.Tests.{eqb-true, ne-eqb, not-false}
+use lib.Dec.{eqb, leb}
+use borrow.Author.Tests.{eqb-true, ne-eqb, not-false, leb-true, leb-false}
+use Rattle.endian.specs.Endian.{be}
 use Rattle.records.specs.RecordsLaws.{false-of-or}
 use Rattle.bar.specs.Bar.{slots, anyBad}
-use Rattle.board.specs.declared.Function.{Function}
-use Rattle.board.specs.Function.{typeOf, isBridgeHeader, lengthFor, wrongFor, headerWrong, slotCount, readbacksWrong}
+use Rattle.board.specs.Function.{typeOf, isBridgeHeader, lengthFor, readbacksFor, functionOfPart, wrongFor, headerWrong, isBridge, slotCount, readbacksWrong}
 
 pub length-of-header : (p : List ℕ) → headerWrong p ≡ false → length p ≡ lengthFor (getD p 3 0)
 unfolding headerWrong
@@ -51,10 +51,61 @@ module _ (n header : ℕ) where
 
 -- ---- 25 by the slots
 
-pub readbacks-wrong : (f : Function) (n : ℕ) (r : Bool) → slotCount f ≡ n → r ≡ not (anyBad (slots (take n (f .readbacks)))) → not r ≡ readbacksWrong f
-unfolding readbacksWrong
-readbacks-wrong f n r e h = ap not h ∙ twice (anyBad (slots (take n (f .readbacks)))) ∙ ap (λ (k : ℕ). anyBad (slots (take k (f .readbacks)))) (sym e)
+pub readbacks-wrong : (p : List ℕ) (set : List ℕ) (n : ℕ) (r : Bool) → set ≡ readbacksFor (getD p 3 0) p → n ≡ slotCount (functionOfPart p)
+    → r ≡ not (anyBad (slots (take n set))) → not r ≡ readbacksWrong (functionOfPart p)
+unfolding readbacksWrong functionOfPart
+readbacks-wrong p set n r s e h = ap not h ∙ twice (anyBad (slots (take n set))) ∙ ap₂ (λ (k : ℕ) (l : List ℕ). anyBad (slots (take k l))) e s
   where
     twice : (t : Bool) → not (not t) ≡ t
     twice true = refl
     twice false = refl
+
+-- ---- the read-backs one by one: a bridge has two
+
+pub readback-none : (p : List ℕ) (j : ℕ) (b : Bool) → b ≡ isBridge (functionOfPart p) → leb 2 j && b ≡ true → j < 6
+    → 0 ≡ getD (functionOfPart p .readbacks) j 0
+unfolding functionOfPart
+readback-none p j b q e h =
+    let both = and-eq-true-iff (leb 2 j) b .0 e in
+    rw (sym q ∙ both .1) (zeros j (leb-true 2 j (both .0)) h)
+  where
+    zeros : (k : ℕ) → 2 ≤ k → k < 6 → 0 ≡ getD (be 4 p 6 ∷ be 4 p 10 ∷ 0 ∷ 0 ∷ 0 ∷ 0 ∷ []) k 0
+    zeros zero l u = absurd (omega arith)
+    zeros (suc zero) l u = absurd (omega arith)
+    zeros (suc (suc zero)) l u = refl
+    zeros (suc (suc (suc zero))) l u = refl
+    zeros (suc (suc (suc (suc zero)))) l u = refl
+    zeros (suc (suc (suc (suc (suc zero))))) l u = refl
+    zeros (suc (suc (suc (suc (suc (suc k)))))) l u = absurd (omega arith)
+
+module _ (p : List ℕ) (j : ℕ) (b : Bool) (q : b ≡ isBridge (functionOfPart p)) (e : leb 2 j && b ≡ false) (h : j < 6) where
+  pub readback-read : be 4 p (6 + 4 * j) ≡ getD (functionOfPart p .readbacks) j 0
+  unfolding functionOfPart
+  readback-read = go b q e
+    where
+      two : (k : ℕ) → k < 2 → be 4 p (6 + 4 * k) ≡ getD (be 4 p 6 ∷ be 4 p 10 ∷ 0 ∷ 0 ∷ 0 ∷ 0 ∷ []) k 0
+      two zero u = refl
+      two (suc zero) u = refl
+      two (suc (suc k)) u = absurd (omega arith)
+
+      six : (k : ℕ) → k < 6 → be 4 p (6 + 4 * k) ≡ getD (be 4 p 6 ∷ be 4 p 10 ∷ be 4 p 14 ∷ be 4 p 18 ∷ be 4 p 22 ∷ be 4 p 26 ∷ []) k 0
+      six zero u = refl
+      six (suc zero) u = refl
+      six (suc (suc zero)) u = refl
+      six (suc (suc (suc zero))) u = refl
+      six (suc (suc (suc (suc zero)))) u = refl
+      six (suc (suc (suc (suc (suc zero))))) u = refl
+      six (suc (suc (suc (suc (suc (suc k)))))) u = absurd (omega arith)
+
+      go : (t : Bool) → t ≡ isBridgeHeader (getD p 3 0) → leb 2 j && t ≡ false
+          → be 4 p (6 + 4 * j) ≡ getD (readbacksFor (getD p 3 0) p) j 0
+      go true s f = rw (sym s) (two j (leb-false 2 j (sym (and-true (leb 2 j)) ∙ f)))
+      go false s f = rw (sym s) (six j h)
+
+  pub readback-fits : headerWrong p ≡ false → 6 + 4 * j + 4 ≤ length p
+  unfolding functionOfPart
+  readback-fits w = go b q e
+    where
+      go : (t : Bool) → t ≡ isBridgeHeader (getD p 3 0) → leb 2 j && t ≡ false → 6 + 4 * j + 4 ≤ length p
+      go true s f = omega (arith, le-length p w, leb-false 2 j (sym (and-true (leb 2 j)) ∙ f))
+      go false s f = omega (arith, length-of-end p w (sym s))

@@ -10,7 +10,7 @@ ghost use lib.Dec.{ltb};
 ghost use Rattle.placing.specs.Lists.{any};
 ghost use Rattle.records.specs.Records.{partsOf, partsFrom, anyPart};
 ghost use Rattle.board.specs.Host.{hostLength, hostOfPart, offEdges, outside as isOutside, poolWrong, hostWrong};
-ghost use Rattle.board.specs.Function.{readbacksFor, functionOfPart, wrongFor, headerWrong, readbacksWrong};
+ghost use Rattle.board.specs.Function.{readbacksFor, functionOfPart, wrongFor, headerWrong, isBridge, slotCount, readbacksWrong};
 ghost use Rattle.board.specs.Board.{mostFunctions, misframed as isMisframed, tailMisframed, boardNumber};
 use pools::Pool;
 use records::Next;
@@ -115,6 +115,46 @@ pub fn function_of(part: &[u8]) -> Function
         command: endian::read_be16(part, 4) as u16,
         readbacks,
     }
+}
+
+// Of the same, one field: a pass that needs few of them reads no more.
+pub fn parent_of(part: &[u8]) -> u16
+    requires { ⌜ headerWrong (now part) ≡ false ⌝ }
+    ensures { λ r. ⌜ r ≡ functionOfPart (now (part .entry)) .parent ⌝ }
+{
+    endian::read_be16(part, 0) as u16
+}
+
+fn devfn_of(part: &[u8]) -> u8
+    requires { ⌜ headerWrong (now part) ≡ false ⌝ }
+    ensures { λ r. ⌜ r ≡ functionOfPart (now (part .entry)) .devfn ⌝ }
+{
+    part[2]
+}
+
+fn header_of(part: &[u8]) -> u8
+    requires { ⌜ headerWrong (now part) ≡ false ⌝ }
+    ensures { λ r. ⌜ r ≡ functionOfPart (now (part .entry)) .header ⌝ }
+{
+    part[3]
+}
+
+// A bridge's third and later are 0.
+pub fn readback_at(part: &[u8], j: usize) -> u32
+    requires { ⌜ (headerWrong (now part) ≡ false) × (j < 6) ⌝ }
+    ensures { λ r. ⌜ r ≡ getD (functionOfPart (now (part .entry)) .readbacks) j 0 ⌝ }
+{
+    if (2 <= j) & is_bridge(part) {
+        return 0;
+    }
+    endian::read_be32(part, 6 + 4 * j) as u32
+}
+
+fn is_bridge(part: &[u8]) -> bool
+    requires { ⌜ headerWrong (now part) ≡ false ⌝ }
+    ensures { λ r. ⌜ r ≡ isBridge (functionOfPart (now (part .entry))) ⌝ }
+{
+    header_of(part) % 128 == 1
 }
 
 fn readbacks_of(part: &[u8]) -> [u32; 6]
@@ -304,7 +344,7 @@ fn readbacks_wrong(board: &[u8]) -> bool
                 return false;
             }
             Next::Record(n) => {
-                if bad_readbacks(function_of(records::part_at(board, at, n))) {
+                if bad_readbacks(records::part_at(board, at, n)) {
                     return true;
                 }
                 at = at + 2 + n;
@@ -313,12 +353,18 @@ fn readbacks_wrong(board: &[u8]) -> bool
     }
 }
 
-fn bad_readbacks(f: Function) -> bool
-    ensures { λ r. ⌜ r ≡ readbacksWrong f ⌝ }
+// One call for two slots and for six, so that the compiler can join it to the loop.
+fn bad_readbacks(part: &[u8]) -> bool
+    requires { ⌜ headerWrong (now part) ≡ false ⌝ }
+    ensures { λ r. ⌜ r ≡ readbacksWrong (functionOfPart (now (part .entry))) ⌝ }
 {
-    let set = f.readbacks;
-    if f.header % 128 == 1 {
-        return !bar::is_lawful(set, 2);
-    }
-    !bar::is_lawful(set, 6)
+    let set = readbacks_of(part);
+    !bar::is_lawful(set, slot_count(part))
+}
+
+fn slot_count(part: &[u8]) -> usize
+    requires { ⌜ headerWrong (now part) ≡ false ⌝ }
+    ensures { λ r. ⌜ r ≡ slotCount (functionOfPart (now (part .entry))) ⌝ }
+{
+    if is_bridge(part) { 2 } else { 6 }
 }

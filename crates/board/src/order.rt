@@ -9,7 +9,6 @@ ghost use Rattle.board.specs.Function.{functionOfPart, headerWrong};
 ghost use Rattle.board.specs.Order.{anyMisplaced};
 ghost use Rattle.board.specs.Stack.{unplacedAt, sharedAfter};
 ghost use Rattle.board.specs.Levels.{foundIn, openAfter};
-use crate::Function;
 use records::Next;
 
 // The level of a bus that is open.
@@ -18,7 +17,7 @@ pub enum Found {
     Nowhere,
 }
 
-pub fn misplaced(board: &[u8]) -> bool
+pub(crate) fn misplaced(board: &[u8]) -> bool
     requires { ⌜ anyPart headerWrong (partsFrom (now board) 33) ≡ false ⌝ }
     ensures { λ r. ⌜ r ≡ anyMisplaced 0 [] (map functionOfPart (partsFrom (now (board .entry)) 33)) ⌝ }
 {
@@ -39,20 +38,20 @@ pub fn misplaced(board: &[u8]) -> bool
                 return false;
             }
             Next::Record(n) => {
-                let f = crate::function_of(records::part_at(board, at, n));
-                let Found::At(i) = level_of(&buses, levels, f.parent as usize) else {
+                let part = records::part_at(board, at, n);
+                let Found::At(i) = level_of(&buses, levels, crate::parent_of(part) as usize) else {
                     return true;
                 };
-                if unplaced(f, i, nexts[i], shared[i]) {
+                if unplaced(part, i, nexts[i], shared[i]) {
                     return true;
                 }
                 number += 1;
-                nexts[i] = f.devfn as usize + 1;
-                shared[i] = shared_after(shared[i], f);
+                nexts[i] = crate::devfn_of(part) as usize + 1;
+                shared[i] = shared_after(shared[i], part);
                 buses[i + 1] = number;
                 nexts[i + 1] = 0;
                 shared[i + 1] = 0;
-                levels = open_after(i, f);
+                levels = open_after(i, part);
                 at = at + 2 + n;
             }
         }
@@ -75,28 +74,32 @@ fn level_of(buses: &[usize; 18], levels: usize, parent: usize) -> Found
     Found::Nowhere
 }
 
-fn unplaced(f: Function, depth: usize, next: usize, shared: usize) -> bool
-    ensures { λ r. ⌜ r ≡ unplacedAt next shared depth f ⌝ }
+fn unplaced(part: &[u8], depth: usize, next: usize, shared: usize) -> bool
+    requires { ⌜ headerWrong (now part) ≡ false ⌝ }
+    ensures { λ r. ⌜ r ≡ unplacedAt next shared depth (functionOfPart (now (part .entry))) ⌝ }
 {
-    ((f.devfn as usize) < next)
+    let devfn = crate::devfn_of(part);
+    ((devfn as usize) < next)
         | (16 < depth)
-        | !((f.devfn % 8 == 0) | (shared == (f.devfn / 8) as usize + 1))
+        | !((devfn % 8 == 0) | (shared == (devfn / 8) as usize + 1))
 }
 
-fn shared_after(shared: usize, f: Function) -> usize
-    ensures { λ r. ⌜ r ≡ sharedAfter shared f ⌝ }
+fn shared_after(shared: usize, part: &[u8]) -> usize
+    requires { ⌜ headerWrong (now part) ≡ false ⌝ }
+    ensures { λ r. ⌜ r ≡ sharedAfter shared (functionOfPart (now (part .entry))) ⌝ }
 {
-    if (f.devfn % 8 == 0) & (f.header / 128 == 1) {
-        (f.devfn / 8) as usize + 1
+    let devfn = crate::devfn_of(part);
+    if (devfn % 8 == 0) & (crate::header_of(part) / 128 == 1) {
+        (devfn / 8) as usize + 1
     } else {
         shared
     }
 }
 
 // A bridge at level i opens the level after it.
-fn open_after(i: usize, f: Function) -> usize
-    requires { ⌜ i ≤ 16 ⌝ }
-    ensures { λ r. ⌜ r ≡ openAfter i f ⌝ }
+fn open_after(i: usize, part: &[u8]) -> usize
+    requires { ⌜ (i ≤ 16) × (headerWrong (now part) ≡ false) ⌝ }
+    ensures { λ r. ⌜ r ≡ openAfter i (functionOfPart (now (part .entry))) ⌝ }
 {
-    if f.header % 128 == 1 { i + 2 } else { i + 1 }
+    if crate::is_bridge(part) { i + 2 } else { i + 1 }
 }

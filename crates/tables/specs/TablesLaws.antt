@@ -32,11 +32,11 @@ length-readbacks p = go (isBridgeHeader (getD p 3 0))
 -- ---- stores one by one: a run `vs` from `at` on, of which those before j are stored
 
 module _ {r : List ℕ} (o vs : List ℕ) (at j : ℕ) (e : sets o (at + j) (drop j vs) ≡ r) where
-  pub run-turn : j < length vs → sets (set o (at + j) (getD vs j 0)) (at + (j + 1)) (drop (j + 1) vs) ≡ r
-  run-turn h =
+  pub run-turn : {v : ℕ} → v ≡ getD vs j 0 → j < length vs → sets (set o (at + j) v) (at + (j + 1)) (drop (j + 1) vs) ≡ r
+  run-turn q h =
       let more : drop j vs ≡ getD vs j 0 ∷ drop (suc j) vs = drop-cons vs j 0 h in
       let next : at + (j + 1) ≡ suc (at + j) = omega arith in
-      rw (next, add-one j) (rw more at e)
+      rw (q, next, add-one j) (rw more at e)
 
   pub run-end : length vs ≤ j → o ≡ r
   run-end h = rw (drop-of-length-le vs {i = j} h) at e

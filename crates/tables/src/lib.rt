@@ -1,12 +1,13 @@
 // A lawful board's functions, once, into the arrays that the planner's passes read: each parent record, header type byte and set of read-backs.
 ghost use mathlib.Core.Path.{_≡_};
+ghost use mathlib.Core.Bool.{false};
 ghost use Prim.Native.Nat.{_+_, _≤_, _<_};
 ghost use lib.ListN.{length};
 ghost use lib.Seq.{sets};
+ghost use Rattle.board.specs.Function.{functionOfPart, headerWrong};
 ghost use Rattle.board.specs.Board.{mostFunctions, boardNumber, functionsOf};
 ghost use Rattle.tables.specs.Tables.{Room, Put, Filled};
 ghost use Rattle.tables.specs.Counts.{weightOf, countsOf};
-use board::Function;
 use records::Next;
 
 // How many functions the board has. Function i has its parent record and its header type byte at i, its six read-backs at 6 * i.
@@ -25,8 +26,8 @@ pub fn fill(board: &[u8], parents: &mut [u16], headers: &mut [u8], readbacks: &m
                 return i;
             }
             Next::Record(n) => {
-                let f = board::function_of(records::part_at(board, at, n));
-                put(f, i, parents, headers, readbacks);
+                let part = records::part_at(board, at, n);
+                put(part, i, parents, headers, readbacks);
                 i += 1;
                 at = at + 2 + n;
             }
@@ -34,23 +35,23 @@ pub fn fill(board: &[u8], parents: &mut [u16], headers: &mut [u8], readbacks: &m
     }
 }
 
-fn put(f: Function, i: usize, parents: &mut [u16], headers: &mut [u8], readbacks: &mut [u32])
-    requires { ⌜ Room (i + 1) (now parents) (now headers) (now readbacks) ⌝ }
-    ensures { λ _. ⌜ Put f i (now (parents .entry)) (now (headers .entry)) (now (readbacks .entry)) (now (parents .exit)) (now (headers .exit)) (now (readbacks .exit)) ⌝ }
+// Of a record whose header type and length passed their check; byte 3 is the header type.
+fn put(part: &[u8], i: usize, parents: &mut [u16], headers: &mut [u8], readbacks: &mut [u32])
+    requires { ⌜ (headerWrong (now part) ≡ false) × Room (i + 1) (now parents) (now headers) (now readbacks) ⌝ }
+    ensures { λ _. ⌜ Put (functionOfPart (now (part .entry))) i (now (parents .entry)) (now (headers .entry)) (now (readbacks .entry)) (now (parents .exit)) (now (headers .exit)) (now (readbacks .exit)) ⌝ }
 {
-    let values = f.readbacks;
-    parents[i] = f.parent;
-    headers[i] = f.header;
-    put_set(readbacks, 6 * i, values);
+    parents[i] = board::parent_of(part);
+    headers[i] = part[3];
+    put_set(readbacks, 6 * i, part);
 }
 
-fn put_set(readbacks: &mut [u32], at: usize, values: [u32; 6])
-    requires { ⌜ at + 6 ≤ length (now readbacks) ⌝ }
-    ensures { λ _. ⌜ now (readbacks .exit) ≡ sets (now (readbacks .entry)) at values ⌝ }
+fn put_set(readbacks: &mut [u32], at: usize, part: &[u8])
+    requires { ⌜ (headerWrong (now part) ≡ false) × (at + 6 ≤ length (now readbacks)) ⌝ }
+    ensures { λ _. ⌜ now (readbacks .exit) ≡ sets (now (readbacks .entry)) at (functionOfPart (now (part .entry)) .readbacks) ⌝ }
 {
     let mut j: usize = 0;
     while j < 6 {
-        readbacks[at + j] = values[j];
+        readbacks[at + j] = board::readback_at(part, j);
         j += 1;
     }
 }

@@ -61,50 +61,47 @@ part-at-requires c κs =
     let e = sym (c .before .before .before .next-at .ensures) ∙ c .before .n .given .1 in
     fits-at s at _ e
 
-function-of-requires : tie.Need-function-of-requires Inv-loop μ-loop
-function-of-requires c κs =
+bad-readbacks-requires : tie.Need-bad-readbacks-requires Inv-loop μ-loop
+bad-readbacks-requires c κs =
     let s = c .before .before .before .before .before .before .before .args .board .now in
     let at = c .before .before .before .before .before .loop .at in
     let e = sym (c .before .before .before .before .next-at .ensures) ∙ c .before .before .n .given .1 in
     ap headerWrong (c .part-at .ensures) ∙ none-here headerWrong s at _ e (c .before .before .before .before .before .loop .inv .0)
 
-bad-readbacks-requires : tie.Need-bad-readbacks-requires Inv-loop μ-loop
-bad-readbacks-requires c κs = search needs
-
 returns-3 : tie.Need-returns-3 Inv-loop μ-loop
 returns-3 c =
-    let s = c .before .before .before .before .before .before .before .before .before .before .args .board .now in
-    let at = c .before .before .before .before .before .before .before .before .loop .at in
-    let e = sym (c .before .before .before .before .before .before .before .next-at .ensures) ∙ c .before .before .before .before .before .n .given .1 in
-    sym (any-hit wrong s at _ e (sym (c .before .bad-readbacks .ensures ∙ ap readbacksWrong (c .before .before .function-of .ensures ∙ ap functionOfPart (c .before .before .before .part-at .ensures))) ∙ c .if1 .taken)) ∙ c .before .before .before .before .before .before .before .before .loop .inv .1
+    let s = c .before .before .before .before .before .before .before .before .before .args .board .now in
+    let at = c .before .before .before .before .before .before .before .loop .at in
+    let e = sym (c .before .before .before .before .before .before .next-at .ensures) ∙ c .before .before .before .before .n .given .1 in
+    sym (any-hit wrong s at _ e (sym (c .before .bad-readbacks .ensures ∙ ap wrong (c .before .before .part-at .ensures)) ∙ c .if1 .taken)) ∙ c .before .before .before .before .before .before .before .loop .inv .1
 
 add-at : tie.Need-add-at Inv-loop μ-loop
 add-at c =
-    let s = c .before .before .before .before .before .before .before .before .before .before .args .board .now in
-    let at = c .before .before .before .before .before .before .before .before .loop .at in
-    let e = sym (c .before .before .before .before .before .before .before .next-at .ensures) ∙ c .before .before .before .before .before .n .given .1 in
+    let s = c .before .before .before .before .before .before .before .before .before .args .board .now in
+    let at = c .before .before .before .before .before .before .before .loop .at in
+    let e = sym (c .before .before .before .before .before .before .next-at .ensures) ∙ c .before .before .before .before .n .given .1 in
     omega (arith, fits-at s at _ e)
 
 add-at-2 : tie.Need-add-at-2 Inv-loop μ-loop
 add-at-2 c =
-    let s = c .before .before .before .before .before .before .before .before .before .before .args .board .now in
-    let at = c .before .before .before .before .before .before .before .before .loop .at in
-    let e = sym (c .before .before .before .before .before .before .before .next-at .ensures) ∙ c .before .before .before .before .before .n .given .1 in
+    let s = c .before .before .before .before .before .before .before .before .before .args .board .now in
+    let at = c .before .before .before .before .before .before .before .loop .at in
+    let e = sym (c .before .before .before .before .before .before .next-at .ensures) ∙ c .before .before .before .before .n .given .1 in
     omega (arith, fits-at s at _ e)
 
 loop-less : tie.Need-loop-less Inv-loop μ-loop
 loop-less c =
-    let s = c .before .before .before .before .before .before .before .before .before .before .args .board .now in
-    let at = c .before .before .before .before .before .before .before .before .loop .at in
-    let e = sym (c .before .before .before .before .before .before .before .next-at .ensures) ∙ c .before .before .before .before .before .n .given .1 in
+    let s = c .before .before .before .before .before .before .before .before .before .args .board .now in
+    let at = c .before .before .before .before .before .before .before .loop .at in
+    let e = sym (c .before .before .before .before .before .before .next-at .ensures) ∙ c .before .before .before .before .n .given .1 in
     omega (arith, fits-at s at _ e)
 
 loop-again : tie.Need-loop-again Inv-loop μ-loop
 loop-again c =
-    let s = c .before .before .before .before .before .before .before .before .before .before .args .board .now in
-    let at = c .before .before .before .before .before .before .before .before .loop .at in
-    let e = sym (c .before .before .before .before .before .before .before .next-at .ensures) ∙ c .before .before .before .before .before .n .given .1 in
-    (none-later headerWrong s at _ e (c .before .before .before .before .before .before .before .before .loop .inv .0), sym (any-miss wrong s at _ e (sym (c .before .bad-readbacks .ensures ∙ ap readbacksWrong (c .before .before .function-of .ensures ∙ ap functionOfPart (c .before .before .before .part-at .ensures))) ∙ c .if1 .left)) ∙ c .before .before .before .before .before .before .before .before .loop .inv .1)
+    let s = c .before .before .before .before .before .before .before .before .before .args .board .now in
+    let at = c .before .before .before .before .before .before .before .loop .at in
+    let e = sym (c .before .before .before .before .before .before .next-at .ensures) ∙ c .before .before .before .before .n .given .1 in
+    (none-later headerWrong s at _ e (c .before .before .before .before .before .before .before .loop .inv .0), sym (any-miss wrong s at _ e (sym (c .before .bad-readbacks .ensures ∙ ap wrong (c .before .before .part-at .ensures)) ∙ c .if1 .left)) ∙ c .before .before .before .before .before .before .before .loop .inv .1)
 
 pub readbacks-wrong-spec : {M : Type 1} → statement M
 readbacks-wrong-spec =
@@ -120,7 +117,6 @@ readbacks-wrong-spec =
     returns-2
     enum-known-n
     part-at-requires
-    function-of-requires
     bad-readbacks-requires
     returns-3
     add-at

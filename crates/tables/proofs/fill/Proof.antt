@@ -60,30 +60,27 @@ enum-known-n c = search needs
 part-at-requires : tie.Need-part-at-requires Inv-loop μ-loop
 part-at-requires c κs = fits-at (c .before .before .before .before .before .before .before .before .before .args .board .now) (c .before .before .before .before .loop .at) _ (sym (c .before .before .before .next-at .ensures) ∙ c .before .n .given .1)
 
-function-of-requires : tie.Need-function-of-requires Inv-loop μ-loop
-function-of-requires c κs =
-    let e = sym (c .before .before .before .before .next-at .ensures) ∙ c .before .before .n .given .1 in
-    ap headerWrong (c .part-at .ensures) ∙ none-here headerWrong (c .before .before .before .before .before .before .before .before .before .before .args .board .now) (c .before .before .before .before .before .loop .at) _ e (c .before .before .before .before .before .loop .inv .lawful)
-
 put-requires : tie.Need-put-requires Inv-loop μ-loop
-put-requires c κs = filling-room (c .before .before .before .before .before .before .before .before .before .loop .inv) _ (sym (c .before .before .before .before .before .before .before .before .next-at .ensures) ∙ c .before .before .before .before .before .before .n .given .1)
+put-requires c κs =
+    let e = sym (c .before .before .before .before .before .before .before .next-at .ensures) ∙ c .before .before .before .before .before .n .given .1 in
+    (ap headerWrong (c .before .before .before .part-at .ensures) ∙ none-here headerWrong (c .before .before .before .before .before .before .before .before .before .before .before .before .before .args .board .now) (c .before .before .before .before .before .before .before .before .loop .at) _ e (c .before .before .before .before .before .before .before .before .loop .inv .lawful), filling-room (c .before .before .before .before .before .before .before .before .loop .inv) _ e)
 
 add-i : tie.Need-add-i Inv-loop μ-loop
-add-i c = omega (arith, filling-lt (c .before .before .before .before .before .before .before .before .before .before .before .before .before .before .before .before .loop .inv) _ (sym (c .before .before .before .before .before .before .before .before .before .before .before .before .before .before .before .next-at .ensures) ∙ c .before .before .before .before .before .before .before .before .before .before .before .before .before .n .given .1))
+add-i c = omega (arith, filling-lt (c .before .before .before .before .before .before .before .before .before .before .before .before .before .before .before .loop .inv) _ (sym (c .before .before .before .before .before .before .before .before .before .before .before .before .before .before .next-at .ensures) ∙ c .before .before .before .before .before .before .before .before .before .before .before .before .n .given .1))
 
 add-at : tie.Need-add-at Inv-loop μ-loop
-add-at c = omega (arith, fits-at (c .before .before .before .before .before .before .before .before .before .before .before .before .before .before .before .before .before .before .before .before .before .args .board .now) (c .before .before .before .before .before .before .before .before .before .before .before .before .before .before .before .before .loop .at) _ (sym (c .before .before .before .before .before .before .before .before .before .before .before .before .before .before .before .next-at .ensures) ∙ c .before .before .before .before .before .before .before .before .before .before .before .before .before .n .given .1))
+add-at c = omega (arith, fits-at (c .before .before .before .before .before .before .before .before .before .before .before .before .before .before .before .before .before .before .before .before .args .board .now) (c .before .before .before .before .before .before .before .before .before .before .before .before .before .before .before .loop .at) _ (sym (c .before .before .before .before .before .before .before .before .before .before .before .before .before .before .next-at .ensures) ∙ c .before .before .before .before .before .before .before .before .before .before .before .before .n .given .1))
 
 add-at-2 : tie.Need-add-at-2 Inv-loop μ-loop
-add-at-2 c = omega (arith, fits-at (c .before .before .before .before .before .before .before .before .before .before .before .before .before .before .before .before .before .before .before .before .before .args .board .now) (c .before .before .before .before .before .before .before .before .before .before .before .before .before .before .before .before .loop .at) _ (sym (c .before .before .before .before .before .before .before .before .before .before .before .before .before .before .before .next-at .ensures) ∙ c .before .before .before .before .before .before .before .before .before .before .before .before .before .n .given .1))
+add-at-2 c = omega (arith, fits-at (c .before .before .before .before .before .before .before .before .before .before .before .before .before .before .before .before .before .before .before .before .args .board .now) (c .before .before .before .before .before .before .before .before .before .before .before .before .before .before .before .loop .at) _ (sym (c .before .before .before .before .before .before .before .before .before .before .before .before .before .before .next-at .ensures) ∙ c .before .before .before .before .before .before .before .before .before .before .before .before .n .given .1))
 
 loop-less : tie.Need-loop-less Inv-loop μ-loop
-loop-less c = omega (arith, fits-at (c .before .before .before .before .before .before .before .before .before .before .before .before .before .before .before .before .before .before .before .before .before .args .board .now) (c .before .before .before .before .before .before .before .before .before .before .before .before .before .before .before .before .loop .at) _ (sym (c .before .before .before .before .before .before .before .before .before .before .before .before .before .before .before .next-at .ensures) ∙ c .before .before .before .before .before .before .before .before .before .before .before .before .before .n .given .1))
+loop-less c = omega (arith, fits-at (c .before .before .before .before .before .before .before .before .before .before .before .before .before .before .before .before .before .before .before .before .args .board .now) (c .before .before .before .before .before .before .before .before .before .before .before .before .before .before .before .loop .at) _ (sym (c .before .before .before .before .before .before .before .before .before .before .before .before .before .before .next-at .ensures) ∙ c .before .before .before .before .before .before .before .before .before .before .before .before .n .given .1))
 
 loop-again : tie.Need-loop-again Inv-loop μ-loop
 loop-again c =
-    let e = sym (c .before .before .before .before .before .before .before .before .before .before .before .before .before .before .before .next-at .ensures) ∙ c .before .before .before .before .before .before .before .before .before .before .before .before .before .n .given .1 in
-    filling-record (c .before .before .before .before .before .before .before .before .before .before .before .before .before .before .before .before .loop .inv) _ e (c .before .before .before .before .before .before .before .before .before .before .function-of .ensures ∙ ap functionOfPart (c .before .before .before .before .before .before .before .before .before .before .before .part-at .ensures)) (c .before .before .before .before .before .before .put .ensures)
+    let e = sym (c .before .before .before .before .before .before .before .before .before .before .before .before .before .before .next-at .ensures) ∙ c .before .before .before .before .before .before .before .before .before .before .before .before .n .given .1 in
+    filling-record (c .before .before .before .before .before .before .before .before .before .before .before .before .before .before .before .loop .inv) _ e (ap functionOfPart (c .before .before .before .before .before .before .before .before .before .before .part-at .ensures)) (c .before .before .before .before .before .before .put .ensures)
 
 pub fill-spec : {M : Type 1} → statement M
 fill-spec =
@@ -105,7 +102,6 @@ fill-spec =
     returns-2
     enum-known-n
     part-at-requires
-    function-of-requires
     put-requires
     add-i
     add-at

@@ -5,36 +5,37 @@ use mathlib.Core.Path.{_≡_, refl, ap, _∙_}
 use Prim.Native.Nat.{ℕ, _+_, _-_, _≤_}
 use native.Mathlib.Nat.{add-zero}
 use native.Mathlib.Omega.{arith}
-use lib.ListN.{length, getD, drop, length-set}
+use lib.ListN.{length, drop, length-set}
 use lib.Seq.{sets}
-use Rattle.tables.specs.TablesLaws.{run-turn, run-end}
+use Rattle.board.specs.Function.{functionOfPart}
+use Rattle.tables.specs.TablesLaws.{length-readbacks, run-turn, run-end}
 use Rattle.tables.proofs.put_set.Statement.{statement}
 use Rattle.tables.proofs.put_set.Tie as tie
 
 abbrev Inv-loop : tie.InvT-loop
-Inv-loop readbacks₀ at values j₀ readbacks j =
-    (j ≤ 6) × (length readbacks ≡ length readbacks₀) × (sets readbacks (at + j) (drop j values) ≡ sets readbacks₀ at values)
+Inv-loop readbacks₀ at part j₀ readbacks j =
+    let set = functionOfPart part .readbacks in
+    (j ≤ 6) × (length readbacks ≡ length readbacks₀) × (sets readbacks (at + j) (drop j set) ≡ sets readbacks₀ at set)
 
 abbrev μ-loop : tie.MeasureT-loop
-μ-loop readbacks₀ at values j₀ readbacks j = 6 - j
+μ-loop readbacks₀ at part j₀ readbacks j = 6 - j
 
 loop-holds : tie.Need-loop-holds Inv-loop μ-loop
-loop-holds c = (omega arith, refl, ap (λ (k : ℕ). sets (c .args .readbacks .now) k (c .args .t3)) (add-zero (c .args .at)))
+loop-holds c =
+    let a = c .before .before .args in
+    (omega arith, refl, ap (λ (k : ℕ). sets (a .readbacks .now) k (functionOfPart (a .part .now) .readbacks)) (add-zero (a .at)))
+
+readback-at-requires : tie.Need-readback-at-requires Inv-loop μ-loop
+readback-at-requires c κs = (c .before .before .before .before .pre .0, c .loop-test .taken)
+
+add-readbacks : tie.Need-add-readbacks Inv-loop μ-loop
+add-readbacks c = omega (arith, c .before .before .before .before .before .pre .1)
 
 mul-readbacks : tie.Need-mul-readbacks Inv-loop μ-loop
 mul-readbacks c = search needs
 
-array-read-readbacks : tie.Need-array-read-readbacks Inv-loop μ-loop
-array-read-readbacks c = search needs
-
-add-readbacks : tie.Need-add-readbacks Inv-loop μ-loop
-add-readbacks c = search needs
-
-mul-readbacks-2 : tie.Need-mul-readbacks-2 Inv-loop μ-loop
-mul-readbacks-2 c = search needs
-
 slice-write-readbacks : tie.Need-slice-write-readbacks Inv-loop μ-loop
-slice-write-readbacks c = omega arith
+slice-write-readbacks c = omega (arith, c .before .before .before .before .before .pre .1, c .before .before .loop .inv .1)
 
 add-j : tie.Need-add-j Inv-loop μ-loop
 add-j c = omega arith
@@ -44,23 +45,22 @@ loop-less c = omega arith
 
 loop-again : tie.Need-loop-again Inv-loop μ-loop
 loop-again c =
-    let a = c .before .before .args in
-    let l = c .before .loop in
-    let six : length (a .t3) ≡ 6 = search needs in (
+    let a = c .before .before .before .before .before .args in
+    let l = c .before .before .loop in
+    let set = functionOfPart (a .part .now) .readbacks in (
       omega arith,
-      length-set (l .readbacks) (a .at + l .j) (getD (a .t3) (l .j) 0) ∙ l .inv .1,
-      run-turn (l .readbacks) (a .t3) (a .at) (l .j) (l .inv .2) (omega arith),
+      length-set (l .readbacks) (a .at + l .j) (c .readback-at .result) ∙ l .inv .1,
+      run-turn (l .readbacks) set (a .at) (l .j) (l .inv .2) (c .readback-at .ensures) (omega (arith, length-readbacks (a .part .now))),
     )
 
 same-length : tie.Need-same-length Inv-loop μ-loop
-same-length c = omega arith
+same-length c = c .before .loop .inv .1
 
 returns : tie.Need-returns Inv-loop μ-loop
 returns c =
-    let a = c .before .before .args in
+    let a = c .before .before .before .before .args in
     let l = c .before .loop in
-    let six : length (a .t3) ≡ 6 = search needs in
-    run-end (l .readbacks) (a .t3) (a .at) (l .j) (l .inv .2) (omega arith)
+    run-end (l .readbacks) (functionOfPart (a .part .now) .readbacks) (a .at) (l .j) (l .inv .2) (omega (arith, length-readbacks (a .part .now)))
 
 pub put-set-spec : {M : Type 1} → statement M
 put-set-spec =
@@ -69,10 +69,9 @@ put-set-spec =
     Inv-loop
     μ-loop
     loop-holds
-    mul-readbacks
-    array-read-readbacks
+    readback-at-requires
     add-readbacks
-    mul-readbacks-2
+    mul-readbacks
     slice-write-readbacks
     add-j
     loop-less

@@ -9,14 +9,16 @@ use Prim.Native.Nat.{ℕ, suc, _+_, _-_, _≤_, _<_}
 use mathlib.Core.Path.{_≡_, refl, sym, ap, _∙_}
 use mathlib.Core.Bool.{Bool, false}
 use mathlib.Core.List.{List, [], map}
-use lib.ListN.{length, set, length-set}
+use lib.ListN.{length, getD, set, length-set}
 use Rattle.records.specs.Records.{partsFrom, anyPart}
 use Rattle.records.specs.RecordsLaws.{fits-at, pass-end, pass-broken, none-here, none-later}
+use Rattle.board.specs.declared.Function.{Function}
+use Rattle.board.specs.declared.order.Found.the-variants.{At}
 use Rattle.board.specs.Function.{functionOfPart, headerWrong}
 use Rattle.board.specs.Order.{anyMisplaced}
-use Rattle.board.specs.Stack.{Level, enter, unplacedFrom}
+use Rattle.board.specs.Stack.{Level, unplacedAt, enter, unplacedFrom}
 use Rattle.board.specs.StackLaws.{unplaced-host}
-use Rattle.board.specs.Levels.{deepest}
+use Rattle.board.specs.Levels.{deepest, foundIn}
 use Rattle.board.specs.LevelsLaws.{lt-of-found, shallow-of-placed, order-turn, order-nowhere, order-hit, order-miss, deepest-enter, openAfter-le}
 
 -- what is left of the pass, for the functions from a cursor on
@@ -40,16 +42,34 @@ abbrev μ-loop : tie.MeasureT-loop
 fits : (c : tie.After-known-told Inv-loop μ-loop) → c .before .before .before .before .loop .at + 2 + c .before .n .given .0 .0 ≤ length (c .before .before .before .before .before .before .args .board .now)
 fits c = fits-at (c .before .before .before .before .before .before .args .board .now) (c .before .before .before .before .loop .at) _ (sym (c .before .before .before .next-at .ensures) ∙ c .before .n .given .1)
 
+-- its part, which passed check 24, and the function that it is
+abbrev part : tie.After-buses Inv-loop μ-loop → List ℕ
+part c = c .before .part-at .result .now
+
+lawful : (c : tie.After-buses Inv-loop μ-loop) → headerWrong (part c) ≡ false
+lawful c =
+    ap headerWrong (c .before .part-at .ensures)
+    ∙ none-here headerWrong (c .before .before .before .before .before .before .before .before .args .board .now) (c .before .before .before .before .before .before .loop .at) _ (sym (c .before .before .before .before .before .next-at .ensures) ∙ c .before .before .before .n .given .1) (c .before .before .before .before .before .before .loop .inv .5)
+
+abbrev function : tie.After-buses Inv-loop μ-loop → Function
+function c = functionOfPart (part c)
+
+-- the level of its parent, told of the parent that was read
+level : (c : tie.After-known-told2 Inv-loop μ-loop) → foundIn (function (c .before .before .before .before .before) .parent) (c .before .before .before .before .before .before .before .before .before .before .before .loop .buses) (c .before .before .before .before .before .before .before .before .before .before .before .loop .levels) ≡ At (c .before .i .given .0 .0)
+level c = ap (λ (p : ℕ). foundIn p (c .before .before .before .before .before .before .before .before .before .before .before .loop .buses) (c .before .before .before .before .before .before .before .before .before .before .before .loop .levels)) (sym (c .before .before .before .before .parent-of .ensures)) ∙ sym (c .before .before .before .level-of .ensures) ∙ c .before .i .given .1
+
 -- the parent's level is among those that are open
 room : (c : tie.After-known-told2 Inv-loop μ-loop) → c .before .i .given .0 .0 < 18
-room c =
-    let loop = c .before .before .before .before .before .before .before .before .before .before .before .before .loop in
-    let l = lt-of-found (c .before .before .before .before .before .before .function-of .result .parent) (loop .buses) (loop .levels) _ (sym (c .before .before .before .level-of .ensures) ∙ c .before .i .given .1) in
-    omega (arith, loop .inv .0)
+room c = omega (arith, lt-of-found (function (c .before .before .before .before .before) .parent) (c .before .before .before .before .before .before .before .before .before .before .before .loop .buses) (c .before .before .before .before .before .before .before .before .before .before .before .loop .levels) _ (level c), c .before .before .before .before .before .before .before .before .before .before .before .loop .inv .0)
 
--- and the level after it there is too, for a function that is in its place
+-- a function that is in its place
+placed : (c : tie.Else1 Inv-loop μ-loop)
+    → unplacedAt (getD (c .before .before .before .before .before .before .before .before .before .before .before .before .before .loop .nexts) (c .before .before .before .i .given .0 .0) 0) (getD (c .before .before .before .before .before .before .before .before .before .before .before .before .before .loop .shared) (c .before .before .before .i .given .0 .0) 0) (c .before .before .before .i .given .0 .0) (function (c .before .before .before .before .before .before .before)) ≡ false
+placed c = sym (c .before .unplaced .ensures) ∙ c .if1 .left
+
+-- has a level after its own
 shallow : (c : tie.Else1 Inv-loop μ-loop) → c .before .before .before .i .given .0 .0 ≤ 16
-shallow c = shallow-of-placed _ _ _ (c .before .before .before .before .before .before .before .before .function-of .result) (sym (c .before .unplaced .ensures) ∙ c .if1 .left)
+shallow c = shallow-of-placed _ _ _ (function (c .before .before .before .before .before .before .before)) (placed c)
 
 loop-holds : tie.Need-loop-holds Inv-loop μ-loop
 unfolding deepest
@@ -84,16 +104,14 @@ enum-known-n c = search needs
 part-at-requires : tie.Need-part-at-requires Inv-loop μ-loop
 part-at-requires c κs = fits c
 
-function-of-requires : tie.Need-function-of-requires Inv-loop μ-loop
-function-of-requires c κs =
-    ap headerWrong (c .part-at .ensures)
-    ∙ none-here headerWrong (c .before .before .before .before .before .before .before .args .board .now) (c .before .before .before .before .before .loop .at) _ (sym (c .before .before .before .before .next-at .ensures) ∙ c .before .before .n .given .1) (c .before .before .before .before .before .loop .inv .5)
+parent-of-requires : tie.Need-parent-of-requires Inv-loop μ-loop
+parent-of-requires c κs = lawful c
 
 cast-level-of : tie.Need-cast-level-of Inv-loop μ-loop
 cast-level-of c = search needs
 
 level-of-requires : tie.Need-level-of-requires Inv-loop μ-loop
-level-of-requires c κs = c .before .before .before .before .before .before .before .before .loop .inv .0
+level-of-requires c κs = c .before .before .before .before .before .before .before .loop .inv .0
 
 enum-known-i : tie.Need-enum-known-i Inv-loop μ-loop
 enum-known-i c = search needs
@@ -103,12 +121,11 @@ enum-told-3 c = search needs
 
 returns-3 : tie.Need-returns-3 Inv-loop μ-loop
 returns-3 c =
-    let loop = c .before .before .before .before .before .before .before .before .before .before .before .loop in
-    let f = c .before .before .before .before .before .function-of .result in
-    let e = sym (c .before .before .before .before .before .before .before .before .before .before .next-at .ensures) ∙ c .before .before .before .before .before .before .before .before .n .given .1 in
-    let fe = c .before .before .before .before .before .function-of .ensures ∙ ap functionOfPart (c .before .before .before .before .before .before .part-at .ensures) in
-    let found = sym (c .before .before .level-of .ensures) ∙ c .enum-told3 .given .1 in
-    sym (order-turn (c .before .before .before .before .before .before .before .before .before .before .before .before .before .args .board .now) (loop .at) _ f e fe (loop .number) (deepest (loop .buses) (loop .nexts) (loop .shared) (loop .levels))
+    let loop = c .before .before .before .before .before .before .before .before .before .before .loop in
+    let f = function (c .before .before .before .before) in
+    let e = sym (c .before .before .before .before .before .before .before .before .before .next-at .ensures) ∙ c .before .before .before .before .before .before .before .n .given .1 in
+    let found = ap (λ (p : ℕ). foundIn p (loop .buses) (loop .levels)) (sym (c .before .before .before .parent-of .ensures)) ∙ sym (c .before .before .level-of .ensures) ∙ c .enum-told3 .given .1 in
+    sym (order-turn (c .before .before .before .before .before .before .before .before .before .before .before .before .args .board .now) (loop .at) _ f e (ap functionOfPart (c .before .before .before .before .before .part-at .ensures)) (loop .number) (deepest (loop .buses) (loop .nexts) (loop .shared) (loop .levels))
     ∙ order-nowhere (loop .buses) (loop .nexts) (loop .shared) (loop .levels) (loop .number) f _ found)
     ∙ loop .inv .6
 
@@ -125,24 +142,23 @@ array-read-unplaced-2 : tie.Need-array-read-unplaced-2 Inv-loop μ-loop
 array-read-unplaced-2 c = omega (arith, room c)
 
 unplaced-requires : tie.Need-unplaced-requires Inv-loop μ-loop
-unplaced-requires c κs = search needs
+unplaced-requires c κs = lawful (c .before .before .before .before .before)
 
 returns-4 : tie.Need-returns-4 Inv-loop μ-loop
 returns-4 c =
-    let start = c .before .before .before .before .before .before .before .before .before .before .before .before .before .before .before .before in
-    let loop = c .before .before .before .before .before .before .before .before .before .before .before .before .before .before .loop in
-    let s = start .args .board .now in
-    let f = c .before .before .before .before .before .before .before .before .function-of .result in
+    let loop = c .before .before .before .before .before .before .before .before .before .before .before .before .before .loop in
+    let f = function (c .before .before .before .before .before .before .before) in
     let i = c .before .before .before .i .given .0 .0 in
-    let found = sym (c .before .before .before .before .before .level-of .ensures) ∙ c .before .before .before .i .given .1 in
-    let e = sym (c .before .before .before .before .before .before .before .before .before .before .before .before .before .next-at .ensures) ∙ c .before .before .before .before .before .before .before .before .before .before .before .n .given .1 in
-    let fe = c .before .before .before .before .before .before .before .before .function-of .ensures ∙ ap functionOfPart (c .before .before .before .before .before .before .before .before .before .part-at .ensures) in
-    sym (order-turn s (loop .at) _ f e fe (loop .number) (deepest (loop .buses) (loop .nexts) (loop .shared) (loop .levels))
-    ∙ order-hit (loop .buses) (loop .nexts) (loop .shared) (loop .levels) (loop .number) f _ i found (sym (c .before .unplaced .ensures) ∙ c .if1 .taken))
+    let e = sym (c .before .before .before .before .before .before .before .before .before .before .before .before .next-at .ensures) ∙ c .before .before .before .before .before .before .before .before .before .before .n .given .1 in
+    sym (order-turn (c .before .before .before .before .before .before .before .before .before .before .before .before .before .before .before .args .board .now) (loop .at) _ f e (ap functionOfPart (c .before .before .before .before .before .before .before .before .part-at .ensures)) (loop .number) (deepest (loop .buses) (loop .nexts) (loop .shared) (loop .levels))
+    ∙ order-hit (loop .buses) (loop .nexts) (loop .shared) (loop .levels) (loop .number) f _ i (level (c .before .before)) (sym (c .before .unplaced .ensures) ∙ c .if1 .taken))
     ∙ loop .inv .6
 
 add-number : tie.Need-add-number Inv-loop μ-loop
-add-number c = omega (arith, fits (c .before .before .before .before .before .before .before .before .before .before), c .before .before .before .before .before .before .before .before .before .before .before .before .before .before .loop .inv .1)
+add-number c = omega (arith, fits (c .before .before .before .before .before .before .before .before .before), c .before .before .before .before .before .before .before .before .before .before .before .before .before .loop .inv .1)
+
+devfn-of-requires : tie.Need-devfn-of-requires Inv-loop μ-loop
+devfn-of-requires c κs = lawful (c .before .before .before .before .before .before .before)
 
 cast-nexts : tie.Need-cast-nexts Inv-loop μ-loop
 cast-nexts c = search needs
@@ -163,7 +179,7 @@ array-read-shared-after : tie.Need-array-read-shared-after Inv-loop μ-loop
 array-read-shared-after c = omega (arith, room (c .before .before .before))
 
 shared-after-requires : tie.Need-shared-after-requires Inv-loop μ-loop
-shared-after-requires c κs = search needs
+shared-after-requires c κs = lawful (c .before .before .before .before .before .before .before .before)
 
 mul-shared : tie.Need-mul-shared Inv-loop μ-loop
 mul-shared c = omega (arith, room (c .before .before .before .before))
@@ -199,42 +215,28 @@ array-write-shared-2 : tie.Need-array-write-shared-2 Inv-loop μ-loop
 array-write-shared-2 c = omega (arith, shallow (c .before .before))
 
 open-after-requires : tie.Need-open-after-requires Inv-loop μ-loop
-open-after-requires c κs = shallow (c .before .before)
+open-after-requires c κs = (shallow (c .before .before), lawful (c .before .before .before .before .before .before .before .before .before))
 
 add-at : tie.Need-add-at Inv-loop μ-loop
-add-at c =
-    let read = c .before .before .before .before .before .before .before .before .before .before .before .before .before in
-    let start = read .before .before .before .before .before .before in
-    omega (arith, fits read)
+add-at c = omega (arith, fits (c .before .before .before .before .before .before .before .before .before .before .before .before))
 
 add-at-2 : tie.Need-add-at-2 Inv-loop μ-loop
-add-at-2 c =
-    let read = c .before .before .before .before .before .before .before .before .before .before .before .before .before in
-    let start = read .before .before .before .before .before .before in
-    omega (arith, fits read)
+add-at-2 c = omega (arith, fits (c .before .before .before .before .before .before .before .before .before .before .before .before))
 
 loop-less : tie.Need-loop-less Inv-loop μ-loop
-loop-less c =
-    let read = c .before .before .before .before .before .before .before .before .before .before .before .before .before in
-    let start = read .before .before .before .before .before .before in
-    omega (arith, fits read)
+loop-less c = omega (arith, fits (c .before .before .before .before .before .before .before .before .before .before .before .before))
 
 loop-again : tie.Need-loop-again Inv-loop μ-loop
 loop-again c =
-    let placed = c .before .before .before in
-    let parent = placed .before .before in
-    let read = parent .before .before .before .before .before .before .before .before in
-    let turn = read .before .before .before .before in
-    let start = turn .before .before in
-    let loop = turn .loop in
-    let s = start .args .board .now in
-    let f = parent .before .before .before .before .before .before .function-of .result in
+    let parent = c .before .before .before .before .before in
+    let read = c .before .before .before .before .before .before .before .before .before .before .before .before in
+    let loop = c .before .before .before .before .before .before .before .before .before .before .before .before .before .before .before .before .loop in
+    let s = c .before .before .before .before .before .before .before .before .before .before .before .before .before .before .before .before .before .before .args .board .now in
+    let f = function (c .before .before .before .before .before .before .before .before .before .before) in
     let i = parent .before .i .given .0 .0 in
-    let found = sym (parent .before .before .before .level-of .ensures) ∙ parent .before .i .given .1 in
     let e = sym (read .before .before .before .next-at .ensures) ∙ read .before .n .given .1 in
-    let fe = parent .before .before .before .before .before .before .function-of .ensures ∙ ap functionOfPart (parent .before .before .before .before .before .before .before .part-at .ensures) in
-    let low = shallow (placed) in
-    let fit = fits (read) in
+    let low = shallow (c .before .before .before) in
+    let fit = fits read in
     let b = loop .buses in
     let n = loop .nexts in
     let h = loop .shared in
@@ -243,17 +245,19 @@ loop-again c =
     let in-h : i + 1 < length h = omega (arith, loop .inv .4) in
     let m = read .before .n .given .0 .0 in
     let rest = map functionOfPart (partsFrom s (loop .at + 2 + m)) in
-    let entered = deepest-enter b n h i (loop .number + 1) (f .devfn + 1) (c .before .shared-after .result) f in-b in-n in-h (c .open-after .result) (add-one (f .devfn)) (c .before .shared-after .ensures) (c .open-after .ensures) in (
+    let x = c .before .before .devfn-of .result + 1 in
+    let y = c .before .shared-after .result in
+    let entered = deepest-enter b n h i (loop .number + 1) x y f in-b in-n in-h (c .open-after .result) (ap (λ (k : ℕ). k + 1) (c .before .before .devfn-of .ensures) ∙ add-one (f .devfn)) (c .before .shared-after .ensures) (c .open-after .ensures) in (
       omega (arith, c .open-after .ensures, openAfter-le i f),
       omega (arith, loop .inv .1),
       length-set b (i + 1) (loop .number + 1) ∙ loop .inv .2,
-      length-set (set n i (f .devfn + 1)) (i + 1) 0 ∙ length-set n i (f .devfn + 1) ∙ loop .inv .3,
-      length-set (set h i (c .before .shared-after .result)) (i + 1) 0 ∙ length-set h i (c .before .shared-after .result) ∙ loop .inv .4,
+      length-set (set n i x) (i + 1) 0 ∙ length-set n i x ∙ loop .inv .3,
+      length-set (set h i y) (i + 1) 0 ∙ length-set h i y ∙ loop .inv .4,
       none-later headerWrong s (loop .at) _ e (loop .inv .5),
       ap (λ (ls : List Level). unplacedFrom (loop .number + 1) ls rest) entered
           ∙ ap (λ (k : ℕ). unplacedFrom k (enter k f (deepest b n h (suc i))) rest) (add-one (loop .number))
-          ∙ sym (order-turn s (loop .at) m f e fe (loop .number) (deepest b n h (loop .levels))
-          ∙ order-miss b n h (loop .levels) (loop .number) f rest i found (sym (placed .before .unplaced .ensures) ∙ placed .if1 .left))
+          ∙ sym (order-turn s (loop .at) m f e (ap functionOfPart (c .before .before .before .before .before .before .before .before .before .before .before .part-at .ensures)) (loop .number) (deepest b n h (loop .levels))
+          ∙ order-miss b n h (loop .levels) (loop .number) f rest i (level parent) (placed (c .before .before .before)))
           ∙ loop .inv .6,
     )
 
@@ -271,7 +275,7 @@ misplaced-spec =
     returns-2
     enum-known-n
     part-at-requires
-    function-of-requires
+    parent-of-requires
     cast-level-of
     level-of-requires
     enum-known-i
@@ -284,6 +288,7 @@ misplaced-spec =
     unplaced-requires
     returns-4
     add-number
+    devfn-of-requires
     cast-nexts
     add-nexts
     mul-nexts

@@ -2,7 +2,10 @@
 use borrow.Author.Needs.{needs}
 use Rattle.board.proofs.order.open_after.Statement.{statement}
 use Rattle.board.proofs.order.open_after.Tie as tie
-use borrow.Author.Tests.{eq-eqb, ne-eqb}
+use mathlib.Core.Path.{sym, _∙_}
+
+is-bridge-requires : tie.Need-is-bridge-requires
+is-bridge-requires c κs = search needs
 
 add-result : tie.Need-add-result
 add-result c = search needs
@@ -11,10 +14,10 @@ add-result-2 : tie.Need-add-result-2
 add-result-2 c = search needs
 
 returns : tie.Need-returns
-returns c = rw (eq-eqb _ _ (c .if1 .taken))
+returns c = rw (sym (c .before .is-bridge .ensures) ∙ c .if1 .taken)
 
 returns-2 : tie.Need-returns-2
-returns-2 c = rw (ne-eqb _ _ (c .if1 .left))
+returns-2 c = rw (sym (c .before .is-bridge .ensures) ∙ c .if1 .left)
 
 pub open-after-spec : {M : Type 1} → statement M
-open-after-spec = tie.close (tie.spec add-result add-result-2 returns returns-2)
+open-after-spec = tie.close (tie.spec is-bridge-requires add-result add-result-2 returns returns-2)

@@ -4,6 +4,9 @@ use Rattle.board.proofs.order.unplaced.Statement.{statement}
 use Rattle.board.proofs.order.unplaced.Tie as tie
 use native.Mathlib.Numerals.{add-one}
 
+devfn-of-requires : tie.Need-devfn-of-requires
+devfn-of-requires c κs = search needs
+
 cast-result : tie.Need-cast-result
 cast-result c = search needs
 
@@ -14,7 +17,7 @@ add-result : tie.Need-add-result
 add-result c = search needs
 
 returns : tie.Need-returns
-returns c = rw add-one
+returns c = rw (c .devfn-of .ensures, add-one)
 
 pub unplaced-spec : {M : Type 1} → statement M
-unplaced-spec = tie.close (tie.spec cast-result cast-result-2 add-result returns)
+unplaced-spec = tie.close (tie.spec devfn-of-requires cast-result cast-result-2 add-result returns)
