@@ -1,12 +1,11 @@
--- Twenty numbers, place by place: the test of the greatest one step at a time and what it says of every place. Assumes nothing.
+-- Twenty numbers, place by place: the test of the greatest by parts and what it says of every place. Assumes nothing.
 use Prim.Native.Nat.{ℕ, zero, suc, _+_, _≤_, _<_}
 use native.Mathlib.Nat.{add-zero, zero-add, add-suc, suc-add}
-use native.Mathlib.Numerals.{add-one}
 use native.Mathlib.Omega.{arith}
 use mathlib.Core.Path.{_≡_, refl, sym, _∙_}
-use mathlib.Core.Bool.{Bool, true, false, _||_}
-use mathlib.Core.List.{List, [], _∷_}
-use lib.ListN.{length, getD, drop, drop-of-length-le}
+use mathlib.Core.Bool.{Bool, true, false, _||_, or-false, or-assoc}
+use mathlib.Core.List.{List, [], _∷_, _++_}
+use lib.ListN.{length, getD, drop, length-append}
 use lib.Seq.{drop-cons}
 use lib.Dec.{ltb}
 use borrow.Author.Tests.{lt-ltb, le-ltb, ltb-false}
@@ -17,7 +16,7 @@ use Rattle.packet.specs.declared.Packet.{Packet}
 use Rattle.packet.specs.declared.Packet.the-variants.{Memory, Io, Config, Completion}
 use Rattle.numbers.specs.declared.Parsed.the-variants.{Refused}
 use Rattle.numbers.specs.Numbers.{numbersOf}
-use Rattle.numbers.specs.Parsing.{size, lastKind, kindAt, anyAbove, Within, onPair, onKind, fromKind, packetOf}
+use Rattle.numbers.specs.Parsing.{size, lastKind, kindAt, headMost, mostOf, anyAbove, orAbove, Within, onPair, onKind, fromKind, packetOf}
 
 pub length-numbersOf : (p : Packet) → length (numbersOf p) ≡ size
 unfolding numbersOf
@@ -26,20 +25,29 @@ length-numbersOf (Io k h e a) = refl
 length-numbersOf (Config k h e t) = refl
 length-numbersOf (Completion k h o) = refl
 
--- ## One step of the test, in the words of the code
+-- ## The test by parts, in the words of the code
 
-module _ (ms ns : List ℕ) (i : ℕ) (inside : i < length ms) (given : i < length ns) where
-  pub above-here : getD ms i 0 < getD ns i 0 → true ≡ anyAbove (drop i ms) (drop i ns)
-  unfolding anyAbove
-  above-here h = rw (drop-cons ms i 0 inside, drop-cons ns i 0 given, lt-ltb (getD ms i 0) (getD ns i 0) h)
-
-  pub above-later : getD ns i 0 ≤ getD ms i 0 → anyAbove (drop (i + 1) ms) (drop (i + 1) ns) ≡ anyAbove (drop i ms) (drop i ns)
-  unfolding anyAbove
-  above-later h = rw (add-one i, drop-cons ms i 0 inside, drop-cons ns i 0 given, le-ltb (getD ms i 0) (getD ns i 0) h)
-
-pub above-nowhere : (ms ns : List ℕ) (i : ℕ) → length ms ≤ i → false ≡ anyAbove (drop i ms) (drop i ns)
+or-above : (b : Bool) (at : ℕ) (ms ns : List ℕ) → at + length ms ≤ length ns → orAbove b at ms ns ≡ b || anyAbove ms (drop at ns)
 unfolding anyAbove
-above-nowhere ms ns i h = rw (drop-of-length-le ms h)
+or-above b at [] ns h = sym (or-false b)
+or-above b at (m ∷ ms) ns h =
+    rw (drop-cons ns at 0 (omega arith))
+    (or-above (b || ltb m (getD ns at 0)) (suc at) ms ns (omega arith) ∙ or-assoc b (ltb m (getD ns at 0)) (anyAbove ms (drop (suc at) ns)))
+
+or-above-append : (b : Bool) (at : ℕ) (xs ys ns : List ℕ) → orAbove b at (xs ++ ys) ns ≡ orAbove (orAbove b at xs ns) (at + length xs) ys ns
+or-above-append b at [] ys ns = rw (add-zero at)
+or-above-append b at (x ∷ xs) ys ns = rw (add-suc at (length xs), ← suc-add at (length xs)) (or-above-append (b || ltb x (getD ns at 0)) (suc at) xs ys ns)
+
+-- the head, the places of a request and those of an outcome, each tested for itself
+pub above-parts : (ns : List ℕ) → size ≤ length ns → (request outcome : List ℕ) → length request ≡ 5 → length outcome ≡ 5
+    → orAbove false 0 (lastKind ∷ 4 ∷ headMost) ns || orAbove false 10 request ns || orAbove false 15 outcome ns ≡ anyAbove (mostOf request outcome) ns
+above-parts ns enough request outcome five five' =
+    let head = orAbove false 0 (lastKind ∷ 4 ∷ headMost) ns in
+    let joined = or-above false 0 (mostOf request outcome) ns (omega (arith, length-append request outcome)) in
+    let split = or-above-append head 10 request outcome ns in
+    let middle = or-above head 10 request ns (omega arith) in
+    let end = or-above (orAbove head 10 request ns) 15 outcome ns (omega arith) in
+    rw (or-above false 10 request ns (omega arith), or-above false 15 outcome ns (omega arith), ← middle, ← end) (rw five at (sym split) ∙ joined)
 
 -- ## What the test says of every place
 

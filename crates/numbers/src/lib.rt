@@ -1,12 +1,13 @@
 // A packet as twenty numbers, for callers that have no enums: kind, form, TC, Attr, TD, EP, AT, Length, requester, tag, last enables, first enables,
 // address, target, register, completer, status, BCM, byte count, lower address. A field that the kind does not have is 0.
 ghost use mathlib.Core.Path.{_≡_};
+ghost use mathlib.Core.Bool.{false};
 ghost use mathlib.Core.List.{[], _∷_, _++_};
 ghost use Prim.Native.Nat.{_+_, _≤_};
 ghost use lib.ListN.{length};
 ghost use lib.Seq.{sets};
 ghost use Rattle.numbers.specs.Numbers.{bit as bitOf, headNumbers, requestNumbers, outcomeNumbers, absent, bodyNumbers, numbersOf};
-ghost use Rattle.numbers.specs.Parsing.{byte, word, headMost, outcomeMost, kindAt, anyAbove, Within};
+ghost use Rattle.numbers.specs.Parsing.{byte, word, lastKind, headMost, requestMost, outcomeMost, byAddress, byTarget, completing, kindAt, anyAbove, orAbove, Within};
 ghost use Rattle.numbers.specs.Parsing.{headFrom, enablesFrom, targetFrom, outcomeFrom, packetAs, packetOf};
 use packet::Enables;
 use packet::Head;
@@ -29,23 +30,6 @@ pub enum Parsed {
 // How many numbers a packet has.
 pub const SIZE: usize = 20;
 
-// The kinds in the order of their numbers.
-const KINDS: [Kind; 13] = [
-    Kind::Memory(MemoryKind::MRd),
-    Kind::Memory(MemoryKind::MRdLk),
-    Kind::Memory(MemoryKind::MWr),
-    Kind::Io(IoKind::IORd),
-    Kind::Io(IoKind::IOWr),
-    Kind::Config(ConfigKind::CfgRd0),
-    Kind::Config(ConfigKind::CfgWr0),
-    Kind::Config(ConfigKind::CfgRd1),
-    Kind::Config(ConfigKind::CfgWr1),
-    Kind::Completion(CompletionKind::Cpl),
-    Kind::Completion(CompletionKind::CplD),
-    Kind::Completion(CompletionKind::CplLk),
-    Kind::Completion(CompletionKind::CplDLk),
-];
-
 const LAST_KIND: u64 = 12;
 
 // The greatest number that each type of field holds.
@@ -56,76 +40,6 @@ const BYTE: u64 = 255;
 const WORD: u64 = 65535;
 
 const QWORD: u64 = 18446744073709551615;
-
-// The greatest number at each place of a packet, by what its kind has: 0 where it has no such field.
-const BY_ADDRESS: [u64; SIZE] = [
-    LAST_KIND, // kind
-    4, // form
-    BYTE, // TC
-    BYTE, // Attr
-    FLAG, // TD
-    FLAG, // EP
-    BYTE, // AT
-    WORD, // Length
-    WORD, // requester
-    WORD, // tag
-    BYTE, // last enables
-    BYTE, // first enables
-    QWORD, // address
-    0, // target
-    0, // register
-    0, // completer
-    0, // status
-    0, // BCM
-    0, // byte count
-    0, // lower address
-];
-
-const BY_TARGET: [u64; SIZE] = [
-    LAST_KIND, // kind
-    4, // form
-    BYTE, // TC
-    BYTE, // Attr
-    FLAG, // TD
-    FLAG, // EP
-    BYTE, // AT
-    WORD, // Length
-    WORD, // requester
-    WORD, // tag
-    BYTE, // last enables
-    BYTE, // first enables
-    0, // address
-    WORD, // target
-    WORD, // register
-    0, // completer
-    0, // status
-    0, // BCM
-    0, // byte count
-    0, // lower address
-];
-
-const COMPLETING: [u64; SIZE] = [
-    LAST_KIND, // kind
-    4, // form
-    BYTE, // TC
-    BYTE, // Attr
-    FLAG, // TD
-    FLAG, // EP
-    BYTE, // AT
-    WORD, // Length
-    WORD, // requester
-    WORD, // tag
-    0, // last enables
-    0, // first enables
-    0, // address
-    0, // target
-    0, // register
-    WORD, // completer
-    BYTE, // status
-    FLAG, // BCM
-    WORD, // byte count
-    BYTE, // lower address
-];
 
 // ---- numbers to a packet
 
@@ -148,11 +62,26 @@ pub fn packet_of(numbers: &[u64]) -> Parsed
     }
 }
 
+// The kinds in the order of their numbers.
 fn kind_at(n: usize) -> Kind
     requires { ⌜ n ≤ 12 ⌝ }
     ensures { λ r. ⌜ r ≡ kindAt n ⌝ }
 {
-    KINDS[n]
+    match n {
+        0 => Kind::Memory(MemoryKind::MRd),
+        1 => Kind::Memory(MemoryKind::MRdLk),
+        2 => Kind::Memory(MemoryKind::MWr),
+        3 => Kind::Io(IoKind::IORd),
+        4 => Kind::Io(IoKind::IOWr),
+        5 => Kind::Config(ConfigKind::CfgRd0),
+        6 => Kind::Config(ConfigKind::CfgWr0),
+        7 => Kind::Config(ConfigKind::CfgRd1),
+        8 => Kind::Config(ConfigKind::CfgWr1),
+        9 => Kind::Completion(CompletionKind::Cpl),
+        10 => Kind::Completion(CompletionKind::CplD),
+        11 => Kind::Completion(CompletionKind::CplLk),
+        _ => Kind::Completion(CompletionKind::CplDLk),
+    }
 }
 
 fn packet_as(kind: Kind, numbers: &[u64]) -> Parsed
@@ -161,7 +90,7 @@ fn packet_as(kind: Kind, numbers: &[u64]) -> Parsed
 {
     match kind {
         Kind::Memory(k) => {
-            if any_above(BY_ADDRESS, numbers) {
+            if above_by_address(numbers) {
                 return Parsed::Refused(10);
             }
             Parsed::Accepted(Packet::Memory(
@@ -172,13 +101,13 @@ fn packet_as(kind: Kind, numbers: &[u64]) -> Parsed
             ))
         }
         Kind::Io(k) => {
-            if any_above(BY_ADDRESS, numbers) {
+            if above_by_address(numbers) {
                 return Parsed::Refused(10);
             }
             Parsed::Accepted(Packet::Io(k, head_from(numbers), enables_from(numbers), numbers[12]))
         }
         Kind::Config(k) => {
-            if any_above(BY_TARGET, numbers) {
+            if above_by_target(numbers) {
                 return Parsed::Refused(10);
             }
             Parsed::Accepted(Packet::Config(
@@ -189,7 +118,7 @@ fn packet_as(kind: Kind, numbers: &[u64]) -> Parsed
             ))
         }
         Kind::Completion(k) => {
-            if any_above(COMPLETING, numbers) {
+            if above_completing(numbers) {
                 return Parsed::Refused(10);
             }
             Parsed::Accepted(Packet::Completion(k, head_from(numbers), outcome_from(numbers)))
@@ -202,20 +131,91 @@ fn packet_as(kind: Kind, numbers: &[u64]) -> Parsed
     }
 }
 
-// Some number is greater than its field's greatest.
-fn any_above(most: [u64; SIZE], numbers: &[u64]) -> bool
+// ---- some number is greater than its field's greatest, which is 0 where the kind has no such field
+
+fn above_by_address(numbers: &[u64]) -> bool
     requires { ⌜ 20 ≤ length (now numbers) ⌝ }
-    ensures { λ r. ⌜ r ≡ anyAbove most (now (numbers .entry)) ⌝ }
+    ensures { λ r. ⌜ r ≡ anyAbove byAddress (now (numbers .entry)) ⌝ }
 {
-    let mut i: usize = 0;
-    while i < SIZE {
-        if most[i] < numbers[i] {
-            return true;
-        }
-        i += 1;
-    }
-    false
+    head_above(numbers) | request_above(numbers, QWORD, 0, 0) | outcome_given(numbers)
 }
+
+fn above_by_target(numbers: &[u64]) -> bool
+    requires { ⌜ 20 ≤ length (now numbers) ⌝ }
+    ensures { λ r. ⌜ r ≡ anyAbove byTarget (now (numbers .entry)) ⌝ }
+{
+    head_above(numbers) | request_above(numbers, 0, WORD, WORD) | outcome_given(numbers)
+}
+
+fn above_completing(numbers: &[u64]) -> bool
+    requires { ⌜ 20 ≤ length (now numbers) ⌝ }
+    ensures { λ r. ⌜ r ≡ anyAbove completing (now (numbers .entry)) ⌝ }
+{
+    head_above(numbers) | request_given(numbers) | outcome_above(numbers)
+}
+
+// The tests are joined with no branch between them.
+fn head_above(numbers: &[u64]) -> bool
+    requires { ⌜ 20 ≤ length (now numbers) ⌝ }
+    ensures { λ r. ⌜ r ≡ orAbove false 0 (lastKind ∷ 4 ∷ headMost) (now (numbers .entry)) ⌝ }
+{
+    (LAST_KIND < numbers[0])
+        | (4 < numbers[1])
+        | (BYTE < numbers[2])
+        | (BYTE < numbers[3])
+        | (FLAG < numbers[4])
+        | (FLAG < numbers[5])
+        | (BYTE < numbers[6])
+        | (WORD < numbers[7])
+        | (WORD < numbers[8])
+        | (WORD < numbers[9])
+}
+
+fn request_above(numbers: &[u64], address: u64, target: u64, register: u64) -> bool
+    requires { ⌜ 20 ≤ length (now numbers) ⌝ }
+    ensures { λ r. ⌜ r ≡ orAbove false 10 (requestMost address target register) (now (numbers .entry)) ⌝ }
+{
+    (BYTE < numbers[10])
+        | (BYTE < numbers[11])
+        | (address < numbers[12])
+        | (target < numbers[13])
+        | (register < numbers[14])
+}
+
+fn request_given(numbers: &[u64]) -> bool
+    requires { ⌜ 20 ≤ length (now numbers) ⌝ }
+    ensures { λ r. ⌜ r ≡ orAbove false 10 absent (now (numbers .entry)) ⌝ }
+{
+    (0 < numbers[10])
+        | (0 < numbers[11])
+        | (0 < numbers[12])
+        | (0 < numbers[13])
+        | (0 < numbers[14])
+}
+
+fn outcome_above(numbers: &[u64]) -> bool
+    requires { ⌜ 20 ≤ length (now numbers) ⌝ }
+    ensures { λ r. ⌜ r ≡ orAbove false 15 outcomeMost (now (numbers .entry)) ⌝ }
+{
+    (WORD < numbers[15])
+        | (BYTE < numbers[16])
+        | (FLAG < numbers[17])
+        | (WORD < numbers[18])
+        | (BYTE < numbers[19])
+}
+
+fn outcome_given(numbers: &[u64]) -> bool
+    requires { ⌜ 20 ≤ length (now numbers) ⌝ }
+    ensures { λ r. ⌜ r ≡ orAbove false 15 absent (now (numbers .entry)) ⌝ }
+{
+    (0 < numbers[15])
+        | (0 < numbers[16])
+        | (0 < numbers[17])
+        | (0 < numbers[18])
+        | (0 < numbers[19])
+}
+
+// ---- the fields, at their places
 
 fn head_from(numbers: &[u64]) -> Head
     requires { ⌜ (20 ≤ length (now numbers)) × Within 1 (4 ∷ headMost) (now numbers) ⌝ }

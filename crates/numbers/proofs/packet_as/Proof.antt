@@ -11,88 +11,88 @@ use Rattle.numbers.proofs.packet_as.Tie as tie
 enum-known-kind : tie.Need-enum-known-kind
 enum-known-kind c = search needs
 
-any-above-requires : tie.Need-any-above-requires
-any-above-requires c κs = search needs
+above-by-address-requires : tie.Need-above-by-address-requires
+above-by-address-requires c κs = search needs
 
 returns : tie.Need-returns
-returns c = rw (c .before .before .before .kind .given .1, sym (c .before .any-above .ensures) ∙ c .if1 .taken)
+returns c = rw (c .before .before .before .kind .given .1, sym (c .before .above-by-address .ensures) ∙ c .if1 .taken)
 
 head-from-requires : tie.Need-head-from-requires
 head-from-requires c κs =
-    let w = within-of-none byAddress (c .before .before .before .before .before .before .args .numbers .now) (sym (c .before .any-above .ensures) ∙ c .if1 .left) (omega arith) in
+    let w = within-of-none byAddress (c .before .before .before .before .before .before .args .numbers .now) (sym (c .before .above-by-address .ensures) ∙ c .if1 .left) (omega arith) in
     omega arith
 
 enables-from-requires : tie.Need-enables-from-requires
 enables-from-requires c κs =
-    let w = within-of-none byAddress (c .before .before .before .before .before .before .before .args .numbers .now) (sym (c .before .before .any-above .ensures) ∙ c .before .if1 .left) (omega arith) in
+    let w = within-of-none byAddress (c .before .before .before .before .before .before .before .args .numbers .now) (sym (c .before .before .above-by-address .ensures) ∙ c .before .if1 .left) (omega arith) in
     omega arith
 
-shared-slice-read-t13 : tie.Need-shared-slice-read-t13
-shared-slice-read-t13 c = search needs
+shared-slice-read-t12 : tie.Need-shared-slice-read-t12
+shared-slice-read-t12 c = search needs
 
 enum-known-kind-2 : tie.Need-enum-known-kind-2
 enum-known-kind-2 c = search needs
 
-any-above-requires-2 : tie.Need-any-above-requires-2
-any-above-requires-2 c κs = search needs
+above-by-address-requires-2 : tie.Need-above-by-address-requires-2
+above-by-address-requires-2 c κs = search needs
 
 returns-2 : tie.Need-returns-2
-returns-2 c = rw (c .before .before .before .kind2 .given .1, sym (c .before .any-above2 .ensures) ∙ c .if2 .taken)
+returns-2 c = rw (c .before .before .before .kind2 .given .1, sym (c .before .above-by-address2 .ensures) ∙ c .if2 .taken)
 
 head-from-requires-2 : tie.Need-head-from-requires-2
 head-from-requires-2 c κs =
-    let w = within-of-none byAddress (c .before .before .before .before .before .before .args .numbers .now) (sym (c .before .any-above2 .ensures) ∙ c .if2 .left) (omega arith) in
+    let w = within-of-none byAddress (c .before .before .before .before .before .before .args .numbers .now) (sym (c .before .above-by-address2 .ensures) ∙ c .if2 .left) (omega arith) in
     omega arith
 
 enables-from-requires-2 : tie.Need-enables-from-requires-2
 enables-from-requires-2 c κs =
-    let w = within-of-none byAddress (c .before .before .before .before .before .before .before .args .numbers .now) (sym (c .before .before .any-above2 .ensures) ∙ c .before .if2 .left) (omega arith) in
+    let w = within-of-none byAddress (c .before .before .before .before .before .before .before .args .numbers .now) (sym (c .before .before .above-by-address2 .ensures) ∙ c .before .if2 .left) (omega arith) in
     omega arith
 
-shared-slice-read-t20 : tie.Need-shared-slice-read-t20
-shared-slice-read-t20 c = search needs
+shared-slice-read-t18 : tie.Need-shared-slice-read-t18
+shared-slice-read-t18 c = search needs
 
 enum-known-kind-3 : tie.Need-enum-known-kind-3
 enum-known-kind-3 c = search needs
 
-any-above-requires-3 : tie.Need-any-above-requires-3
-any-above-requires-3 c κs = search needs
+above-by-target-requires : tie.Need-above-by-target-requires
+above-by-target-requires c κs = search needs
 
 returns-3 : tie.Need-returns-3
-returns-3 c = rw (c .before .before .before .kind3 .given .1, sym (c .before .any-above3 .ensures) ∙ c .if3 .taken)
+returns-3 c = rw (c .before .before .before .kind3 .given .1, sym (c .before .above-by-target .ensures) ∙ c .if3 .taken)
 
 head-from-requires-3 : tie.Need-head-from-requires-3
 head-from-requires-3 c κs =
-    let w = within-of-none byTarget (c .before .before .before .before .before .before .args .numbers .now) (sym (c .before .any-above3 .ensures) ∙ c .if3 .left) (omega arith) in
+    let w = within-of-none byTarget (c .before .before .before .before .before .before .args .numbers .now) (sym (c .before .above-by-target .ensures) ∙ c .if3 .left) (omega arith) in
     omega arith
 
 enables-from-requires-3 : tie.Need-enables-from-requires-3
 enables-from-requires-3 c κs =
-    let w = within-of-none byTarget (c .before .before .before .before .before .before .before .args .numbers .now) (sym (c .before .before .any-above3 .ensures) ∙ c .before .if3 .left) (omega arith) in
+    let w = within-of-none byTarget (c .before .before .before .before .before .before .before .args .numbers .now) (sym (c .before .before .above-by-target .ensures) ∙ c .before .if3 .left) (omega arith) in
     omega arith
 
 target-from-requires : tie.Need-target-from-requires
 target-from-requires c κs =
-    let w = within-of-none byTarget (c .before .before .before .before .before .before .before .before .args .numbers .now) (sym (c .before .before .before .any-above3 .ensures) ∙ c .before .before .if3 .left) (omega arith) in
+    let w = within-of-none byTarget (c .before .before .before .before .before .before .before .before .args .numbers .now) (sym (c .before .before .before .above-by-target .ensures) ∙ c .before .before .if3 .left) (omega arith) in
     omega arith
 
 enum-known-kind-4 : tie.Need-enum-known-kind-4
 enum-known-kind-4 c = search needs
 
-any-above-requires-4 : tie.Need-any-above-requires-4
-any-above-requires-4 c κs = search needs
+above-completing-requires : tie.Need-above-completing-requires
+above-completing-requires c κs = search needs
 
 returns-4 : tie.Need-returns-4
-returns-4 c = rw (c .before .before .before .kind4 .given .1, sym (c .before .any-above4 .ensures) ∙ c .if4 .taken)
+returns-4 c = rw (c .before .before .before .kind4 .given .1, sym (c .before .above-completing .ensures) ∙ c .if4 .taken)
 
 head-from-requires-4 : tie.Need-head-from-requires-4
 head-from-requires-4 c κs =
-    let w = within-of-none completing (c .before .before .before .before .before .before .args .numbers .now) (sym (c .before .any-above4 .ensures) ∙ c .if4 .left) (omega arith) in
+    let w = within-of-none completing (c .before .before .before .before .before .before .args .numbers .now) (sym (c .before .above-completing .ensures) ∙ c .if4 .left) (omega arith) in
     omega arith
 
 outcome-from-requires : tie.Need-outcome-from-requires
 outcome-from-requires c κs =
-    let w = within-of-none completing (c .before .before .before .before .before .before .before .args .numbers .now) (sym (c .before .before .any-above4 .ensures) ∙ c .before .if4 .left) (omega arith) in
+    let w = within-of-none completing (c .before .before .before .before .before .before .before .args .numbers .now) (sym (c .before .before .above-completing .ensures) ∙ c .before .if4 .left) (omega arith) in
     omega arith
 
 enum-told : tie.Need-enum-told
@@ -111,16 +111,16 @@ enum-told-5 : tie.Need-enum-told-5
 enum-told-5 c = search needs
 
 returns-5 : tie.Need-returns-5
-returns-5 c = rw (c .before .before .before .before .before .before .kind .given .1, sym (c .before .before .before .before .any-above .ensures) ∙ c .before .before .before .if1 .left, c .before .before .head-from .ensures, c .before .enables-from .ensures)
+returns-5 c = rw (c .before .before .before .before .before .before .kind .given .1, sym (c .before .before .before .before .above-by-address .ensures) ∙ c .before .before .before .if1 .left, c .before .before .head-from .ensures, c .before .enables-from .ensures)
 
 returns-6 : tie.Need-returns-6
-returns-6 c = rw (c .before .before .before .before .before .before .kind2 .given .1, sym (c .before .before .before .before .any-above2 .ensures) ∙ c .before .before .before .if2 .left, c .before .before .head-from2 .ensures, c .before .enables-from2 .ensures)
+returns-6 c = rw (c .before .before .before .before .before .before .kind2 .given .1, sym (c .before .before .before .before .above-by-address2 .ensures) ∙ c .before .before .before .if2 .left, c .before .before .head-from2 .ensures, c .before .enables-from2 .ensures)
 
 returns-7 : tie.Need-returns-7
-returns-7 c = rw (c .before .before .before .before .before .before .kind3 .given .1, sym (c .before .before .before .before .any-above3 .ensures) ∙ c .before .before .before .if3 .left, c .before .before .head-from3 .ensures, c .before .enables-from3 .ensures, c .target-from .ensures)
+returns-7 c = rw (c .before .before .before .before .before .before .kind3 .given .1, sym (c .before .before .before .before .above-by-target .ensures) ∙ c .before .before .before .if3 .left, c .before .before .head-from3 .ensures, c .before .enables-from3 .ensures, c .target-from .ensures)
 
 returns-8 : tie.Need-returns-8
-returns-8 c = rw (c .before .before .before .before .before .kind4 .given .1, sym (c .before .before .before .any-above4 .ensures) ∙ c .before .before .if4 .left, c .before .head-from4 .ensures, c .outcome-from .ensures)
+returns-8 c = rw (c .before .before .before .before .before .kind4 .given .1, sym (c .before .before .before .above-completing .ensures) ∙ c .before .before .if4 .left, c .before .head-from4 .ensures, c .outcome-from .ensures)
 
 returns-9 : tie.Need-returns-9
 returns-9 c = rw (c .enum-told .given .1)
@@ -142,25 +142,25 @@ packet-as-spec =
     tie.close
     (tie.spec
     enum-known-kind
-    any-above-requires
+    above-by-address-requires
     returns
     head-from-requires
     enables-from-requires
-    shared-slice-read-t13
+    shared-slice-read-t12
     enum-known-kind-2
-    any-above-requires-2
+    above-by-address-requires-2
     returns-2
     head-from-requires-2
     enables-from-requires-2
-    shared-slice-read-t20
+    shared-slice-read-t18
     enum-known-kind-3
-    any-above-requires-3
+    above-by-target-requires
     returns-3
     head-from-requires-3
     enables-from-requires-3
     target-from-requires
     enum-known-kind-4
-    any-above-requires-4
+    above-completing-requires
     returns-4
     head-from-requires-4
     outcome-from-requires
