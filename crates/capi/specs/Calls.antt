@@ -5,8 +5,6 @@ use mathlib.Core.Bool.{cond}
 use mathlib.Core.List.{List, [], _∷_}
 use lib.ListN.{length}
 use lib.Dec.{ltb, eqb}
-use Rattle.packet.specs.declared.Verdict.{Verdict}
-use Rattle.packet.specs.declared.Verdict.the-variants.{Lawful, Refused as Unlawful}
 use Rattle.numbers.specs.declared.Parsed.{Parsed}
 use Rattle.numbers.specs.declared.Parsed.the-variants.{Accepted as Taken, Refused as NotTaken}
 use Rattle.numbers.specs.Numbers.{numbersOf}
@@ -58,11 +56,6 @@ roomOf (NotTaken n) room = room
 -- with no room for the answer nothing is written
 abbrev pub roomLeft : List ℕ → List ℕ → List ℕ → List ℕ
 roomLeft packet room written = cond (eqb (length written) 0) room (roomOf (packetOf packet) room)
-
--- the number then: the packet's own, or else 11, since a short room is 11 as well
-abbrev pub unwrittenOf : Verdict → ℕ
-unwrittenOf (Lawful row) = 11
-unwrittenOf (Unlawful n) = n
 
 -- ## Lookup: where the 64 register bytes start
 

@@ -4,9 +4,9 @@ use native.Mathlib.Omega.{arith}
 use native.Mathlib.Nat.{zero-add}
 use mathlib.Core.Path.{_≡_, refl, sym, ap, _∙_}
 use mathlib.Core.Bool.{Bool, true, false, cond}
-use mathlib.Core.List.{List, [], _∷_}
-use lib.ListN.{length, drop}
-use lib.Seq.{sets, sets-eq}
+use mathlib.Core.List.{List, [], _∷_, _++_, append-nil}
+use lib.ListN.{length, take, drop, drop-of-length-le}
+use lib.Seq.{sets, sets-eq, take-length}
 use lib.Dec.{ltb, eqb}
 use borrow.Author.Tests.{lt-ltb, le-ltb, eq-eqb, ne-eqb, eqb-true}
 use Rattle.endian.specs.Endian.{Bytes}
@@ -18,6 +18,7 @@ use Rattle.packet.specs.declared.Verdict.the-variants.{Lawful, Refused as Unlaw
 use Rattle.packet.specs.Verdict.{verdictOf}
 use Rattle.tlp.specs.declared.Writing.{Writing}
 use Rattle.tlp.specs.declared.Writing.the-variants.{Written, Refused as NotWritten}
+use Rattle.tlp.specs.LayoutLaws.{size-of-lawful}
 use Rattle.tlp.specs.Writing.{size, writeOf, roomAfter}
 use Rattle.sheet.specs.declared.Found.{Found}
 use Rattle.sheet.specs.declared.Found.the-variants.{At, Nothing}
@@ -34,8 +35,8 @@ use Rattle.layout.specs.Layout.{sheetLength}
 use Rattle.planning.specs.declared.Planning.{Planning}
 use Rattle.planning.specs.declared.Planning.the-variants.{Planned, Refused as NotPlanned}
 use Rattle.planning.specs.Plan.{onRoom, onBoard, planning, numberOf as planningNumber, sheetAfter}
-use Rattle.capi.specs.Answers.{Answer, gives, returned, filled}
-use Rattle.capi.specs.Calls.{onWriting, unwrittenOf, unownedOf, word, commandNumber, commandLeft, onPlanning, planAnswer, sheetLeft}
+use Rattle.capi.specs.Answers.{Answer, refuses, gives, returned, filled}
+use Rattle.capi.specs.Calls.{onWriting, unownedOf, word, commandNumber, commandLeft, onPlanning, planAnswer, sheetLeft}
 
 -- what was returned and what the slice holds after, together
 abbrev pub Answered : Answer → List ℕ → ℕ → List ℕ → Type 0
@@ -75,23 +76,43 @@ module _ (p : Packet) (room written : List ℕ) where
   answer-short z (Written n) = answered-short (n ∷ []) written (omega arith)
   answer-short z (NotWritten n) = (refl, refl)
 
-  short-of-verdict : (v : Verdict) → verdictOf p ≡ v → shortOf (writeOf p (length room)) ≡ unwrittenOf v
+  -- an empty room is short of every lawful packet
+  write-empty : (v : Verdict) → verdictOf p ≡ v → writeOf p 0 ≡ NotWritten (shortOf (writeOf p (length room)))
   unfolding writeOf
-  short-of-verdict (Unlawful n) e = rw e
-  short-of-verdict (Lawful row) e = rw e (go (ltb (length room) (size p)))
+  write-empty (Unlawful n) e = rw e
+  write-empty (Lawful row) e = rw (e, lt-ltb 0 (size p) (omega (arith, size-of-lawful row p e))) (go (ltb (length room) (size p)))
     where
-      go : (b : Bool) → shortOf (cond b (NotWritten 11) (Written (size p))) ≡ 11
+      go : (b : Bool) → NotWritten 11 ≡ NotWritten (shortOf (cond b (NotWritten 11) (Written (size p))))
       go true = refl
       go false = refl
 
-  pub wrote-nothing : (r : ℕ) → r ≡ unwrittenOf (verdictOf p) → length written ≡ 0 → WroteFor p room written r room written
-  wrote-nothing r e z =
-      let a = answer-short z (writeOf p (length room)) in
-      (e ∙ sym (short-of-verdict (verdictOf p) refl) ∙ a .0, rw (eq-eqb (length written) 0 z), a .1)
+  room-empty : roomAfter p [] ≡ []
+  unfolding roomAfter
+  room-empty = rw (write-empty (verdictOf p) refl)
 
-  module _ (more : length written ≡ 0 → ⊥) (w : Writing) (e : w ≡ writeOf p (length room)) (after : List ℕ) (f : after ≡ roomAfter p room) where
-    pub wrote : (r : ℕ) (slice : List ℕ) → Answered (onWriting w) written r slice → WroteFor p room written r after slice
-    wrote r slice a = (a .0 ∙ ap (λ (x : Writing). returned (onWriting x) written) e, f ∙ sym (rw (ne-eqb (length written) 0 more)), a .1 ∙ ap (λ (x : Writing). filled (onWriting x) written) e)
+  -- the writer was lent so much of the room and left a part in its place
+  module _ (space : ℕ) (lent : space ≡ cond (eqb (length written) 0) 0 (length room)) (w : Writing) (e : w ≡ writeOf p (length (take space room))) (part : List ℕ) (f : part ≡ roomAfter p (take space room)) where
+    pub wrote : (r : ℕ) (slice : List ℕ) → Answered (onWriting w) written r slice → WroteFor p room written r (part ++ drop space room) slice
+    wrote r slice a = go (eqb (length written) 0) refl
+      where
+        go : (b : Bool) → eqb (length written) 0 ≡ b → WroteFor p room written r (part ++ drop space room) slice
+        go true z =
+            let none : space ≡ 0 = lent ∙ rw z in
+            let short = answer-short (eqb-true (length written) 0 z) (writeOf p (length room)) in
+            let m = shortOf (writeOf p (length room)) in
+            let refused : w ≡ NotWritten m = e ∙ rw none (write-empty (verdictOf p) refl) in
+            let left : part ≡ [] = f ∙ rw none room-empty in
+            let given : Answered (refuses m) written r slice = rw refused at a in
+            (given .0 ∙ short .0, rw (z, left, none), given .1 ∙ short .1)
+        go false z =
+            let all : space ≡ length room = lent ∙ rw z in
+            let whole : take space room ≡ room = ap (λ (n : ℕ). take n room) all ∙ take-length room in
+            let rest : drop space room ≡ [] = drop-of-length-le room {i = space} (omega arith) in
+            let wrote-all : w ≡ writeOf p (length room) = e ∙ ap (λ (s : List ℕ). writeOf p (length s)) whole in (
+              a .0 ∙ ap (λ (x : Writing). returned (onWriting x) written) wrote-all,
+              rw (z, rest, append-nil part) (f ∙ ap (roomAfter p) whole),
+              a .1 ∙ ap (λ (x : Writing). filled (onWriting x) written) wrote-all,
+            )
 
 -- ## An ID above FFFFh
 

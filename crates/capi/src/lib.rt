@@ -1,21 +1,20 @@
 // The C boundary. Each call returns 0 or document 01's number, and a refused call changes nothing that it was lent. A slice passes as a pointer and then
 // a length. An answer slice too short is 11, tried last; numbers past the answer's own are left as they were.
 ghost use mathlib.Core.Path.{_≡_};
+ghost use Prim.Native.Nat.{_≤_};
 ghost use mathlib.Core.List.{[], _∷_};
 ghost use mathlib.Core.Bool.{cond};
 ghost use lib.ListN.{length};
 ghost use lib.Dec.{eqb};
-ghost use Rattle.packet.specs.Verdict.{verdictOf};
 ghost use Rattle.numbers.specs.Numbers.{numbersOf};
 ghost use Rattle.tlp.specs.Writing.{writeOf, roomAfter};
 ghost use Rattle.sheet.specs.Sheet.{sheetNumber};
 ghost use Rattle.sheet.specs.Lookup.{lookupOf};
 ghost use Rattle.planning.specs.Plan.{numberOf as planningNumber, planning};
 ghost use Rattle.capi.specs.Answers.{gives, returned, filled};
-ghost use Rattle.capi.specs.Calls.{readAnswer, onWriting, writeAnswer, roomLeft, unwrittenOf, onLookup, unownedOf, commandNumber, commandLeft, routeAnswer, planAnswer, sheetLeft};
+ghost use Rattle.capi.specs.Calls.{readAnswer, onWriting, writeAnswer, roomLeft, onLookup, unownedOf, commandNumber, commandLeft, routeAnswer, planAnswer, sheetLeft};
 use numbers::Parsed;
 use packet::Packet;
-use packet::Verdict;
 use planning::Planning;
 use route::Routing;
 use sheet::Lookup;
@@ -108,27 +107,22 @@ pub extern "C" fn cartsundial_route(header: &[u8], sheet: &[u8], answer: &mut [u
 // The greatest ID and the greatest command word.
 const WORD: u32 = 65535;
 
-// The length's slice is looked at first, so that nothing is written where it has no room. Then a short room and a short slice are both 11.
+// With no room for its length the packet is written into an empty room, which is 11 after the packet's own number.
 fn write_packet(p: Packet, room: &mut [u8], written: &mut [u64]) -> u32
     ensures { λ r. ⌜ (r ≡ returned (onWriting (writeOf p (length (now (room .entry))))) (now (written .entry))) × (now (room .exit) ≡ cond (eqb (length (now (written .entry))) 0) (now (room .entry)) (roomAfter p (now (room .entry)))) × (now (written .exit) ≡ filled (onWriting (writeOf p (length (now (room .entry))))) (now (written .entry))) ⌝ }
 {
-    if written.len() == 0 {
-        return write_refusal(p);
-    }
-    match tlp::write(p, room) {
+    let space = space_for(written.len(), room.len());
+    match tlp::write(p, &mut room[..space]) {
         Writing::Written(n) => give_one(n as u64, written),
         Writing::Refused(n) => n as u32,
     }
 }
 
-// The packet's own number, or else 11.
-fn write_refusal(p: Packet) -> u32
-    ensures { λ r. ⌜ r ≡ unwrittenOf (verdictOf p) ⌝ }
+// The bytes of a room that are used where an answer slice has so many numbers.
+fn space_for(answers: usize, room: usize) -> usize
+    ensures { λ r. ⌜ (r ≤ room) × (r ≡ cond (eqb answers 0) 0 room) ⌝ }
 {
-    match packet::judge(p) {
-        Verdict::Lawful(_) => 11,
-        Verdict::Refused(n) => n as u32,
-    }
+    if answers == 0 { 0 } else { room }
 }
 
 // The board's own number, or else 11: every sheet has its version byte, so with an empty one the planner ends at its last check and writes nothing.
