@@ -12,10 +12,18 @@ use borrow.Author.Tests.{lt-ltb, le-ltb, eq-eqb, ne-eqb, eqb-true}
 use Rattle.endian.specs.Endian.{Bytes}
 use Rattle.endian.specs.EndianLaws.{be-lt}
 use Rattle.endian.specs.BytesLaws.{bytes-take, bytes-drop}
+use Rattle.pairs.specs.declared.Pair.{Pair}
+use Rattle.pairs.specs.declared.Pair.the-variants.{Carried, NotCarried, Unknown}
+use Rattle.pairs.specs.Pairs.{rowOf}
 use Rattle.packet.specs.declared.Packet.{Packet}
 use Rattle.packet.specs.declared.Verdict.{Verdict}
 use Rattle.packet.specs.declared.Verdict.the-variants.{Lawful, Refused as Unlawful}
+use Rattle.packet.specs.Fields.{kindOf, headOf}
 use Rattle.packet.specs.Verdict.{verdictOf}
+use Rattle.numbers.specs.declared.Parsed.{Parsed}
+use Rattle.numbers.specs.declared.Parsed.the-variants.{Accepted as Taken, Refused as NotTaken}
+use Rattle.numbers.specs.Parsing.{onPair, packetOf}
+use Rattle.numbers.specs.Fields.{fieldsOf, checked, checked-fields}
 use Rattle.tlp.specs.declared.Writing.{Writing}
 use Rattle.tlp.specs.declared.Writing.the-variants.{Written, Refused as NotWritten}
 use Rattle.tlp.specs.LayoutLaws.{size-of-lawful}
@@ -36,7 +44,7 @@ use Rattle.planning.specs.declared.Planning.{Planning}
 use Rattle.planning.specs.declared.Planning.the-variants.{Planned, Refused as NotPlanned}
 use Rattle.planning.specs.Plan.{onRoom, onBoard, planning, numberOf as planningNumber, sheetAfter}
 use Rattle.capi.specs.Answers.{Answer, refuses, gives, returned, filled}
-use Rattle.capi.specs.Calls.{onWriting, unownedOf, word, commandNumber, commandLeft, onPlanning, planAnswer, sheetLeft}
+use Rattle.capi.specs.Calls.{onWriting, onParsed, roomOf, unownedOf, word, commandNumber, commandLeft, onPlanning, planAnswer, sheetLeft}
 
 -- what was returned and what the slice holds after, together
 abbrev pub Answered : Answer → List ℕ → ℕ → List ℕ → Type 0
@@ -64,11 +72,11 @@ cond-same true s = refl
 cond-same false s = refl
 
 -- the room, the answer and the length's slice after, together
-abbrev pub WroteFor : Packet → List ℕ → List ℕ → ℕ → List ℕ → List ℕ → Type 0
-WroteFor p room written r after slice =
-    (r ≡ returned (onWriting (writeOf p (length room))) written)
-    × (after ≡ cond (eqb (length written) 0) room (roomAfter p room))
-    × (slice ≡ filled (onWriting (writeOf p (length room))) written)
+abbrev pub WroteFor : Parsed → List ℕ → List ℕ → ℕ → List ℕ → List ℕ → Type 0
+WroteFor q room written r after slice =
+    (r ≡ returned (onParsed q (length room)) written)
+    × (after ≡ cond (eqb (length written) 0) room (roomOf q room))
+    × (slice ≡ filled (onParsed q (length room)) written)
 
 module _ (p : Packet) (room written : List ℕ) where
   -- with no room for the answer
@@ -92,10 +100,10 @@ module _ (p : Packet) (room written : List ℕ) where
 
   -- the writer was lent so much of the room and left a part in its place
   module _ (space : ℕ) (lent : space ≡ cond (eqb (length written) 0) 0 (length room)) (w : Writing) (e : w ≡ writeOf p (length (take space room))) (part : List ℕ) (f : part ≡ roomAfter p (take space room)) where
-    pub wrote : (r : ℕ) (slice : List ℕ) → Answered (onWriting w) written r slice → WroteFor p room written r (part ++ drop space room) slice
+    pub wrote : (r : ℕ) (slice : List ℕ) → Answered (onWriting w) written r slice → WroteFor (Taken p) room written r (part ++ drop space room) slice
     wrote r slice a = go (eqb (length written) 0) refl
       where
-        go : (b : Bool) → eqb (length written) 0 ≡ b → WroteFor p room written r (part ++ drop space room) slice
+        go : (b : Bool) → eqb (length written) 0 ≡ b → WroteFor (Taken p) room written r (part ++ drop space room) slice
         go true z =
             let none : space ≡ 0 = lent ∙ rw z in
             let short = answer-short (eqb-true (length written) 0 z) (writeOf p (length room)) in
@@ -113,6 +121,26 @@ module _ (p : Packet) (room written : List ℕ) where
               rw (z, rest, append-nil part) (f ∙ ap (roomAfter p) whole),
               a .1 ∙ ap (λ (x : Writing). filled (onWriting x) written) wrote-all,
             )
+
+-- the writer refuses a kind and form not carried, so that it is the same whether they are looked at before it
+module _ (room : List ℕ) where
+  checked-pair : (p : Packet) (pair : Pair) → rowOf (kindOf p) (headOf p .form) ≡ pair
+      → (onWriting (writeOf p (length room)) ≡ onParsed (onPair pair (Taken p)) (length room)) × (roomAfter p room ≡ roomOf (onPair pair (Taken p)) room)
+  unfolding writeOf roomAfter verdictOf
+  checked-pair p (Carried row) e = (refl, refl)
+  checked-pair p NotCarried e = (rw e, rw e)
+  checked-pair p Unknown e = (rw e, rw e)
+
+  checked-parsed : (q : Parsed) → (onParsed q (length room) ≡ onParsed (checked q) (length room)) × (roomOf q room ≡ roomOf (checked q) room)
+  checked-parsed (Taken p) = checked-pair p (rowOf (kindOf p) (headOf p .form)) refl
+  checked-parsed (NotTaken n) = (refl, refl)
+
+  pub wrote-fields : (packet written : List ℕ) (q : Parsed) → q ≡ fieldsOf packet → (r : ℕ) (after slice : List ℕ) → WroteFor q room written r after slice
+      → WroteFor (packetOf packet) room written r after slice
+  wrote-fields packet written q e r after slice w =
+      let same : packetOf packet ≡ checked q = checked-fields packet ∙ ap checked (sym e) in
+      let c = checked-parsed q in
+      rw (same, ← c .0, ← c .1) w
 
 -- ## An ID above FFFFh
 

@@ -162,7 +162,7 @@ numbered-fitting : (b : Bool) (p : Packet) → NumberedParsed (cond b (NotTaken 
 numbered-fitting true p = omega arith
 numbered-fitting false p = tt
 
-numbered-packet-as : (kind : Kind) (ns : List ℕ) → NumberedParsed (packetAs kind ns)
+numbered-packet-as : (kind : Kind) (ns : List ℕ) → NumberedParsed (packetAs (NotTaken 10) kind ns)
 numbered-packet-as (MemoryKind k) ns = numbered-fitting (anyAbove byAddress ns) _
 numbered-packet-as (IoKind k) ns = numbered-fitting (anyAbove byAddress ns) _
 numbered-packet-as (ConfigKind k) ns = numbered-fitting (anyAbove byTarget ns) _
@@ -173,19 +173,20 @@ numbered-packet-as FetchAdd ns = omega arith
 numbered-packet-as Swap ns = omega arith
 numbered-packet-as Cas ns = omega arith
 
-numbered-kind : (pair : Pair) (kind : Kind) (ns : List ℕ) → NumberedParsed (onPair pair kind ns)
-numbered-kind (Carried row) kind ns = numbered-packet-as kind ns
-numbered-kind NotCarried kind ns = omega arith
-numbered-kind Unknown kind ns = omega arith
+numbered-on-pair : (pair : Pair) (q : Parsed) → NumberedParsed q → NumberedParsed (onPair pair q)
+numbered-on-pair (Carried row) q h = h
+numbered-on-pair NotCarried q h = omega arith
+numbered-on-pair Unknown q h = omega arith
 
 numbered-parsed : (ns : List ℕ) → NumberedParsed (packetOf ns)
 unfolding packetOf fromKind onKind
 numbered-parsed ns =
     let kind = kindAt (getD ns 0 0) in
     let pair = rowOf kind (getD ns 1 0) in
+    let parsed = packetAs (NotTaken 10) kind ns in
     let outside = ltb 12 (getD ns 0 0) || ltb 4 (getD ns 1 0) in
     either NumberedParsed (ltb (length ns) 20) (NotTaken 11) (fromKind ns) (omega arith)
-    (either NumberedParsed outside (NotTaken 2) (onPair pair kind ns) (omega arith) (numbered-kind pair kind ns))
+    (either NumberedParsed outside (NotTaken 2) (onPair pair parsed) (omega arith) (numbered-on-pair pair parsed (numbered-packet-as kind ns)))
 
 pub numbered-write : (packet : List ℕ) (room : ℕ) → Numbered (writeAnswer packet room)
 numbered-write packet room = go (packetOf packet) (numbered-parsed packet)

@@ -38,7 +38,7 @@ pub extern "C" fn cartsundial_read(header: &[u8], packet: &mut [u64]) -> u32
 pub extern "C" fn cartsundial_write(packet: &[u64], room: &mut [u8], written: &mut [u64]) -> u32
     ensures { λ r. ⌜ (r ≡ returned (writeAnswer (now (packet .entry)) (length (now (room .entry)))) (now (written .entry))) × (now (room .exit) ≡ roomLeft (now (packet .entry)) (now (room .entry)) (now (written .entry))) × (now (written .exit) ≡ filled (writeAnswer (now (packet .entry)) (length (now (room .entry)))) (now (written .entry))) ⌝ }
 {
-    match numbers::packet_of(packet) {
+    match numbers::fields_of(packet) {
         Parsed::Accepted(p) => write_packet(p, room, written),
         Parsed::Refused(n) => n as u32,
     }

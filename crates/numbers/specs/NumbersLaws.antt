@@ -10,13 +10,12 @@ use lib.Seq.{drop-cons}
 use lib.Dec.{ltb}
 use borrow.Author.Tests.{lt-ltb, le-ltb, ltb-false}
 use Rattle.pairs.specs.declared.Kind.{Kind}
-use Rattle.pairs.specs.declared.Pair.{Pair}
-use Rattle.pairs.specs.Pairs.{rowOf}
 use Rattle.packet.specs.declared.Packet.{Packet}
 use Rattle.packet.specs.declared.Packet.the-variants.{Memory, Io, Config, Completion}
 use Rattle.numbers.specs.declared.Parsed.the-variants.{Refused}
 use Rattle.numbers.specs.Numbers.{numbersOf}
-use Rattle.numbers.specs.Parsing.{size, lastKind, kindAt, headMost, mostOf, anyAbove, orAbove, Within, onPair, onKind, fromKind, packetOf}
+use Rattle.numbers.specs.Parsing.{size, lastKind, kindAt, headMost, mostOf, anyAbove, orAbove, Within}
+use Rattle.numbers.specs.Fields.{fieldsAs, fieldsOf}
 
 pub length-numbersOf : (p : Packet) → length (numbersOf p) ≡ size
 unfolding numbersOf
@@ -88,21 +87,15 @@ none-of-within ms ns w = none-of-most ms ns (λ i h. rw (zero-add i) at (within-
 
 -- ## What numbers are taken for, in the words of the code
 
-pub too-few : (ns : List ℕ) → length ns < size → Refused 11 ≡ packetOf ns
-unfolding packetOf
+pub too-few : (ns : List ℕ) → length ns < size → Refused 11 ≡ fieldsOf ns
+unfolding fieldsOf
 too-few ns h = rw (lt-ltb (length ns) size h)
 
 module _ (ns : List ℕ) (enough : size ≤ length ns) where
-  past-few : packetOf ns ≡ fromKind ns
-  unfolding packetOf
-  past-few = rw (le-ltb (length ns) size enough)
+  pub outside-list : ltb lastKind (getD ns 0 0) || ltb 4 (getD ns 1 0) ≡ true → Refused 2 ≡ fieldsOf ns
+  unfolding fieldsOf
+  outside-list e = rw (le-ltb (length ns) size enough, e)
 
-  pub outside-list : ltb lastKind (getD ns 0 0) || ltb 4 (getD ns 1 0) ≡ true → Refused 2 ≡ packetOf ns
-  unfolding fromKind
-  outside-list e = sym (past-few ∙ rw e)
-
-  module _ (inside : ltb lastKind (getD ns 0 0) || ltb 4 (getD ns 1 0) ≡ false) (kind : Kind) (named : kind ≡ kindAt (getD ns 0 0)) where
-    -- pair is what the table says of the kind and form
-    pub parsed-as : (pair found : Pair) → pair ≡ rowOf kind (getD ns 1 0) → pair ≡ found → onPair found kind ns ≡ packetOf ns
-    unfolding fromKind onKind
-    parsed-as pair found e f = rw (← f, e) (rw named (sym (past-few ∙ rw inside)))
+  pub inside-list : ltb lastKind (getD ns 0 0) || ltb 4 (getD ns 1 0) ≡ false → (kind : Kind) → kind ≡ kindAt (getD ns 0 0) → fieldsAs kind ns ≡ fieldsOf ns
+  unfolding fieldsOf
+  inside-list e kind named = rw (le-ltb (length ns) size enough, e, named)

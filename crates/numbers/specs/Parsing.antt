@@ -133,24 +133,25 @@ outcomeFrom ns =
 
 -- ## In order
 
-abbrev pub packetAs : Kind → List ℕ → Parsed
-packetAs (MemoryKind k) ns = cond (anyAbove byAddress ns) (Refused 10) (Accepted (Memory k (headFrom ns) (enablesFrom ns) (getD ns 12 0)))
-packetAs (IoKind k) ns = cond (anyAbove byAddress ns) (Refused 10) (Accepted (Io k (headFrom ns) (enablesFrom ns) (getD ns 12 0)))
-packetAs (ConfigKind k) ns = cond (anyAbove byTarget ns) (Refused 10) (Accepted (Config k (headFrom ns) (enablesFrom ns) (targetFrom ns)))
-packetAs (CompletionKind k) ns = cond (anyAbove completing ns) (Refused 10) (Accepted (Completion k (headFrom ns) (outcomeFrom ns)))
-packetAs Msg ns = Refused 2
-packetAs MsgD ns = Refused 2
-packetAs FetchAdd ns = Refused 2
-packetAs Swap ns = Refused 2
-packetAs Cas ns = Refused 2
+-- large is the answer where some number is too large
+abbrev pub packetAs : Parsed → Kind → List ℕ → Parsed
+packetAs large (MemoryKind k) ns = cond (anyAbove byAddress ns) large (Accepted (Memory k (headFrom ns) (enablesFrom ns) (getD ns 12 0)))
+packetAs large (IoKind k) ns = cond (anyAbove byAddress ns) large (Accepted (Io k (headFrom ns) (enablesFrom ns) (getD ns 12 0)))
+packetAs large (ConfigKind k) ns = cond (anyAbove byTarget ns) large (Accepted (Config k (headFrom ns) (enablesFrom ns) (targetFrom ns)))
+packetAs large (CompletionKind k) ns = cond (anyAbove completing ns) large (Accepted (Completion k (headFrom ns) (outcomeFrom ns)))
+packetAs large Msg ns = Refused 2
+packetAs large MsgD ns = Refused 2
+packetAs large FetchAdd ns = Refused 2
+packetAs large Swap ns = Refused 2
+packetAs large Cas ns = Refused 2
 
-abbrev pub onPair : Pair → Kind → List ℕ → Parsed
-onPair (Carried row) kind ns = packetAs kind ns
-onPair NotCarried kind ns = Refused 2
-onPair Unknown kind ns = Refused 2
+abbrev pub onPair : Pair → Parsed → Parsed
+onPair (Carried row) q = q
+onPair NotCarried q = Refused 2
+onPair Unknown q = Refused 2
 
 unfoldable pub onKind : List ℕ → Parsed
-onKind ns = let kind = kindAt (getD ns 0 0) in onPair (rowOf kind (getD ns 1 0)) kind ns
+onKind ns = let kind = kindAt (getD ns 0 0) in onPair (rowOf kind (getD ns 1 0)) (packetAs (Refused 10) kind ns)
 
 -- a kind or a form outside the list
 unfoldable pub fromKind : List ℕ → Parsed

@@ -133,7 +133,7 @@ head-within row p l =
     omega arith
 
 module _ (row : Row) (rest : List ℕ) where
-  taken : (p : Packet) → verdictOf p ≡ Lawful row → packetAs (kindOf p) (numbersOf p ++ rest) ≡ Accepted p
+  taken : (p : Packet) → verdictOf p ≡ Lawful row → packetAs (Refused 10) (kindOf p) (numbersOf p ++ rest) ≡ Accepted p
   unfolding numbersOf enablesFrom targetFrom outcomeFrom
   taken (Memory k h e a) l =
       let p = Memory k h e a in
@@ -207,7 +207,7 @@ zero-at : (ns : List ℕ) (i : ℕ) → getD ns i 0 ≤ 0 → getD ns i 0 ≡ 0
 zero-at ns i h = omega arith
 
 module _ (ns : List ℕ) (enough : size ≤ length ns) where
-  given : (kind : Kind) (p : Packet) → kindNumber kind ≡ getD ns 0 0 → packetAs kind ns ≡ Accepted p → numbersOf p ≡ gets size 0 ns
+  given : (kind : Kind) (p : Packet) → kindNumber kind ≡ getD ns 0 0 → packetAs (Refused 10) kind ns ≡ Accepted p → numbersOf p ≡ gets size 0 ns
   unfolding numbersOf headFrom enablesFrom targetFrom outcomeFrom
   given (MemoryKind k) p n e =
       let q = passed (anyAbove byAddress ns) 10 (Memory k (headFrom ns) (enablesFrom ns) (getD ns 12 0)) p e in
@@ -264,7 +264,7 @@ module _ (ns : List ℕ) (enough : size ≤ length ns) where
   given Swap p n e = absurd (let z : _≡_ {A = ℕ} 0 1 = cc in omega arith)
   given Cas p n e = absurd (let z : _≡_ {A = ℕ} 0 1 = cc in omega arith)
 
-  given-by-pair : (pair : Pair) (kind : Kind) (p : Packet) → kindNumber kind ≡ getD ns 0 0 → onPair pair kind ns ≡ Accepted p → numbersOf p ≡ gets size 0 ns
+  given-by-pair : (pair : Pair) (kind : Kind) (p : Packet) → kindNumber kind ≡ getD ns 0 0 → onPair pair (packetAs (Refused 10) kind ns) ≡ Accepted p → numbersOf p ≡ gets size 0 ns
   given-by-pair (Carried row) kind p n e = given kind p n e
   given-by-pair NotCarried kind p n e = absurd (let z : _≡_ {A = ℕ} 0 1 = cc in omega arith)
   given-by-pair Unknown kind p n e = absurd (let z : _≡_ {A = ℕ} 0 1 = cc in omega arith)

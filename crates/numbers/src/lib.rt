@@ -4,11 +4,12 @@ ghost use mathlib.Core.Path.{_≡_};
 ghost use mathlib.Core.Bool.{false};
 ghost use mathlib.Core.List.{[], _∷_, _++_};
 ghost use Prim.Native.Nat.{_+_, _≤_};
-ghost use lib.ListN.{length};
+ghost use lib.ListN.{length, getD};
 ghost use lib.Seq.{sets};
 ghost use Rattle.numbers.specs.Numbers.{bit as bitOf, headNumbers, requestNumbers, outcomeNumbers, absent, bodyNumbers, numbersOf};
 ghost use Rattle.numbers.specs.Parsing.{byte, word, lastKind, headMost, requestMost, outcomeMost, byAddress, byTarget, completing, kindAt, anyAbove, orAbove, Within};
-ghost use Rattle.numbers.specs.Parsing.{headFrom, enablesFrom, targetFrom, outcomeFrom, packetAs, packetOf};
+ghost use Rattle.numbers.specs.Parsing.{headFrom, enablesFrom, targetFrom, outcomeFrom};
+ghost use Rattle.numbers.specs.Fields.{tooLarge, fieldsAs, fieldsOf};
 use packet::Enables;
 use packet::Head;
 use packet::Outcome;
@@ -43,10 +44,10 @@ const QWORD: u64 = 18446744073709551615;
 
 // ---- numbers to a packet
 
-// The packet that the first twenty numbers are: 11 for fewer, 2 for a kind and form not carried, 10 for a number too large for its field or in a field
-// that the kind does not have. Later numbers are not looked at.
-pub fn packet_of(numbers: &[u64]) -> Parsed
-    ensures { λ r. ⌜ r ≡ packetOf (now (numbers .entry)) ⌝ }
+// The packet that the first twenty numbers are, for the writer, which looks at the kind and form itself: 11 for fewer, 2 for a kind or a form outside
+// the list, 10 for a number too large for its field or in a field that the kind does not have. Later numbers are not looked at.
+pub fn fields_of(numbers: &[u64]) -> Parsed
+    ensures { λ r. ⌜ r ≡ fieldsOf (now (numbers .entry)) ⌝ }
 {
     if numbers.len() < SIZE {
         return Parsed::Refused(11);
@@ -54,12 +55,7 @@ pub fn packet_of(numbers: &[u64]) -> Parsed
     if (LAST_KIND < numbers[0]) | (4 < numbers[1]) {
         return Parsed::Refused(2);
     }
-    let kind = kind_at(numbers[0] as usize);
-    match pairs::row_of(kind, numbers[1] as u8) {
-        Pair::Carried(_) => packet_as(kind, numbers),
-        Pair::NotCarried => Parsed::Refused(2),
-        Pair::Unknown => Parsed::Refused(2),
-    }
+    fields_as(kind_at(numbers[0] as usize), numbers)
 }
 
 // The kinds in the order of their numbers.
@@ -84,14 +80,14 @@ fn kind_at(n: usize) -> Kind
     }
 }
 
-fn packet_as(kind: Kind, numbers: &[u64]) -> Parsed
-    requires { ⌜ 20 ≤ length (now numbers) ⌝ }
-    ensures { λ r. ⌜ r ≡ packetAs kind (now (numbers .entry)) ⌝ }
+fn fields_as(kind: Kind, numbers: &[u64]) -> Parsed
+    requires { ⌜ (20 ≤ length (now numbers)) × (getD (now numbers) 1 0 ≤ 4) ⌝ }
+    ensures { λ r. ⌜ r ≡ fieldsAs kind (now (numbers .entry)) ⌝ }
 {
     match kind {
         Kind::Memory(k) => {
             if above_by_address(numbers) {
-                return Parsed::Refused(10);
+                return too_large(kind, numbers);
             }
             Parsed::Accepted(Packet::Memory(
                 k,
@@ -102,13 +98,13 @@ fn packet_as(kind: Kind, numbers: &[u64]) -> Parsed
         }
         Kind::Io(k) => {
             if above_by_address(numbers) {
-                return Parsed::Refused(10);
+                return too_large(kind, numbers);
             }
             Parsed::Accepted(Packet::Io(k, head_from(numbers), enables_from(numbers), numbers[12]))
         }
         Kind::Config(k) => {
             if above_by_target(numbers) {
-                return Parsed::Refused(10);
+                return too_large(kind, numbers);
             }
             Parsed::Accepted(Packet::Config(
                 k,
@@ -119,7 +115,7 @@ fn packet_as(kind: Kind, numbers: &[u64]) -> Parsed
         }
         Kind::Completion(k) => {
             if above_completing(numbers) {
-                return Parsed::Refused(10);
+                return too_large(kind, numbers);
             }
             Parsed::Accepted(Packet::Completion(k, head_from(numbers), outcome_from(numbers)))
         }
@@ -128,6 +124,18 @@ fn packet_as(kind: Kind, numbers: &[u64]) -> Parsed
         Kind::FetchAdd => Parsed::Refused(2),
         Kind::Swap => Parsed::Refused(2),
         Kind::Cas => Parsed::Refused(2),
+    }
+}
+
+// A kind and form not carried come before a number too large.
+fn too_large(kind: Kind, numbers: &[u64]) -> Parsed
+    requires { ⌜ (20 ≤ length (now numbers)) × (getD (now numbers) 1 0 ≤ 4) ⌝ }
+    ensures { λ r. ⌜ r ≡ tooLarge kind (now (numbers .entry)) ⌝ }
+{
+    match pairs::row_of(kind, numbers[1] as u8) {
+        Pair::Carried(_) => Parsed::Refused(10),
+        Pair::NotCarried => Parsed::Refused(2),
+        Pair::Unknown => Parsed::Refused(2),
     }
 }
 

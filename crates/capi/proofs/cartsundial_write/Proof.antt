@@ -2,13 +2,13 @@
 use borrow.Author.Needs.{needs}
 use lib.Dec.{eqb}
 use lib.ListN.{length}
-use mathlib.Core.Path.{sym, _∙_}
-use Rattle.capi.specs.CallsLaws.{cond-same}
+use mathlib.Core.Path.{refl}
+use Rattle.capi.specs.CallsLaws.{cond-same, wrote-fields}
 use Rattle.capi.proofs.cartsundial_write.Statement.{statement}
 use Rattle.capi.proofs.cartsundial_write.Tie as tie
 
-packet-of-requires : tie.Need-packet-of-requires
-packet-of-requires c κs = search needs
+fields-of-requires : tie.Need-fields-of-requires
+fields-of-requires c κs = search needs
 
 enum-known-p : tie.Need-enum-known-p
 enum-known-p c = search needs
@@ -29,19 +29,24 @@ same-length-2 : tie.Need-same-length-2
 same-length-2 c = search needs
 
 returns : tie.Need-returns
-returns c = rw (sym (c .before .before .before .before .before .before .before .before .before .before .packet-of .ensures) ∙ c .before .before .before .before .before .before .before .before .p .given .1) (c .before .before .before .before .write-packet .ensures)
+returns c =
+    let parsed = c .before .before .before .before .before .before .before .before .before .before .fields-of in
+    let s = c .before .before .before .before .before .before .before .before .before .before .before .before .before .before .args in
+    wrote-fields (s .room .now) (s .packet .now) (s .written .now) (parsed .result) (parsed .ensures) _ _ _
+    (rw (c .before .before .before .before .before .before .before .before .p .given .1) (c .before .before .before .before .write-packet .ensures))
 
 returns-2 : tie.Need-returns-2
 returns-2 c =
-    let e = sym (c .before .before .before .packet-of .ensures) ∙ c .before .n .given .1 in
+    let parsed = c .before .before .before .fields-of in
     let s = c .before .before .before .before .before .before .before .args in
-    (rw e, rw e (cond-same (eqb (length (s .written .now)) 0) (s .room .now)), rw e)
+    wrote-fields (s .room .now) (s .packet .now) (s .written .now) (parsed .result) (parsed .ensures) _ _ _
+    (rw (c .before .n .given .1) (refl, cond-same (eqb (length (s .written .now)) 0) (s .room .now), refl))
 
 pub cartsundial-write-spec : {M : Type 1} → statement M
 cartsundial-write-spec =
     tie.close
     (tie.spec
-    packet-of-requires
+    fields-of-requires
     enum-known-p
     write-packet-requires
     enum-known-n

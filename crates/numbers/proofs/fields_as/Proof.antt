@@ -1,12 +1,12 @@
--- `numbers::packet_as` meets its contract: by the kind; where no number is greater than its field's greatest, each part is within its bounds.
+-- `numbers::fields_as` meets its contract: by the kind; where no number is greater than its field's greatest, each part is within its bounds.
 -- Assumes nothing.
 use borrow.Author.Needs.{needs}
 use mathlib.Core.Path.{sym, _∙_}
 use native.Mathlib.Omega.{arith}
 use Rattle.numbers.specs.NumbersLaws.{within-of-none}
 use Rattle.numbers.specs.Parsing.{byAddress, byTarget, completing}
-use Rattle.numbers.proofs.packet_as.Statement.{statement}
-use Rattle.numbers.proofs.packet_as.Tie as tie
+use Rattle.numbers.proofs.fields_as.Statement.{statement}
+use Rattle.numbers.proofs.fields_as.Tie as tie
 
 enum-known-kind : tie.Need-enum-known-kind
 enum-known-kind c = search needs
@@ -14,8 +14,11 @@ enum-known-kind c = search needs
 above-by-address-requires : tie.Need-above-by-address-requires
 above-by-address-requires c κs = search needs
 
+too-large-requires : tie.Need-too-large-requires
+too-large-requires c κs = search needs
+
 returns : tie.Need-returns
-returns c = rw (c .before .before .before .kind .given .1, sym (c .before .above-by-address .ensures) ∙ c .if1 .taken)
+returns c = rw (c .too-large .ensures, c .before .before .before .before .kind .given .1, sym (c .before .before .above-by-address .ensures) ∙ c .before .if1 .taken)
 
 head-from-requires : tie.Need-head-from-requires
 head-from-requires c κs =
@@ -36,8 +39,11 @@ enum-known-kind-2 c = search needs
 above-by-address-requires-2 : tie.Need-above-by-address-requires-2
 above-by-address-requires-2 c κs = search needs
 
+too-large-requires-2 : tie.Need-too-large-requires-2
+too-large-requires-2 c κs = search needs
+
 returns-2 : tie.Need-returns-2
-returns-2 c = rw (c .before .before .before .kind2 .given .1, sym (c .before .above-by-address2 .ensures) ∙ c .if2 .taken)
+returns-2 c = rw (c .too-large2 .ensures, c .before .before .before .before .kind2 .given .1, sym (c .before .before .above-by-address2 .ensures) ∙ c .before .if2 .taken)
 
 head-from-requires-2 : tie.Need-head-from-requires-2
 head-from-requires-2 c κs =
@@ -58,8 +64,11 @@ enum-known-kind-3 c = search needs
 above-by-target-requires : tie.Need-above-by-target-requires
 above-by-target-requires c κs = search needs
 
+too-large-requires-3 : tie.Need-too-large-requires-3
+too-large-requires-3 c κs = search needs
+
 returns-3 : tie.Need-returns-3
-returns-3 c = rw (c .before .before .before .kind3 .given .1, sym (c .before .above-by-target .ensures) ∙ c .if3 .taken)
+returns-3 c = rw (c .too-large3 .ensures, c .before .before .before .before .kind3 .given .1, sym (c .before .before .above-by-target .ensures) ∙ c .before .if3 .taken)
 
 head-from-requires-3 : tie.Need-head-from-requires-3
 head-from-requires-3 c κs =
@@ -82,8 +91,11 @@ enum-known-kind-4 c = search needs
 above-completing-requires : tie.Need-above-completing-requires
 above-completing-requires c κs = search needs
 
+too-large-requires-4 : tie.Need-too-large-requires-4
+too-large-requires-4 c κs = search needs
+
 returns-4 : tie.Need-returns-4
-returns-4 c = rw (c .before .before .before .kind4 .given .1, sym (c .before .above-completing .ensures) ∙ c .if4 .taken)
+returns-4 c = rw (c .too-large4 .ensures, c .before .before .before .before .kind4 .given .1, sym (c .before .before .above-completing .ensures) ∙ c .before .if4 .taken)
 
 head-from-requires-4 : tie.Need-head-from-requires-4
 head-from-requires-4 c κs =
@@ -137,30 +149,34 @@ returns-12 c = rw (c .enum-told4 .given .1)
 returns-13 : tie.Need-returns-13
 returns-13 c = rw (c .enum-told5 .given .1)
 
-pub packet-as-spec : {M : Type 1} → statement M
-packet-as-spec =
+pub fields-as-spec : {M : Type 1} → statement M
+fields-as-spec =
     tie.close
     (tie.spec
     enum-known-kind
     above-by-address-requires
+    too-large-requires
     returns
     head-from-requires
     enables-from-requires
     shared-slice-read-t12
     enum-known-kind-2
     above-by-address-requires-2
+    too-large-requires-2
     returns-2
     head-from-requires-2
     enables-from-requires-2
     shared-slice-read-t18
     enum-known-kind-3
     above-by-target-requires
+    too-large-requires-3
     returns-3
     head-from-requires-3
     enables-from-requires-3
     target-from-requires
     enum-known-kind-4
     above-completing-requires
+    too-large-requires-4
     returns-4
     head-from-requires-4
     outcome-from-requires
