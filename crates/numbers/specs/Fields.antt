@@ -1,9 +1,9 @@
 -- Twenty numbers as a packet for a caller that looks at the kind and form itself, and that looking at them afterwards is the whole of Parsing.
 -- Assumes nothing.
-use Prim.Native.Nat.{ℕ}
+use Prim.Native.Nat.{ℕ, suc}
 use mathlib.Core.Path.{_≡_, refl}
 use mathlib.Core.Bool.{Bool, true, false, cond, _||_}
-use mathlib.Core.List.{List}
+use mathlib.Core.List.{List, [], _∷_}
 use lib.ListN.{length, getD}
 use lib.Dec.{ltb}
 use Rattle.pairs.specs.declared.Kind.{Kind}
@@ -18,6 +18,11 @@ use Rattle.numbers.specs.declared.Parsed.{Parsed}
 use Rattle.numbers.specs.declared.Parsed.the-variants.{Accepted, Refused}
 use Rattle.numbers.specs.Parsing.{size, lastKind, kindAt, byAddress, byTarget, completing, anyAbove}
 use Rattle.numbers.specs.Parsing.{headFrom, enablesFrom, targetFrom, outcomeFrom, packetAs, onPair, onKind, fromKind, packetOf}
+
+-- anyAbove by places, as the parts of a packet are tested: some number before a place is too large, or one from it on
+abbrev pub orAbove : Bool → ℕ → List ℕ → List ℕ → Bool
+orAbove before at [] ns = before
+orAbove before at (m ∷ ms) ns = orAbove (before || ltb m (getD ns at 0)) (suc at) ms ns
 
 -- a number too large is 10, after a kind and form not carried
 abbrev pub tooLarge : Kind → List ℕ → Parsed

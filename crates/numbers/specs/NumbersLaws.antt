@@ -14,7 +14,8 @@ use Rattle.packet.specs.declared.Packet.{Packet}
 use Rattle.packet.specs.declared.Packet.the-variants.{Memory, Io, Config, Completion}
 use Rattle.numbers.specs.declared.Parsed.the-variants.{Refused}
 use Rattle.numbers.specs.Numbers.{numbersOf}
-use Rattle.numbers.specs.Parsing.{size, lastKind, kindAt, headMost, mostOf, anyAbove, orAbove, Within}
+use Rattle.numbers.specs.Parsing.{size, lastKind, kindAt, headMost, mostOf, anyAbove, Within}
+use Rattle.numbers.specs.Fields.{orAbove}
 use Rattle.numbers.specs.Fields.{fieldsAs, fieldsOf}
 
 pub length-numbersOf : (p : Packet) → length (numbersOf p) ≡ size

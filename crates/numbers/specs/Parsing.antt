@@ -89,11 +89,6 @@ anyAbove [] ns = false
 anyAbove (m ∷ ms) [] = false
 anyAbove (m ∷ ms) (n ∷ ns) = ltb m n || anyAbove ms ns
 
--- some number before a place is, or one from it on
-abbrev pub orAbove : Bool → ℕ → List ℕ → List ℕ → Bool
-orAbove before at [] ns = before
-orAbove before at (m ∷ ms) ns = orAbove (before || ltb m (getD ns at 0)) (suc at) ms ns
-
 -- from a place on, none is
 abbrev pub Within : ℕ → List ℕ → List ℕ → Type 0
 Within at [] ns = Unit
