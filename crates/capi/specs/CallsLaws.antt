@@ -72,11 +72,11 @@ cond-same true s = refl
 cond-same false s = refl
 
 -- the room, the answer and the length's slice after, together
-abbrev pub WroteFor : Parsed → List ℕ → List ℕ → ℕ → List ℕ → List ℕ → Type 0
-WroteFor q room written r after slice =
-    (r ≡ returned (onParsed q (length room)) written)
-    × (after ≡ cond (eqb (length written) 0) room (roomOf q room))
-    × (slice ≡ filled (onParsed q (length room)) written)
+abbrev pub WroteFor : Packet → List ℕ → List ℕ → ℕ → List ℕ → List ℕ → Type 0
+WroteFor p room written r after slice =
+    (r ≡ returned (onWriting (writeOf p (length room))) written)
+    × (after ≡ cond (eqb (length written) 0) room (roomAfter p room))
+    × (slice ≡ filled (onWriting (writeOf p (length room))) written)
 
 module _ (p : Packet) (room written : List ℕ) where
   -- with no room for the answer
@@ -100,10 +100,10 @@ module _ (p : Packet) (room written : List ℕ) where
 
   -- the writer was lent so much of the room and left a part in its place
   module _ (space : ℕ) (lent : space ≡ cond (eqb (length written) 0) 0 (length room)) (w : Writing) (e : w ≡ writeOf p (length (take space room))) (part : List ℕ) (f : part ≡ roomAfter p (take space room)) where
-    pub wrote : (r : ℕ) (slice : List ℕ) → Answered (onWriting w) written r slice → WroteFor (Taken p) room written r (part ++ drop space room) slice
+    pub wrote : (r : ℕ) (slice : List ℕ) → Answered (onWriting w) written r slice → WroteFor p room written r (part ++ drop space room) slice
     wrote r slice a = go (eqb (length written) 0) refl
       where
-        go : (b : Bool) → eqb (length written) 0 ≡ b → WroteFor (Taken p) room written r (part ++ drop space room) slice
+        go : (b : Bool) → eqb (length written) 0 ≡ b → WroteFor p room written r (part ++ drop space room) slice
         go true z =
             let none : space ≡ 0 = lent ∙ rw z in
             let short = answer-short (eqb-true (length written) 0 z) (writeOf p (length room)) in
@@ -122,25 +122,23 @@ module _ (p : Packet) (room written : List ℕ) where
               a .1 ∙ ap (λ (x : Writing). filled (onWriting x) written) wrote-all,
             )
 
--- the writer refuses a kind and form not carried, so that it is the same whether they are looked at before it
+-- the writer refuses a kind and form not carried: whether they were looked at before it, the answer and the room are the same
 module _ (room : List ℕ) where
-  checked-pair : (p : Packet) (pair : Pair) → rowOf (kindOf p) (headOf p .form) ≡ pair
-      → (onWriting (writeOf p (length room)) ≡ onParsed (onPair pair (Taken p)) (length room)) × (roomAfter p room ≡ roomOf (onPair pair (Taken p)) room)
+  abbrev Agree : Parsed → Parsed → Type 0
+  Agree q p = (onParsed q (length room) ≡ onParsed p (length room)) × (roomOf q room ≡ roomOf p room)
+
+  agree-pair : (p : Packet) (pair : Pair) → rowOf (kindOf p) (headOf p .form) ≡ pair → Agree (onPair pair (Taken p)) (Taken p)
   unfolding writeOf roomAfter verdictOf
-  checked-pair p (Carried row) e = (refl, refl)
-  checked-pair p NotCarried e = (rw e, rw e)
-  checked-pair p Unknown e = (rw e, rw e)
+  agree-pair p (Carried row) e = (refl, refl)
+  agree-pair p NotCarried e = (rw e, rw e)
+  agree-pair p Unknown e = (rw e, rw e)
 
-  checked-parsed : (q : Parsed) → (onParsed q (length room) ≡ onParsed (checked q) (length room)) × (roomOf q room ≡ roomOf (checked q) room)
-  checked-parsed (Taken p) = checked-pair p (rowOf (kindOf p) (headOf p .form)) refl
-  checked-parsed (NotTaken n) = (refl, refl)
+  agree-checked : (q : Parsed) → Agree (checked q) q
+  agree-checked (Taken p) = agree-pair p (rowOf (kindOf p) (headOf p .form)) refl
+  agree-checked (NotTaken n) = (refl, refl)
 
-  pub wrote-fields : (packet written : List ℕ) (q : Parsed) → q ≡ fieldsOf packet → (r : ℕ) (after slice : List ℕ) → WroteFor q room written r after slice
-      → WroteFor (packetOf packet) room written r after slice
-  wrote-fields packet written q e r after slice w =
-      let same : packetOf packet ≡ checked q = checked-fields packet ∙ ap checked (sym e) in
-      let c = checked-parsed q in
-      rw (same, ← c .0, ← c .1) w
+  pub fields-agree : (packet : List ℕ) (q : Parsed) → q ≡ fieldsOf packet → Agree (packetOf packet) q
+  fields-agree packet q e = rw (checked-fields packet, ← e) (agree-checked q)
 
 -- ## An ID above FFFFh
 

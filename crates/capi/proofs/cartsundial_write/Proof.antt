@@ -3,7 +3,7 @@ use borrow.Author.Needs.{needs}
 use lib.Dec.{eqb}
 use lib.ListN.{length}
 use mathlib.Core.Path.{refl}
-use Rattle.capi.specs.CallsLaws.{cond-same, wrote-fields}
+use Rattle.capi.specs.CallsLaws.{cond-same, fields-agree}
 use Rattle.capi.proofs.cartsundial_write.Statement.{statement}
 use Rattle.capi.proofs.cartsundial_write.Tie as tie
 
@@ -32,15 +32,15 @@ returns : tie.Need-returns
 returns c =
     let parsed = c .before .before .before .before .before .before .before .before .before .before .fields-of in
     let s = c .before .before .before .before .before .before .before .before .before .before .before .before .before .before .args in
-    wrote-fields (s .room .now) (s .packet .now) (s .written .now) (parsed .result) (parsed .ensures) _ _ _
-    (rw (c .before .before .before .before .before .before .before .before .p .given .1) (c .before .before .before .before .write-packet .ensures))
+    let same = fields-agree (s .room .now) (s .packet .now) (parsed .result) (parsed .ensures) in
+    rw (same .0, same .1, c .before .before .before .before .before .before .before .before .p .given .1) (c .before .before .before .before .write-packet .ensures)
 
 returns-2 : tie.Need-returns-2
 returns-2 c =
     let parsed = c .before .before .before .fields-of in
     let s = c .before .before .before .before .before .before .before .args in
-    wrote-fields (s .room .now) (s .packet .now) (s .written .now) (parsed .result) (parsed .ensures) _ _ _
-    (rw (c .before .n .given .1) (refl, cond-same (eqb (length (s .written .now)) 0) (s .room .now), refl))
+    let same = fields-agree (s .room .now) (s .packet .now) (parsed .result) (parsed .ensures) in
+    rw (same .0, same .1, c .before .n .given .1) (refl, cond-same (eqb (length (s .written .now)) 0) (s .room .now), refl)
 
 pub cartsundial-write-spec : {M : Type 1} → statement M
 cartsundial-write-spec =
