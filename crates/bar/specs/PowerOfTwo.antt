@@ -4,22 +4,13 @@ use Prim.Native.Nat.{ℕ, zero, suc, _-_, _/_, _%_, _^_, _<_, _≤_}
 use native.Mathlib.Nat.{mod-self, pow-suc, lt-of-not-le, not-le-of-lt, le-of-suc-le-suc}
 use native.Mathlib.Omega.{arith}
 use lib.Arith.{bin-ind}
-use lib.Bits.{bitAnd, and-step, and-self, and-mask}
-use lib.Pow.{pow-lt, pow-mono}
-
-abbrev pub PowerOfTwo : ℕ → Type 0
-PowerOfTwo n = (k : ℕ) × (n ≡ 2 ^ k)
-
--- of two powers the smaller has the smaller exponent
-pub lt-of-pow-lt : {j k : ℕ} → 2 ^ j < 2 ^ k → j < k
-lt-of-pow-lt h = lt-of-not-le (λ g. not-le-of-lt h (pow-mono g))
+use lib.Bits.{bitAnd, and-step, and-self}
+use lib.Pow.{pow-lt}
+use Rattle.placing.specs.Align.{PowerOfTwo}
+use Rattle.placing.specs.AlignLaws.{and-pred-power}
 
 pub le-of-pow-le : {j k : ℕ} → 2 ^ j ≤ 2 ^ k → j ≤ k
 le-of-pow-le h = le-of-suc-le-suc (lt-of-not-le (λ g. not-le-of-lt (pow-lt g) h))
-
--- a mask below a power of two takes the remainder
-pub and-pred-power : (n size : ℕ) → PowerOfTwo size → bitAnd n (size - 1) ≡ n % size
-and-pred-power n size (k, e) = rw e (and-mask n k)
 
 pub and-pred-zero-of-power : (n : ℕ) → PowerOfTwo n → bitAnd n (n - 1) ≡ 0
 and-pred-zero-of-power n p = and-pred-power n n p ∙ mod-self n

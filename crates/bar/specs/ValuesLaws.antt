@@ -16,11 +16,12 @@ use lib.Seq.{drop-drop, getD-drop, getD-take}
 use Rattle.pools.specs.declared.Pool.{Pool}
 use Rattle.pools.specs.declared.Pool.the-variants.{Low, High, Io}
 use Rattle.pools.specs.Pools.{isIo}
+use Rattle.placing.specs.Align.{PowerOfTwo}
+use Rattle.placing.specs.AlignLaws.{and-pred-power}
 use Rattle.bar.specs.declared.Slot.{Slot}
 use Rattle.bar.specs.declared.Slot.the-variants.{Unused, Bar, Upper, Bad}
 use Rattle.bar.specs.Bar.{typeBits, leastBit, width, typeOf, withoutType, joined, slotHere, slots, isBad, anyBad, takesNext, span, BarSize}
 use Rattle.bar.specs.BarLaws.{length-first, slots-head, slots-at-step}
-use Rattle.bar.specs.PowerOfTwo.{PowerOfTwo, and-pred-power}
 use Rattle.bar.specs.Values.{valueHere, isBarValue, isValue, valuesFit, baseOf, valueOf, registersOf}
 
 -- ## Multiples of powers of two

@@ -29,11 +29,11 @@ use Rattle.board.specs.Board.{hostOf, functionsOf}
 use Rattle.board.specs.BoardLaws.{Accepted, accepted-of-zero}
 use Rattle.board.specs.ToPlacing.{toHost, toPlacing}
 use Rattle.sizing.specs.Memo.{laidAt}
-use Rattle.placing.specs.Sizing.{Extent}
+use Rattle.placing.specs.declared.Extent.{Extent}
 use Rattle.placing.specs.Cap.{cap}
 use Rattle.placer.specs.Function.{windowAt, isEmpty, windowStart, windowStop}
 use Rattle.placer.specs.declared.Cursors.{Cursors}
-use Rattle.placer.specs.Kept.{endsOf, extentOf, keptWindow}
+use Rattle.placer.specs.Kept.{endsOf, keptWindow}
 use Rattle.placer.specs.LoopLaws.{agrees-start}
 use Rattle.layout.specs.declared.Registers.{Registers}
 use Rattle.layout.specs.Layout.{Planned, plannedOf, recordBytes, sheetBytes, sheetLength}
@@ -93,7 +93,7 @@ io-leaf first counts c f = io-small true 0 0
 io-bridge : (first : ℕ) (counts memo c : List ℕ) (i : ℕ) (f : Function)
     → (bridgeRegisters first counts memo c i f .io .base < 256) × (bridgeRegisters first counts memo c i f .io .limit < 256)
 unfolding bridgeRegisters
-io-bridge first counts memo c i f = io-kept (extentOf (extentsIn (laidAt memo i) .io)) (barsIn c f .cursors .io)
+io-bridge first counts memo c i f = io-kept (extentsIn (laidAt memo i) .io) (barsIn c f .cursors .io)
 
 pub io-bytes : (first : ℕ) (counts memo c : List ℕ) (i : ℕ) (f : Function) (r : Registers) → r ≡ registersOf first counts memo c i f
     → (r .io .base < 256) × (r .io .limit < 256)

@@ -30,12 +30,7 @@ abbrev pub endsList : Cursors → List ℕ
 endsList c = c .low ∷ c .high ∷ c .io ∷ []
 
 abbrev pub extentsIn : Laid → Extents
-extentsIn l =
-    record {
-      low = record { end = l .low .end; align = l .low .align };
-      high = record { end = l .high .end; align = l .high .align };
-      io = record { end = l .io .end; align = l .io .align };
-    }
+extentsIn l = record { low = l .low; high = l .high; io = l .io }
 
 -- the bus number of record k's own bus
 abbrev pub busIn : ℕ → List ℕ → ℕ → ℕ

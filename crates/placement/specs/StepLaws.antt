@@ -40,7 +40,7 @@ use Rattle.sizing.specs.Memo.{laidAt, below}
 use Rattle.placer.specs.declared.Cursors.{Cursors}
 use Rattle.placer.specs.Function.{Ends, registersAt, valuesAt, barStarts, afterBars, afterWindow, belowWindow}
 use Rattle.placer.specs.Registers.{valuesFrom, windowFor}
-use Rattle.placer.specs.Kept.{word, endsOf, keptCursors, keptValues, keptWindow, extentOf, extentIn}
+use Rattle.placer.specs.Kept.{word, endsOf, keptCursors, keptValues, keptWindow, extentIn}
 use Rattle.placer.specs.KeptLaws.{Starts, starts-here, ends-kept}
 use Rattle.placer.specs.JoinLaws.{Room, insideOf, parent-lt}
 use Rattle.placer.specs.LoopLaws.{Agrees, values-planned, window-planned, agrees-leaf, agrees-bridge, align-power}
@@ -228,16 +228,16 @@ module _ {first : ℕ} {fs : List Function} {counts memo : List ℕ} (prepared :
   -- ## A bridge
 
   module _ (bridge : isBridge f ≡ true) where
-    inner-is : (q : Pool) → extentOf (extentIn (extentsIn (laidAt memo i)) q) ≡ capped (insideOf ps i q)
-    inner-is Low = ap (λ (l : Laid). extentOf (extentIn (extentsIn l) Low)) (prepared .stored i f at bridge)
-    inner-is High = ap (λ (l : Laid). extentOf (extentIn (extentsIn l) High)) (prepared .stored i f at bridge)
-    inner-is Io = ap (λ (l : Laid). extentOf (extentIn (extentsIn l) Io)) (prepared .stored i f at bridge)
+    inner-is : (q : Pool) → extentIn (extentsIn (laidAt memo i)) q ≡ capped (insideOf ps i q)
+    inner-is Low = ap (λ (l : Laid). extentIn (extentsIn l) Low) (prepared .stored i f at bridge)
+    inner-is High = ap (λ (l : Laid). extentIn (extentsIn l) High) (prepared .stored i f at bridge)
+    inner-is Io = ap (λ (l : Laid). extentIn (extentsIn l) Io) (prepared .stored i f at bridge)
 
     window-is : Room h ps → (q : Pool)
-        → keptWindow q (extentOf (extentIn (extentsIn (laidAt memo i)) q)) (endsOf (barsIn c f .cursors) q) ≡ windowFor (suc i) q (placed h ps)
+        → keptWindow q (extentIn (extentsIn (laidAt memo i)) q) (endsOf (barsIn c f .cursors) q) ≡ windowFor (suc i) q (placed h ps)
     window-is room =
         window-planned h ps (prepared .lawful) i (toFunction f) is-at (f .readbacks) (slotCount f) refl (length fs) (endsIn c) agrees inside bridge
-        (λ q. extentOf (extentIn (extentsIn (laidAt memo i)) q)) inner-is (endsOf (barsIn c f .cursors)) after-bars room
+        (extentIn (extentsIn (laidAt memo i))) inner-is (endsOf (barsIn c f .cursors)) after-bars room
 
     next-is : laidAt memo i .next ≡ busLaid ps (suc i) (laidFrom (suc i)) .next
     next-is = ap (λ (l : Laid). l .next) (prepared .stored i f at bridge)
@@ -278,15 +278,15 @@ module _ {first : ℕ} {fs : List Function} {counts memo : List ℕ} (prepared :
     unfolding bridgeNext
     bridge-agrees room =
         agrees-bridge h ps (prepared .lawful) i (toFunction f) is-at (f .readbacks) (slotCount f) refl (length fs) (endsIn c) agrees inside bridge
-        (λ q. extentOf (extentIn (extentsIn (laidAt memo i)) q)) inner-is (endsOf (barsIn c f .cursors)) after-bars
+        (extentIn (extentsIn (laidAt memo i))) inner-is (endsOf (barsIn c f .cursors)) after-bars
         (endsIn (sets (sets c (3 * f .parent) (endsList own)) (3 * suc i) (endsList under)))
         (λ q.
         ends-other (sets c (3 * f .parent) (endsList own)) (suc i) under (f .parent) (λ e. omega (arith, parent-le)) q
         ∙ ends-stored c (f .parent) own (omega (arith, parent-le)) q
-        ∙ ap (λ (e : Ends). e q) (ends-kept (λ p. afterWindow p (extentOf (extentIn (extentsIn (laidAt memo i)) p)) (endsOf (barsIn c f .cursors) p))))
+        ∙ ap (λ (e : Ends). e q) (ends-kept (λ p. afterWindow p (extentIn (extentsIn (laidAt memo i)) p) (endsOf (barsIn c f .cursors) p))))
         (λ q.
         ends-stored (sets c (3 * f .parent) (endsList own)) (suc i) under (omega (arith, length-sets c (3 * f .parent) (endsList own))) q
-        ∙ ap (λ (e : Ends). e q) (ends-kept (λ p. belowWindow p (extentOf (extentIn (extentsIn (laidAt memo i)) p)) (endsOf (barsIn c f .cursors) p) (endsIn c (suc i) p))))
+        ∙ ap (λ (e : Ends). e q) (ends-kept (λ p. belowWindow p (extentIn (extentsIn (laidAt memo i)) p) (endsOf (barsIn c f .cursors) p) (endsIn c (suc i) p))))
         (λ b l np nk q. ends-other (sets c (3 * f .parent) (endsList own)) (suc i) under b nk q ∙ ends-other c (f .parent) own b np q)
       where
         own : Cursors
@@ -338,5 +338,5 @@ module _ {first : ℕ} {fs : List Function} {counts memo : List ℕ} (prepared :
           last-numbered = bus-lt (laidAt memo i .next) (next-fits e);
           aligned =
               align-power h ps (prepared .lawful) i (toFunction f) is-at (f .readbacks) (slotCount f) refl (length fs) (endsIn c) agrees inside e
-              (λ q. extentOf (extentIn (extentsIn (laidAt memo i)) q)) (inner-is e);
+              (extentIn (extentsIn (laidAt memo i))) (inner-is e);
         }

@@ -1,9 +1,8 @@
 // The placing pass: where each function of a lawful board lies, record by record, and its registers.
 ghost use mathlib.Core.Path.{_≡_};
 ghost use mathlib.Core.Bool.{false, true};
-ghost use mathlib.Core.List.{[], _∷_};
-ghost use Prim.Native.Nat.{ℕ, suc, _+_, _*_, _≤_, _<_, max};
-ghost use lib.ListN.{length, getD, take, drop};
+ghost use Prim.Native.Nat.{suc, _+_, _*_, _≤_, _<_, max};
+ghost use lib.ListN.{length, take, drop};
 ghost use lib.Seq.{sets};
 ghost use Rattle.pools.specs.declared.Pool.{Pool as PoolName};
 ghost use Rattle.pools.specs.Pools.{granule};
@@ -15,7 +14,6 @@ ghost use Rattle.records.specs.Records.{nextOf};
 ghost use Rattle.board.specs.Function.{functionOfPart, headerWrong};
 ghost use Rattle.layout.specs.Layout.{plannedOf, recordBytes, sheetBytes};
 ghost use Rattle.placement.specs.Loop.{planOn, Ready, basesFor, Filled, Placing};
-ghost use Rattle.placing.specs.Cap.{cap};
 ghost use Rattle.sizing.specs.Memo.{laidAt};
 ghost use Rattle.placer.specs.Kept.{extentIn, windowsPlaced};
 ghost use Rattle.placement.specs.Step.{cursorsIn, endsList, extentsIn, busIn, barsIn, leafWith, leafRegisters, bridgeWith, bridgeRegisters, registersOf, leafNext, bridgeNext, cursorsNext, Placeable, Bridged};
@@ -24,7 +22,6 @@ use board::Host;
 use layout::Registers;
 use placer::BarsPlaced;
 use placer::Cursors;
-use placer::Extent;
 use placer::Extents;
 use placer::WindowsPlaced;
 use pools::Pool;
@@ -69,20 +66,10 @@ fn extents_at(memo: &[u64], i: usize) -> Extents
     ensures { λ r. ⌜ r ≡ extentsIn (laidAt (now (memo .entry)) i) ⌝ }
 {
     let l = sizing::stored_at(memo, i);
-    Extents {
-        low: Extent {
-            end: l.low.end,
-            align: l.low.align,
-        },
-        high: Extent {
-            end: l.high.end,
-            align: l.high.align,
-        },
-        io: Extent {
-            end: l.io.end,
-            align: l.io.align,
-        },
-    }
+    let low = l.low;
+    let high = l.high;
+    let io = l.io;
+    Extents { low, high, io }
 }
 
 // ---- one record
@@ -312,16 +299,6 @@ pub fn place_records(
 
 // ---- the pass
 
-fn kept(x: u64) -> u64
-    ensures { λ r. ⌜ r ≡ cap x ⌝ }
-{
-    if x < 4611686018427387904 {
-        x
-    } else {
-        4611686018427387904
-    }
-}
-
 fn bases_of(host: Host) -> Cursors
     ensures { λ r. ⌜ r ≡ basesFor host ⌝ }
 {
@@ -329,9 +306,9 @@ fn bases_of(host: Host) -> Cursors
     let high = host.high;
     let io = host.io;
     Cursors {
-        low: kept(low.base),
-        high: kept(high.base),
-        io: kept(io.base),
+        low: placing::cap(low.base),
+        high: placing::cap(high.base),
+        io: placing::cap(io.base),
     }
 }
 

@@ -14,7 +14,7 @@ use Rattle.bar.specs.declared.Slot.the-variants.{Unused, Bar, Upper, Bad}
 use Rattle.bar.specs.Bar.{BarSize, SizedSlot}
 use Rattle.placing.specs.Lists.{All}
 use Rattle.placing.specs.Align.{alignUp}
-use Rattle.placing.specs.Sizing.{Extent}
+use Rattle.placing.specs.declared.Extent.{Extent}
 use Rattle.placing.specs.Cap.{cap, capped, cap-cap, cap-align}
 use Rattle.placer.specs.Function.{Ends, startOf, afterBar, barStarts, afterBars, isEmpty, windowStart, windowStop, afterWindow, belowWindow}
 

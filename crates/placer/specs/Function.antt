@@ -14,7 +14,7 @@ use Rattle.window.specs.declared.Window.{Window}
 use Rattle.window.specs.Window.{closed, opened}
 use Rattle.placing.specs.Align.{alignUp}
 use Rattle.placing.specs.Pieces.{windowSize, windowAlign}
-use Rattle.placing.specs.Sizing.{Extent}
+use Rattle.placing.specs.declared.Extent.{Extent}
 
 -- The cursors of one bus: in each pool the end before the next item
 abbrev pub Ends : Type 0

@@ -29,7 +29,8 @@ use Rattle.placing.specs.Pieces.{windowPiece, windowOver, barPiece, barPieces, 
 use Rattle.placing.specs.PieceLaws.{Own, BarsSized, own-pieces, Shaped, has-align, window-of-is, own-one}
 use Rattle.placing.specs.Placing.{Cursors, isWindowOf, place, cursorsAfter}
 use Rattle.placing.specs.PlacingLaws.{after, Unopened, all-place, place-select, cursors-select, opened-at}
-use Rattle.placing.specs.Sizing.{Extent, nothing, extend}
+use Rattle.placing.specs.declared.Extent.{Extent}
+use Rattle.placing.specs.Sizing.{nothing, extend}
 use Rattle.placing.specs.Sizing as sizing
 use Rattle.placing.specs.ExtentLaws.{window-over-extent, select-windows}
 use Rattle.placer.specs.Registers.{barsFrom, isPart, isWindowIn, barStart, windowFor, valuesFrom}

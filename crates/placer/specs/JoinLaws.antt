@@ -20,7 +20,8 @@ use Rattle.placing.specs.PieceLaws.{BarsSized, Shaped, pieces-shaped}
 use Rattle.placing.specs.Placing.{Cursors, placed}
 use Rattle.placing.specs.Placed.{in-pool}
 use Rattle.placing.specs.Refusals.{Kept}
-use Rattle.placing.specs.Sizing.{Extent, busLaid, laidFrom}
+use Rattle.placing.specs.declared.Extent.{Extent}
+use Rattle.placing.specs.Sizing.{busLaid, laidFrom}
 use Rattle.placing.specs.Cap.{cap, cap-small}
 use Rattle.placer.specs.Registers.{barsFrom, isPart, isWindowIn, barStart, windowFor, valuesFrom}
 use Rattle.placer.specs.Function.{Ends, barStarts, afterBars, valuesAt, isEmpty, windowStart, windowStop, windowAt, windowOf, afterFunction, belowFunction}

@@ -6,11 +6,10 @@ use Rattle.pools.specs.declared.Pool.{Pool}
 use Rattle.pools.specs.declared.Pool.the-variants.{Low, High, Io}
 use Rattle.bar.specs.Bar.{slots}
 use Rattle.window.specs.declared.Window.{Window}
-use Rattle.placing.specs.Sizing as placing
+use Rattle.placing.specs.declared.Extent.{Extent}
 use Rattle.placing.specs.Cap.{cap}
 use Rattle.placer.specs.declared.Cursors.{Cursors}
 use Rattle.placer.specs.declared.BarsPlaced.{BarsPlaced}
-use Rattle.placer.specs.declared.Extent.{Extent}
 use Rattle.placer.specs.declared.Extents.{Extents}
 use Rattle.placer.specs.declared.WindowPlaced.{WindowPlaced}
 use Rattle.placer.specs.declared.WindowsPlaced.{WindowsPlaced}
@@ -54,31 +53,28 @@ barsPlaced set n c =
 
 -- ## Windows
 
-abbrev pub extentOf : Extent → placing.Extent
-extentOf x = record { end = x .end; align = x .align }
-
 abbrev pub extentIn : Extents → Pool → Extent
 extentIn x Low = x .low
 extentIn x High = x .high
 extentIn x Io = x .io
 
-abbrev pub keptWindow : Pool → placing.Extent → ℕ → Window
+abbrev pub keptWindow : Pool → Extent → ℕ → Window
 keptWindow q inner e = windowAt q (isEmpty inner) (cap (windowStart q inner e)) (cap (windowStop q inner e))
 
 abbrev pub windowPlaced : Pool → Extent → ℕ → ℕ → WindowPlaced
 windowPlaced q inner e below =
     record {
-      window = keptWindow q (extentOf inner) e;
-      cursor = cap (afterWindow q (extentOf inner) e);
-      below = cap (belowWindow q (extentOf inner) e below);
+      window = keptWindow q inner e;
+      cursor = cap (afterWindow q inner e);
+      below = cap (belowWindow q inner e below);
     }
 
 abbrev pub windowsPlaced : Extents → Cursors → Cursors → WindowsPlaced
 windowsPlaced inner c below =
     record {
-      low = keptWindow Low (extentOf (inner .low)) (c .low);
-      high = keptWindow High (extentOf (inner .high)) (c .high);
-      io = keptWindow Io (extentOf (inner .io)) (c .io);
-      cursors = keptCursors (λ q. afterWindow q (extentOf (extentIn inner q)) (endsOf c q));
-      below = keptCursors (λ q. belowWindow q (extentOf (extentIn inner q)) (endsOf c q) (endsOf below q));
+      low = keptWindow Low (inner .low) (c .low);
+      high = keptWindow High (inner .high) (c .high);
+      io = keptWindow Io (inner .io) (c .io);
+      cursors = keptCursors (λ q. afterWindow q (extentIn inner q) (endsOf c q));
+      below = keptCursors (λ q. belowWindow q (extentIn inner q) (endsOf c q) (endsOf below q));
     }

@@ -24,10 +24,10 @@ use Rattle.window.specs.Window.{closed, opened}
 use Rattle.placing.specs.Lists.{All}
 use Rattle.placing.specs.RecordLaws.{false-of-not}
 use Rattle.placing.specs.Align.{alignUp}
+use Rattle.placing.specs.declared.Extent.{Extent}
 use Rattle.placing.specs.Cap.{cap, cap-cap, cap-align}
 use Rattle.placer.specs.declared.Cursors.{Cursors}
 use Rattle.placer.specs.declared.BarsPlaced.{BarsPlaced}
-use Rattle.placer.specs.declared.Extent.{Extent}
 use Rattle.placer.specs.declared.Extents.{Extents}
 use Rattle.placer.specs.declared.WindowPlaced.{WindowPlaced}
 use Rattle.placer.specs.declared.WindowsPlaced.{WindowsPlaced}

@@ -7,7 +7,6 @@ pub mod PassLaws
 pub mod FunctionLaws
 pub mod JoinLaws
 pub mod CapLaws
-pub mod NumberLaws
 pub mod KeptLaws
 pub mod WordLaws
 pub mod LoopLaws

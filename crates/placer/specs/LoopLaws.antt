@@ -24,7 +24,8 @@ use Rattle.placing.specs.LayoutLaws.{largest-align-power}
 use Rattle.placing.specs.Pieces.{pieces}
 use Rattle.placing.specs.PieceLaws.{BarsSized, Shaped, pieces-shaped}
 use Rattle.placing.specs.Placing.{placed}
-use Rattle.placing.specs.Sizing.{Extent, nothing, busLaid}
+use Rattle.placing.specs.declared.Extent.{Extent}
+use Rattle.placing.specs.Sizing.{nothing, busLaid}
 use Rattle.placing.specs.ExtentLaws.{extend-align}
 use Rattle.placing.specs.Cap.{cap, capped}
 use Rattle.placer.specs.Registers.{barsFrom, windowFor, valuesFrom}

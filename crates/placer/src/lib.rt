@@ -1,8 +1,7 @@
 // Placing, for one function: from the cursors of its bus, its BARs in slot order and then a bridge's windows, for all three pools at once.
-// Ends are kept up to 2^62: no pool reaches 2^52, so no answer changes, and no sum wraps.
 ghost use mathlib.Core.Path.{_≡_};
 ghost use mathlib.Core.Bool.{false};
-ghost use Prim.Native.Nat.{ℕ, _+_, _≤_, _<_, _^_, max};
+ghost use Prim.Native.Nat.{_+_, _≤_, _<_, max};
 ghost use lib.ListN.{length, take};
 ghost use lib.Seq.{sets};
 ghost use mathlib.Core.List.{map};
@@ -16,6 +15,7 @@ ghost use Rattle.placing.specs.Cap.{limit, cap as capOf};
 ghost use Rattle.placer.specs.Function.{startOf, afterBar};
 ghost use Rattle.placer.specs.Kept.{word, endsOf, keptCursors, withEnd, extentIn, barsPlaced, windowPlaced, windowsPlaced};
 use bar::Slot;
+use placing::Extent;
 use pools::Pool;
 use window::Window;
 
@@ -32,12 +32,7 @@ pub struct BarsPlaced {
     pub cursors: Cursors,
 }
 
-// What lies on a bridge's own bus in one pool, from offset 0: its end and its largest alignment, 0 where there is nothing.
-pub struct Extent {
-    pub end: u64,
-    pub align: u64,
-}
-
+// What lies on a bridge's own bus in each pool, from offset 0.
 pub struct Extents {
     pub low: Extent,
     pub high: Extent,
@@ -60,44 +55,21 @@ pub struct WindowsPlaced {
     pub below: Cursors,
 }
 
-const LIMIT: u64 = 4611686018427387904;
-
 // ---- numbers
-
-fn cap(x: u64) -> u64
-    ensures { λ r. ⌜ (r ≡ capOf x) × (r ≤ limit) ⌝ }
-{
-    if x < LIMIT { x } else { LIMIT }
-}
-
-fn larger(a: u64, b: u64) -> u64
-    ensures { λ r. ⌜ r ≡ max a b ⌝ }
-{
-    if a < b { b } else { a }
-}
-
-// The first multiple of a at or after x, by a mask.
-fn align_up(a: u64, x: u64) -> u64
-    requires { ⌜ PowerOfTwo a × (x ≤ limit) ⌝ }
-    ensures { λ r. ⌜ r ≡ alignUp a x ⌝ }
-{
-    let y = x + (a - 1);
-    y - (y & (a - 1))
-}
 
 // Where an item starts, and where it ends.
 fn start_at(align: u64, end: u64) -> u64
     requires { ⌜ PowerOfTwo align ⌝ }
     ensures { λ r. ⌜ (r ≡ capOf (alignUp align end)) × (r ≤ limit) ⌝ }
 {
-    cap(align_up(align, cap(end)))
+    placing::cap(placing::align_up(align, placing::cap(end)))
 }
 
 fn end_of(start: u64, size: u64) -> u64
     requires { ⌜ start ≤ limit ⌝ }
     ensures { λ r. ⌜ r ≡ capOf (start + size) ⌝ }
 {
-    cap(start + cap(size))
+    placing::cap(start + placing::cap(size))
 }
 
 // ---- cursors
@@ -106,9 +78,9 @@ fn kept(c: Cursors) -> Cursors
     ensures { λ r. ⌜ r ≡ keptCursors (endsOf c) ⌝ }
 {
     Cursors {
-        low: cap(c.low),
-        high: cap(c.high),
-        io: cap(c.io),
+        low: placing::cap(c.low),
+        high: placing::cap(c.high),
+        io: placing::cap(c.io),
     }
 }
 
@@ -224,13 +196,13 @@ pub fn place_window(q: Pool, inner: Extent, end: u64, below: u64) -> WindowPlace
     if inner.align == 0 {
         return WindowPlaced {
             window: Window::closed(q),
-            cursor: cap(end),
-            below: cap(below),
+            cursor: placing::cap(end),
+            below: placing::cap(below),
         };
     }
     let granule = pools::granule(q);
-    let start = start_at(larger(granule, inner.align), end);
-    let stop = end_of(start, align_up(granule, cap(inner.end)));
+    let start = start_at(placing::larger(granule, inner.align), end);
+    let stop = end_of(start, placing::align_up(granule, placing::cap(inner.end)));
     WindowPlaced {
         window: Window::opened(q, start, stop),
         cursor: stop,

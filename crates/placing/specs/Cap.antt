@@ -22,7 +22,8 @@ use Rattle.placing.specs.Pieces.{pieces}
 use Rattle.placing.specs.PieceLaws.{BarsSized, Shaped, has-align, pieces-shaped}
 use Rattle.placing.specs.Layout.{Piece, isOn, select}
 use Rattle.placing.specs.LayoutLaws.{HasAlign}
-use Rattle.placing.specs.Sizing.{Extent, grow, extend, withBars, withWindow, Laid, laidFrom, busLaid, barsLaid, windowLaid, functionLaid, rootLaid, endsPast}
+use Rattle.placing.specs.declared.Extent.{Extent}
+use Rattle.placing.specs.Sizing.{grow, extend, withBars, withWindow, Laid, laidFrom, busLaid, barsLaid, windowLaid, functionLaid, rootLaid, endsPast}
 use Rattle.placing.specs.SizingLaws.{laid-ext, Ready, bus-laid-child, function-laid-bridge, out-of-pool-laid}
 use Rattle.placing.specs.RecordLaws.{IsAt}
 use Rattle.placing.specs.Refusals.{outOfPool}
@@ -58,14 +59,12 @@ cap-align a pos e = ⊎-elim small large (le-or-lt e limit)
         let s : cap e ≡ limit = omega arith in
         ap (λ (x : ℕ). cap (alignUp a x)) s ∙ omega (arith, le-align-up a pos limit, le-align-up a pos e)
 
--- The one law: placing at a capped end an item of a capped size, and capping, is capping the placed end
-pub cap-place : (a z : ℕ) → 0 < a → (e : ℕ) → cap (alignUp a (cap e) + cap z) ≡ cap (alignUp a e + z)
-cap-place a z pos e = omega (arith, cap-align a pos e)
+-- The one law, in the words of the code: one item more, where the end, its start and the size are each capped first
+pub cap-grow : (e : Extent) (z a : ℕ) → 0 < a
+    → _≡_ {A = Extent} (record { end = cap (cap (alignUp a (cap (e .end))) + cap z); align = max (e .align) a }) (capped (grow e z a))
+cap-grow e z a pos = ap (λ (n : ℕ). record { end = n; align = max (e .align) a }) (omega (arith, cap-align a pos (e .end)))
 
-pub cap-grow : (e : Extent) (z a : ℕ) → 0 < a → capped (grow (capped e) (cap z) a) ≡ capped (grow e z a)
-cap-grow e z a pos = ap (λ (n : ℕ). record { end = n; align = max (e .align) a }) (cap-place a z pos (e .end))
-
--- The same where the size is whole
+-- The same where only the end is
 cap-grow-whole : (e : Extent) (z a : ℕ) → 0 < a → capped (grow (capped e) z a) ≡ capped (grow e z a)
 cap-grow-whole e z a pos =
     let s : cap (alignUp a (cap (e .end)) + z) ≡ cap (alignUp a (e .end) + z) = omega (arith, cap-align a pos (e .end)) in

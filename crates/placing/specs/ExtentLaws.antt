@@ -20,7 +20,8 @@ use Rattle.placing.specs.Layout.{Piece, isOn, select, layoutEnd, largest
 use Rattle.placing.specs.LayoutLaws.{HasAlign, le-largest-align}
 use Rattle.placing.specs.Pieces.{windowSize, windowAlign, windowPiece, windowOver, barPiece, barPieces, windowPieces, ownPieces, pieces}
 use Rattle.placing.specs.PieceLaws.{BarsSized, own-pieces, Shaped, has-align}
-use Rattle.placing.specs.Sizing.{Extent, nothing, grow, extend, withBars, withWindow}
+use Rattle.placing.specs.declared.Extent.{Extent}
+use Rattle.placing.specs.Sizing.{nothing, grow, extend, withBars, withWindow}
 use Rattle.placing.specs.Sizing.{windowFor}
 
 -- What an extent says

@@ -10,12 +10,8 @@ use Rattle.placing.specs.Align.{alignUp}
 use Rattle.placing.specs.Pools.{Pool, low, high, io, samePool}
 use Rattle.placing.specs.Records.{Host, Bar, Function, run}
 use Rattle.placing.specs.Layout.{Piece, select}
+use Rattle.placing.specs.declared.Extent.{Extent}
 use Rattle.placing.specs.Pieces.{windowSize, windowAlign, windowPiece, pieces}
-
--- Where a layout ends, and its largest alignment: 0 where there is nothing
-pub record Extent : Type 0 where
-  pub end : ℕ
-  pub align : ℕ
 
 abbrev pub nothing : Extent
 nothing = record { end = 0; align = 0 }

@@ -7,6 +7,7 @@ use lib.Dec.{ltb}
 use lib.ListN.{length, getD, take}
 use lib.Seq.{sets}
 use Rattle.placing.specs.Numbering.{bridges}
+use Rattle.placing.specs.declared.Extent.{Extent}
 use Rattle.placing.specs.Sizing.{busLaid, rootLaid, endsPast}
 use Rattle.board.specs.declared.Span.{Span}
 use Rattle.board.specs.declared.Host.{Host}
@@ -14,8 +15,7 @@ use Rattle.board.specs.declared.Function.{Function}
 use Rattle.board.specs.Function.{isBridge}
 use Rattle.board.specs.Board.{mostFunctions, hostOf, functionsOf}
 use Rattle.board.specs.ToPlacing.{toHost, toPlacing}
-use Rattle.sizing.specs.declared.Extent.{Extent}
-use Rattle.sizing.specs.Cut.{extentOf, cut}
+use Rattle.sizing.specs.Cut.{cut}
 use Rattle.sizing.specs.Functions.{functionsIn}
 use Rattle.sizing.specs.Memo.{laidAt, below}
 use Rattle.sizing.specs.Board.{Board, basesOf, BoardSized}
@@ -26,7 +26,7 @@ use Rattle.planner.specs.declared.Measured.{Measured}
 
 -- what the root bus comes to in a pool, held against the pool
 abbrev pub runsOut : Span → Extent → Bool
-runsOut x e = cond (ltb (x .last) (x .base)) (ltb 0 (e .align)) (endsPast (x .last) (extentOf e))
+runsOut x e = cond (ltb (x .last) (x .base)) (ltb 0 (e .align)) (endsPast (x .last) e)
 
 unfoldable pub refusalBy : Host → Measured → ℕ
 refusalBy h m =

@@ -17,7 +17,7 @@ use Rattle.placing.specs.Layout.{Piece, isOn, select, layoutEnd, largestAlign, 
 use Rattle.placing.specs.LayoutLaws.{HasAlign, le-end-at, le-layout-end}
 use Rattle.placing.specs.Pieces.{pieces}
 use Rattle.placing.specs.PieceLaws.{Shaped, has-align, pieces-shaped}
-use Rattle.placing.specs.Sizing as laid
+use Rattle.placing.specs.declared.Extent.{Extent}
 use Rattle.placing.specs.Sizing.{extend, busLaid, rootLaid, endsPast}
 use Rattle.placing.specs.ExtentLaws.{extend-align}
 use Rattle.placing.specs.Cap.{capped, out-of-pool-capped}
@@ -29,7 +29,7 @@ use Rattle.board.specs.Board.{boardNumber, hostOf, functionsOf}
 use Rattle.board.specs.Host.{spanOf}
 use Rattle.board.specs.ToPlacing.{toHost, toPlacing}
 use Rattle.sizing.specs.declared.Laid.{Laid}
-use Rattle.sizing.specs.Cut.{extentOf, extentIn, cut}
+use Rattle.sizing.specs.Cut.{extentIn, cut}
 use Rattle.planned.specs.Boards.{HostEdges}
 use Rattle.joined.specs.Accepted.{board-of-accepted}
 use Rattle.planner.specs.declared.Measured.{Measured}
@@ -76,20 +76,20 @@ module _ (h : placing.Host) (fs : List placing.Function) (lawful : Lawful fs) (q
 
 -- a pool runs out exactly when the code finds so, from what it kept of the root bus
 module _ (h : Host) (fs : List placing.Function) (lawful : Lawful fs) (r : Laid) (e : r ≡ cut (busLaid fs 0 (rootLaid (toHost h)))) where
-  kept-end : (q : Pool) → extentOf (extentIn r q) ≡ capped (busLaid fs 0 (rootLaid (toHost h)) .extent q)
-  kept-end Low = ap (λ (x : Laid). extentOf (x .low)) e
-  kept-end High = ap (λ (x : Laid). extentOf (x .high)) e
-  kept-end Io = ap (λ (x : Laid). extentOf (x .io)) e
+  kept-end : (q : Pool) → extentIn r q ≡ capped (busLaid fs 0 (rootLaid (toHost h)) .extent q)
+  kept-end Low = ap (λ (x : Laid). x .low) e
+  kept-end High = ap (λ (x : Laid). x .high) e
+  kept-end Io = ap (λ (x : Laid). x .io) e
 
   runs-out-at : (q : Pool) (x : Span) → x .base ≡ toHost h .base q → x .last ≡ toHost h .last q → OpenEndsLow (toHost h) q
       → runsOut x (extentIn r q) ≡ outOfPool (toHost h) fs q
   runs-out-at q x b l low = go (ltb (x .last) (x .base)) refl
     where
       align : extentIn r q .align ≡ busLaid fs 0 (rootLaid (toHost h)) .extent q .align
-      align = ap (λ (y : laid.Extent). y .align) (kept-end q)
+      align = ap (λ (y : Extent). y .align) (kept-end q)
 
       go : (t : Bool) → ltb (x .last) (x .base) ≡ t
-          → cond t (ltb 0 (extentIn r q .align)) (endsPast (x .last) (extentOf (extentIn r q))) ≡ outOfPool (toHost h) fs q
+          → cond t (ltb 0 (extentIn r q .align)) (endsPast (x .last) (extentIn r q)) ≡ outOfPool (toHost h) fs q
       go true g = ap (ltb 0) align ∙ sym (out-of-closed (toHost h) fs lawful q (omega (arith, ltb-true (x .last) (x .base) g, b, l)))
       go false g =
           let opens : toHost h .base q ≤ toHost h .last q = omega (arith, ltb-false (x .last) (x .base) g, b, l) in

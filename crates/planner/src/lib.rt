@@ -7,8 +7,8 @@ ghost use Rattle.planning.specs.Plan.{onBoard, planning, sheetAs, sheetAfter};
 ghost use Rattle.planner.specs.Measure.{runsOut, refusalBy, Measurable, CountedAndSized, IsMeasured};
 use board::Host;
 use board::Span;
+use placing::Extent;
 use planning::Planning;
-use sizing::Extent;
 use sizing::Laid;
 
 // The sheet's length, or the number. The sheet is written up to its length and nothing past it; a refused board leaves it as it was.

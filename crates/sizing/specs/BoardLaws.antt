@@ -14,16 +14,16 @@ use Rattle.pools.specs.declared.Pool.{Pool}
 use Rattle.placing.specs.Order.{le-or-lt}
 use Rattle.placing.specs.Lists.{front}
 use Rattle.placing.specs.Records.{Host, Function, Lawful, run}
+use Rattle.placing.specs.declared.Extent.{Extent}
 use Rattle.placing.specs.Sizing as placing
 use Rattle.placing.specs.Sizing.{busLaid, rootLaid, endsPast}
 use Rattle.placing.specs.SizingLaws.{laid-ext, ready-start}
 use Rattle.placing.specs.Cap.{cappedLaid, cap-bus-laid, out-of-pool-capped}
 use Rattle.placing.specs.Refusals.{outOfPool}
-use Rattle.sizing.specs.declared.Extent.{Extent}
 use Rattle.sizing.specs.declared.Laid.{Laid}
 use Rattle.sizing.specs.Functions.{isBridge, functionsIn, functionAt}
 use Rattle.sizing.specs.FunctionsLaws.{functions-sized, length-functions, functions-at}
-use Rattle.sizing.specs.Cut.{extentOf, extentIn, cut}
+use Rattle.sizing.specs.Cut.{extentIn, cut}
 use Rattle.sizing.specs.CutLaws.{says-of-cut, cut-of-capped, whole-of-cut}
 use Rattle.sizing.specs.Memo.{laidAt, below, memoFrom, memoBetween}
 use Rattle.sizing.specs.MemoLaws.{memo-between-all, laid-at-bridge}
@@ -81,7 +81,7 @@ board-sized ps hs ss {memo} {memo'} bases {start} {r} e w = record { laid = laid
 -- a pool runs out exactly when the root bus ends past it
 pub out-of-pool-sized : (fs : List Function) (h : Host) (bases : Pool → ℕ) (memo memo' : List ℕ) (r : Laid) → Lawful fs
     → ((q : Pool) → bases q ≡ h .base q) → BoardSized fs bases memo memo' r → (q : Pool) → h .last q < 4503599627370496
-    → outOfPool h fs q ≡ endsPast (h .last q) (extentOf (extentIn r q))
+    → outOfPool h fs q ≡ endsPast (h .last q) (extentIn r q)
 out-of-pool-sized fs h bases memo memo' r lawful same b q l =
     out-of-pool-capped h fs lawful q l
     ∙ ap (λ (x : placing.Laid). endsPast (h .last q) (cappedLaid (busLaid fs 0 x) .extent q))
@@ -99,13 +99,13 @@ stored-below ps hs ss memo memo' bases r room b i h e =
     e
 
 -- in the words of the code
-pub ends-past-none : (last : ℕ) (e : Extent) → e .align ≡ 0 → endsPast last (extentOf e) ≡ false
+pub ends-past-none : (last : ℕ) (e : Extent) → e .align ≡ 0 → endsPast last e ≡ false
 ends-past-none last e z = rw z
 
-pub ends-past-before : (last : ℕ) (e : Extent) → e .end ≤ last → endsPast last (extentOf e) ≡ false
+pub ends-past-before : (last : ℕ) (e : Extent) → e .end ≤ last → endsPast last e ≡ false
 ends-past-before last e h = rw (le-ltb (suc last) (e .end) (omega arith)) (and-false (ltb 0 (e .align)))
 
-pub ends-past-some : (last : ℕ) (e : Extent) → (e .align ≡ 0 → ⊥) → endsPast last (extentOf e) ≡ ltb 1 (e .end - last)
+pub ends-past-some : (last : ℕ) (e : Extent) → (e .align ≡ 0 → ⊥) → endsPast last e ≡ ltb 1 (e .end - last)
 ends-past-some last e n =
     let p : 0 < e .align = omega arith in
     rw (lt-ltb 0 (e .align) p)

@@ -10,17 +10,11 @@ use Rattle.pools.specs.Pools.{samePool}
 use Rattle.bar.specs.declared.Slot.{Slot}
 use Rattle.bar.specs.declared.Slot.the-variants.{Unused, Bar, Upper, Bad}
 use Rattle.placing.specs.Records as records
+use Rattle.placing.specs.declared.Extent.{Extent}
 use Rattle.placing.specs.Sizing as placing
 use Rattle.placing.specs.Sizing.{grow, withBars}
-use Rattle.placing.specs.Cap.{cap}
-use Rattle.sizing.specs.declared.Extent.{Extent}
+use Rattle.placing.specs.Cap.{capped}
 use Rattle.sizing.specs.declared.Laid.{Laid}
-
-abbrev pub extentOf : Extent → placing.Extent
-extentOf e = record { end = e .end; align = e .align }
-
-abbrev pub cutExtent : placing.Extent → Extent
-cutExtent e = record { end = cap (e .end); align = e .align }
 
 abbrev pub extentIn : Laid → Pool → Extent
 extentIn l Low = l .low
@@ -34,10 +28,10 @@ withExtent l Io e = record { next = l .next; low = l .low; high = l .high; io = 
 
 -- what the code's numbers say, and what it keeps
 abbrev pub says : Laid → placing.Laid
-says l = record { next = l .next; extent = λ q. extentOf (extentIn l q) }
+says l = record { next = l .next; extent = extentIn l }
 
 abbrev pub cut : placing.Laid → Laid
-cut l = record { next = l .next; low = cutExtent (l .extent Low); high = cutExtent (l .extent High); io = cutExtent (l .extent Io) }
+cut l = record { next = l .next; low = capped (l .extent Low); high = capped (l .extent High); io = capped (l .extent Io) }
 
 -- no end is past 2^62
 abbrev pub Whole : Laid → Type 0

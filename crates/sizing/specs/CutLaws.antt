@@ -1,14 +1,11 @@
--- The laws of what the code keeps: cutting twice is cutting once, each step of the walk from what is kept comes to what is kept of the step,
--- and no sum of the code wraps. Assumes nothing.
+-- The laws of what the code keeps: cutting twice is cutting once, and each step of the walk from what is kept comes to what is kept of the step.
+-- Assumes nothing.
 use mathlib.Core.Path.{_≡_, refl, sym, ap, _∙_}
 use mathlib.Core.Bool.{Bool, true, false, true≢false, cond}
 use mathlib.Core.List.{List, _∷_}
-use Prim.Native.Nat.{ℕ, _+_, _-_, _^_, _≤_, _<_, max}
-use native.Mathlib.Nat.{div-add-mod'}
+use Prim.Native.Nat.{ℕ, _+_, _≤_, _<_, max}
 use native.Mathlib.Numerals.{add-one, add-two}
 use native.Mathlib.Omega.{arith}
-use lib.Bits.{bitAnd}
-use lib.Pow.{pow-mono}
 use borrow.Author.Tests.{ne-eqb}
 use lib.ListN.{length, drop, drop-of-length-le}
 use Rattle.pools.specs.declared.Pool.{Pool}
@@ -19,44 +16,22 @@ use Rattle.bar.specs.declared.Slot.the-variants.{Unused, Bar, Upper, Bad}
 use Rattle.bar.specs.Bar.{slotHere, slots, isBad, anyBad, takesNext, span}
 use Rattle.bar.specs.Bars.{barsFrom}
 use Rattle.bar.specs.BarLaws.{slots-at-step, any-bad-of-bad}
-use Rattle.bar.specs.PowerOfTwo.{lt-of-pow-lt, and-pred-power}
-use Rattle.placing.specs.Align.{alignUp, PowerOfTwo}
 use Rattle.placing.specs.AlignLaws.{pos-of-power}
 use Rattle.placing.specs.PoolLaws.{granule-power}
 use Rattle.placing.specs.Pieces.{windowSize, windowAlign}
 use Rattle.placing.specs.Records as records
+use Rattle.placing.specs.declared.Extent.{Extent}
 use Rattle.placing.specs.Sizing as placing
 use Rattle.placing.specs.Sizing.{grow, withBars, withWindow}
 use Rattle.placing.specs.SizingLaws.{laid-ext}
-use Rattle.placing.specs.Cap.{cap, cap-cap, cap-align, cappedLaid, cap-with-bars}
-use Rattle.sizing.specs.declared.Extent.{Extent}
+use Rattle.placing.specs.Cap.{cap, capped, cap-cap, cap-align, cappedLaid, cap-with-bars}
 use Rattle.sizing.specs.declared.Laid.{Laid}
 use Rattle.sizing.specs.FunctionsLaws.{AllSized, bars-from-sized}
-use Rattle.sizing.specs.Cut.{extentOf, cutExtent, extentIn, withExtent, says, cut, Whole, addBar, addSlot, addBars}
-
--- ## Sums
-
--- a power of two that fits 64 bits leaves room for 2^62
-pub le-of-power : (a : ℕ) → PowerOfTwo a → a < 2 ^ 64 → a ≤ 2 ^ 63
-le-of-power a (k, e) h = rw e (pow-mono (lt-63 (rw e at h)))
-  where
-    lt-63 : 2 ^ k < 2 ^ 64 → k ≤ 63
-    lt-63 g = omega (arith, lt-of-pow-lt {j = k} {k = 64} g)
-
--- rounding up by a mask
-pub align-up-mask : (a x : ℕ) → PowerOfTwo a → x + (a - 1) - bitAnd (x + (a - 1)) (a - 1) ≡ alignUp a x
-unfolding alignUp
-align-up-mask a x p =
-    omega (arith, and-pred-power (x + (a - 1)) a p, div-add-mod' (x + (a - 1)) a)
-
--- one item more, in the words of the code: the end, its start and the size are each cut first
-pub cut-grow : (e : Extent) (z a : ℕ) → 0 < a
-    → _≡_ {A = Extent} (record { end = cap (cap (alignUp a (cap (e .end))) + cap z); align = max (e .align) a }) (cutExtent (grow (extentOf e) z a))
-cut-grow e z a p = ap (λ (n : ℕ). record { end = n; align = max (e .align) a }) (omega (arith, cap-align a p (e .end)))
+use Rattle.sizing.specs.Cut.{extentIn, withExtent, says, cut, Whole, addBar, addSlot, addBars}
 
 -- a window over a cut end
 pub cut-window : (q : Pool) (e inner : Extent) → (inner .align ≡ 0 → ⊥)
-    → cutExtent (grow (extentOf e) (windowSize q (cap (inner .end))) (windowAlign q (inner .align))) ≡ cutExtent (withWindow q (extentOf e) (extentOf inner))
+    → capped (grow e (windowSize q (cap (inner .end))) (windowAlign q (inner .align))) ≡ capped (withWindow q e inner)
 cut-window q e inner h =
     rw (ne-eqb (inner .align) 0 h)
     (ap (λ (n : ℕ). record { end = n; align = max (e .align) (max (granule q) (inner .align)) })
@@ -88,7 +63,7 @@ whole-of-cut l m e = rw e (whole-cut m)
 pub says-of-cut : (l : Laid) (m : placing.Laid) → l ≡ cut m → says l ≡ cappedLaid m
 says-of-cut l m e = ap says e ∙ says-cut m
 
-whole-in : (l : Laid) → Whole l → (q : Pool) → extentIn l q ≡ cutExtent (extentOf (extentIn l q))
+whole-in : (l : Laid) → Whole l → (q : Pool) → extentIn l q ≡ capped (extentIn l q)
 whole-in l w Low = sym (ap (λ (x : Laid). x .low) w)
 whole-in l w High = sym (ap (λ (x : Laid). x .high) w)
 whole-in l w Io = sym (ap (λ (x : Laid). x .io) w)
@@ -96,7 +71,7 @@ whole-in l w Io = sym (ap (λ (x : Laid). x .io) w)
 -- ## A function's BARs
 
 -- a BAR changes its own pool's extent
-pub with-bar-at : (q : Pool) (size : ℕ) (l : Laid) (e : Extent) → Whole l → e ≡ cutExtent (grow (extentOf (extentIn l q)) size size)
+pub with-bar-at : (q : Pool) (size : ℕ) (l : Laid) (e : Extent) → Whole l → e ≡ capped (grow (extentIn l q) size size)
     → withExtent l q e ≡ cut (addBar q size (says l))
 with-bar-at Low size l e w g = λ i. record { next = l .next; low = g i; high = whole-in l w High i; io = whole-in l w Io i }
 with-bar-at High size l e w g = λ i. record { next = l .next; low = whole-in l w Low i; high = g i; io = whole-in l w Io i }

@@ -1,30 +1,24 @@
 // Sizing: the first of the planner's two passes. A bus is sized from its functions, and a bridge from its bus, for all three pools at once;
 // what lies below each bridge is stored on the way, so that the placing pass sizes nothing again.
-// Ends are kept up to 2^62: no pool reaches 2^52, so no answer changes, and no sum wraps.
 ghost use mathlib.Core.Path.{_≡_};
 ghost use mathlib.Core.Bool.{cond, false};
-ghost use Prim.Native.Nat.{_+_, _*_, _≤_, _<_, max};
+ghost use Prim.Native.Nat.{_+_, _*_, _≤_, _<_};
 ghost use lib.ListN.{length, getD, take};
 ghost use lib.Seq.{sets};
 ghost use Rattle.pools.specs.declared.Pool.{Pool as PoolName};
 ghost use Rattle.bar.specs.Bar.{slots, anyBad, SizedSlot};
 ghost use Rattle.bar.specs.Bars.{barsFrom};
-ghost use Rattle.placing.specs.Align.{alignUp, PowerOfTwo};
-ghost use Rattle.placing.specs.Cap.{limit, cap as capOf};
+ghost use Rattle.placing.specs.Align.{PowerOfTwo};
+ghost use Rattle.placing.specs.Cap.{cap as capOf, capped};
 ghost use Rattle.placing.specs.Pieces.{windowSize, windowAlign};
 ghost use Rattle.placing.specs.Sizing.{grow as growOf, withWindow, barsLaid, windowLaid, laidFrom, endsPast};
 ghost use Rattle.sizing.specs.Functions.{isBridge, functionIn, functionsIn, setAt};
-ghost use Rattle.sizing.specs.Cut.{extentOf, cutExtent, extentIn, says, cut, Whole, addBar, addSlot, addBars};
+ghost use Rattle.sizing.specs.Cut.{extentIn, says, cut, Whole, addBar, addSlot, addBars};
 ghost use Rattle.sizing.specs.Memo.{numbersOf, laidAt};
 ghost use Rattle.sizing.specs.Board.{Board, OwnBars, isChild, Standing, BusSized, FunctionSized, basesOf, rootFrom, BoardSized};
 use bar::Slot;
+use placing::Extent;
 use pools::Pool;
-
-// Where a layout ends, and its largest alignment: 0 where there is nothing.
-pub struct Extent {
-    pub end: u64,
-    pub align: u64,
-}
 
 // How far a walk over the records has come, and what it has laid out in each pool.
 pub struct Laid {
@@ -33,8 +27,6 @@ pub struct Laid {
     pub high: Extent,
     pub io: Extent,
 }
-
-const LIMIT: u64 = 4611686018427387904;
 
 // Every bus of the board, in one pass: what the root bus comes to from the pools' bases, and in `memo`, eight numbers for each function, what
 // lies below each bridge. Function i has its parent record and its header type byte at i, its six read-backs at 6 * i, its numbers at 8 * i.
@@ -79,7 +71,7 @@ pub fn stored_at(memo: &[u64], i: usize) -> Laid
 
 // Is there anything, and does it end past a pool with this last address?
 pub fn ends_past(last: u64, e: Extent) -> bool
-    ensures { λ r. ⌜ r ≡ endsPast last (extentOf e) ⌝ }
+    ensures { λ r. ⌜ r ≡ endsPast last e ⌝ }
 {
     if e.align == 0 {
         return false;
@@ -95,23 +87,14 @@ pub fn window_size(q: Pool, end: u64) -> u64
     ensures { λ r. ⌜ r ≡ windowSize q (capOf end) ⌝ }
 {
     let granule = pools::granule(q);
-    align_up(granule, cap(end))
+    placing::align_up(granule, placing::cap(end))
 }
 
 // A window's alignment: the granule, or the largest alignment inside if that is greater.
 pub fn window_align(q: Pool, largest: u64) -> u64
     ensures { λ r. ⌜ r ≡ windowAlign q largest ⌝ }
 {
-    larger(pools::granule(q), largest)
-}
-
-// The first multiple of a at or after x, by a mask.
-pub fn align_up(a: u64, x: u64) -> u64
-    requires { ⌜ PowerOfTwo a × (x ≤ limit) ⌝ }
-    ensures { λ r. ⌜ r ≡ alignUp a x ⌝ }
-{
-    let y = x + (a - 1);
-    y - (y & (a - 1))
+    placing::larger(pools::granule(q), largest)
 }
 
 // ---- a bus from its functions, a bridge from its bus
@@ -248,11 +231,11 @@ fn with_windows(l: Laid, inner: Laid) -> Laid
 // A bridge's window over what its bus comes to: none where there is nothing inside.
 fn with_window(q: Pool, e: Extent, inner: Extent) -> Extent
     requires { ⌜ PowerOfTwo (windowAlign q (inner .align)) ⌝ }
-    ensures { λ r. ⌜ r ≡ cutExtent (withWindow q (extentOf e) (extentOf inner)) ⌝ }
+    ensures { λ r. ⌜ r ≡ capped (withWindow q e inner) ⌝ }
 {
     if inner.align == 0 {
         return Extent {
-            end: cap(e.end),
+            end: placing::cap(e.end),
             align: e.align,
         };
     }
@@ -261,12 +244,12 @@ fn with_window(q: Pool, e: Extent, inner: Extent) -> Extent
 
 fn grow(e: Extent, size: u64, align: u64) -> Extent
     requires { ⌜ PowerOfTwo align ⌝ }
-    ensures { λ r. ⌜ r ≡ cutExtent (growOf (extentOf e) size align) ⌝ }
+    ensures { λ r. ⌜ r ≡ capped (growOf e size align) ⌝ }
 {
-    let start = cap(align_up(align, cap(e.end)));
+    let start = placing::cap(placing::align_up(align, placing::cap(e.end)));
     Extent {
-        end: cap(start + cap(size)),
-        align: larger(e.align, align),
+        end: placing::cap(start + placing::cap(size)),
+        align: placing::larger(e.align, align),
     }
 }
 
@@ -320,15 +303,15 @@ fn root_from(base_low: u64, base_high: u64, base_io: u64) -> Laid
     Laid {
         next: 0,
         low: Extent {
-            end: cap(base_low),
+            end: placing::cap(base_low),
             align: 0,
         },
         high: Extent {
-            end: cap(base_high),
+            end: placing::cap(base_high),
             align: 0,
         },
         io: Extent {
-            end: cap(base_io),
+            end: placing::cap(base_io),
             align: 0,
         },
     }
@@ -363,18 +346,4 @@ fn store(memo: &mut [u64], i: usize, l: Laid)
     memo[at + 5] = io.end;
     memo[at + 6] = io.align;
     memo[at + 7] = 0;
-}
-
-// ---- numbers
-
-fn cap(x: u64) -> u64
-    ensures { λ r. ⌜ (r ≡ capOf x) × (r ≤ limit) ⌝ }
-{
-    if x < LIMIT { x } else { LIMIT }
-}
-
-fn larger(a: u64, b: u64) -> u64
-    ensures { λ r. ⌜ r ≡ max a b ⌝ }
-{
-    if a < b { b } else { a }
 }

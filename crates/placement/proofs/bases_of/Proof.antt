@@ -3,17 +3,17 @@ use borrow.Author.Needs.{needs}
 use Rattle.placement.proofs.bases_of.Statement.{statement}
 use Rattle.placement.proofs.bases_of.Tie as tie
 
-kept-requires : tie.Need-kept-requires
-kept-requires c κs = search needs
+cap-requires : tie.Need-cap-requires
+cap-requires c κs = search needs
 
-kept-requires-2 : tie.Need-kept-requires-2
-kept-requires-2 c κs = search needs
+cap-requires-2 : tie.Need-cap-requires-2
+cap-requires-2 c κs = search needs
 
-kept-requires-3 : tie.Need-kept-requires-3
-kept-requires-3 c κs = search needs
+cap-requires-3 : tie.Need-cap-requires-3
+cap-requires-3 c κs = search needs
 
 returns : tie.Need-returns
 returns c = cc
 
 pub bases-of-spec : {M : Type 1} → statement M
-bases-of-spec = tie.close (tie.spec kept-requires kept-requires-2 kept-requires-3 returns)
+bases-of-spec = tie.close (tie.spec cap-requires cap-requires-2 cap-requires-3 returns)

@@ -3,7 +3,7 @@ use borrow.Author.Needs.{needs}
 use Rattle.sizing.proofs.grow.Statement.{statement}
 use Rattle.sizing.proofs.grow.Tie as tie
 use Rattle.placing.specs.AlignLaws.{pos-of-power}
-use Rattle.sizing.specs.CutLaws.{cut-grow}
+use Rattle.placing.specs.Cap.{cap-grow}
 
 cap-requires : tie.Need-cap-requires
 cap-requires c κs = search needs
@@ -27,7 +27,7 @@ larger-requires : tie.Need-larger-requires
 larger-requires c κs = search needs
 
 returns : tie.Need-returns
-returns c = cc (cut-grow (c .before .before .before .before .before .before .args .e) (c .before .before .before .before .before .before .args .size) (c .before .before .before .before .before .before .args .align) (pos-of-power (c .before .before .before .before .before .before .pre)))
+returns c = cc (cap-grow (c .before .before .before .before .before .before .args .e) (c .before .before .before .before .before .before .args .size) (c .before .before .before .before .before .before .args .align) (pos-of-power (c .before .before .before .before .before .before .pre)))
 
 pub grow-spec : {M : Type 1} → statement M
 grow-spec =

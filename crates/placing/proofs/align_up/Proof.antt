@@ -1,10 +1,9 @@
--- `sizing::align_up` meets its contract: of a power of two the mask takes the remainder, and no sum passes 2^62 + 2^63. Assumes nothing.
-use Rattle.sizing.proofs.align_up.Statement.{statement}
-use Rattle.sizing.proofs.align_up.Tie as tie
+-- `placing::align_up` meets its contract: of a power of two the mask takes the remainder, and no sum passes 2^62 + 2^63. Assumes nothing.
+use Rattle.placing.proofs.align_up.Statement.{statement}
+use Rattle.placing.proofs.align_up.Tie as tie
 use native.Mathlib.Omega.{arith}
 use lib.Bits.{and-le-l}
-use Rattle.placing.specs.AlignLaws.{pos-of-power}
-use Rattle.sizing.specs.CutLaws.{le-of-power, align-up-mask}
+use Rattle.placing.specs.AlignLaws.{pos-of-power, le-of-power, align-up-mask}
 use Prim.Native.Nat.{_+_, _-_}
 
 sub-y : tie.Need-sub-y
