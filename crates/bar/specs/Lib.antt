@@ -5,6 +5,7 @@ pub mod Values
 pub mod PowerOfTwo
 pub mod SizeLaws
 pub mod BarLaws
+pub mod BarsLaws
 pub mod ValuesLaws
 pub mod PlacedLaws
 pub mod Examples

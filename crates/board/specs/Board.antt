@@ -5,7 +5,7 @@ use mathlib.Core.Bool.{Bool, true, cond, not, _||_}
 use mathlib.Core.List.{List, [], _∷_, map}
 use lib.ListN.{length, getD, drop}
 use lib.Dec.{eqb, ltb}
-use Rattle.placing.specs.Lists.{any}
+use Rattle.lists.specs.Lists.{any}
 use Rattle.records.specs.Records.{Parts, partsOf, anyPart}
 use Rattle.board.specs.declared.Host.{Host}
 use Rattle.board.specs.declared.Function.{Function}

@@ -4,7 +4,7 @@ use Prim.Native.Nat.{ℕ, zero, suc}
 use mathlib.Core.List.{List, [], _∷_, _++_, map}
 use Rattle.endian.specs.Endian.{be, beBytes}
 use Rattle.records.specs.Records.{nextOf, partsOver, partsOf, anyPart}
-use Rattle.placing.specs.Lists.{any}
+use Rattle.lists.specs.Lists.{any}
 use Rattle.bar.specs.Bar.{sizeFrom, sized, ioSlot, narrowSlot, wideSlot, slotHere, slots, anyBad}
 use Rattle.board.specs.Host.{hostOfPart, poolWrong, hostWrong}
 use Rattle.board.specs.Function.{functionOfPart, headerWrong, readbacksWrong}

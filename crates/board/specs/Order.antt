@@ -5,7 +5,7 @@ use mathlib.Core.Bool.{Bool, false, cond, not, _&&_, _||_}
 use mathlib.Core.List.{List, [], _∷_, _++_}
 use lib.ListN.{length}
 use lib.Dec.{eqb, ltb}
-use Rattle.placing.specs.Lists.{any}
+use Rattle.lists.specs.Lists.{any}
 use Rattle.board.specs.declared.Function.{Function}
 use Rattle.board.specs.Function.{isBridge}
 

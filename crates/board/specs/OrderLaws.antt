@@ -7,8 +7,8 @@ use native.Mathlib.Omega.{arith}
 use lib.ListN.{length, drop}
 use lib.Dec.{eqb, ltb, eqb·zero-suc}
 use borrow.Author.Tests.{eqb-true, eq-eqb, ne-eqb, eqb-false, ltb-false}
-use Rattle.placing.specs.Lists.{All, any}
-use Rattle.placing.specs.ListLaws.{all-imp, all-append}
+use Rattle.lists.specs.Lists.{All, any}
+use Rattle.lists.specs.ListLaws.{all-imp, all-append}
 use Rattle.board.specs.declared.Function.{Function}
 use Rattle.board.specs.Function.{isBridge}
 use Rattle.board.specs.Order.{above, parents, lastSibling, hasFunctionZero, mostAbove, misplaced}

@@ -1,6 +1,6 @@
 -- What 23 leaves true of all functions of a board together: each is placed after those before it, and siblings rise, so that no two of a bus have one
 -- device/function. Assumes nothing.
-use mathlib.Core.Path.{_≡_, refl, ap, _∙_}
+use mathlib.Core.Path.{_≡_, refl}
 use mathlib.Core.Bool.{Bool, true, false}
 use mathlib.Core.List.{List, [], _∷_}
 use Prim.Native.Nat.{ℕ, zero, suc, _+_, _≤_, _<_}
@@ -10,8 +10,8 @@ use lib.ListN.{length, getD, take}
 use lib.Dec.{eqb}
 use borrow.Author.Tests.{eqb-true, eqb-false}
 use Rattle.records.specs.RecordsLaws.{false-of-or}
-use Rattle.placing.specs.Lists.{All, Pairwise}
-use Rattle.placing.specs.ListLaws.{all-imp}
+use Rattle.lists.specs.Lists.{All, Pairwise}
+use Rattle.lists.specs.ListLaws.{all-imp}
 use Rattle.board.specs.declared.Function.{Function}
 use Rattle.board.specs.Order.{lastSibling, misplaced, anyMisplaced}
 use Rattle.board.specs.OrderLaws.{Placed, placed-of-not-misplaced, Ordered}

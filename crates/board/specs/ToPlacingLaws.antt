@@ -4,18 +4,13 @@ use mathlib.Core.Bool.{Bool, true, false, _||_}
 use mathlib.Core.List.{List, [], _∷_}
 use Prim.Native.Nat.{ℕ, suc, _≤_, _<_}
 use native.Mathlib.Omega.{arith}
-use lib.ListN.{length, getD, take}
+use lib.ListN.{length, take}
 use lib.Dec.{eqb}
 use borrow.Author.Tests.{eqb-true}
 use Rattle.records.specs.RecordsLaws.{false-of-or}
-use Rattle.bar.specs.declared.Slot.{Slot}
-use Rattle.bar.specs.declared.Slot.the-variants.{Unused, Bar, Upper, Bad}
-use Rattle.bar.specs.Bar.{slots}
-use Rattle.bar.specs.Bar.{SizedSlot}
-use Rattle.bar.specs.BarLaws.{sized-slots}
-use Rattle.placing.specs.Lists.{All, any}
-use Rattle.placing.specs.ListLaws.{all-imp}
-use Rattle.placing.specs.Align.{PowerOfTwo}
+use Rattle.bar.specs.BarsLaws.{bars-from-sized}
+use Rattle.lists.specs.Lists.{any}
+use Rattle.lists.specs.ListLaws.{all-imp}
 use Rattle.placing.specs.Records.{parentsAfter, onlyHost, DepthFirst, Sized, Lawful}
 use Rattle.placing.specs.RecordLaws.{Subset, parent-new, parent-kept}
 use Rattle.board.specs.declared.Function.{Function}
@@ -25,22 +20,13 @@ use Rattle.board.specs.OrderLaws.{placed-of-not-misplaced, upToHost, lt-
 use Rattle.board.specs.StackLaws.{up-cons, outer}
 use Rattle.board.specs.Board.{boardNumber, functionsOf}
 use Rattle.board.specs.BoardLaws.{accepted-of-zero}
-use Rattle.board.specs.ToPlacing.{barsFrom, toFunction, toPlacing}
+use Rattle.board.specs.ToPlacing.{toFunction, toPlacing}
 
 -- ---- sizes are powers of two
 
-sized-bars : (k : ℕ) (xs : List Slot) → ((i : ℕ) → SizedSlot (getD xs i Unused)) → All (λ b. PowerOfTwo (b .size)) (barsFrom k xs)
-unfolding barsFrom
-sized-bars k [] h = tt
-sized-bars k (Unused ∷ xs) h = sized-bars (suc k) xs (λ i. h (suc i))
-sized-bars k (Bar pool wide size ∷ xs) h = ((h 0 .bit, h 0 .power), sized-bars (suc k) xs (λ i. h (suc i)))
-sized-bars k (Upper ∷ xs) h = sized-bars (suc k) xs (λ i. h (suc i))
-sized-bars k (Bad ∷ xs) h = sized-bars (suc k) xs (λ i. h (suc i))
-
 pub sized-functions : (fs : List Function) → Sized (toPlacing fs)
 sized-functions [] = tt
-sized-functions (f ∷ fs) =
-    (sized-bars 0 (slots (take (slotCount f) (f .readbacks))) (sized-slots (take (slotCount f) (f .readbacks))), sized-functions fs)
+sized-functions (f ∷ fs) = (bars-from-sized 0 (take (slotCount f) (f .readbacks)), sized-functions fs)
 
 -- ---- depth-first
 

@@ -7,7 +7,7 @@ ghost use mathlib.Core.List.{map};
 ghost use Prim.Native.Nat.{_<_};
 ghost use lib.ListN.{length, getD, drop};
 ghost use lib.Dec.{ltb};
-ghost use Rattle.placing.specs.Lists.{any};
+ghost use Rattle.lists.specs.Lists.{any};
 ghost use Rattle.records.specs.Records.{partsOf, partsFrom, anyPart};
 ghost use Rattle.board.specs.Host.{hostLength, hostOfPart, offEdges, outside as isOutside, poolWrong, hostWrong};
 ghost use Rattle.board.specs.Function.{readbacksFor, functionOfPart, wrongFor, headerWrong, isBridge, slotCount, readbacksWrong};

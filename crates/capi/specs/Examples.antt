@@ -17,7 +17,7 @@ use Rattle.bar.specs.Bar.{sizeFrom, sized, ioSlot, narrowSlot, wideSlot, slotHe
 use Rattle.bar.specs.Values.{isBarValue, valuesFit}
 use Rattle.window.specs.Window.{closed, start, stop, isNibbled}
 use Rattle.records.specs.Records.{nextOf, partsOver, partsOf}
-use Rattle.walk.specs.Lists.{All, select}
+use Rattle.lists.specs.Lists.{All, keep}
 use Rattle.walk.specs.Registers.{itemsOf, items, enabledIn}
 use Rattle.walk.specs.Tally.{join, tallyOn}
 use Rattle.walk.specs.Walk.{walkOver, walkFrom}
@@ -81,5 +81,5 @@ examples =
     ∷ []
 
 pub examples-hold : All Holds examples
-unfolding All flatMap readOf pairOf findPair findKind rowOf first table judged headAt enablesAt addressAt unnamed ruleNumber fromRule5 fromRule6 fromRule7 fromRule8 fromRule9 reservedSet fixedWrong upperZero enablesWrong crossesPage statusWrong lengthFits bodyFits fieldsFit onRules onFields verdictOf numbersOf kinds kindAt anyAbove headFrom enablesFrom onKind fromKind packetOf frontBytes requestBytes addressBytes layout beBytes writeOf roomAfter lookupOf findFrom commandNumber routeOf fromSheet from40 from42 walkFrom walkOver tallyOn join select itemsOf items enabledIn sheetNumber from21 from20 from22 from24 from27 from28 from25 from29 isFramed allSized entriesFrom commandsOf breaks anyBreaks allZero readBacksWrong hasId idTwice entryOf dwords windowOf barsFrom functionsFrom nodesFrom be le nextOf partsOver partsOf closed start stop isNibbled isBarValue valuesFit slots slotHere wideSlot narrowSlot ioSlot sized sizeFrom
+unfolding flatMap readOf pairOf findPair findKind rowOf first table judged headAt enablesAt addressAt unnamed ruleNumber fromRule5 fromRule6 fromRule7 fromRule8 fromRule9 reservedSet fixedWrong upperZero enablesWrong crossesPage statusWrong lengthFits bodyFits fieldsFit onRules onFields verdictOf numbersOf kinds kindAt anyAbove headFrom enablesFrom onKind fromKind packetOf frontBytes requestBytes addressBytes layout beBytes writeOf roomAfter lookupOf findFrom commandNumber routeOf fromSheet from40 from42 walkFrom walkOver tallyOn join keep itemsOf items enabledIn sheetNumber from21 from20 from22 from24 from27 from28 from25 from29 isFramed allSized entriesFrom commandsOf breaks anyBreaks allZero readBacksWrong hasId idTwice entryOf dwords windowOf barsFrom functionsFrom nodesFrom be le nextOf partsOver partsOf closed start stop isNibbled isBarValue valuesFit slots slotHere wideSlot narrowSlot ioSlot sized sizeFrom
 examples-hold = (refl, (refl, (refl, (refl, (refl, (refl, (refl, (refl, (refl, (refl, (refl, (refl, (refl, (refl, (refl, (refl, (refl, tt)))))))))))))))))

@@ -8,7 +8,8 @@ use native.Mathlib.Omega.{arith}
 use lib.ListN.{length}
 use lib.Dec.{eqb, leb}
 use borrow.Author.Tests.{eq-eqb, ne-eqb, eqb-true}
-use Rattle.walk.specs.Lists.{select, select-nil, select-hit, select-miss}
+use Rattle.lists.specs.Lists.{keep}
+use Rattle.lists.specs.KeepLaws.{keep-nil, keep-yes, keep-no}
 use Rattle.walk.specs.Ranges.{buses, holds, holds-last}
 use Rattle.walk.specs.Registers.{Node, Claim, bar, window}
 use Rattle.walk.specs.Tally.{Tally, none, one, join}
@@ -46,16 +47,16 @@ nodesLeft s k = nodesFrom (k + 1) (entriesFrom s (92 * k + 1))
 
 -- the function with the ID from record k on, and the claims of the bridges toward the target from there on
 unfoldable pub ownerFrom : ℕ → List ℕ → ℕ → Tally
-ownerFrom id s k = firstOf (select (hasId (id / 256) (id % 256)) (nodesFrom (k + 1) (entriesFrom s (92 * k + 1))))
+ownerFrom id s k = firstOf (keep (hasId (id / 256) (id % 256)) (nodesFrom (k + 1) (entriesFrom s (92 * k + 1))))
 
 unfoldable pub towardFrom : ℕ → ℕ → List ℕ → ℕ → List Claim
-towardFrom target b s k = map bridgeClaim (select (leadsToward target b) (nodesFrom (k + 1) (entriesFrom s (92 * k + 1))))
+towardFrom target b s k = map bridgeClaim (keep (leadsToward target b) (nodesFrom (k + 1) (entriesFrom s (92 * k + 1))))
 
-pub owner-start : (id : ℕ) (s : List ℕ) → ownerFrom id s 0 ≡ firstOf (select (hasId (id / 256) (id % 256)) (nodesOf s))
+pub owner-start : (id : ℕ) (s : List ℕ) → ownerFrom id s 0 ≡ firstOf (keep (hasId (id / 256) (id % 256)) (nodesOf s))
 unfolding ownerFrom
 owner-start id s = refl
 
-pub toward-start : (target b : ℕ) (s : List ℕ) → join none (towardFrom target b s 0) ≡ join none (map bridgeClaim (select (leadsToward target b) (nodesOf s)))
+pub toward-start : (target b : ℕ) (s : List ℕ) → join none (towardFrom target b s 0) ≡ join none (map bridgeClaim (keep (leadsToward target b) (nodesOf s)))
 unfolding towardFrom
 toward-start target b s = refl
 
@@ -68,13 +69,13 @@ module _ (s : List ℕ) (c : Checked s) (n k : ℕ) (count : n ≡ length (entri
 
     pub owner-end : (id : ℕ) → none ≡ ownerFrom id s k
     unfolding ownerFrom
-    owner-end id = let has = hasId (id / 256) (id % 256) in sym (ap firstOf (ap (select has) nodes-end ∙ select-nil has))
+    owner-end id = let has = hasId (id / 256) (id % 256) in sym (ap firstOf (ap (keep has) nodes-end ∙ keep-nil has))
 
     pub toward-end : (target b : ℕ) (t : Tally) → t ≡ join t (towardFrom target b s k)
     unfolding towardFrom
     toward-end target b t =
         let leads = leadsToward target b in
-        sym (ap (λ (ns : List Node). join t (map bridgeClaim ns)) (ap (select leads) nodes-end ∙ select-nil leads) ∙ join-nil t)
+        sym (ap (λ (ns : List Node). join t (map bridgeClaim ns)) (ap (keep leads) nodes-end ∙ keep-nil leads) ∙ join-nil t)
 
   -- p is the part of record k
   module _ (h : k < n) (p : List ℕ) (e : p ≡ partAt s k) where
@@ -92,7 +93,7 @@ module _ (s : List ℕ) (c : Checked s) (n k : ℕ) (count : n ≡ length (entri
           let has = hasId (id / 256) (id % 256) in
           let high = eq-eqb (idOf p / 256) (id / 256) (ap (λ (i : ℕ). i / 256) q) in
           let low = eq-eqb (idOf p % 256) (id % 256) (ap (λ (i : ℕ). i % 256) q) in
-          sym (ap firstOf (ap (select has) nodes-step ∙ select-hit has node (nodesLeft s (k + 1)) (and-eq-true-iff _ _ .1 (high, low))))
+          sym (ap firstOf (ap (keep has) nodes-step ∙ keep-yes has node (nodesLeft s (k + 1)) (and-eq-true-iff _ _ .1 (high, low))))
 
       differs : (idOf p ≡ id → ⊥) → hasId (id / 256) (id % 256) node ≡ false
       unfolding node entryOf
@@ -108,7 +109,7 @@ module _ (s : List ℕ) (c : Checked s) (n k : ℕ) (count : n ≡ length (entri
       unfolding ownerFrom
       owner-miss q =
           let has = hasId (id / 256) (id % 256) in
-          sym (ap firstOf (ap (select has) nodes-step ∙ select-miss has node (nodesLeft s (k + 1)) (differs q)))
+          sym (ap firstOf (ap (keep has) nodes-step ∙ keep-no has node (nodesLeft s (k + 1)) (differs q)))
 
     -- y is the test of the record
     module _ (target b : ℕ) (y : Bool) (test : y ≡ leadsToward target b (nodeOf 0 (entryOf p))) (t : Tally) where
@@ -120,7 +121,7 @@ module _ (s : List ℕ) (c : Checked s) (n k : ℕ) (count : n ≡ length (entri
       unfolding towardFrom
       toward-miss q =
           let leads = leadsToward target b in
-          sym (ap (λ (ns : List Node). join t (map bridgeClaim ns)) (ap (select leads) nodes-step ∙ select-miss leads node (nodesLeft s (k + 1)) (leads-is ∙ q)))
+          sym (ap (λ (ns : List Node). join t (map bridgeClaim ns)) (ap (keep leads) nodes-step ∙ keep-no leads node (nodesLeft s (k + 1)) (leads-is ∙ q)))
 
       secondary-is : y ≡ true → node .secondary ≡ secondaryOf p
       unfolding node entryOf
@@ -135,20 +136,20 @@ module _ (s : List ℕ) (c : Checked s) (n k : ℕ) (count : n ≡ length (entri
       unfolding towardFrom node
       toward-hit u secondary w m q =
           let leads = leadsToward target b in
-          let cs = map bridgeClaim (select leads (nodesLeft s (k + 1))) in
+          let cs = map bridgeClaim (keep leads (nodesLeft s (k + 1))) in
           ap (λ (z : Tally). join z cs) w
           ∙ sym (join-append t (window (k + 1) secondary ∷ []) cs)
           ∙ ap (λ (x : ℕ). join t (window (k + 1) x ∷ cs)) (m ∙ sym (secondary-is q))
-          ∙ sym (ap (λ (ns : List Node). join t (map bridgeClaim ns)) (ap (select leads) nodes-step ∙ select-hit leads node (nodesLeft s (k + 1)) (leads-is ∙ q)))
+          ∙ sym (ap (λ (ns : List Node). join t (map bridgeClaim ns)) (ap (keep leads) nodes-step ∙ keep-yes leads node (nodesLeft s (k + 1)) (leads-is ∙ q)))
 
 -- ## The two searches
 
 module _ (s : List ℕ) (id b : ℕ) (t : Tally) where
-  pub tally-on-target : b ≡ id / 256 → t ≡ firstOf (select (hasId (id / 256) (id % 256)) (nodesOf s)) → t ≡ tallyById (nodesOf s) (id / 256) (id % 256) b
+  pub tally-on-target : b ≡ id / 256 → t ≡ firstOf (keep (hasId (id / 256) (id % 256)) (nodesOf s)) → t ≡ tallyById (nodesOf s) (id / 256) (id % 256) b
   unfolding tallyById
   tally-on-target h e = rw (eq-eqb b (id / 256) h) e
 
-  pub tally-off-target : (b ≡ id / 256 → ⊥) → t ≡ join none (map bridgeClaim (select (leadsToward (id / 256) b) (nodesOf s)))
+  pub tally-off-target : (b ≡ id / 256 → ⊥) → t ≡ join none (map bridgeClaim (keep (leadsToward (id / 256) b) (nodesOf s)))
       → t ≡ tallyById (nodesOf s) (id / 256) (id % 256) b
   unfolding tallyById
   tally-off-target h e = rw (ne-eqb b (id / 256) h) e

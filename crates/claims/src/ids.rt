@@ -3,7 +3,7 @@ ghost use mathlib.Core.Path.{_≡_};
 ghost use mathlib.Core.List.{map};
 ghost use Prim.Native.Nat.{_/_, _%_};
 ghost use lib.ListN.{length};
-ghost use Rattle.walk.specs.Lists.{select};
+ghost use Rattle.lists.specs.Lists.{keep};
 ghost use Rattle.walk.specs.Tally.{none, join};
 ghost use Rattle.walk.specs.Ids.{hasId, leadsToward, bridgeClaim, firstOf, tallyById};
 ghost use Rattle.sheet.specs.Entry.{recordSize, entryOf};
@@ -17,7 +17,7 @@ use sheet::record;
 // The function with this ID, wherever it stands on its bus.
 fn owner_of(sheet: &[u8], id: u16) -> Tally
     requires { ⌜ Checked (now sheet) ⌝ }
-    ensures { λ r. ⌜ tallyOf r ≡ firstOf (select (hasId (id / 256) (id % 256)) (nodesOf (now (sheet .entry)))) ⌝ }
+    ensures { λ r. ⌜ tallyOf r ≡ firstOf (keep (hasId (id / 256) (id % 256)) (nodesOf (now (sheet .entry)))) ⌝ }
 {
     let records = sheet::count(sheet);
     let mut k: usize = 0;
@@ -48,7 +48,7 @@ fn leads_toward(part: &[u8], target: u8, bus: u8) -> bool
 // The bridges on this bus that lead toward the target's. The second ends the search.
 fn bridges_toward(sheet: &[u8], target: u8, bus: u8) -> Tally
     requires { ⌜ Checked (now sheet) ⌝ }
-    ensures { λ r. ⌜ tallyOf r ≡ join none (map bridgeClaim (select (leadsToward target bus) (nodesOf (now (sheet .entry))))) ⌝ }
+    ensures { λ r. ⌜ tallyOf r ≡ join none (map bridgeClaim (keep (leadsToward target bus) (nodesOf (now (sheet .entry))))) ⌝ }
 {
     let records = sheet::count(sheet);
     let mut tally = Tally::Nothing;

@@ -10,7 +10,7 @@ use Rattle.packet.specs.declared.Packet.{Packet}
 use Rattle.packet.specs.declared.Packet.the-variants.{Memory, Io, Config, Completion}
 use Rattle.tlp.specs.declared.Reading.the-variants.{Accepted}
 use Rattle.tlp.specs.Reading.{readOf}
-use Rattle.placing.specs.Lists.{Some}
+use Rattle.lists.specs.Lists.{Some}
 use Rattle.placing.specs.Pools.{Pool, low, high, io}
 use Rattle.placing.specs.Records.{Host, Function}
 use Rattle.placing.specs.Placing.{placed}

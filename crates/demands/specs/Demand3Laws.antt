@@ -15,7 +15,7 @@ use Rattle.packet.specs.declared.Packet.the-variants.{Memory, Io, Config, Compl
 use Rattle.tlp.specs.declared.Reading.the-variants.{Accepted}
 use Rattle.tlp.specs.Reading.{readOf}
 use Rattle.placing.specs.Pools.{low, high, io}
-use Rattle.placing.specs.ListLaws.{all-of}
+use Rattle.lists.specs.ListLaws.{all-of}
 use Rattle.placing.specs.Order.{eq-or-ne, le-or-lt}
 use Rattle.placing.specs.Placed.{well-placed}
 use Rattle.placing.specs.Refusals.{refusalOf}

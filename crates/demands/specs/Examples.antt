@@ -2,7 +2,7 @@
 use Prim.Native.Nat.{ℕ}
 use Prim.Native.String.{String}
 use mathlib.Core.Path.{_≡_, refl}
-use mathlib.Core.List.{List, [], _∷_, _++_, map, flatMap}
+use mathlib.Core.List.{List, [], _∷_, _++_, flatMap}
 use lib.ListN.{length, replicate}
 use Rattle.endian.specs.Endian.{be, beBytes, le, leBytes}
 use Rattle.text.specs.Text.{ascii, hexadecimal, decimalOver, decimal}
@@ -13,7 +13,7 @@ use Rattle.tlp.specs.declared.Reading.{Reading}
 use Rattle.tlp.specs.declared.Reading.the-variants.{Accepted, Refused}
 use Rattle.tlp.specs.Reading.{numberOf as readingNumber, headAt, enablesAt, addressAt, unnamed, judged, readOf}
 use Rattle.records.specs.Records.{nextOf, partsOver, partsOf, anyPart}
-use Rattle.placing.specs.Lists.{any, keep}
+use Rattle.lists.specs.Lists.{keep, any}
 use Rattle.placing.specs.Align.{alignUp}
 use Rattle.placing.specs.Layout.{layoutEnd, largestAlign}
 use Rattle.placing.specs.Pieces.{barPieces, windowPieces, ownPieces, pieces}
@@ -35,7 +35,6 @@ use Rattle.sheet.specs.Sheet.{from29, from25, from28, from27, from24, from22, f
 use Rattle.sheet.specs.Spaces.{barsFrom as rangesFrom, functionsFrom, nodesFrom}
 use Rattle.sheet.specs.Examples.{p10 as p10-sheet}
 use Rattle.layout.specs.Layout.{dwordBytes, endBytes, bridgeBytes, bodyBytes, commonBytes, configBytes, partBytes, recordBytes, sheetBytes}
-use Rattle.walk.specs.Lists.{select}
 use Rattle.walk.specs.Registers.{itemsOf, items, enabledIn}
 use Rattle.walk.specs.Tally.{join, tallyOn}
 use Rattle.walk.specs.Walk.{walkOver, walkFrom}
@@ -154,7 +153,7 @@ examples =
     ∷ []
 
 pub examples-hold : All examples
-unfolding examples ascii words windowText bridgeText endText lineOf countText planText boardText hexadecimal decimalOver decimal readOf pairOf findPair first table judged headAt enablesAt addressAt unnamed be ruleNumber fromRule5 fromRule6 fromRule7 fromRule8 fromRule9 reservedSet fixedWrong upperZero enablesWrong crossesPage statusWrong row planning onBoard onRoom boardNumber fromVersion fromFrame fromCount fromHeaders fromEdges fromOrder fromReadbacks misframed above parents lastSibling misplaced anyMisplaced functionOfPart headerWrong readbacksWrong hostOfPart poolWrong hostWrong beBytes nextOf partsOver partsOf anyPart any sizeFrom sized ioSlot narrowSlot wideSlot slotHere slots anyBad hostOf functionsOf refusalOf outOfPool place placed pieces ownPieces windowPieces barPieces layoutEnd largestAlign keep alignUp bridges barsFrom sheetAfter sheetBytes flatMap recordBytes partBytes configBytes commonBytes bodyBytes bridgeBytes endBytes dwordBytes planOf plannedFrom valuesFrom windowFor barStart closed opened busNumber subordinateOf greatestBelow le leBytes routeOf fromSheet from40 from42 walkFrom walkOver tallyOn join select itemsOf items enabledIn sheetNumber from21 from20 from22 from24 from27 from28 from25 from29 isFramed allSized entriesFrom commandsOf breaks anyBreaks allZero readBacksWrong hasId idTwice entryOf dwords windowOf rangesFrom functionsFrom nodesFrom start stop isNibbled isBarValue valuesFit
+unfolding examples ascii words windowText bridgeText endText lineOf countText planText boardText hexadecimal decimalOver decimal readOf pairOf findPair first table judged headAt enablesAt addressAt unnamed be ruleNumber fromRule5 fromRule6 fromRule7 fromRule8 fromRule9 reservedSet fixedWrong upperZero enablesWrong crossesPage statusWrong row planning onBoard onRoom boardNumber fromVersion fromFrame fromCount fromHeaders fromEdges fromOrder fromReadbacks misframed above parents lastSibling misplaced anyMisplaced functionOfPart headerWrong readbacksWrong hostOfPart poolWrong hostWrong beBytes nextOf partsOver partsOf anyPart any sizeFrom sized ioSlot narrowSlot wideSlot slotHere slots anyBad hostOf functionsOf refusalOf outOfPool place placed pieces ownPieces windowPieces barPieces layoutEnd largestAlign keep alignUp bridges barsFrom sheetAfter sheetBytes flatMap recordBytes partBytes configBytes commonBytes bodyBytes bridgeBytes endBytes dwordBytes planOf plannedFrom valuesFrom windowFor barStart closed opened busNumber subordinateOf greatestBelow le leBytes routeOf fromSheet from40 from42 walkFrom walkOver tallyOn join itemsOf items enabledIn sheetNumber from21 from20 from22 from24 from27 from28 from25 from29 isFramed allSized entriesFrom commandsOf breaks anyBreaks allZero readBacksWrong hasId idTwice entryOf dwords windowOf rangesFrom functionsFrom nodesFrom start stop isNibbled isBarValue valuesFit
 examples-hold = (
   refl,
   (refl, (refl, (refl, (refl, (refl, (refl, (refl, (refl, (refl, (refl, (refl, (refl, ((refl, refl), (refl, ((refl, refl), (refl, ((refl, refl), (refl, tt)))))))))))))))))),

@@ -8,7 +8,7 @@ use lib.ListN.{length, take, drop, length-map}
 use Rattle.endian.specs.Endian.{Bytes}
 use Rattle.endian.specs.BytesLaws.{bytes-take, bytes-drop}
 use Rattle.records.specs.Records.{partsFrom}
-use Rattle.placing.specs.Lists.{All, any}
+use Rattle.lists.specs.Lists.{All, any}
 use Rattle.board.specs.declared.Host.{Host}
 use Rattle.board.specs.Host.{hostOfPart, hostWrong}
 use Rattle.board.specs.Function.{functionOfPart, readbacksWrong}

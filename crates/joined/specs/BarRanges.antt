@@ -13,7 +13,7 @@ use Rattle.bar.specs.declared.Slot.{Slot}
 use Rattle.bar.specs.declared.Slot.the-variants.{Unused, Bar, Upper, Bad}
 use Rattle.bar.specs.Bars.{barsFrom}
 use Rattle.bar.specs.Values.{valueHere, baseOf}
-use Rattle.walk.specs.Lists.{select}
+use Rattle.lists.specs.Lists.{keep}
 use Rattle.walk.specs.Ranges.{Pool as RangePool}
 use Rattle.sheet.specs.declared.Space.{Space as SheetSpace}
 use Rattle.sheet.specs.declared.Space.the-variants.{Memory, Io as Ports}
@@ -43,8 +43,8 @@ SaysBases ss vs base =
 
 module _ (sp : Space) (start : ℕ → ℕ) where
   ranges-from : (ss : List Slot) (s : ℕ) (vs : List ℕ) → SaysBases ss vs (λ j. start (s + j))
-      → rangesFrom (spaceOf sp) ss vs ≡ map (barRange start) (select (λ c. inSpace sp (c .pool)) (barsFrom s ss))
-  unfolding rangesFrom barsFrom select
+      → rangesFrom (spaceOf sp) ss vs ≡ map (barRange start) (keep (λ c. inSpace sp (c .pool)) (barsFrom s ss))
+  unfolding rangesFrom barsFrom keep
   ranges-from [] s vs says = refl
   ranges-from (x ∷ ss) s vs says = go x says (ranges-from ss (suc s) (drop 1 vs) later)
     where
@@ -55,8 +55,8 @@ module _ (sp : Space) (start : ℕ → ℕ) where
           rw (drop-drop j 1 vs, next, ← place) (says (suc j) q wide z e)
 
       go : (y : Slot) → SaysBases (y ∷ ss) vs (λ j. start (s + j))
-          → rangesFrom (spaceOf sp) ss (drop 1 vs) ≡ map (barRange start) (select (λ c. inSpace sp (c .pool)) (barsFrom (suc s) ss))
-          → rangesFrom (spaceOf sp) (y ∷ ss) vs ≡ map (barRange start) (select (λ c. inSpace sp (c .pool)) (barsFrom s (y ∷ ss)))
+          → rangesFrom (spaceOf sp) ss (drop 1 vs) ≡ map (barRange start) (keep (λ c. inSpace sp (c .pool)) (barsFrom (suc s) ss))
+          → rangesFrom (spaceOf sp) (y ∷ ss) vs ≡ map (barRange start) (keep (λ c. inSpace sp (c .pool)) (barsFrom s (y ∷ ss)))
       go Unused said on = on
       go Upper said on = on
       go Bad said on = on
@@ -71,12 +71,12 @@ module _ (sp : Space) (start : ℕ → ℕ) where
               []
               ++ rangesFrom (spaceOf sp) ss (drop 1 vs)
               ≡ map (barRange start)
-              (cond t (record { slot = s; pool = q; size = z } ∷ select (λ c. inSpace sp (c .pool)) (barsFrom (suc s) ss))
-              (select (λ c. inSpace sp (c .pool)) (barsFrom (suc s) ss)))
+              (cond t (record { slot = s; pool = q; size = z } ∷ keep (λ c. inSpace sp (c .pool)) (barsFrom (suc s) ss))
+              (keep (λ c. inSpace sp (c .pool)) (barsFrom (suc s) ss)))
           by true = ap₂ _∷_ (ap₂ (λ (p : RangePool) (n : ℕ). record { pool = p; start = n; stop = n + z }) (pool-agree q) base-is) on
           by false = on
 
   pub ranges-of-bars : (ss : List Slot) (vs : List ℕ) → SaysBases ss vs start
-      → rangesFrom (spaceOf sp) ss vs ≡ map (barRange start) (select (λ c. inSpace sp (c .pool)) (barsFrom 0 ss))
+      → rangesFrom (spaceOf sp) ss vs ≡ map (barRange start) (keep (λ c. inSpace sp (c .pool)) (barsFrom 0 ss))
   ranges-of-bars ss vs says =
       ranges-from ss 0 vs (λ j q wide z e. let none : 0 + j ≡ j = omega arith in rw none (says j q wide z e))

@@ -5,7 +5,7 @@ use mathlib.Core.List.{List, map}
 use Prim.Native.Nat.{ℕ, pred, _%_, _^_, _≤_, _<_}
 use lib.ListN.{length, getD, take, drop}
 use Rattle.bar.specs.Bar.{slots, anyBad}
-use Rattle.placing.specs.Lists.{All}
+use Rattle.lists.specs.Lists.{All}
 use Rattle.board.specs.declared.Host.{Host}
 use Rattle.board.specs.declared.Function.{Function}
 use Rattle.board.specs.Function.{slotCount}

@@ -17,7 +17,7 @@ use Rattle.records.specs.declared.Next.{Next}
 use Rattle.records.specs.declared.Next.the-variants.{End, Record, Broken}
 use Rattle.records.specs.Records.{nextOf, step, partsOver, partsOf, anyPart}
 use Rattle.records.specs.RecordsLaws.{false-of-or}
-use Rattle.placing.specs.Lists.{All, any}
+use Rattle.lists.specs.Lists.{All, any}
 use Rattle.board.specs.declared.Span.{Span}
 use Rattle.board.specs.Host.{hostOfPart, isOpen, outside, offEdges, poolWrong, hostWrong}
 use Rattle.board.specs.Function.{typeOf, isBridgeHeader, lengthFor, readbacksFor, functionOfPart, headerWrong, readbacksWrong}

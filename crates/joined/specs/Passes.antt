@@ -9,8 +9,8 @@ use borrow.Author.Tests.{eq-eqb, ne-eqb, lt-ltb, le-ltb, le-leb}
 use Rattle.endian.specs.Endian.{Bytes}
 use Rattle.pools.specs.declared.Pool.the-variants.{Low, High, Io}
 use Rattle.bar.specs.PlacedLaws.{placed-values-lawful}
-use Rattle.placing.specs.Lists.{All}
-use Rattle.placing.specs.ListLaws.{drop-suc}
+use Rattle.lists.specs.Lists.{All}
+use Rattle.lists.specs.ListLaws.{drop-suc}
 use Rattle.placing.specs.Records as placing
 use Rattle.placing.specs.Layout.{Placed}
 use Rattle.placing.specs.Placing.{placed}
@@ -21,8 +21,6 @@ use Rattle.board.specs.declared.Host.{Host}
 use Rattle.board.specs.declared.Function.{Function}
 use Rattle.board.specs.Function.{isBridge}
 use Rattle.board.specs.ToPlacing.{toHost, toPlacing}
-use Rattle.walk.specs.Lists.{Pairwise}
-use Rattle.walk.specs.Lists.{All as WalkAll}
 use Rattle.walk.specs.Ids.{DistinctIds}
 use Rattle.sheet.specs.declared.Rule.{Rule}
 use Rattle.sheet.specs.declared.Rule.the-variants.{HeaderType, Buses, ReadBacks, Nibbles}
@@ -51,16 +49,16 @@ version-sheetBytes ps = refl
 
 -- ## IDs (28), of any records
 
-absent : (k j : ℕ) (e : Entry) (es : List Entry) → WalkAll (λ m. nodeOf k e .bus ≡ m .bus → nodeOf k e .devfn ≡ m .devfn → ⊥) (nodesFrom j es)
+absent : (k j : ℕ) (e : Entry) (es : List Entry) → All (λ m. nodeOf k e .bus ≡ m .bus → nodeOf k e .devfn ≡ m .devfn → ⊥) (nodesFrom j es)
     → hasId (e .id) es ≡ false
-unfolding WalkAll hasId nodesFrom
+unfolding hasId nodesFrom
 absent k j e [] h = refl
 absent k j e (x ∷ es) h =
     let other = ne-eqb (x .id) (e .id) (λ same. h .0 (ap (λ (n : ℕ). n / 256) (sym same)) (ap (λ (n : ℕ). n % 256) (sym same))) in
     rw other (absent k (j + 1) e es (h .1))
 
 pub once-of-distinct : (k : ℕ) (es : List Entry) → DistinctIds (nodesFrom k es) → idTwice es ≡ false
-unfolding Pairwise idTwice nodesFrom
+unfolding idTwice nodesFrom
 once-of-distinct k [] h = refl
 once-of-distinct k (e ∷ es) h = rw (absent k (k + 1) e es (h .0)) (once-of-distinct (k + 1) es (h .1))
 

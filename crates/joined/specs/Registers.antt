@@ -11,8 +11,9 @@ use Rattle.pools.specs.declared.Pool.the-variants.{Low, High, Io}
 use Rattle.bar.specs.Bar.{slots}
 use Rattle.bar.specs.PlacedLaws.{base-placed}
 use Rattle.window.specs.WindowLaws.{Edges}
-use Rattle.placing.specs.Lists.{All}
-use Rattle.placing.specs.ListLaws.{drop-suc}
+use Rattle.lists.specs.Lists.{All, keep}
+use Rattle.lists.specs.ListLaws.{drop-suc}
+use Rattle.lists.specs.KeepLaws.{keep-append, keep-elim, keep-nil}
 use Rattle.placing.specs.Pools.{low, high, io}
 use Rattle.placing.specs.Records as placing
 use Rattle.placing.specs.Layout.{Piece, Placed, endOf}
@@ -26,7 +27,6 @@ use Rattle.board.specs.declared.Host.{Host}
 use Rattle.board.specs.declared.Function.{Function}
 use Rattle.board.specs.Function.{isBridge}
 use Rattle.board.specs.ToPlacing.{toHost, toFunction, toPlacing}
-use Rattle.walk.specs.Lists.{select, select-append, select-elim, select-nil}
 use Rattle.walk.specs.Registers.{Registers}
 use Rattle.sheet.specs.declared.Space.the-variants.{Memory, Io as Ports}
 use Rattle.sheet.specs.Entry.{Entry}
@@ -45,7 +45,7 @@ use Rattle.planning.specs.Plan.{entryFor, plannedFrom, planOf}
 use Rattle.joined.specs.Fits.{devfnOf, FunctionFits, BoardFits}
 use Rattle.joined.specs.Starts.{bar-start-is}
 use Rattle.joined.specs.Windows.{WindowAt, window-edges}
-use Rattle.joined.specs.WindowRanges.{range-of-closed, window-for-select, over-kept, over-dropped, ranges-of-two, ranges-of-one}
+use Rattle.joined.specs.WindowRanges.{range-of-closed, window-for-keep, over-kept, over-dropped, ranges-of-two, ranges-of-one}
 use Rattle.joined.specs.BarRanges.{spaceOf, ranges-of-bars}
 use Rattle.joined.specs.Values.{slotReadbacks, values-of-record}
 use Rattle.joined.specs.Shaped.{StandsAt, at-placing, bars-placed-at, shaped}
@@ -62,23 +62,23 @@ module _ (k b : ℕ) (rest : List Piece) where
   abbrev over : Pool → List Piece
   over q = windowOver k b q (selectOn k q rest)
 
-  memory-windows : select (λ p. inSpace memorySpace (p .pool)) (windowPieces k b rest) ≡ over low ++ over high
+  memory-windows : keep (λ p. inSpace memorySpace (p .pool)) (windowPieces k b rest) ≡ over low ++ over high
   unfolding windowPieces
   memory-windows =
       let test : Piece → Bool = λ p. inSpace memorySpace (p .pool) in
-      select-append test (over low) (over high ++ over io)
+      keep-append test (over low) (over high ++ over io)
       ∙ ap₂ _++_ (over-kept k b memorySpace low (selectOn k low rest) refl)
-      (select-append test (over high) (over io)
+      (keep-append test (over high) (over io)
       ∙ ap₂ _++_ (over-kept k b memorySpace high (selectOn k high rest) refl) (over-dropped k b memorySpace io (selectOn k io rest) refl)
       ∙ append-nil (over high))
 
-  io-windows : select (λ p. inSpace ioSpace (p .pool)) (windowPieces k b rest) ≡ over io
+  io-windows : keep (λ p. inSpace ioSpace (p .pool)) (windowPieces k b rest) ≡ over io
   unfolding windowPieces
   io-windows =
       let test : Piece → Bool = λ p. inSpace ioSpace (p .pool) in
-      select-append test (over low) (over high ++ over io)
+      keep-append test (over low) (over high ++ over io)
       ∙ ap₂ _++_ (over-dropped k b ioSpace low (selectOn k low rest) refl)
-      (select-append test (over high) (over io)
+      (keep-append test (over high) (over io)
       ∙ ap₂ _++_ (over-dropped k b ioSpace high (selectOn k high rest) refl) (over-kept k b ioSpace io (selectOn k io rest) refl))
 
 none-of-map : (ws : List Placed) → map (λ (x : Placed). x .piece) ws ≡ [] → ws ≡ []
@@ -127,20 +127,20 @@ module _ (h : Host) (fs : List Function) (fits : BoardFits h fs) (planned : refu
         ∙ sym (bars-at sp (toHost h) ps (fits .board .lawful) i (toFunction f) is-at base
         (bar-start-is (toHost h) ps (fits .board .lawful) i (toFunction f) is-at (slots rs) refl))
 
-    edges : (sp : Space) (q : Pool) (x : Placed) → WindowAt q (select (isWindowOf sp (suc i)) xs) x → Edges q (x .start) (endOf x)
+    edges : (sp : Space) (q : Pool) (x : Placed) → WindowAt q (keep (isWindowOf sp (suc i)) xs) x → Edges q (x .start) (endOf x)
     edges sp q x w =
         window-edges (toHost h) ps (fits .board) kept q x
-        (record { among = select-elim (isWindowOf sp (suc i)) xs (w .among) .0; is-window = w .is-window; pool-is = w .pool-is })
+        (record { among = keep-elim (isWindowOf sp (suc i)) xs (w .among) .0; is-window = w .is-window; pool-is = w .pool-is })
 
     windows-are : (sp : Space)
-        → map (λ (x : Placed). x .piece) (select (isWindowOf sp (suc i)) xs)
-        ≡ select (λ p. inSpace sp (p .pool)) (cond (isBridge f) (windowPieces (suc i) (f .parent) (pieces (suc (suc i)) (drop (suc i) ps))) [])
+        → map (λ (x : Placed). x .piece) (keep (isWindowOf sp (suc i)) xs)
+        ≡ keep (λ p. inSpace sp (p .pool)) (cond (isBridge f) (windowPieces (suc i) (f .parent) (pieces (suc (suc i)) (drop (suc i) ps))) [])
     windows-are sp = windows-of-record sp (toHost h) ps (fits .board .lawful) i (toFunction f) (at-placing i fs f gs at)
 
     no-windows : (sp : Space) → isBridge f ≡ false → windowsOf sp xs (suc i) ≡ []
     no-windows sp e =
         let none = rw e at (windows-are sp) in
-        ap (map rangeOf) (none-of-map (select (isWindowOf sp (suc i)) xs) (none ∙ select-nil (λ p. inSpace sp (p .pool))))
+        ap (map rangeOf) (none-of-map (keep (isWindowOf sp (suc i)) xs) (none ∙ keep-nil (λ p. inSpace sp (p .pool))))
 
     windows-agree : (sp : Space) → sheetWindows (spaceOf sp) entry ≡ windowsOf sp xs (suc i)
     windows-agree memorySpace = go (isBridge f) refl
@@ -150,8 +150,8 @@ module _ (h : Host) (fs : List Function) (fits : BoardFits h fs) (planned : refu
 
         go : (t : Bool) → isBridge f ≡ t → sheetWindows Memory entry ≡ windowsOf memorySpace xs (suc i)
         go true e =
-            rw (e, window-for-select memorySpace (suc i) Low refl xs, window-for-select memorySpace (suc i) High refl xs)
-            (ranges-of-two (suc i) (f .parent) (selectOn (suc i) low rest) (selectOn (suc i) high rest) (select (isWindowOf memorySpace (suc i)) xs)
+            rw (e, window-for-keep memorySpace (suc i) Low refl xs, window-for-keep memorySpace (suc i) High refl xs)
+            (ranges-of-two (suc i) (f .parent) (selectOn (suc i) low rest) (selectOn (suc i) high rest) (keep (isWindowOf memorySpace (suc i)) xs)
             ((rw e at (windows-are memorySpace)) ∙ memory-windows (suc i) (f .parent) rest) (edges memorySpace))
         go false e = rw (e, range-of-closed Low, range-of-closed High) (sym (no-windows memorySpace e))
     windows-agree ioSpace = go (isBridge f) refl
@@ -161,8 +161,8 @@ module _ (h : Host) (fs : List Function) (fits : BoardFits h fs) (planned : refu
 
         go : (t : Bool) → isBridge f ≡ t → sheetWindows Ports entry ≡ windowsOf ioSpace xs (suc i)
         go true e =
-            rw (e, window-for-select ioSpace (suc i) Io refl xs)
-            (ranges-of-one (suc i) (f .parent) (selectOn (suc i) io rest) (select (isWindowOf ioSpace (suc i)) xs)
+            rw (e, window-for-keep ioSpace (suc i) Io refl xs)
+            (ranges-of-one (suc i) (f .parent) (selectOn (suc i) io rest) (keep (isWindowOf ioSpace (suc i)) xs)
             ((rw e at (windows-are ioSpace)) ∙ io-windows (suc i) (f .parent) rest) (edges ioSpace))
         go false e = rw (e, range-of-closed Io) (sym (no-windows ioSpace e))
 

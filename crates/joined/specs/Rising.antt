@@ -8,8 +8,8 @@ use lib.ListN.{length, length-map}
 use lib.Dec.{eqb}
 use borrow.Author.Tests.{eqb-true, eqb-false}
 use Rattle.records.specs.RecordsLaws.{false-of-or}
-use Rattle.placing.specs.Lists.{All, Pairwise}
-use Rattle.placing.specs.ListLaws.{all-imp, all-imp₂}
+use Rattle.lists.specs.Lists.{All, Pairwise}
+use Rattle.lists.specs.ListLaws.{all-imp, all-imp₂}
 use Rattle.placing.specs.Preorder.{parentOf}
 use Rattle.board.specs.declared.Function.{Function}
 use Rattle.board.specs.Order.{lastSibling, misplaced, anyMisplaced}

@@ -13,8 +13,8 @@ use Rattle.bar.specs.PlacedLaws.{AllPlaced, length-placed-values, placed-value-
 use Rattle.window.specs.declared.Window.{Window}
 use Rattle.window.specs.Window.{closed, Fits}
 use Rattle.window.specs.WindowLaws.{closed-fits}
-use Rattle.placing.specs.Lists.{All}
-use Rattle.placing.specs.ListLaws.{drop-suc}
+use Rattle.lists.specs.Lists.{_∈_, All}
+use Rattle.lists.specs.ListLaws.{drop-suc, all-elim}
 use Rattle.placing.specs.Records as placing
 use Rattle.placing.specs.RecordLaws.{IsAt}
 use Rattle.placing.specs.Layout.{Placed}
@@ -28,10 +28,7 @@ use Rattle.board.specs.declared.Host.{Host}
 use Rattle.board.specs.declared.Function.{Function}
 use Rattle.board.specs.Function.{isBridge, slotCount}
 use Rattle.board.specs.ToPlacing.{toHost, toFunction, toPlacing}
-use Rattle.walk.specs.Lists.{_∈_}
-use Rattle.walk.specs.Lists.{All as WalkAll}
 use Rattle.layout.specs.Layout.{Dwords, NoBridge, Shaped, WellShaped}
-use Rattle.planned.specs.Lists.{member-of-all}
 use Rattle.planned.specs.Kept.{AllKept, kept-of-planned}
 use Rattle.planning.specs.Plan.{slotsOf, ofBridge, entryFor, plannedFrom, planOf}
 use Rattle.joined.specs.Fits.{FunctionFits, BoardFits}
@@ -107,7 +104,7 @@ module _ (h : Host) (fs : List Function) (fits : BoardFits h fs) (planned : refu
   pub range-at : (i : ℕ) (f : Function) (gs : List Function) → StandsAt fs i f gs → isBridge f ≡ true
       → Range (first + bridges ps) (rowOf first ps (suc i) (toFunction f))
   range-at i f gs at is =
-      member-of-all _ (numbered first ps) (well-numbered first ps (fits .board .lawful) .ranged) (row-at first i fs f gs at) is
+      all-elim _ (numbered first ps) (well-numbered first ps (fits .board .lawful) .ranged) (row-at first i fs f gs at) is
 
   module _ (i : ℕ) (f : Function) (gs : List Function) (at : StandsAt fs i f gs) (fit : FunctionFits f) where
     pub bars-placed-at : AllPlaced (λ j. barStart (suc i) j xs) (slots (slotReadbacks f))
@@ -147,8 +144,8 @@ module _ (h : Host) (fs : List Function) (fits : BoardFits h fs) (planned : refu
           no-bridge = no-bridge;
         }
 
-  shaped-from : (i : ℕ) (gs : List Function) → drop i fs ≡ gs → All FunctionFits gs → WalkAll WellShaped (plannedFrom first ps xs (suc i) gs)
-  unfolding WalkAll plannedFrom
+  shaped-from : (i : ℕ) (gs : List Function) → drop i fs ≡ gs → All FunctionFits gs → All WellShaped (plannedFrom first ps xs (suc i) gs)
+  unfolding plannedFrom
   shaped-from i [] e fit = tt
   shaped-from i (f ∷ gs) e fit = (
     record { entry = entry-shaped i f gs e (fit .0); command = fit .0 .command },
@@ -156,6 +153,6 @@ module _ (h : Host) (fs : List Function) (fits : BoardFits h fs) (planned : refu
   )
 
   -- every record of the plan
-  pub shaped : WalkAll WellShaped (planOf h fs)
+  pub shaped : All WellShaped (planOf h fs)
   unfolding planOf
   shaped = shaped-from 0 fs refl (fits .functions)

@@ -19,8 +19,9 @@ use Rattle.bar.specs.declared.Slot.the-variants.{Unused, Bar, Upper, Bad}
 use Rattle.bar.specs.Bar.{width, slots}
 use Rattle.bar.specs.Bars.{barsFrom}
 use Rattle.bar.specs.PlacedLaws.{PlacedSlot, AllPlaced}
-use Rattle.placing.specs.Lists.{All, Pairwise}
-use Rattle.placing.specs.ListLaws.{all-imp}
+use Rattle.lists.specs.Lists.{_∈_, All, Pairwise, keep}
+use Rattle.lists.specs.ListLaws.{all-imp, all-elim}
+use Rattle.lists.specs.KeepLaws.{keep-elim, keep-intro}
 use Rattle.placing.specs.Records as placing
 use Rattle.placing.specs.Records.{Host, Lawful}
 use Rattle.placing.specs.RecordLaws.{IsAt}
@@ -31,25 +32,23 @@ use Rattle.placing.specs.Placed.{well-placed}
 use Rattle.placer.specs.Registers.{isPart, barStart}
 use Rattle.placer.specs.FunctionLaws.{windows-only}
 use Rattle.placer.specs.WordLaws.{Fitting, all-fitting}
-use Rattle.walk.specs.Lists.{_∈_, select, select-elim, select-intro}
-use Rattle.planned.specs.Lists.{member-of-all}
 use Rattle.planned.specs.Boards.{IsOpen, HostEdges, Board}
 use Rattle.planned.specs.Kept.{AllKept, not-empty, placed-in-pool, pool-open}
 use Rattle.planned.specs.RecordPieces.{pieces-of-record}
 
 -- ## The search for a BAR, among the pieces of one record
 
-pub bar-start-own : (k j : ℕ) (xs : List Placed) → barStart k j xs ≡ barStart k j (select (λ x. eqb (x .piece .owner) k) xs)
-unfolding barStart select
+pub bar-start-own : (k j : ℕ) (xs : List Placed) → barStart k j xs ≡ barStart k j (keep (λ x. eqb (x .piece .owner) k) xs)
+unfolding barStart keep
 bar-start-own k j [] = refl
 bar-start-own k j (x ∷ xs) = go (eqb (x .piece .owner) k) refl (bar-start-own k j xs)
   where
     rest : List Placed
-    rest = select (λ x. eqb (x .piece .owner) k) xs
+    rest = keep (λ x. eqb (x .piece .owner) k) xs
 
-    go : (t : Bool) → eqb (x .piece .owner) k ≡ t → barStart k j xs ≡ barStart k j (select (λ x. eqb (x .piece .owner) k) xs)
+    go : (t : Bool) → eqb (x .piece .owner) k ≡ t → barStart k j xs ≡ barStart k j (keep (λ x. eqb (x .piece .owner) k) xs)
         → cond (t && isPart (x .piece .part) j) (x .start) (barStart k j xs)
-        ≡ barStart k j (cond t (x ∷ select (λ x. eqb (x .piece .owner) k) xs) (select (λ x. eqb (x .piece .owner) k) xs))
+        ≡ barStart k j (cond t (x ∷ keep (λ x. eqb (x .piece .owner) k) xs) (keep (λ x. eqb (x .piece .owner) k) xs))
     go true q e = rw q (ap (cond (isPart (x .piece .part) j) (x .start)) e)
     go false q e = e
 
@@ -73,7 +72,7 @@ module _ (k b : ℕ) where
   unfolding barStart barPieces
   first-start [] ws xs e w r x j m is =
       let in-windows : x .piece ∈ ws = rw e at (Memᴰ·map (λ (y : Placed). y .piece) m) in
-      absurd (true≢false (sym (member-of-all (λ p. isWindow (p .part) ≡ true) ws w in-windows) ∙ ap isWindow is))
+      absurd (true≢false (sym (all-elim (λ p. isWindow (p .part) ≡ true) ws w in-windows) ∙ ap isWindow is))
   first-start (c ∷ cs) ws [] e w r x j m is = absurd (List·Memᴰ·not-nil m)
   first-start (c ∷ cs) ws (y ∷ ys) e w r x j m is =
       ⊎-elim here (λ n. there n (first-start cs ws ys (tail-eq-of-cons-eq e) w (r .1) x j n is)) (List·Memᴰ·cases-cons m)
@@ -93,7 +92,7 @@ module _ (k b : ℕ) where
           → cond (eqb (y .piece .owner) k && isPart (y .piece .part) j) (y .start) (barStart k j ys) ≡ x .start
       there n on =
           let in-later : x .piece ∈ barPieces k b cs ++ ws = rw (tail-eq-of-cons-eq e) at (Memᴰ·map (λ (z : Placed). z .piece) n) in
-          let later = member-of-all _ (barPieces k b cs ++ ws) (slots-later (c .slot) cs ws (r .0) w) in-later j is in
+          let later = all-elim _ (barPieces k b cs ++ ws) (slots-later (c .slot) cs ws (r .0) w) in-later j is in
           let part : y .piece .part ≡ bar (c .slot) = ap (λ (p : Piece). p .part) piece in
           rw (owner, part, ne-eqb (c .slot) j (λ same. omega arith)) on
 
@@ -177,7 +176,7 @@ pub record PlacedBar (h : Host) (fs : List placing.Function) (i b : ℕ) (c : pl
 module _ (h : Host) (fs : List placing.Function) (lawful : Lawful fs) (i : ℕ) (f : placing.Function) (at : IsAt fs i f)
     (ss : List Slot) (bars : f .bars ≡ barsFrom 0 ss) where
   own : List Placed
-  own = select (λ x. eqb (x .piece .owner) (suc i)) (placed h fs)
+  own = keep (λ x. eqb (x .piece .owner) (suc i)) (placed h fs)
 
   windows : List Piece
   windows = cond (f .bridge) (windowPieces (suc i) (f .parent) (pieces (suc (suc i)) (drop (suc i) fs))) []
@@ -191,7 +190,7 @@ module _ (h : Host) (fs : List placing.Function) (lawful : Lawful fs) (i : ℕ) 
       → x .start ≡ barStart (suc i) j (placed h fs)
   unfolding own windows
   bar-start-is x j m o is =
-      let mine : x ∈ own = select-intro (λ y. eqb (y .piece .owner) (suc i)) (placed h fs) m (eq-eqb (x .piece .owner) (suc i) o) in
+      let mine : x ∈ own = keep-intro (λ y. eqb (y .piece .owner) (suc i)) (placed h fs) m (eq-eqb (x .piece .owner) (suc i) o) in
       let only = windows-only (suc i) (f .parent) (pieces (suc (suc i)) (drop (suc i) fs)) (f .bridge) in
       sym (bar-start-own (suc i) j (placed h fs)
       ∙ first-start (suc i) (f .parent) (barsFrom 0 ss) windows own own-pieces only (bars-rise 0 ss) x j mine is)
@@ -203,7 +202,7 @@ module _ (h : Host) (fs : List placing.Function) (lawful : Lawful fs) (i : ℕ) 
       let among : barPiece (suc i) (f .parent) c ∈ map (λ (x : Placed). x .piece) own =
       rw own-pieces (Memᴰ·append-left windows (bar-piece-mem (suc i) (f .parent) (barsFrom 0 ss) m)) in
       let (x, mine, e) = Memᴰ·of-map (λ (y : Placed). y .piece) own among in
-      let there = select-elim (λ y. eqb (y .piece .owner) (suc i)) (placed h fs) mine .0 in
+      let there = keep-elim (λ y. eqb (y .piece .owner) (suc i)) (placed h fs) mine .0 in
       let o = ap (λ (p : Piece). p .owner) e in
       let part = ap (λ (p : Piece). p .part) e in
       record { piece = x; is-placed = there; piece-is = e; start-is = bar-start-is x (c .slot) there o part }
@@ -235,7 +234,7 @@ module _ (h : Host) (fs : List placing.Function) (board : Board h fs) (kept : Al
             let pool : x .piece .pool ≡ q = ap (λ (p : Piece). p .pool) (b .piece-is) in
             let size : x .piece .size ≡ z = ap (λ (p : Piece). p .size) (b .piece-is) in
             let no-window : isWindow (x .piece .part) ≡ false = ap (λ (p : Piece). isWindow (p .part)) (b .piece-is) in
-            let multiple = member-of-all _ (placed h fs) (well-placed h fs (board .lawful) .bar-aligned) (b .is-placed) no-window in
+            let multiple = all-elim _ (placed h fs) (well-placed h fs (board .lawful) .bar-aligned) (b .is-placed) no-window in
             let end = subst (λ (p : Pool). endOf x ≤ 2 ^ addressBits p) pool (end-le (b .is-placed)) in
             let before : x .start < 2 ^ addressBits q = omega (arith, not-empty h fs (board .lawful) (b .is-placed)) in
             subst (PlacedSlot (Bar q wide z)) (b .start-is)

@@ -17,7 +17,7 @@ use Rattle.placing.specs.RecordLaws.{false-of-not}
 use Rattle.placing.specs.Layout.{Piece, Placed, endOf, isWindow}
 use Rattle.placing.specs.Pieces.{windowOver, windowPiece}
 use Rattle.placer.specs.Registers.{isWindowIn, windowFor}
-use Rattle.walk.specs.Lists.{_∈_, select}
+use Rattle.lists.specs.Lists.{_∈_, keep}
 use Rattle.walk.specs.Ranges.{Pool as RangePool}
 use Rattle.sheet.specs.Spaces.{poolOf, openRange}
 use Rattle.planned.specs.Spaces.{Space, inSpace, rangePool}
@@ -52,11 +52,11 @@ module _ (k : ℕ) (q : Pool) (x : Placed) (xs : List Placed) where
   window-for-miss e = rw e
 
 -- all windows of the space that the search could look at are among those selected
-pub window-for-select : (sp : Space) (k : ℕ) (q : Pool) → inSpace sp q ≡ true → (xs : List Placed)
-    → windowFor k q xs ≡ windowFor k q (select (isWindowOf sp k) xs)
-unfolding select
-window-for-select sp k q in-sp [] = refl
-window-for-select sp k q in-sp (x ∷ xs) = go (isWindowOf sp k x) refl (window-for-select sp k q in-sp xs)
+pub window-for-keep : (sp : Space) (k : ℕ) (q : Pool) → inSpace sp q ≡ true → (xs : List Placed)
+    → windowFor k q xs ≡ windowFor k q (keep (isWindowOf sp k) xs)
+unfolding keep
+window-for-keep sp k q in-sp [] = refl
+window-for-keep sp k q in-sp (x ∷ xs) = go (isWindowOf sp k x) refl (window-for-keep sp k q in-sp xs)
   where
     tests : (eqb (x .piece .owner) k && isWindowIn q x) ≡ true → isWindowOf sp k x ≡ true
     tests e =
@@ -65,17 +65,17 @@ window-for-select sp k q in-sp (x ∷ xs) = go (isWindowOf sp k x) refl (window-
         let pool : inSpace sp (x .piece .pool) ≡ true = ap (inSpace sp) (eq-of-same-pool (x .piece .pool) q (inner .1)) ∙ in-sp in
         rw (outer .0, pool, inner .0)
 
-    same : (t : Bool) → (eqb (x .piece .owner) k && isWindowIn q x) ≡ t → windowFor k q xs ≡ windowFor k q (select (isWindowOf sp k) xs)
-        → windowFor k q (x ∷ xs) ≡ windowFor k q (x ∷ select (isWindowOf sp k) xs)
+    same : (t : Bool) → (eqb (x .piece .owner) k && isWindowIn q x) ≡ t → windowFor k q xs ≡ windowFor k q (keep (isWindowOf sp k) xs)
+        → windowFor k q (x ∷ xs) ≡ windowFor k q (x ∷ keep (isWindowOf sp k) xs)
     same true e on =
         let outer = both-of-and (eqb (x .piece .owner) k) (isWindowIn q x) e in
         let inner = both-of-and (isWindow (x .piece .part)) (samePool (x .piece .pool) q) (outer .1) in
         let o = eqb-true (x .piece .owner) k (outer .0) in
-        window-for-hit k q x xs o (inner .0) (inner .1) ∙ sym (window-for-hit k q x (select (isWindowOf sp k) xs) o (inner .0) (inner .1))
-    same false e on = window-for-miss k q x xs e ∙ on ∙ sym (window-for-miss k q x (select (isWindowOf sp k) xs) e)
+        window-for-hit k q x xs o (inner .0) (inner .1) ∙ sym (window-for-hit k q x (keep (isWindowOf sp k) xs) o (inner .0) (inner .1))
+    same false e on = window-for-miss k q x xs e ∙ on ∙ sym (window-for-miss k q x (keep (isWindowOf sp k) xs) e)
 
-    go : (t : Bool) → isWindowOf sp k x ≡ t → windowFor k q xs ≡ windowFor k q (select (isWindowOf sp k) xs)
-        → windowFor k q (x ∷ xs) ≡ windowFor k q (cond t (x ∷ select (isWindowOf sp k) xs) (select (isWindowOf sp k) xs))
+    go : (t : Bool) → isWindowOf sp k x ≡ t → windowFor k q xs ≡ windowFor k q (keep (isWindowOf sp k) xs)
+        → windowFor k q (x ∷ xs) ≡ windowFor k q (cond t (x ∷ keep (isWindowOf sp k) xs) (keep (isWindowOf sp k) xs))
     go true e on = same (eqb (x .piece .owner) k && isWindowIn q x) refl on
     go false e on =
         let miss = false-of-not (eqb (x .piece .owner) k && isWindowIn q x) (λ t. true≢false (sym (tests t) ∙ e)) in
@@ -84,14 +84,14 @@ window-for-select sp k q in-sp (x ∷ xs) = go (isWindowOf sp k x) refl (window-
 module _ (k b : ℕ) where
   -- what a record puts in one pool, and its window registers there
   pub over-kept : (sp : Space) (q : Pool) (content : List Piece) → inSpace sp q ≡ true
-      → select (λ p. inSpace sp (p .pool)) (windowOver k b q content) ≡ windowOver k b q content
-  unfolding select
+      → keep (λ p. inSpace sp (p .pool)) (windowOver k b q content) ≡ windowOver k b q content
+  unfolding keep
   over-kept sp q [] e = refl
   over-kept sp q (c ∷ cs) e = rw e
 
   pub over-dropped : (sp : Space) (q : Pool) (content : List Piece) → inSpace sp q ≡ false
-      → select (λ p. inSpace sp (p .pool)) (windowOver k b q content) ≡ []
-  unfolding select
+      → keep (λ p. inSpace sp (p .pool)) (windowOver k b q content) ≡ []
+  unfolding keep
   over-dropped sp q [] e = refl
   over-dropped sp q (c ∷ cs) e = rw e
 

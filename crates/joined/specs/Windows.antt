@@ -22,8 +22,8 @@ use Rattle.placing.specs.Layout.{Placed, endOf, isWindow}
 use Rattle.placing.specs.Placing.{placed}
 use Rattle.placing.specs.Placed.{well-placed}
 use Rattle.placer.specs.Registers.{isWindowIn, windowFor}
-use Rattle.walk.specs.Lists.{_∈_}
-use Rattle.planned.specs.Lists.{member-of-all}
+use Rattle.lists.specs.Lists.{_∈_}
+use Rattle.lists.specs.ListLaws.{all-elim}
 use Rattle.planned.specs.Boards.{Board}
 use Rattle.planned.specs.Kept.{AllKept, not-empty}
 use Rattle.joined.specs.Starts.{addressBits, end-le}
@@ -66,7 +66,7 @@ bits-bound Io = omega arith
 module _ (h : Host) (fs : List placing.Function) (board : Board h fs) (kept : AllKept h fs) where
   pub window-edges : (q : Pool) (x : Placed) → WindowAt q (placed h fs) x → Edges q (x .start) (endOf x)
   window-edges q x w =
-      let multiples = member-of-all _ (placed h fs) (well-placed h fs (board .lawful) .window-aligned) (w .among) (w .is-window) in
+      let multiples = all-elim _ (placed h fs) (well-placed h fs (board .lawful) .window-aligned) (w .among) (w .is-window) in
       let end = subst (λ (p : Pool). endOf x ≤ 2 ^ addressBits p) (w .pool-is) (end-le h fs board kept (w .among)) in
       record {
         start-multiple = subst (λ (p : Pool). Multiple (granule p) (x .start)) (w .pool-is) (multiples .0);

@@ -7,7 +7,7 @@ use lib.ListN.{getD}
 use Rattle.endian.specs.Endian.{Bytes, beBytes, leBytes}
 use Rattle.endian.specs.BytesLaws.{bytes-nil, bytes-cons, bytes-append}
 use Rattle.endian.specs.EndianLaws.{bytes-beBytes, bytes-leBytes}
-use Rattle.walk.specs.Lists.{All}
+use Rattle.lists.specs.Lists.{All}
 use Rattle.sheet.specs.Entry.{Entry, recordSize, isBridge}
 use Rattle.layout.specs.Layout.{Planned, Shaped, WellShaped, zeros, dwordBytes, endBytes, bridgeBytes, bodyBytes, commonBytes, configBytes, partBytes, recordBytes, sheetBytes}
 
@@ -73,7 +73,7 @@ of-record p w =
     both (of-be 2 recordSize) (both (both (of-be 2 (p .entry .id)) config) (of-dwords (beBytes 4) (of-be 4) 6 (p .entry .readbacks) 0))
 
 of-records : (ps : List Planned) → All WellShaped ps → Held (flatMap recordBytes ps)
-unfolding All flatMap
+unfolding flatMap
 of-records [] w = none
 of-records (p ∷ ps) w = both (of-record p (w .0 .entry)) (of-records ps (w .1))
 

@@ -2,25 +2,23 @@
 use mathlib.Core.Path.{_≡_, refl, sym, ap, ap₂, _∙_}
 use mathlib.Core.Bool.{Bool, true, false, cond}
 use mathlib.Core.List.{List, [], _∷_, _++_, flatMap, map, append-assoc, append-nil}
-use Prim.Native.Nat.{ℕ, zero, suc, _+_, _*_, _%_, _^_, _≤_, _<_}
-use native.Mathlib.Nat.{mod-eq-of-lt, add-zero}
+use Prim.Native.Nat.{ℕ, zero, suc, _+_, _^_, _<_}
+use native.Mathlib.Nat.{mod-eq-of-lt}
 use native.Mathlib.Numerals.{add-one}
 use native.Mathlib.Omega.{arith}
 use lib.ListN.{length, getD, take, drop, length-append, drop-of-length-le}
 use lib.Seq.{take-at, drop-at, drop-cons}
 use borrow.Author.Tests.{eq-eqb, le-ltb}
 use Rattle.endian.specs.Endian.{be, beBytes, le, leBytes}
-use Rattle.endian.specs.ByteOrder.{ByteOrder, length-write, read-write, read-write-at}
+use Rattle.endian.specs.ByteOrder.{ByteOrder, length-write, read-write-at}
 use Rattle.endian.specs.EndianLaws.{big-endian, little-endian, be-beBytes, le-leBytes, length-beBytes}
-use Rattle.pools.specs.declared.Pool.{Pool}
 use Rattle.pools.specs.declared.Pool.the-variants.{Low, High, Io}
-use Rattle.window.specs.declared.Window.{Window}
 use Rattle.window.specs.Window.{closed, Fits}
 use Rattle.window.specs.WindowLaws.{uppers-zero}
 use Rattle.records.specs.declared.Next.the-variants.{End, Record}
 use Rattle.records.specs.Records.{nextOf, Parts, partsOf}
 use Rattle.records.specs.RecordsLaws.{partsOf-step}
-use Rattle.walk.specs.Lists.{All}
+use Rattle.lists.specs.Lists.{All}
 use Rattle.sheet.specs.Entry.{Entry, recordSize, dwords, isBridge, slotCount, idOf, commandOf, headerOf, primaryOf, secondaryOf, subordinateOf, windowOf, entryOf}
 use Rattle.sheet.specs.Sheet.{allSized, isFramed, Framed, partsIn, entriesFrom, entriesOf, commandsOf}
 use Rattle.layout.specs.Layout.{Planned, Dwords, NoBridge, Shaped, WellShaped, zeros, dwordBytes, endBytes, numberBytes, memoryBytes, bridgeBytes, bodyBytes, commonBytes, configBytes, partBytes, recordBytes, sheetBytes}
@@ -250,12 +248,10 @@ pub partsIn-sheetBytes : (ps : List Planned) → partsIn (sheetBytes ps) ≡ map
 partsIn-sheetBytes ps = ap (λ (r : Parts). r .parts) (partsOf-sheetBytes ps)
 
 entries-of-parts : (ps : List Planned) → All WellShaped ps → map entryOf (map partBytes ps) ≡ map (λ p. p .entry) ps
-unfolding All
 entries-of-parts [] w = refl
 entries-of-parts (p ∷ ps) w = ap₂ _∷_ (entryOf-partBytes p (w .0 .entry)) (entries-of-parts ps (w .1))
 
 commands-of-parts : (ps : List Planned) → All WellShaped ps → map commandOf (map partBytes ps) ≡ map (λ p. p .command) ps
-unfolding All
 commands-of-parts [] w = refl
 commands-of-parts (p ∷ ps) w = ap₂ _∷_ (commandOf-partBytes p (w .0 .command)) (commands-of-parts ps (w .1))
 

@@ -12,7 +12,7 @@ use borrow.Author.Tests.{ltb-true, ltb-false}
 use Rattle.endian.specs.Endian.{beBytes, leBytes}
 use Rattle.endian.specs.SetsLaws.{getD-sets-before, getD-sets-after}
 use Rattle.endian.specs.EndianLaws.{length-leBytes}
-use Rattle.walk.specs.Lists.{All}
+use Rattle.lists.specs.Lists.{All}
 use Rattle.sheet.specs.Commands.{placeIn, SameButCommands}
 use Rattle.layout.specs.Layout.{Planned, WellShaped, commonBytes, configBytes, partBytes, recordBytes, sheetBytes, sheetLength}
 use Rattle.layout.specs.LayoutLaws.{length-recordBytes}
@@ -95,7 +95,7 @@ commands-commanded (p ∷ ps) zero command = refl
 commands-commanded (p ∷ ps) (suc k) command = ap (_∷_ (p .command)) (commands-commanded ps k command)
 
 pub shaped-commanded : (ps : List Planned) (k command : ℕ) → command < 2 ^ 16 → All WellShaped ps → All WellShaped (commanded ps k command)
-unfolding commanded All
+unfolding commanded
 shaped-commanded [] k command h w = w
 shaped-commanded (p ∷ ps) zero command h w = (record { entry = w .0 .entry; command = h }, w .1)
 shaped-commanded (p ∷ ps) (suc k) command h w = (w .0, shaped-commanded ps k command h (w .1))

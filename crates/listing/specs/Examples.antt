@@ -5,7 +5,7 @@ use Prim.Native.Nat.{ℕ}
 use Rattle.endian.specs.Endian.{be, beBytes, le}
 use Rattle.text.specs.Text.{ascii, hexadecimal, decimalOver, decimal}
 use Rattle.records.specs.Records.{nextOf, partsOver, partsOf, anyPart}
-use Rattle.placing.specs.Lists.{any, keep}
+use Rattle.lists.specs.Lists.{keep, any}
 use Rattle.placing.specs.Align.{alignUp}
 use Rattle.placing.specs.Layout.{layoutEnd, largestAlign}
 use Rattle.placing.specs.Pieces.{barPieces, windowPieces, ownPieces, pieces}

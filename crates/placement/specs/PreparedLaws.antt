@@ -8,7 +8,7 @@ use Rattle.endian.specs.Endian.{be}
 use Rattle.records.specs.Records.{partsFrom}
 use Rattle.records.specs.RecordsLaws.{false-of-or}
 use Rattle.bar.specs.Bar.{anyBad}
-use Rattle.placing.specs.Lists.{any}
+use Rattle.lists.specs.Lists.{any}
 use Rattle.placing.specs.Numbering.{bridges}
 use Rattle.board.specs.declared.Function.{Function}
 use Rattle.board.specs.Function.{isBridge, isBridgeHeader, functionOfPart, readbacksWrong}

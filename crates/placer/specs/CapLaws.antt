@@ -12,7 +12,7 @@ use Rattle.pools.specs.PoolsLaws.{granule-pos}
 use Rattle.bar.specs.declared.Slot.{Slot}
 use Rattle.bar.specs.declared.Slot.the-variants.{Unused, Bar, Upper, Bad}
 use Rattle.bar.specs.Bar.{BarSize, SizedSlot}
-use Rattle.placing.specs.Lists.{All}
+use Rattle.lists.specs.Lists.{All}
 use Rattle.placing.specs.Align.{alignUp}
 use Rattle.placing.specs.declared.Extent.{Extent}
 use Rattle.placing.specs.Cap.{cap, capped, cap-cap, cap-align}

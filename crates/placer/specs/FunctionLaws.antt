@@ -16,8 +16,9 @@ use Rattle.bar.specs.declared.Slot.{Slot}
 use Rattle.bar.specs.declared.Slot.the-variants.{Unused, Bar, Upper, Bad}
 use Rattle.bar.specs.Values.{valueOf, registersOf}
 use Rattle.placing.specs.Order.{true-or-false, both-of-and}
-use Rattle.placing.specs.Lists.{All, keep}
-use Rattle.placing.specs.ListLaws.{all-append, all-imp, all-imp₂, all-keep, all-of-keep, keep-none, keep-append}
+use Rattle.lists.specs.Lists.{All, keep}
+use Rattle.lists.specs.ListLaws.{all-append, all-imp, all-imp₂}
+use Rattle.lists.specs.KeepLaws.{all-keep, all-of-keep, keep-none, keep-append}
 use Rattle.placing.specs.Align.{alignUp}
 use Rattle.placing.specs.PoolLaws.{same-pool-refl, eq-of-same-pool, is-on-of-on, is-on-of-ne}
 use Rattle.placing.specs.Records.{Function}

@@ -10,8 +10,8 @@ use lib.ListN.{getD, drop}
 use Rattle.pools.specs.declared.Pool.{Pool}
 use Rattle.bar.specs.declared.Slot.{Slot}
 use Rattle.window.specs.Window.{closed, opened, bound}
-use Rattle.placing.specs.Lists.{All}
-use Rattle.placing.specs.ListLaws.{all-of, all-imp, all-drop, all-forall}
+use Rattle.lists.specs.Lists.{All}
+use Rattle.lists.specs.ListLaws.{all-of, all-imp, all-drop, all-forall}
 use Rattle.placing.specs.Records.{Host, Function, Sized, Lawful, DepthFirst}
 use Rattle.placing.specs.RecordLaws.{IsAt, ordered-from}
 use Rattle.placing.specs.Layout.{Placed, endOf}

@@ -21,7 +21,7 @@ use Rattle.bar.specs.Bar.{SizedSlot}
 use Rattle.bar.specs.BarLaws.{sized-slots, length-first, length-slots, slots-at-step, any-bad-of-bad, any-bad-step}
 use Rattle.bar.specs.Values.{valueOf, registersOf}
 use Rattle.window.specs.Window.{closed, opened}
-use Rattle.placing.specs.Lists.{All}
+use Rattle.lists.specs.Lists.{All}
 use Rattle.placing.specs.RecordLaws.{false-of-not}
 use Rattle.placing.specs.Align.{alignUp}
 use Rattle.placing.specs.declared.Extent.{Extent}

@@ -12,8 +12,9 @@ use Rattle.pools.specs.Pools.{granule}
 use Rattle.bar.specs.declared.Slot.{Slot}
 use Rattle.bar.specs.Bar.{slots}
 use Rattle.bar.specs.Bar.{SizedSlot}
-use Rattle.placing.specs.Lists.{All}
-use Rattle.placing.specs.ListLaws.{all-imp, all-keep, all-drop}
+use Rattle.lists.specs.Lists.{All}
+use Rattle.lists.specs.ListLaws.{all-imp, all-drop}
+use Rattle.lists.specs.KeepLaws.{all-keep}
 use Rattle.placing.specs.Order.{eq-or-ne}
 use Rattle.placing.specs.Align.{PowerOfTwo}
 use Rattle.placing.specs.PoolLaws.{granule-power}

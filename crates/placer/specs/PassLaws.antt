@@ -12,8 +12,8 @@ use lib.Seq.{drop-nil}
 use borrow.Author.Tests.{ne-eqb}
 use Rattle.pools.specs.declared.Pool.{Pool}
 use Rattle.window.specs.Window.{closed, opened}
-use Rattle.placing.specs.Lists.{All}
-use Rattle.placing.specs.ListLaws.{all-imp, all-append}
+use Rattle.lists.specs.Lists.{All}
+use Rattle.lists.specs.ListLaws.{all-imp, all-append}
 use Rattle.placing.specs.Records.{Host, Function, Sized, Lawful}
 use Rattle.placing.specs.RecordLaws.{IsAt}
 use Rattle.placing.specs.Layout.{Piece, Placed, endOf}

@@ -14,8 +14,8 @@ use Rattle.bar.specs.Bar.{isWide, slotHere, slots}
 use Rattle.bar.specs.Values.{valueOf, registersOf}
 use Rattle.bar.specs.ValuesLaws.{typed-lt-64}
 use Rattle.window.specs.Window.{bound}
-use Rattle.placing.specs.Lists.{All}
-use Rattle.placing.specs.ListLaws.{all-append, all-left, all-right, all-drop}
+use Rattle.lists.specs.Lists.{All}
+use Rattle.lists.specs.ListLaws.{all-append, all-left, all-right, all-drop}
 use Rattle.placing.specs.Align.{alignUp, PowerOfTwo}
 use Rattle.placing.specs.AlignLaws.{pos-of-power}
 use Rattle.placing.specs.Records as placing

@@ -11,8 +11,9 @@ use lib.Dec.{eqb, ltb}
 use lib.ListN.{drop}
 use borrow.Author.Tests.{lt-ltb, le-ltb}
 use Rattle.placing.specs.Order.{le-or-lt}
-use Rattle.placing.specs.Lists.{All}
-use Rattle.placing.specs.ListLaws.{all-imp, all-keep, all-drop}
+use Rattle.lists.specs.Lists.{All}
+use Rattle.lists.specs.ListLaws.{all-imp, all-drop}
+use Rattle.lists.specs.KeepLaws.{all-keep}
 use Rattle.placing.specs.Align.{alignUp, PowerOfTwo}
 use Rattle.placing.specs.AlignLaws.{le-align-up, pos-of-power}
 use Rattle.placing.specs.Pools.{Pool, granule, samePool}

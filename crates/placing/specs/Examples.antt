@@ -4,7 +4,7 @@ use mathlib.Core.Path.{_≡_, refl}
 use mathlib.Core.Bool.{true, false, false≢true}
 use mathlib.Core.List.{List, [], _∷_, map}
 use Prim.Native.Nat.{ℕ, zero, suc, _-_}
-use Rattle.placing.specs.Lists.{All, keep, front, any}
+use Rattle.lists.specs.Lists.{All, keep, front, any}
 use Rattle.placing.specs.Align.{alignUp}
 use Rattle.placing.specs.Pools.{Pool, low, high, io}
 use Rattle.placing.specs.Records.{Host, Function, Bar, DepthFirst, onlyHost, Lawful}

@@ -11,8 +11,9 @@ use lib.Dec.{eqb, leb}
 use lib.ListN.{length, drop}
 use borrow.Author.Tests.{eq-eqb, ne-eqb, leb-true, le-leb}
 use Rattle.placing.specs.Order.{true-or-false}
-use Rattle.placing.specs.Lists.{All, keep, front}
-use Rattle.placing.specs.ListLaws.{all-imp, all-keep, keep-none, keep-append}
+use Rattle.lists.specs.Lists.{All, keep, front}
+use Rattle.lists.specs.ListLaws.{all-imp}
+use Rattle.lists.specs.KeepLaws.{all-keep, keep-none, keep-append}
 use Rattle.placing.specs.Pools.{Pool, low, high, io, samePool}
 use Rattle.placing.specs.PoolLaws.{is-on-of-ne}
 use Rattle.placing.specs.Records.{Bar, Function, Sized, run}

@@ -4,7 +4,7 @@ use mathlib.Core.Bool.{Bool, true, false, _&&_}
 use mathlib.Core.List.{List, [], _∷_}
 use Prim.Native.Nat.{ℕ, _+_, max}
 use lib.Dec.{eqb}
-use Rattle.placing.specs.Lists.{keep}
+use Rattle.lists.specs.Lists.{keep}
 use Rattle.placing.specs.Align.{alignUp}
 use Rattle.placing.specs.Pools.{Pool, samePool}
 

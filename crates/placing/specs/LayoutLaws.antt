@@ -5,8 +5,8 @@ use mathlib.Core.List.{List, [], _∷_, _++_, map}
 use Prim.Native.Nat.{ℕ, _+_, _≤_, _<_, max}
 use native.Mathlib.Omega.{arith}
 use native.Mathlib.Nat.{add-zero}
-use Rattle.placing.specs.Lists.{All, Pairwise}
-use Rattle.placing.specs.ListLaws.{all-imp}
+use Rattle.lists.specs.Lists.{All, Pairwise}
+use Rattle.lists.specs.ListLaws.{all-imp}
 use Rattle.placing.specs.Align.{Multiple, PowerOfTwo}
 use Rattle.placing.specs.AlignLaws.{le-align-up, align-up-multiple, align-up-add, power-max}
 use Rattle.placing.specs.Layout.{Piece, Placed, endOf, startAt, endAt, layout, layoutEnd, largestAlign}

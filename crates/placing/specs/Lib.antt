@@ -1,6 +1,5 @@
 -- Numbering and placing of a board in whole numbers. First the definitions, in the order of the house rules; then the laws; then the theorems
 -- that others cite: Placed, RefusalLaws, Numbered, SizingLaws, Cap, Siblings, Preorder.
-pub mod Lists
 pub mod Align
 pub mod Pools
 pub mod Records
@@ -12,7 +11,6 @@ pub mod Refusals
 pub mod Sizing
 pub mod Examples
 pub mod Order
-pub mod ListLaws
 pub mod AlignLaws
 pub mod PoolLaws
 pub mod RecordLaws

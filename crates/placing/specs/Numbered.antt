@@ -11,8 +11,8 @@ use lib.Dec.{eqb, leb}
 use lib.ListN.{drop}
 use borrow.Author.Tests.{eqb-true, eq-eqb, ne-eqb, leb-true, le-leb, lt-leb}
 use Rattle.placing.specs.Order.{le-or-lt, eq-or-ne, true-or-false}
-use Rattle.placing.specs.Lists.{All, Some, Pairwise, front}
-use Rattle.placing.specs.ListLaws.{all-imp, all-imp₂, all-and, drop-suc}
+use Rattle.lists.specs.Lists.{All, Some, Pairwise, front}
+use Rattle.lists.specs.ListLaws.{all-imp, all-imp₂, all-and, drop-suc}
 use Rattle.placing.specs.Records.{Function, DepthFirst, parentsAfter, onlyHost, Lawful, run}
 use Rattle.placing.specs.Pieces.{pieces}
 use Rattle.placing.specs.PieceLaws.{pieces-parent}

@@ -11,8 +11,8 @@ use lib.ListN.{length, take, drop}
 use lib.Seq.{take-add}
 use borrow.Author.Tests.{eqb-true, eq-eqb, ne-eqb, leb-false, le-leb, lt-leb}
 use Rattle.placing.specs.Order.{true-or-false}
-use Rattle.placing.specs.Lists.{front}
-use Rattle.placing.specs.ListLaws.{take-front}
+use Rattle.lists.specs.Lists.{front}
+use Rattle.lists.specs.KeepLaws.{take-front}
 use Rattle.placing.specs.Records.{Function, DepthFirst, parentsAfter, run}
 use Rattle.placing.specs.RecordLaws.{Subset, Bounded, bounded-step, parent-cases, false-of-not}
 use Rattle.placing.specs.Numbering.{weight, bridges, insert, greatestBelow}

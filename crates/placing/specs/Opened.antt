@@ -7,8 +7,9 @@ use mathlib.Core.List.{List, [], _∷_, _++_, map}
 use Prim.Native.Nat.{ℕ, suc, _≤_, _<_}
 use native.Mathlib.Omega.{arith}
 use Rattle.placing.specs.Order.{le-or-lt}
-use Rattle.placing.specs.Lists.{All, keep}
-use Rattle.placing.specs.ListLaws.{all-imp, all-imp₂, all-forall, all-append, all-keep, all-of-keep, keep-none, keep-append}
+use Rattle.lists.specs.Lists.{All, keep}
+use Rattle.lists.specs.ListLaws.{all-imp, all-imp₂, all-forall, all-append}
+use Rattle.lists.specs.KeepLaws.{all-keep, all-of-keep, keep-none, keep-append}
 use Rattle.placing.specs.AlignLaws.{pos-of-power, multiple-of-le, multiple-trans, le-align-up}
 use Rattle.placing.specs.Pools.{Pool, granule}
 use Rattle.placing.specs.PoolLaws.{granule-power, is-on-of-ne}

@@ -8,8 +8,9 @@ use native.Mathlib.Omega.{arith}
 use lib.Dec.{eqb}
 use borrow.Author.Tests.{eqb-true, eq-eqb}
 use Rattle.placing.specs.Order.{le-or-lt, true-or-false, both-of-and}
-use Rattle.placing.specs.Lists.{All, Some, Pairwise}
-use Rattle.placing.specs.ListLaws.{all-imp, all-imp₂, all-forall, all-of, all-append, all-keep, keep-none, none-of-keep, some-left, some-right, pairwise-append}
+use Rattle.lists.specs.Lists.{All, Some, Pairwise}
+use Rattle.lists.specs.ListLaws.{all-imp, all-imp₂, all-forall, all-of, all-append, some-left, some-right, pairwise-append}
+use Rattle.lists.specs.KeepLaws.{all-keep, keep-none, none-of-keep}
 use Rattle.placing.specs.Align.{Multiple, PowerOfTwo}
 use Rattle.placing.specs.AlignLaws.{pos-of-power, multiple-of-le, align-up-multiple, le-align-up, align-le-align-up}
 use Rattle.placing.specs.Pools.{Pool, low, high, io, granule, samePool}

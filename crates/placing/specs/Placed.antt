@@ -7,8 +7,9 @@ use mathlib.Core.List.{List, map}
 use Prim.Native.Nat.{ℕ, zero, suc, _≤_, _<_}
 use native.Mathlib.Omega.{arith}
 use Rattle.placing.specs.Order.{true-or-false}
-use Rattle.placing.specs.Lists.{All, Some, Pairwise}
-use Rattle.placing.specs.ListLaws.{all-imp, all-imp₂, all-and, all-of, all-forall, all-swap, all-keep, all-of-keep, some-and, some-imp, some-elim, pairwise-imp, pairwise-of-keep}
+use Rattle.lists.specs.Lists.{All, Some, Pairwise}
+use Rattle.lists.specs.ListLaws.{all-imp, all-imp₂, all-and, all-of, all-forall, all-swap, some-and, some-imp, some-elim, pairwise-imp}
+use Rattle.lists.specs.KeepLaws.{all-keep, all-of-keep, pairwise-of-keep}
 use Rattle.placing.specs.Align.{Multiple}
 use Rattle.placing.specs.AlignLaws.{multiple-trans, multiple-add}
 use Rattle.placing.specs.Pools.{Pool, granule}

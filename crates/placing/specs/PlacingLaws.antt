@@ -6,8 +6,9 @@ use mathlib.Core.Bool.{true, false}
 use mathlib.Core.List.{List, [], _∷_, _++_}
 use Prim.Native.Nat.{ℕ, suc}
 use Rattle.placing.specs.Order.{true-or-false}
-use Rattle.placing.specs.Lists.{All, Some, Pairwise, keep}
-use Rattle.placing.specs.ListLaws.{all-imp, keep-none}
+use Rattle.lists.specs.Lists.{All, Some, Pairwise, keep}
+use Rattle.lists.specs.ListLaws.{all-imp}
+use Rattle.lists.specs.KeepLaws.{keep-none}
 use Rattle.placing.specs.AlignLaws.{align-up-multiple}
 use Rattle.placing.specs.Pools.{Pool}
 use Rattle.placing.specs.PoolLaws.{on-of-is-on}

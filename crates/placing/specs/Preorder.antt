@@ -10,7 +10,7 @@ use native.Mathlib.Omega.{arith}
 use lib.ListN.{length, getD, drop, length-drop}
 use borrow.Author.Tests.{eqb-true, eq-eqb}
 use Rattle.placing.specs.Order.{eq-or-ne}
-use Rattle.placing.specs.ListLaws.{drop-suc}
+use Rattle.lists.specs.ListLaws.{drop-suc}
 use Rattle.placing.specs.Records.{Function, DepthFirst, parentsAfter, onlyHost}
 use Rattle.placing.specs.RecordLaws.{parent-cases, parent-new, parent-kept}
 

@@ -5,7 +5,7 @@ use mathlib.Core.Bool.{Bool, true, _&&_, _||_}
 use mathlib.Core.List.{List, [], _∷_}
 use Prim.Native.Nat.{ℕ, suc}
 use lib.Dec.{eqb, leb}
-use Rattle.placing.specs.Lists.{All, front}
+use Rattle.lists.specs.Lists.{All, front}
 use Rattle.placing.specs.Align.{PowerOfTwo}
 use Rattle.placing.specs.Pools.{Pool}
 

@@ -9,8 +9,9 @@ use native.Mathlib.Omega.{arith}
 use lib.Dec.{ltb}
 use borrow.Author.Tests.{ltb-true, ltb-false, lt-ltb, le-ltb}
 use Rattle.placing.specs.Order.{true-or-false, both-of-and}
-use Rattle.placing.specs.Lists.{All, Some, any}
-use Rattle.placing.specs.ListLaws.{all-imp, all-keep, some-imp, any-of-some, some-of-any, all-of-none, none-of-all, any-keep}
+use Rattle.lists.specs.Lists.{All, Some, any}
+use Rattle.lists.specs.ListLaws.{all-imp, some-imp}
+use Rattle.lists.specs.KeepLaws.{all-keep, any-of-some, some-of-any, all-of-none, none-of-all, any-keep}
 use Rattle.placing.specs.Pools.{Pool, low, high, io}
 use Rattle.placing.specs.PoolLaws.{On, on-of-is-on, is-on-of-on}
 use Rattle.placing.specs.Records.{Host, Function, Lawful}

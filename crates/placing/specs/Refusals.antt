@@ -4,7 +4,7 @@ use mathlib.Core.Bool.{Bool, cond, _&&_}
 use mathlib.Core.List.{List}
 use Prim.Native.Nat.{ℕ, suc, _+_, _≤_}
 use lib.Dec.{ltb}
-use Rattle.placing.specs.Lists.{All, any}
+use Rattle.lists.specs.Lists.{All, any}
 use Rattle.placing.specs.Pools.{Pool, low, high, io, refusal}
 use Rattle.placing.specs.Records.{Host, Function}
 use Rattle.placing.specs.Placing.{placed}

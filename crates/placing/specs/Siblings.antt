@@ -6,8 +6,8 @@ use mathlib.Core.Bool.{Bool, true, false, true≢false, false≢true}
 use mathlib.Core.List.{List}
 use Prim.Native.Nat.{ℕ, suc, _≤_, _<_}
 use native.Mathlib.Omega.{arith}
-use Rattle.placing.specs.Lists.{All, Pairwise}
-use Rattle.placing.specs.ListLaws.{all-imp₂, all-and, pairwise-imp, pairwise-all}
+use Rattle.lists.specs.Lists.{All, Pairwise}
+use Rattle.lists.specs.ListLaws.{all-imp₂, all-and, pairwise-imp, pairwise-all}
 use Rattle.placing.specs.Pools.{Pool, low, high, io}
 use Rattle.placing.specs.Records.{Host, Function, Lawful}
 use Rattle.placing.specs.Layout.{Placed, endOf}

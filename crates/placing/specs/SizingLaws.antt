@@ -12,8 +12,9 @@ use lib.ListN.{length, drop, length-drop}
 use lib.Seq.{drop-drop}
 use borrow.Author.Tests.{eqb-true, leb-true, leb-false, le-leb, lt-leb}
 use Rattle.placing.specs.Order.{true-or-false, both-of-and}
-use Rattle.placing.specs.Lists.{keep, front}
-use Rattle.placing.specs.ListLaws.{all-imp, all-drop, all-keep, front-yes, front-no, length-front-le}
+use Rattle.lists.specs.Lists.{keep, front}
+use Rattle.lists.specs.ListLaws.{all-imp, all-drop}
+use Rattle.lists.specs.KeepLaws.{all-keep, front-yes, front-no, length-front-le}
 use Rattle.placing.specs.Pools.{Pool, low, high, io}
 use Rattle.placing.specs.Records.{Host, Function, DepthFirst, parentsAfter, onlyHost, Sized, Lawful, run}
 use Rattle.placing.specs.Layout.{Piece, isOn, select, largestAlign}

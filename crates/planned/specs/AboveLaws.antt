@@ -10,7 +10,7 @@ use Rattle.placing.specs.Preorder.{parentOf}
 use Rattle.placing.specs.Placing.{placed}
 use Rattle.placing.specs.Numbering.{Numbered}
 use Rattle.placing.specs.RefusalLaws.{BusesKept}
-use Rattle.walk.specs.Lists.{_∈_}
+use Rattle.lists.specs.Lists.{_∈_}
 use Rattle.walk.specs.Registers.{Node, Registers}
 use Rattle.walk.specs.Above.{LeadsTo, above}
 use Rattle.walk.specs.AboveLaws.{above-root, above-bridge}

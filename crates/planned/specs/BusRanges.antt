@@ -6,14 +6,12 @@ use mathlib.Core.Bool.{true}
 use mathlib.Core.List.{List}
 use Prim.Native.Nat.{ℕ, _≤_, _<_}
 use native.Mathlib.Omega.{arith}
-use Rattle.placing.specs.Lists.{Pairwise}
-use Rattle.placing.specs.ListLaws.{pairwise-imp, pairwise-all}
+use Rattle.lists.specs.Lists.{_∈_, Pairwise}
+use Rattle.lists.specs.ListLaws.{pairwise-imp, pairwise-all, all-elim, member-of-some}
 use Rattle.placing.specs.Records.{Host, Function, Lawful}
 use Rattle.placing.specs.Numbering.{busNumber, subordinateOf, Numbered, numbered}
 use Rattle.placing.specs.Numbered.{Under, WellNumbered, well-numbered, rises-unique}
 use Rattle.placing.specs.RefusalLaws.{BusesKept}
-use Rattle.walk.specs.Lists.{_∈_}
-use Rattle.planned.specs.Lists.{member-of-all, member-of-some}
 use Rattle.planned.specs.Rows.{Row, rows, first-le-bus-number}
 
 -- The buses below bridge x have numbers from `first` to `last`
@@ -36,7 +34,7 @@ module _ (first : ℕ) (fs : List Function) (lawful : Lawful fs) where
   known = well-numbered first fs lawful
 
   pub row-of : {x : Numbered} → x ∈ numbered first fs → Row first fs x
-  row-of = member-of-all _ (numbered first fs) (rows first fs lawful)
+  row-of = all-elim _ (numbered first fs) (rows first fs lawful)
 
   -- Every record is below the host, on the first bus, or below a bridge
   pub parent-row : {x : Numbered} → x ∈ numbered first fs → ((x .parent ≡ 0) × (x .bus ≡ first)) ⊎ ParentRow first fs x
@@ -44,7 +42,7 @@ module _ (first : ℕ) (fs : List Function) (lawful : Lawful fs) where
       ⊎-elim
       (λ root. inl root)
       (λ s. let (y, n, u) = member-of-some (Under x) (numbered first fs) s in inr (record { row = y; in-rows = n; under = u }))
-      (member-of-all _ (numbered first fs) (known .nested) m)
+      (all-elim _ (numbered first fs) (known .nested) m)
 
   -- What is on the bus below a bridge has that bridge for its parent
   pub parent-of-bus : {x b : Numbered} → x ∈ numbered first fs → b ∈ numbered first fs → b .bridge ≡ true → x .bus ≡ b .secondary → x .parent ≡ b .number
@@ -69,7 +67,7 @@ module _ (first : ℕ) (fs : List Function) (lawful : Lawful fs) where
       let number : p .row .number ≡ b .number = p .under .above ∙ up in
       let same-secondary : p .row .secondary ≡ b .secondary = s .secondary-is ∙ ap (busNumber first fs) number ∙ sym (r .secondary-is) in
       let same-subordinate : p .row .subordinate ≡ b .subordinate = s .subordinate-is ∙ ap (subordinateOf first fs) number ∙ sym (r .subordinate-is) in
-      let rises = member-of-all _ (numbered first fs) (known .ranged) m is in
+      let rises = all-elim _ (numbered first fs) (known .ranged) m is in
       record { from-first = omega (arith, rises .bus-first, p .under .bus-is); to-last = omega (arith, p .under .range-in is) })
       (parent-row m)
 
@@ -83,5 +81,5 @@ pub buses-in-host : (h : Host) (fs : List Function) → Lawful fs → BusesKept 
     → BusesWithin (h .firstBus) (h .lastBus) x
 buses-in-host h fs lawful kept {x} m is =
     let r = row-of (h .firstBus) fs lawful m in
-    let within = member-of-all _ (numbered (h .firstBus) fs) (known (h .firstBus) fs lawful .ranged) m is in
+    let within = all-elim _ (numbered (h .firstBus) fs) (known (h .firstBus) fs lawful .ranged) m is in
     record { from-first = omega (arith, r .secondary-is, first-le-bus-number (h .firstBus) fs (x .number)); to-last = omega (arith, within .in-host) }

@@ -6,7 +6,7 @@ use mathlib.Core.Bool.{Bool, true, false}
 use mathlib.Core.List.{List}
 use Prim.Native.Nat.{ℕ, _+_, _≤_, _<_}
 use lib.ListN.{length}
-use Rattle.placing.specs.Lists.{All, Some}
+use Rattle.lists.specs.Lists.{All, Some}
 use Rattle.placing.specs.Records.{Host, Function}
 use Rattle.placing.specs.Layout.{Placed, isWindow}
 use Rattle.placing.specs.Placing.{placed}

@@ -7,12 +7,12 @@ use mathlib.Core.List.{List, reverse, Memᴰ·map}
 use Prim.Native.Nat.{ℕ}
 use native.Mathlib.Omega.{arith}
 use lib.ListN.{length}
-use Rattle.placing.specs.Lists.{All, Some}
+use Rattle.lists.specs.Lists.{_∈_, All, Some}
+use Rattle.lists.specs.ListLaws.{all-elim, all-intro, all-map-intro, member-of-some, some-of-member}
 use Rattle.placing.specs.Records.{Host, Function}
 use Rattle.placing.specs.Placing.{placed}
 use Rattle.placing.specs.Numbering.{Numbered}
 use Rattle.placing.specs.Refusals.{refusalOf}
-use Rattle.walk.specs.Lists.{_∈_, all-elim, all-intro, all-map-intro, Any, any-elim, any-intro}
 use Rattle.walk.specs.Ranges.{Holds}
 use Rattle.walk.specs.Registers.{Node, Registers}
 use Rattle.walk.specs.Tally.{tallyOn}
@@ -20,8 +20,6 @@ use Rattle.walk.specs.Walk.{delivered, refused, Trail}
 use Rattle.walk.specs.Good.{Host as WalkHost, Good, sound-of-good}
 use Rattle.walk.specs.Reach.{numbersOf}
 use Rattle.walk.specs.Delivery.{Owns, Delivers, bridgesAbove, outcomeOf, owner-of-delivered, good-delivers}
-use Rattle.walk.specs.Lists.{All as WalkAll}
-use Rattle.planned.specs.Lists.{member-of-all, member-of-some, some-of-member, all-agree}
 use Rattle.planned.specs.Spaces.{Space}
 use Rattle.planned.specs.Boards.{Board}
 use Rattle.planned.specs.Above.{aboveByParents}
@@ -57,7 +55,7 @@ module _ {h : Host} {fs : List Function} (board : Board h fs) (planned : refusal
   count-agree = length-above h fs board (kept-of-planned h fs planned .buses) devfn sp
 
   -- By the registers and by the placed BARs the same function owns the address
-  bar-holds-iff : (f : Registers) → f ∈ regs → Any (λ r. Holds r address) (f .bars) ↔ Some (BarHolds sp (f .node .number) address) (placed h fs)
+  bar-holds-iff : (f : Registers) → f ∈ regs → Some (λ r. Holds r address) (f .bars) ↔ Some (BarHolds sp (f .node .number) address) (placed h fs)
   bar-holds-iff f m = (to, from)
     where
       k : ℕ
@@ -66,9 +64,9 @@ module _ {h : Host} {fs : List Function} (board : Board h fs) (planned : refusal
       bars : f .bars ≡ barsOf sp (placed h fs) (f .node .number)
       bars = register-bars sp h fs devfn m
 
-      to : Any (λ r. Holds r address) (f .bars) → Some (BarHolds sp (f .node .number) address) (placed h fs)
+      to : Some (λ r. Holds r address) (f .bars) → Some (BarHolds sp (f .node .number) address) (placed h fs)
       to s =
-          let (r, in-bars, v) = any-elim _ _ (rw bars at s) in
+          let (r, in-bars, v) = member-of-some _ _ (rw bars at s) in
           let (x, there, p, e) = bars-elim sp k (placed h fs) in-bars in
           let w : Holds (rangeOf x) address = rw e v in
           some-of-member _ (placed h fs) there
@@ -80,14 +78,14 @@ module _ {h : Host} {fs : List Function} (board : Board h fs) (planned : refusal
             before-end = w .before-stop;
           })
 
-      from : Some (BarHolds sp (f .node .number) address) (placed h fs) → Any (λ r. Holds r address) (f .bars)
+      from : Some (BarHolds sp (f .node .number) address) (placed h fs) → Some (λ r. Holds r address) (f .bars)
       from s =
           let (x, there, b) = member-of-some _ (placed h fs) s in
           let in-bars = bars-intro sp k (placed h fs) there (record { owner-is = b .owner-is; in-space = b .in-space; part-is = b .is-bar }) in
-          rw bars (any-intro _ _ in-bars (record { from-start = b .from-start; before-stop = b .before-end }))
+          rw bars (some-of-member _ _ in-bars (record { from-start = b .from-start; before-stop = b .before-end }))
 
   bridges-enabled-iff : (f : Registers) → f ∈ regs
-      → WalkAll (λ b. enabled (b .number) ≡ true) (bridgesAbove host regs f) ↔ All (λ b. enabled b ≡ true) (aboveByParents fs (f .node .number))
+      → All (λ b. enabled (b .number) ≡ true) (bridgesAbove host regs f) ↔ All (λ b. enabled b ≡ true) (aboveByParents fs (f .node .number))
   bridges-enabled-iff f m = (to, from)
     where
       bs : List Node
@@ -96,13 +94,13 @@ module _ {h : Host} {fs : List Function} (board : Board h fs) (planned : refusal
       same : numbersOf (bridgesAbove host regs f) ≡ aboveByParents fs (f .node .number)
       same = numbers-agree f m
 
-      to : WalkAll (λ b. enabled (b .number) ≡ true) (bridgesAbove host regs f) → All (λ b. enabled b ≡ true) (aboveByParents fs (f .node .number))
-      to on = rw (← same) (all-agree _ (numbersOf bs) .1 (all-map-intro _ (λ (b : Node). b .number) bs (λ b n. all-elim _ bs on n)))
+      to : All (λ b. enabled (b .number) ≡ true) (bridgesAbove host regs f) → All (λ b. enabled b ≡ true) (aboveByParents fs (f .node .number))
+      to on = rw (← same) (all-map-intro _ (λ (b : Node). b .number) bs (λ b n. all-elim _ bs on n))
 
-      from : All (λ b. enabled b ≡ true) (aboveByParents fs (f .node .number)) → WalkAll (λ b. enabled (b .number) ≡ true) (bridgesAbove host regs f)
+      from : All (λ b. enabled b ≡ true) (aboveByParents fs (f .node .number)) → All (λ b. enabled (b .number) ≡ true) (bridgesAbove host regs f)
       from on =
           let on-numbers : All (λ b. enabled b ≡ true) (numbersOf bs) = rw same on in
-          all-intro _ bs (λ b n. member-of-all _ (numbersOf bs) on-numbers (Memᴰ·map (λ (c : Node). c .number) n))
+          all-intro _ bs (λ b n. all-elim _ (numbersOf bs) on-numbers (Memᴰ·map (λ (c : Node). c .number) n))
 
   placed-of-owns : (f : Registers) → Owns host enabled regs address f → OwnsAsPlaced sp h fs enabled address (f .node .number)
   placed-of-owns f o =
@@ -116,7 +114,7 @@ module _ {h : Host} {fs : List Function} (board : Board h fs) (planned : refusal
   owns-of-placed : (k : ℕ) → OwnsAsPlaced sp h fs enabled address k → (f : Registers) × Owns host enabled regs address f × (f .node .number ≡ k)
   owns-of-placed k o =
       let (x, there, b) = member-of-some _ (placed h fs) (o .bar-holds) in
-      let (y, in-rows, e) = member-of-some _ (planRows h fs) (member-of-all _ (placed h fs) (placed-has-row (h .firstBus) h fs (board .lawful)) there) in
+      let (y, in-rows, e) = member-of-some _ (planRows h fs) (all-elim _ (placed h fs) (placed-has-row (h .firstBus) h fs (board .lawful)) there) in
       let is : y .number ≡ k = e ∙ b .owner-is in
       let m = register-intro sp h fs devfn in-rows in (
         register y,

@@ -12,12 +12,13 @@ use Rattle.placing.specs.Layout.{Placed, isWindow}
 use Rattle.placing.specs.Placing.{placed}
 use Rattle.placing.specs.Numbering.{busNumber, Numbered}
 use Rattle.placing.specs.Siblings.{busOf, disjoint-by-number}
-use Rattle.walk.specs.Lists.{_∈_, all-map-intro, select, select-elim, Pairwise, pairwise-append, pairwise-flat, pairwise-map, pairwise-imply}
+use Rattle.lists.specs.Lists.{_∈_, Pairwise, keep}
+use Rattle.lists.specs.ListLaws.{all-intro, all-map-intro, pairwise-append, pairwise-flat, pairwise-map, pairwise-imp-members, all-elim, pairwise-members}
+use Rattle.lists.specs.KeepLaws.{keep-elim, pairwise-keep}
 use Rattle.walk.specs.Ranges.{Range, Apart}
 use Rattle.walk.specs.Registers.{Registers, Item, itemsOf, items, barItem, windowItem, openWindows}
 use Rattle.walk.specs.Good.{ApartOnBus}
 use Rattle.walk.specs.Good.{Disjoint as DisjointItems}
-use Rattle.planned.specs.Lists.{member-of-all, pairwise-members, pairwise-to-walk, pairwise-select}
 use Rattle.planned.specs.Spaces.{Space, inSpace, same-space}
 use Rattle.planned.specs.Boards.{Board, memory-apart}
 use Rattle.planned.specs.Registers.{rangeOf, isBarOf, isWindowOf, planRows, planRegister, planRegisters}
@@ -37,25 +38,24 @@ module _ (sp : Space) (h : Host) (fs : List Function) (board : Board h fs) (kept
 
   placed-clear : Pairwise Clear (placed h fs)
   placed-clear =
-      pairwise-imply _ Clear (placed h fs)
+      pairwise-imp-members _ Clear (placed h fs)
       (λ x y m n g e i j. g e (same-space sp (x .piece .pool) (y .piece .pool) i j))
-      (pairwise-to-walk _ (placed h fs)
-      (disjoint-by-number (h .firstBus) h fs (board .lawful) (kept .pools low) (kept .pools high) (memory-apart h (board .edges))))
+      (disjoint-by-number (h .firstBus) h fs (board .lawful) (kept .pools low) (kept .pools high) (memory-apart h (board .edges)))
 
   -- The BARs of one record, or its windows
   parts-apart : (k : ℕ) (is-window : Bool) (test : Placed → Bool) → ((x : Placed) → test x ≡ true → PieceOf sp k is-window x)
-      → Pairwise Apart (map rangeOf (select test (placed h fs)))
+      → Pairwise Apart (map rangeOf (keep test (placed h fs)))
   parts-apart k is-window test known =
-      pairwise-map Apart rangeOf (select test (placed h fs))
-      (pairwise-imply Clear _ (select test (placed h fs)) apart (pairwise-select Clear test (placed h fs) placed-clear))
+      pairwise-map Apart rangeOf (keep test (placed h fs))
+      (pairwise-imp-members Clear _ (keep test (placed h fs)) apart (pairwise-keep Clear test (placed h fs) placed-clear))
     where
       above : {x : Placed} → x ∈ placed h fs → x .piece .bus ≡ parentOf fs (x .piece .owner)
-      above = member-of-all _ (placed h fs) (placed-bus fs (board .lawful) h)
+      above = all-elim _ (placed h fs) (placed-bus fs (board .lawful) h)
 
-      apart : (x y : Placed) → x ∈ select test (placed h fs) → y ∈ select test (placed h fs) → Clear x y → Apart (rangeOf x) (rangeOf y)
+      apart : (x y : Placed) → x ∈ keep test (placed h fs) → y ∈ keep test (placed h fs) → Clear x y → Apart (rangeOf x) (rangeOf y)
       apart x y m n c =
-          let a = select-elim test (placed h fs) m in
-          let b = select-elim test (placed h fs) n in
+          let a = keep-elim test (placed h fs) m in
+          let b = keep-elim test (placed h fs) n in
           let p = known x (a .1) in
           let q = known y (b .1) in
           let same : x .piece .bus ≡ y .piece .bus = above (a .0) ∙ ap (parentOf fs) (p .owner-is ∙ sym (q .owner-is)) ∙ sym (above (b .0)) in
@@ -82,26 +82,33 @@ module _ (sp : Space) (h : Host) (fs : List Function) (board : Board h fs) (kept
 
     -- One record's BARs and windows
     record-apart : (y : Numbered) → y ∈ planRows h fs → Pairwise ApartOnBus (itemsOf (register y))
-    unfolding itemsOf Pairwise
+    unfolding itemsOf
     record-apart y m =
-        pairwise-append ApartOnBus (map (barItem (register y)) (register y .bars)) _ bars windows
-        (λ i j a b.
+        pairwise-append ApartOnBus bar-items window-items bars windows
+        (all-intro _ bar-items (λ i a.
+        all-intro _ window-items (λ j b.
         let p = bar-item-piece sp h fs devfn y a in
         let q = window-item-piece sp h fs devfn y b in
         pieces-apart m m p q
-        (λ e. false≢true (sym (p .of-row .part-is) ∙ ap (λ (x : Placed). isWindow (x .piece .part)) e ∙ q .of-row .part-is)))
+        (λ e. false≢true (sym (p .of-row .part-is) ∙ ap (λ (x : Placed). isWindow (x .piece .part)) e ∙ q .of-row .part-is)))))
       where
         of-apart : (item : Range → Item) → ((r : Range) → item r .range ≡ r) → (rs : List Range) → Pairwise Apart rs → Pairwise ApartOnBus (map item rs)
-        of-apart item is rs apart = pairwise-map ApartOnBus item rs (pairwise-imply Apart _ rs (λ r s _ _ a e. rw (is r, is s) a) apart)
+        of-apart item is rs apart = pairwise-map ApartOnBus item rs (pairwise-imp-members Apart _ rs (λ r s _ _ a e. rw (is r, is s) a) apart)
 
         opened : (b : Bool) (rs : List Range) → Pairwise Apart rs → Pairwise Apart (cond b rs [])
         opened true rs apart = apart
         opened false rs apart = tt
 
-        bars : Pairwise ApartOnBus (map (barItem (register y)) (register y .bars))
+        bar-items : List Item
+        bar-items = map (barItem (register y)) (register y .bars)
+
+        window-items : List Item
+        window-items = map (windowItem (register y)) (openWindows (register y))
+
+        bars : Pairwise ApartOnBus bar-items
         bars = of-apart (barItem (register y)) (λ r. refl) (register y .bars) (parts-apart (y .number) false (isBarOf sp (y .number)) (bar-of-is sp (y .number)))
 
-        windows : Pairwise ApartOnBus (map (windowItem (register y)) (openWindows (register y)))
+        windows : Pairwise ApartOnBus window-items
         windows =
             of-apart (windowItem (register y)) (λ r. refl) (openWindows (register y))
             (opened (y .bridge) (register y .windows) (parts-apart (y .number) true (isWindowOf sp (y .number)) (window-of-is sp (y .number))))
@@ -122,5 +129,5 @@ module _ (sp : Space) (h : Host) (fs : List Function) (board : Board h fs) (kept
               pairwise-flat ApartOnBus itemsOf (map register (planRows h fs))
               (all-map-intro _ register (planRows h fs) record-apart)
               (pairwise-map _ register (planRows h fs)
-              (pairwise-imply _ _ (planRows h fs) records-apart (pairwise-to-walk _ (planRows h fs) (numbers-rise (h .firstBus) fs))));
+              (pairwise-imp-members _ _ (planRows h fs) records-apart (numbers-rise (h .firstBus) fs)));
         }

@@ -5,7 +5,7 @@ use mathlib.Core.Bool.{Bool, not}
 use mathlib.Core.List.{List, [], _∷_, flatMap}
 use Prim.Native.Nat.{ℕ}
 use lib.Dec.{lit<, lit≤, eqb}
-use Rattle.placing.specs.Lists.{All, keep, any}
+use Rattle.lists.specs.Lists.{All, keep, any}
 use Rattle.placing.specs.Align.{alignUp}
 use Rattle.placing.specs.Layout.{layoutEnd, largestAlign}
 use Rattle.placing.specs.Pieces.{barPieces, windowPieces, ownPieces, pieces}
@@ -13,7 +13,6 @@ use Rattle.placing.specs.Placing.{place, placed}
 use Rattle.placing.specs.Numbering.{bridges, busNumber, greatestBelow, subordinateOf, numberedFrom}
 use Rattle.placing.specs.Refusals.{outOfPool, refusalOf}
 use Rattle.placing.specs.Examples.{p10, p10-functions}
-use Rattle.walk.specs.Lists.{select}
 use Rattle.walk.specs.Registers.{itemsOf, items}
 use Rattle.walk.specs.Tally.{join, tallyOn}
 use Rattle.walk.specs.Walk.{Outcome, delivered, refused, walkOver, walkFrom}
@@ -57,7 +56,7 @@ rows =
     ∷ []
 
 pub examples : All Holds rows
-unfolding keep any alignUp layoutEnd largestAlign barPieces windowPieces ownPieces pieces place placed bridges busNumber greatestBelow subordinateOf numberedFrom outOfPool refusalOf select flatMap itemsOf items join tallyOn walkOver walkFrom planRegisters aboveWithin aboveByParents
+unfolding keep any alignUp layoutEnd largestAlign barPieces windowPieces ownPieces pieces place placed bridges busNumber greatestBelow subordinateOf numberedFrom outOfPool refusalOf flatMap itemsOf items join tallyOn walkOver walkFrom planRegisters aboveWithin aboveByParents
 examples = (refl, (refl, (refl, (refl, (refl, (refl, (refl, (refl, (refl, (refl, (refl, tt)))))))))))
 
 pub p10-board : Board p10 p10-functions

@@ -6,9 +6,8 @@ use native.Mathlib.Omega.{arith}
 use lib.ListN.{length}
 use Rattle.placing.specs.Records.{Host, Function, Lawful}
 use Rattle.placing.specs.Preorder.{parentOf}
-use Rattle.walk.specs.Lists.{pairwise-map, pairwise-imply}
+use Rattle.lists.specs.ListLaws.{pairwise-map, pairwise-imp-members}
 use Rattle.walk.specs.Ids.{DistinctIds}
-use Rattle.planned.specs.Lists.{pairwise-to-walk}
 use Rattle.planned.specs.Registers.{planNode, planRows, planNodes}
 use Rattle.planned.specs.Rows.{numbers-rise}
 use Rattle.planned.specs.BusRanges.{row-of, same-parent}
@@ -20,10 +19,10 @@ SiblingsRise fs devfn = (j k : ℕ) → 0 < j → j < k → k ≤ length fs → 
 pub planned-ids : (h : Host) (fs : List Function) → Lawful fs → (devfn : ℕ → ℕ) → SiblingsRise fs devfn → DistinctIds (planNodes h fs devfn)
 planned-ids h fs lawful devfn rise =
     pairwise-map _ (planNode devfn) (planRows h fs)
-    (pairwise-imply _ _ (planRows h fs)
+    (pairwise-imp-members _ _ (planRows h fs)
     (λ x y m n earlier bus id.
     let r = row-of (h .firstBus) fs lawful m in
     let s = row-of (h .firstBus) fs lawful n in
     let parents = sym (r .parent-is) ∙ same-parent (h .firstBus) fs lawful r s bus ∙ s .parent-is in
     omega (arith, rise (x .number) (y .number) (r .from-1) earlier (s .in-list) parents))
-    (pairwise-to-walk _ (planRows h fs) (numbers-rise (h .firstBus) fs)))
+    (numbers-rise (h .firstBus) fs))

@@ -15,10 +15,11 @@ use Rattle.placing.specs.Layout.{Placed, isWindow}
 use Rattle.placing.specs.Placing.{placed}
 use Rattle.placing.specs.Numbering.{busNumber, Numbered, numberedFrom}
 use Rattle.placing.specs.Siblings.{busOf}
-use Rattle.walk.specs.Lists.{_∈_, select-elim, select-intro, mem-cond-elim, flat-elim}
+use Rattle.lists.specs.Lists.{_∈_}
+use Rattle.lists.specs.ListLaws.{mem-cond-elim, flat-elim, all-elim}
+use Rattle.lists.specs.KeepLaws.{keep-elim, keep-intro}
 use Rattle.walk.specs.Ranges.{Range}
 use Rattle.walk.specs.Registers.{Registers, nodes, Item, itemsOf, items, barItem, windowItem, openWindows, NumberedFrom}
-use Rattle.planned.specs.Lists.{member-of-all}
 use Rattle.planned.specs.Spaces.{Space, inSpace}
 use Rattle.planned.specs.Registers.{rangeOf, isBarOf, isWindowOf, barsOf, windowsOf, planNode, planRows, planNodes, planRegister, planRegisters}
 use Rattle.planned.specs.Rows.{placed-bus}
@@ -59,20 +60,20 @@ module _ (sp : Space) (k : ℕ) (xs : List Placed) where
   pub bars-elim : {r : Range} → r ∈ barsOf sp xs k → (x : Placed) × (x ∈ xs) × PieceOf sp k false x × (rangeOf x ≡ r)
   bars-elim m =
       let (x, n, e) = Memᴰ·of-map rangeOf _ m in
-      let s = select-elim (isBarOf sp k) xs n in
+      let s = keep-elim (isBarOf sp k) xs n in
       (x, s .0, bar-of-is sp k x (s .1), e)
 
   pub windows-elim : {r : Range} → r ∈ windowsOf sp xs k → (x : Placed) × (x ∈ xs) × PieceOf sp k true x × (rangeOf x ≡ r)
   windows-elim m =
       let (x, n, e) = Memᴰ·of-map rangeOf _ m in
-      let s = select-elim (isWindowOf sp k) xs n in
+      let s = keep-elim (isWindowOf sp k) xs n in
       (x, s .0, window-of-is sp k x (s .1), e)
 
   pub bars-intro : {x : Placed} → x ∈ xs → PieceOf sp k false x → rangeOf x ∈ barsOf sp xs k
-  bars-intro {x} m p = Memᴰ·map rangeOf (select-intro (isBarOf sp k) xs m (is-bar-of sp k x p))
+  bars-intro {x} m p = Memᴰ·map rangeOf (keep-intro (isBarOf sp k) xs m (is-bar-of sp k x p))
 
   pub windows-intro : {x : Placed} → x ∈ xs → PieceOf sp k true x → rangeOf x ∈ windowsOf sp xs k
-  windows-intro {x} m p = Memᴰ·map rangeOf (select-intro (isWindowOf sp k) xs m (is-window-of sp k x p))
+  windows-intro {x} m p = Memᴰ·map rangeOf (keep-intro (isWindowOf sp k) xs m (is-window-of sp k x p))
 
 -- The registers' nodes are the board's
 pub nodes-plan : (sp : Space) (h : Host) (fs : List Function) (devfn : ℕ → ℕ) → nodes (planRegisters sp h fs devfn) ≡ planNodes h fs devfn
@@ -158,7 +159,7 @@ module _ (sp : Space) (h : Host) (fs : List Function) (devfn : ℕ → ℕ) wher
       → i .owner .node .bus ≡ busOf (h .firstBus) fs (p .piece)
   item-bus lawful {y} m p =
       let r = row-of (h .firstBus) fs lawful m in
-      let above = member-of-all _ (placed h fs) (placed-bus fs lawful h) (p .is-placed) in
+      let above = all-elim _ (placed h fs) (placed-bus fs lawful h) (p .is-placed) in
       ap (λ (f : Registers). f .node .bus) (p .owner-is)
       ∙ r .bus-is
       ∙ ap (busNumber (h .firstBus) fs) (r .parent-is ∙ ap (parentOf fs) (sym (p .of-row .owner-is)) ∙ sym above)

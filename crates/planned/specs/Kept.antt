@@ -14,8 +14,8 @@ use Rattle.placing.specs.PlacingLaws.{all-place}
 use Rattle.placing.specs.Placed.{in-pool}
 use Rattle.placing.specs.Refusals.{Kept, refusalOf}
 use Rattle.placing.specs.RefusalLaws.{BusesKept, refusal-law}
-use Rattle.walk.specs.Lists.{_∈_}
-use Rattle.planned.specs.Lists.{member-of-all}
+use Rattle.lists.specs.Lists.{_∈_}
+use Rattle.lists.specs.ListLaws.{all-elim}
 use Rattle.planned.specs.Boards.{IsOpen}
 
 pub record AllKept (h : Host) (fs : List Function) : Type 0 where
@@ -37,12 +37,12 @@ module _ (h : Host) (fs : List Function) (lawful : Lawful fs) where
   pub not-empty : {x : Placed} → x ∈ placed h fs → 0 < x .piece .size
   unfolding placed
   not-empty {x} m =
-      let s = member-of-all _ (placed h fs) (all-place Shaped (fromBases h) (pieces 1 fs) (pieces-shaped 1 fs (lawful .sized))) m in
+      let s = all-elim _ (placed h fs) (all-place Shaped (fromBases h) (pieces 1 fs) (pieces-shaped 1 fs (lawful .sized))) m in
       omega (arith, s .align-fits, has-align (x .piece) s)
 
   module _ (kept : AllKept h fs) where
     pub placed-in-pool : {x : Placed} → x ∈ placed h fs → Within (h .base (x .piece .pool)) (suc (h .last (x .piece .pool))) x
-    placed-in-pool {x} m = member-of-all _ (placed h fs) (in-pool h fs lawful (x .piece .pool) (kept .pools (x .piece .pool))) m refl
+    placed-in-pool {x} m = all-elim _ (placed h fs) (in-pool h fs lawful (x .piece .pool) (kept .pools (x .piece .pool))) m refl
 
     pub pool-open : {x : Placed} → x ∈ placed h fs → IsOpen h (x .piece .pool)
     pool-open m = omega (arith, placed-in-pool m .from-start, placed-in-pool m .to-end, not-empty m)

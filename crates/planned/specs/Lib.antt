@@ -5,7 +5,6 @@ pub mod Boards
 pub mod Registers
 pub mod Above
 pub mod Delivery
-pub mod Lists
 pub mod Rows
 pub mod BusRanges
 pub mod Tree

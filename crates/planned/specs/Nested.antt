@@ -6,18 +6,18 @@ use mathlib.Core.List.{List, Memᴰ·map}
 use Prim.Native.Nat.{ℕ}
 use native.Mathlib.Omega.{arith}
 use borrow.Author.Tests.{le-leb}
-use Rattle.placing.specs.Lists.{Some}
+use Rattle.lists.specs.Lists.{_∈_, Some}
+use Rattle.lists.specs.ListLaws.{all-intro, all-map-intro, some-of-member, all-elim, member-of-some}
+use Rattle.lists.specs.KeepLaws.{keep-intro}
 use Rattle.placing.specs.Records.{Host, Function, Lawful}
 use Rattle.placing.specs.Layout.{Placed}
 use Rattle.placing.specs.Placing.{placed}
 use Rattle.placing.specs.Placed.{Holds, well-placed}
 use Rattle.placing.specs.Numbering.{Numbered}
 use Rattle.placing.specs.Numbered.{rises-unique}
-use Rattle.walk.specs.Lists.{_∈_, all-intro, all-map-intro, Any, any-intro, select-intro}
 use Rattle.walk.specs.Ranges.{Range, Inside}
-use Rattle.walk.specs.Registers.{Item}
+use Rattle.walk.specs.Registers.{Item, items}
 use Rattle.walk.specs.Good.{Nested as NestedItems}
-use Rattle.planned.specs.Lists.{member-of-all, member-of-some}
 use Rattle.planned.specs.Spaces.{Space, poolsOf, pool-of-space}
 use Rattle.planned.specs.Registers.{rangeOf, planRows, windowsOf, planRegister, planRegisters, planHost, poolRange, isOpen}
 use Rattle.planned.specs.Rows.{placed-bus-rises}
@@ -26,15 +26,15 @@ use Rattle.planned.specs.Items.{windows-intro, ItemPiece, item-piece, it
 use Rattle.planned.specs.Kept.{AllKept, placed-in-pool, pool-open}
 
 module _ (sp : Space) (h : Host) (fs : List Function) (lawful : Lawful fs) (devfn : ℕ → ℕ) where
-  piece-in-pool : AllKept h fs → {y : Numbered} {k : Bool} {i : Item} → ItemPiece sp h fs devfn y k i → Any (Inside (i .range)) (planHost sp h .pools)
+  piece-in-pool : AllKept h fs → {y : Numbered} {k : Bool} {i : Item} → ItemPiece sp h fs devfn y k i → Some (Inside (i .range)) (planHost sp h .pools)
   piece-in-pool kept p =
       let q = p .piece .piece .pool in
       let lies = placed-in-pool h fs lawful kept (p .is-placed) in
       let opens = le-leb _ _ (pool-open h fs lawful kept (p .is-placed)) in
-      let listed = select-intro (isOpen h) (poolsOf sp) (pool-of-space sp q (p .of-row .in-space)) opens in
+      let listed = keep-intro (isOpen h) (poolsOf sp) (pool-of-space sp q (p .of-row .in-space)) opens in
       let inside : Inside (rangeOf (p .piece)) (poolRange h q) =
       record { same-pool = refl; start-inside = lies .from-start; stop-inside = lies .to-end } in
-      any-intro _ _ (Memᴰ·map (poolRange h) listed) (subst (λ (r : Range). Inside r (poolRange h q)) (sym (p .range-is)) inside)
+      some-of-member _ _ (Memᴰ·map (poolRange h) listed) (subst (λ (r : Range). Inside r (poolRange h q)) (sym (p .range-is)) inside)
 
   -- The record above a piece on a bridge's bus is that bridge
   piece-below : {y b : Numbered} {k : Bool} {i : Item} → y ∈ planRows h fs → b ∈ planRows h fs → b .bridge ≡ true → (p : ItemPiece sp h fs devfn y k i)
@@ -42,19 +42,19 @@ module _ (sp : Space) (h : Host) (fs : List Function) (lawful : Lawful fs) (devf
   piece-below {y} {b} m n is p e =
       let r = row-of (h .firstBus) fs lawful n in
       rises-unique (h .firstBus) fs (p .piece .piece .bus) (b .number)
-      (member-of-all _ (placed h fs) (placed-bus-rises (h .firstBus) h fs lawful) (p .is-placed))
+      (all-elim _ (placed h fs) (placed-bus-rises (h .firstBus) h fs lawful) (p .is-placed))
       (r .bridge-rises is)
       (sym (item-bus sp h fs devfn lawful m p) ∙ e ∙ r .secondary-is)
 
   piece-in-window : {b : Numbered} → b ∈ planRows h fs → {y : Numbered} {k : Bool} {i : Item} → (p : ItemPiece sp h fs devfn y k i)
-      → p .piece .piece .bus ≡ b .number → Any (Inside (i .range)) (windowsOf sp (placed h fs) (b .number))
-  piece-in-window {b} n {y} {k} {i} p below = ⊎-elim on-root held (member-of-all _ (placed h fs) (well-placed h fs lawful .contained) (p .is-placed))
+      → p .piece .piece .bus ≡ b .number → Some (Inside (i .range)) (windowsOf sp (placed h fs) (b .number))
+  piece-in-window {b} n {y} {k} {i} p below = ⊎-elim on-root held (all-elim _ (placed h fs) (well-placed h fs lawful .contained) (p .is-placed))
     where
       x : Placed
       x = p .piece
 
       Goal : Type 0
-      Goal = Any (Inside (i .range)) (windowsOf sp (placed h fs) (b .number))
+      Goal = Some (Inside (i .range)) (windowsOf sp (placed h fs) (b .number))
 
       on-root : x .piece .bus ≡ 0 → Goal
       on-root root = absurd (omega (arith, row-of (h .firstBus) fs lawful n .from-1))
@@ -68,19 +68,19 @@ module _ (sp : Space) (h : Host) (fs : List Function) (lawful : Lawful fs) (devf
           ) in
           let inside : Inside (rangeOf x) (rangeOf w) =
           record { same-pool = rw same refl; start-inside = v .within .from-start; stop-inside = v .within .to-end } in
-          any-intro _ _ listed (subst (λ (r : Range). Inside r (rangeOf w)) (sym (p .range-is)) inside)
+          some-of-member _ _ listed (subst (λ (r : Range). Inside r (rangeOf w)) (sym (p .range-is)) inside)
 
   pub planned-nested : AllKept h fs → NestedItems (planHost sp h) (planRegisters sp h fs devfn)
   unfolding planRegisters
   planned-nested kept =
       record {
         in-pool =
-            all-intro _ _ (λ i m _.
+            all-intro _ (items (planRegisters sp h fs devfn)) (λ i m _.
             let (y, in-rows, there) = items-elim sp h fs devfn m in
             piece-in-pool kept (item-piece sp h fs devfn y there .1));
         in-window-above =
             all-map-intro _ (planRegister sp (placed h fs) devfn) (planRows h fs) (λ b n is.
-            all-intro _ _ (λ i m e.
+            all-intro _ (items (planRegisters sp h fs devfn)) (λ i m e.
             let (y, in-rows, there) = items-elim sp h fs devfn m in
             let p = item-piece sp h fs devfn y there .1 in
             piece-in-window n p (piece-below in-rows n is p (rw is at e))));

@@ -5,8 +5,8 @@ use mathlib.Core.Logic.{_⊎_, inl, inr, ⊎-elim}
 use mathlib.Core.Bool.{true}
 use mathlib.Core.List.{List}
 use Prim.Native.Nat.{suc}
-use Rattle.placing.specs.Lists.{All, Some, Pairwise}
-use Rattle.placing.specs.ListLaws.{pairwise-imp}
+use Rattle.lists.specs.Lists.{_∈_, All, Some, Pairwise}
+use Rattle.lists.specs.ListLaws.{pairwise-imp, all-elim, all-intro, some-of-member}
 use Rattle.placing.specs.Pools.{low, high}
 use Rattle.placing.specs.Records.{Host, Function}
 use Rattle.placing.specs.Layout.{Placed}
@@ -16,8 +16,6 @@ use Rattle.placing.specs.Placed.{Holds, well-placed}
 use Rattle.placing.specs.Numbering.{Numbered}
 use Rattle.placing.specs.Siblings.{busOf, Disjoint, disjoint-by-number}
 use Rattle.placing.specs.Refusals.{refusalOf}
-use Rattle.walk.specs.Lists.{_∈_}
-use Rattle.planned.specs.Lists.{member-of-all, all-of-members, some-of-member}
 use Rattle.planned.specs.Spaces.{Space, inSpace, same-space}
 use Rattle.planned.specs.Boards.{Board, memory-apart}
 use Rattle.planned.specs.Registers.{planRows}
@@ -60,8 +58,8 @@ pub record NestedAndApart (h : Host) (fs : List Function) : Type 0 where
 pub planned-nested-and-apart : {h : Host} {fs : List Function} → Board h fs → refusalOf h fs ≡ 0 → NestedAndApart h fs
 planned-nested-and-apart {h} {fs} board planned =
     record {
-      bus-ranges-in-parent = all-of-members _ (planRows h fs) buses-in;
-      bars-and-windows-in-parent = all-of-members _ (placed h fs) pieces-in;
+      bus-ranges-in-parent = all-intro _ (planRows h fs) buses-in;
+      bars-and-windows-in-parent = all-intro _ (placed h fs) pieces-in;
       bus-ranges-apart = pairwise-imp _ _ (λ x y before a b e. inl (before a b e)) (planRows h fs) (siblings-before (h .firstBus) fs (board .lawful));
       bars-and-windows-apart =
           λ sp.
@@ -93,4 +91,4 @@ planned-nested-and-apart {h} {fs} board planned =
         ⊎-elim
         (λ root. inl (record { parent-is = root; within = placed-in-pool h fs (board .lawful) kept m }))
         (λ held. inr held)
-        (member-of-all _ (placed h fs) (well-placed h fs (board .lawful) .contained) m)
+        (all-elim _ (placed h fs) (well-placed h fs (board .lawful) .contained) m)

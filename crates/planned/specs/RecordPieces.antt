@@ -8,8 +8,9 @@ use native.Mathlib.Omega.{arith}
 use lib.Dec.{eqb}
 use lib.ListN.{drop}
 use borrow.Author.Tests.{eq-eqb, ne-eqb}
-use Rattle.placing.specs.Lists.{All}
-use Rattle.placing.specs.ListLaws.{all-imp, all-append}
+use Rattle.lists.specs.Lists.{_∈_, All, keep}
+use Rattle.lists.specs.ListLaws.{all-imp, all-append, all-elim, all-intro}
+use Rattle.lists.specs.KeepLaws.{keep-append, keep-agree, keep-elim, keep-all, keep-none, keep-and, map-keep}
 use Rattle.placing.specs.Pools.{Pool, low, high, io}
 use Rattle.placing.specs.Records.{Bar, Host, Function, Lawful, Sized}
 use Rattle.placing.specs.RecordLaws.{IsAt}
@@ -18,9 +19,7 @@ use Rattle.placing.specs.Layout.{select as selectOn}
 use Rattle.placing.specs.Pieces.{barPiece, barPieces, windowOver, windowPieces, ownPieces, pieces}
 use Rattle.placing.specs.PieceLaws.{own-pieces, pieces-owner}
 use Rattle.placing.specs.Placing.{Cursors, place, placed, fromBases}
-use Rattle.walk.specs.Lists.{_∈_, select, select-append, select-agree, select-elim}
 use Rattle.walk.specs.Ranges.{Range}
-use Rattle.planned.specs.Lists.{member-of-all, all-of-members, select-all, select-nothing, select-and, map-select}
 use Rattle.planned.specs.Spaces.{Space, inSpace, rangePool}
 use Rattle.planned.specs.Registers.{rangeOf, isBarOf, isWindowOf, barsOf}
 use Rattle.planned.specs.Items.{bar-of-is}
@@ -36,48 +35,48 @@ abbrev isOwn : ℕ → Piece → Bool
 isOwn k p = eqb (p .owner) k
 
 module _ (m : ℕ) (f : Function) (fs : List Function) (h : Sized (f ∷ fs)) where
-  own-here : select (isOwn m) (pieces m (f ∷ fs)) ≡ ownPieces m f (pieces (suc m) fs)
+  own-here : keep (isOwn m) (pieces m (f ∷ fs)) ≡ ownPieces m f (pieces (suc m) fs)
   unfolding pieces
   own-here =
-      select-append (isOwn m) (ownPieces m f rest) rest
+      keep-append (isOwn m) (ownPieces m f rest) rest
       ∙ ap₂ _++_
-      (select-all (isOwn m) _ (all-imp _ _ (ownPieces m f rest) (own-pieces m f rest (h .0)) (λ p o. eq-eqb (p .owner) m (o .owner-is))))
-      (select-nothing (isOwn m) _
+      (keep-all (isOwn m) _ (all-imp _ _ (ownPieces m f rest) (own-pieces m f rest (h .0)) (λ p o. eq-eqb (p .owner) m (o .owner-is))))
+      (keep-none (isOwn m) _
       (all-imp _ _ rest (pieces-owner (suc m) fs (h .1)) (λ p l. ne-eqb (p .owner) m (λ (e : p .owner ≡ m). omega arith))))
       ∙ append-nil (ownPieces m f rest)
     where
       rest : List Piece
       rest = pieces (suc m) fs
 
-  own-later : (k : ℕ) → m < k → select (isOwn k) (pieces m (f ∷ fs)) ≡ select (isOwn k) (pieces (suc m) fs)
+  own-later : (k : ℕ) → m < k → keep (isOwn k) (pieces m (f ∷ fs)) ≡ keep (isOwn k) (pieces (suc m) fs)
   unfolding pieces
   own-later k l =
-      select-append (isOwn k) (ownPieces m f rest) rest
-      ∙ ap (_++ select (isOwn k) rest)
-      (select-nothing (isOwn k) _
+      keep-append (isOwn k) (ownPieces m f rest) rest
+      ∙ ap (_++ keep (isOwn k) rest)
+      (keep-none (isOwn k) _
       (all-imp _ _ (ownPieces m f rest) (own-pieces m f rest (h .0)) (λ p o. ne-eqb (p .owner) k (λ (e : p .owner ≡ k). omega (arith, o .owner-is)))))
     where
       rest : List Piece
       rest = pieces (suc m) fs
 
 own-of-pieces : (i m k : ℕ) (fs : List Function) (f : Function) → Sized fs → m + i ≡ k → IsAt fs i f
-    → select (isOwn k) (pieces m fs) ≡ ownPieces k f (pieces (suc k) (drop (suc i) fs))
+    → keep (isOwn k) (pieces m fs) ≡ ownPieces k f (pieces (suc k) (drop (suc i) fs))
 own-of-pieces zero m k [] f h n e = absurd (cons≢nil (sym e))
 own-of-pieces (suc i) m k [] f h n e = absurd (cons≢nil (sym e))
 own-of-pieces zero m k (g ∷ fs) f h n e =
     let same : m ≡ k = omega arith in
-    subst (λ (j : ℕ). select (isOwn j) (pieces m (g ∷ fs)) ≡ ownPieces j g (pieces (suc j) fs)) same (own-here m g fs h)
+    subst (λ (j : ℕ). keep (isOwn j) (pieces m (g ∷ fs)) ≡ ownPieces j g (pieces (suc j) fs)) same (own-here m g fs h)
     ∙ ap (λ (x : Function). ownPieces k x (pieces (suc k) fs)) (head-eq-of-cons-eq e)
 own-of-pieces (suc i) m k (g ∷ fs) f h n e = own-later m g fs h k (omega arith) ∙ own-of-pieces i (suc m) k fs f (h .1) (omega arith) e
 
 -- The placed pieces of record i + 1 are those that it puts there, in its order
 pub pieces-of-record : (h : Host) (fs : List Function) → Lawful fs → (i : ℕ) (f : Function) → IsAt fs i f
-    → map (λ (x : Placed). x .piece) (select (λ x. eqb (x .piece .owner) (suc i)) (placed h fs))
+    → map (λ (x : Placed). x .piece) (keep (λ x. eqb (x .piece .owner) (suc i)) (placed h fs))
     ≡ ownPieces (suc i) f (pieces (suc (suc i)) (drop (suc i) fs))
 unfolding placed
 pieces-of-record h fs lawful i f e =
-    map-select (isOwn (suc i)) (λ (x : Placed). x .piece) (placed h fs)
-    ∙ ap (select (isOwn (suc i))) (pieces-placed (fromBases h) (pieces 1 fs))
+    map-keep (isOwn (suc i)) (λ (x : Placed). x .piece) (placed h fs)
+    ∙ ap (keep (isOwn (suc i))) (pieces-placed (fromBases h) (pieces 1 fs))
     ∙ own-of-pieces i 1 (suc i) fs f (lawful .sized) (omega arith) e
 
 -- ---- of one record, the BARs and the windows of a space
@@ -89,24 +88,24 @@ abbrev isWindowIn : Space → Piece → Bool
 isWindowIn sp p = inSpace sp (p .pool) && isWindow (p .part)
 
 module _ (sp : Space) (k b : ℕ) where
-  bars-select : (bs : List Bar) → select (isBar sp) (barPieces k b bs) ≡ barPieces k b (select (λ x. inSpace sp (x .pool)) bs)
-  unfolding select barPieces
-  bars-select [] = refl
-  bars-select (x ∷ xs) = go (inSpace sp (x .pool)) (bars-select xs)
+  bars-keep : (bs : List Bar) → keep (isBar sp) (barPieces k b bs) ≡ barPieces k b (keep (λ x. inSpace sp (x .pool)) bs)
+  unfolding keep barPieces
+  bars-keep [] = refl
+  bars-keep (x ∷ xs) = go (inSpace sp (x .pool)) (bars-keep xs)
     where
-      go : (a : Bool) → select (isBar sp) (barPieces k b xs) ≡ barPieces k b (select (λ y. inSpace sp (y .pool)) xs)
-          → cond (a && true) (barPiece k b x ∷ select (isBar sp) (barPieces k b xs)) (select (isBar sp) (barPieces k b xs))
-          ≡ barPieces k b (cond a (x ∷ select (λ y. inSpace sp (y .pool)) xs) (select (λ y. inSpace sp (y .pool)) xs))
+      go : (a : Bool) → keep (isBar sp) (barPieces k b xs) ≡ barPieces k b (keep (λ y. inSpace sp (y .pool)) xs)
+          → cond (a && true) (barPiece k b x ∷ keep (isBar sp) (barPieces k b xs)) (keep (isBar sp) (barPieces k b xs))
+          ≡ barPieces k b (cond a (x ∷ keep (λ y. inSpace sp (y .pool)) xs) (keep (λ y. inSpace sp (y .pool)) xs))
       go true e = ap (barPiece k b x ∷_) e
       go false e = e
 
-  bars-no-window : (bs : List Bar) → select (isWindowIn sp) (barPieces k b bs) ≡ []
-  unfolding select barPieces
+  bars-no-window : (bs : List Bar) → keep (isWindowIn sp) (barPieces k b bs) ≡ []
+  unfolding keep barPieces
   bars-no-window [] = refl
   bars-no-window (x ∷ xs) = go (inSpace sp (x .pool)) (bars-no-window xs)
     where
-      go : (a : Bool) → select (isWindowIn sp) (barPieces k b xs) ≡ []
-          → cond (a && false) (barPiece k b x ∷ select (isWindowIn sp) (barPieces k b xs)) (select (isWindowIn sp) (barPieces k b xs)) ≡ []
+      go : (a : Bool) → keep (isWindowIn sp) (barPieces k b xs) ≡ []
+          → cond (a && false) (barPiece k b x ∷ keep (isWindowIn sp) (barPieces k b xs)) (keep (isWindowIn sp) (barPieces k b xs)) ≡ []
       go true e = e
       go false e = e
 
@@ -128,15 +127,15 @@ module _ (sp : Space) (k b : ℕ) where
     abbrev ws : List Piece
     ws = cond t (windowPieces k b rest) []
 
-    windows-no-bar : select (isBar sp) (cond t (windowPieces k b rest) []) ≡ []
+    windows-no-bar : keep (isBar sp) (cond t (windowPieces k b rest) []) ≡ []
     windows-no-bar =
-        select-nothing (isBar sp) ws
+        keep-none (isBar sp) ws
         (all-imp _ (λ (p : Piece). isBar sp p ≡ false) ws (are-windows rest t) (λ p (e : p .part ≡ window). rw e (and-false (inSpace sp (p .pool)))))
 
-    windows-select : select (isWindowIn sp) (cond t (windowPieces k b rest) [])
-        ≡ select (λ p. inSpace sp (p .pool)) (cond t (windowPieces k b rest) [])
-    windows-select =
-        select-agree (isWindowIn sp) _ ws (λ p m. rw (member-of-all _ ws (are-windows rest t) m) (and-true (inSpace sp (p .pool))))
+    windows-keep : keep (isWindowIn sp) (cond t (windowPieces k b rest) [])
+        ≡ keep (λ p. inSpace sp (p .pool)) (cond t (windowPieces k b rest) [])
+    windows-keep =
+        keep-agree (isWindowIn sp) _ ws (λ p m. rw (all-elim _ ws (are-windows rest t) m) (and-true (inSpace sp (p .pool))))
 
 -- The range of a BAR whose slot j is placed at `start j`
 abbrev pub barRange : (ℕ → ℕ) → Bar → Range
@@ -147,43 +146,43 @@ module _ (sp : Space) (h : Host) (fs : List Function) (lawful : Lawful fs) (i : 
   rest = pieces (suc (suc i)) (drop (suc i) fs)
 
   -- The placed BARs of record i + 1 in the space are its BARs of that space in slot order
-  pub bars-of-record : map (λ (x : Placed). x .piece) (select (isBarOf sp (suc i)) (placed h fs))
-      ≡ barPieces (suc i) (f .parent) (select (λ x. inSpace sp (x .pool)) (f .bars))
+  pub bars-of-record : map (λ (x : Placed). x .piece) (keep (isBarOf sp (suc i)) (placed h fs))
+      ≡ barPieces (suc i) (f .parent) (keep (λ x. inSpace sp (x .pool)) (f .bars))
   unfolding placed ownPieces rest
   bars-of-record =
-      map-select (λ p. isOwn (suc i) p && isBar sp p) (λ (x : Placed). x .piece) (placed h fs)
-      ∙ ap (select (λ p. isOwn (suc i) p && isBar sp p)) (pieces-placed (fromBases h) (pieces 1 fs))
-      ∙ select-and (isOwn (suc i)) (isBar sp) (pieces 1 fs)
-      ∙ ap (select (isBar sp)) (own-of-pieces i 1 (suc i) fs f (lawful .sized) (omega arith) at)
-      ∙ select-append (isBar sp) (barPieces (suc i) (f .parent) (f .bars)) _
-      ∙ ap₂ _++_ (bars-select sp (suc i) (f .parent) (f .bars)) (windows-no-bar sp (suc i) (f .parent) rest (f .bridge))
+      map-keep (λ p. isOwn (suc i) p && isBar sp p) (λ (x : Placed). x .piece) (placed h fs)
+      ∙ ap (keep (λ p. isOwn (suc i) p && isBar sp p)) (pieces-placed (fromBases h) (pieces 1 fs))
+      ∙ keep-and (isOwn (suc i)) (isBar sp) (pieces 1 fs)
+      ∙ ap (keep (isBar sp)) (own-of-pieces i 1 (suc i) fs f (lawful .sized) (omega arith) at)
+      ∙ keep-append (isBar sp) (barPieces (suc i) (f .parent) (f .bars)) _
+      ∙ ap₂ _++_ (bars-keep sp (suc i) (f .parent) (f .bars)) (windows-no-bar sp (suc i) (f .parent) rest (f .bridge))
       ∙ append-nil _
 
   -- Its placed windows in the space are those that it puts there, low before high; only a bridge has any
-  pub windows-of-record : map (λ (x : Placed). x .piece) (select (isWindowOf sp (suc i)) (placed h fs))
-      ≡ select (λ p. inSpace sp (p .pool)) (cond (f .bridge) (windowPieces (suc i) (f .parent) (pieces (suc (suc i)) (drop (suc i) fs))) [])
+  pub windows-of-record : map (λ (x : Placed). x .piece) (keep (isWindowOf sp (suc i)) (placed h fs))
+      ≡ keep (λ p. inSpace sp (p .pool)) (cond (f .bridge) (windowPieces (suc i) (f .parent) (pieces (suc (suc i)) (drop (suc i) fs))) [])
   unfolding placed ownPieces rest
   windows-of-record =
-      map-select (λ p. isOwn (suc i) p && isWindowIn sp p) (λ (x : Placed). x .piece) (placed h fs)
-      ∙ ap (select (λ p. isOwn (suc i) p && isWindowIn sp p)) (pieces-placed (fromBases h) (pieces 1 fs))
-      ∙ select-and (isOwn (suc i)) (isWindowIn sp) (pieces 1 fs)
-      ∙ ap (select (isWindowIn sp)) (own-of-pieces i 1 (suc i) fs f (lawful .sized) (omega arith) at)
-      ∙ select-append (isWindowIn sp) (barPieces (suc i) (f .parent) (f .bars)) _
-      ∙ ap₂ _++_ (bars-no-window sp (suc i) (f .parent) (f .bars)) (windows-select sp (suc i) (f .parent) rest (f .bridge))
+      map-keep (λ p. isOwn (suc i) p && isWindowIn sp p) (λ (x : Placed). x .piece) (placed h fs)
+      ∙ ap (keep (λ p. isOwn (suc i) p && isWindowIn sp p)) (pieces-placed (fromBases h) (pieces 1 fs))
+      ∙ keep-and (isOwn (suc i)) (isWindowIn sp) (pieces 1 fs)
+      ∙ ap (keep (isWindowIn sp)) (own-of-pieces i 1 (suc i) fs f (lawful .sized) (omega arith) at)
+      ∙ keep-append (isWindowIn sp) (barPieces (suc i) (f .parent) (f .bars)) _
+      ∙ ap₂ _++_ (bars-no-window sp (suc i) (f .parent) (f .bars)) (windows-keep sp (suc i) (f .parent) rest (f .bridge))
 
   -- So, where BAR j of the record starts at `start j`, its registers are its BARs of the space from there on, in slot order
   pub bars-at : (start : ℕ → ℕ) → ((x : Placed) (j : ℕ) → x ∈ placed h fs → x .piece .owner ≡ suc i → x .piece .part ≡ bar j → x .start ≡ start j)
-      → barsOf sp (placed h fs) (suc i) ≡ map (barRange start) (select (λ x. inSpace sp (x .pool)) (f .bars))
+      → barsOf sp (placed h fs) (suc i) ≡ map (barRange start) (keep (λ x. inSpace sp (x .pool)) (f .bars))
   unfolding barPieces
-  bars-at start starts = go (select (isBarOf sp (suc i)) (placed h fs)) (select (λ x. inSpace sp (x .pool)) (f .bars)) bars-of-record known
+  bars-at start starts = go (keep (isBarOf sp (suc i)) (placed h fs)) (keep (λ x. inSpace sp (x .pool)) (f .bars)) bars-of-record known
     where
       Known : Placed → Type 0
       Known x = (j : ℕ) → x .piece .part ≡ bar j → x .start ≡ start j
 
-      known : All Known (select (isBarOf sp (suc i)) (placed h fs))
+      known : All Known (keep (isBarOf sp (suc i)) (placed h fs))
       known =
-          all-of-members Known _ (λ x m j e.
-          let s = select-elim (isBarOf sp (suc i)) (placed h fs) m in
+          all-intro Known _ (λ x m j e.
+          let s = keep-elim (isBarOf sp (suc i)) (placed h fs) m in
           starts x j (s .0) (bar-of-is sp (suc i) x (s .1) .owner-is) e)
 
       go : (xs : List Placed) (bs : List Bar) → map (λ (x : Placed). x .piece) xs ≡ barPieces (suc i) (f .parent) bs → All Known xs

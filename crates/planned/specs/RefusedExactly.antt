@@ -6,8 +6,8 @@ use mathlib.Core.Bool.{Bool, true, false, cond}
 use mathlib.Core.List.{List}
 use Prim.Native.Nat.{ℕ, pred, _+_, _≤_, _<_}
 use native.Mathlib.Omega.{arith}
-use Rattle.placing.specs.Lists.{Some}
-use Rattle.placing.specs.ListLaws.{some-imp, some-elim, some-and}
+use Rattle.lists.specs.Lists.{Some}
+use Rattle.lists.specs.ListLaws.{some-imp, some-elim, some-and}
 use Rattle.placing.specs.Pools.{Pool, low, high, io}
 use Rattle.placing.specs.Records.{Host, Function}
 use Rattle.placing.specs.Layout.{Placed, endOf}

@@ -9,7 +9,7 @@ use Rattle.placing.specs.Records.{Host, Function}
 use Rattle.placing.specs.Layout.{Placed, endOf, isWindow}
 use Rattle.placing.specs.Placing.{placed}
 use Rattle.placing.specs.Numbering.{Numbered, numbered}
-use Rattle.walk.specs.Lists.{select}
+use Rattle.lists.specs.Lists.{keep}
 use Rattle.walk.specs.Ranges.{Range}
 use Rattle.walk.specs.Registers.{Node, Registers}
 use Rattle.walk.specs.Good.{Host as WalkHost}
@@ -27,10 +27,10 @@ abbrev pub isWindowOf : Space → ℕ → Placed → Bool
 isWindowOf sp k x = eqb (x .piece .owner) k && (inSpace sp (x .piece .pool) && isWindow (x .piece .part))
 
 abbrev pub barsOf : Space → List Placed → ℕ → List Range
-barsOf sp xs k = map rangeOf (select (isBarOf sp k) xs)
+barsOf sp xs k = map rangeOf (keep (isBarOf sp k) xs)
 
 abbrev pub windowsOf : Space → List Placed → ℕ → List Range
-windowsOf sp xs k = map rangeOf (select (isWindowOf sp k) xs)
+windowsOf sp xs k = map rangeOf (keep (isWindowOf sp k) xs)
 
 -- A bridge's own number, and the 0 that a function that is no bridge has in its place
 abbrev pub ofBridge : Numbered → ℕ → ℕ
@@ -69,4 +69,4 @@ abbrev pub isOpen : Host → Pool → Bool
 isOpen h q = leb (h .base q) (h .last q)
 
 abbrev pub planHost : Space → Host → WalkHost
-planHost sp h = record { first = h .firstBus; last = h .lastBus; pools = map (poolRange h) (select (isOpen h) (poolsOf sp)) }
+planHost sp h = record { first = h .firstBus; last = h .lastBus; pools = map (poolRange h) (keep (isOpen h) (poolsOf sp)) }

@@ -9,8 +9,8 @@ use native.Mathlib.Omega.{arith}
 use lib.ListN.{length, drop, length-drop, List·getD-eq-default}
 use lib.Seq.{drop-cons}
 use Rattle.placing.specs.Order.{le-or-lt}
-use Rattle.placing.specs.Lists.{All, Some, Pairwise}
-use Rattle.placing.specs.ListLaws.{all-imp, drop-suc}
+use Rattle.lists.specs.Lists.{All, Some, Pairwise}
+use Rattle.lists.specs.ListLaws.{all-imp, drop-suc}
 use Rattle.placing.specs.Records.{Host, Function, DepthFirst, Lawful, Sized}
 use Rattle.placing.specs.RecordLaws.{ordered-from}
 use Rattle.placing.specs.Preorder.{noFunction, parentOf}

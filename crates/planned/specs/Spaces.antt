@@ -5,7 +5,7 @@ use mathlib.Core.List.{List, [], _∷_, List·Memᴰ·head, List·Memᴰ·tail}
 use Rattle.pools.specs.Pools.{isIo}
 use Rattle.placing.specs.Pools.{Pool, low, high, io}
 use Rattle.placing.specs.Siblings.{isMemory}
-use Rattle.walk.specs.Lists.{_∈_}
+use Rattle.lists.specs.Lists.{_∈_}
 use Rattle.walk.specs.Ranges.{Pool as RangePool, low as lowRange, high as highRange, io as ioRange}
 
 pub data Space : Type 0 where

@@ -11,13 +11,14 @@ use Rattle.placing.specs.Records.{Host, Function, Lawful}
 use Rattle.placing.specs.Numbering.{busNumber, Numbered, numberedFrom, numbered}
 use Rattle.placing.specs.Numbered.{well-numbered, bus-number-host}
 use Rattle.placing.specs.RefusalLaws.{BusesKept}
-use Rattle.walk.specs.Lists.{_∈_, all-map-intro, Pairwise, pairwise-map, pairwise-imply, select-only}
+use Rattle.lists.specs.Lists.{_∈_, Pairwise}
+use Rattle.lists.specs.ListLaws.{all-map-intro, pairwise-map, pairwise-imp-members, all-elim}
+use Rattle.lists.specs.KeepLaws.{keep-only}
 use Rattle.walk.specs.Ranges.{buses, Inside}
 use Rattle.walk.specs.Registers.{Node}
 use Rattle.walk.specs.Above.{bridgesTo}
 use Rattle.walk.specs.Good.{BridgesRise, OneWayUp, FirstOn, SiblingsApart, busRange, Tree}
 use Rattle.walk.specs.Good.{Rises as NodeRises}
-use Rattle.planned.specs.Lists.{member-of-all, pairwise-to-walk}
 use Rattle.planned.specs.Spaces.{Space}
 use Rattle.planned.specs.Boards.{HostEdges}
 use Rattle.planned.specs.Registers.{planNode, planRows, planNodes, planHost}
@@ -42,13 +43,13 @@ module _ (h : Host) (fs : List Function) (lawful : Lawful fs) (devfn : ℕ → �
   pub only-bridge-to : (bus : ℕ) {b : Numbered} → b ∈ planRows h fs → b .bridge ≡ true → b .secondary ≡ bus
       → bridgesTo bus (planNodes h fs devfn) ≡ planNode devfn b ∷ []
   only-bridge-to bus {b} m is leads =
-      select-only test clash (planNodes h fs devfn) later (Memᴰ·map (planNode devfn) m) (and-eq-true-iff _ _ .1 (is, eq-eqb _ bus (rw is leads)))
+      keep-only test clash (planNodes h fs devfn) later (Memᴰ·map (planNode devfn) m) (and-eq-true-iff _ _ .1 (is, eq-eqb _ bus (rw is leads)))
     where
       later : Pairwise Later (planNodes h fs devfn)
       later =
           pairwise-map Later (planNode devfn) (planRows h fs)
-          (pairwise-imply _ _ (planRows h fs) (λ x y _ _ rises a c. rw (a, c) (rises c))
-          (pairwise-to-walk _ (planRows h fs) (well-numbered (h .firstBus) fs lawful .rising)))
+          (pairwise-imp-members _ _ (planRows h fs) (λ x y _ _ rises a c. rw (a, c) (rises c))
+          (well-numbered (h .firstBus) fs lawful .rising))
 
       test : Node → Bool
       test n = n .bridge && eqb (n .secondary) bus
@@ -76,8 +77,8 @@ module _ (h : Host) (fs : List Function) (lawful : Lawful fs) (devfn : ℕ → �
   siblings-apart : Pairwise SiblingsApart (planNodes h fs devfn)
   siblings-apart =
       pairwise-map _ (planNode devfn) (planRows h fs)
-      (pairwise-imply _ _ (planRows h fs) (λ x y _ _ before a b e. rw (a, b) (inl (before a b e)))
-      (pairwise-to-walk _ (planRows h fs) (siblings-before (h .firstBus) fs lawful)))
+      (pairwise-imp-members _ _ (planRows h fs) (λ x y _ _ before a b e. rw (a, b) (inl (before a b e)))
+      (siblings-before (h .firstBus) fs lawful))
 
   module _ (edges : HostEdges h) (kept : BusesKept h fs) where
     pub bridges-rise : BridgesRise (planNodes h fs devfn)
@@ -85,7 +86,7 @@ module _ (h : Host) (fs : List Function) (lawful : Lawful fs) (devfn : ℕ → �
       where
         rises : (x : Numbered) → x ∈ planRows h fs → x .bridge ≡ true → NodeRises (planNode devfn x)
         rises x m is =
-            let r = member-of-all _ (planRows h fs) (well-numbered (h .firstBus) fs lawful .ranged) m is in
+            let r = all-elim _ (planRows h fs) (well-numbered (h .firstBus) fs lawful .ranged) m is in
             rw is (record { own-below = r .bus-first; range-open = r .not-empty; last-is-byte = omega (arith, r .in-host, edges .last-bus-is-byte) })
 
     pub planned-tree : (sp : Space) → Tree (planHost sp h) (planNodes h fs devfn)

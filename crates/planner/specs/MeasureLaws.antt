@@ -9,8 +9,9 @@ use borrow.Author.Tests.{lt-ltb, ltb-true, ltb-false}
 use Rattle.endian.specs.Endian.{Bytes}
 use Rattle.pools.specs.declared.Pool.{Pool}
 use Rattle.pools.specs.declared.Pool.the-variants.{Low, High, Io}
-use Rattle.placing.specs.Lists.{All}
-use Rattle.placing.specs.ListLaws.{all-imp, all-keep}
+use Rattle.lists.specs.Lists.{All}
+use Rattle.lists.specs.ListLaws.{all-imp}
+use Rattle.lists.specs.KeepLaws.{all-keep}
 use Rattle.placing.specs.Records as placing
 use Rattle.placing.specs.Records.{Lawful}
 use Rattle.placing.specs.Layout.{Piece, isOn, select, layoutEnd, largestAlign, endAt}

@@ -20,7 +20,7 @@ use Rattle.board.specs.Board.{boardNumber, hostOf, functionsOf}
 use Rattle.board.specs.ToPlacing.{toHost, toPlacing}
 use Rattle.placer.specs.JoinLaws.{Room}
 use Rattle.layout.specs.Layout.{sheetLength}
-use Rattle.planned.specs.Lists.{all-of-members}
+use Rattle.lists.specs.ListLaws.{all-intro}
 use Rattle.planned.specs.Boards.{Board, IsOpen}
 use Rattle.planned.specs.Kept.{AllKept, kept-of-planned, placed-in-pool, pool-open}
 use Rattle.placement.specs.Loop.{withLast, Placing}
@@ -62,7 +62,7 @@ module _ (h : placing.Host) (fs : List placing.Function) (board : Board h fs) (k
   kept-by-last : (q : Pool) → Kept (withLast h (lastOf h)) fs q
   unfolding placed
   kept-by-last q =
-      all-of-members _ (placed h fs) (λ x m root of-pool.
+      all-intro _ (placed h fs) (λ x m root of-pool.
       let lies = placed-in-pool h fs (board .lawful) kept m in
       let opens = pool-open h fs (board .lawful) kept m in
       subst (λ (p : Pool). endOf x ≤ suc (lastOf h p)) of-pool

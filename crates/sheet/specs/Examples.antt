@@ -9,7 +9,7 @@ use Rattle.bar.specs.Bar.{sizeFrom, sized, ioSlot, narrowSlot, wideSlot, slotHe
 use Rattle.bar.specs.Values.{isBarValue, valuesFit}
 use Rattle.window.specs.Window.{closed, start, stop, isNibbled}
 use Rattle.records.specs.Records.{nextOf, partsOver, partsOf}
-use Rattle.walk.specs.Lists.{All}
+use Rattle.lists.specs.Lists.{All}
 use Rattle.walk.specs.Registers.{Registers}
 use Rattle.walk.specs.Examples.{p10-memory, p10-io}
 use Rattle.sheet.specs.declared.Space.{Space}
@@ -142,5 +142,5 @@ examples =
     ∷ []
 
 pub examples-hold : All Holds examples
-unfolding All blank sheetNumber from21 from20 from22 from24 from27 from28 from25 from29 isFramed allSized entriesFrom commandsOf breaks anyBreaks allZero readBacksWrong findFrom hasId idTwice lookupOf entryOf dwords windowOf barsFrom functionsFrom be le leBytes nextOf partsOver partsOf closed start stop isNibbled isBarValue valuesFit slots slotHere wideSlot narrowSlot ioSlot sized sizeFrom
+unfolding blank sheetNumber from21 from20 from22 from24 from27 from28 from25 from29 isFramed allSized entriesFrom commandsOf breaks anyBreaks allZero readBacksWrong findFrom hasId idTwice lookupOf entryOf dwords windowOf barsFrom functionsFrom be le leBytes nextOf partsOver partsOf closed start stop isNibbled isBarValue valuesFit slots slotHere wideSlot narrowSlot ioSlot sized sizeFrom
 examples-hold = (refl, (refl, (refl, (refl, (refl, (refl, (refl, (refl, (refl, (refl, (refl, (refl, (refl, (refl, (refl, (refl, (refl, (refl, (refl, (refl, (refl, (refl, (refl, (refl, (refl, (refl, (refl, (refl, (refl, (refl, tt))))))))))))))))))))))))))))))

@@ -1,6 +1,6 @@
 -- A sheet that passes 20 to 29, in the words of the walk's laws: record numbers count up, bridges rise (27) and IDs differ (28). Assumes nothing.
 use mathlib.Core.Path.{_≡_, refl, ap}
-use mathlib.Core.Bool.{Bool, true, false, cond, not, _&&_, and-eq-true-iff}
+use mathlib.Core.Bool.{Bool, true, false, cond, _&&_, and-eq-true-iff}
 use mathlib.Core.List.{List, [], _∷_}
 use Prim.Native.Nat.{ℕ, suc, _+_, _-_, _≤_, _<_}
 use native.Mathlib.Omega.{arith}
@@ -9,7 +9,7 @@ use lib.Dec.{eqb, leb, ltb}
 use borrow.Author.Tests.{ltb-true, ltb-false, leb-true, eqb-true, eqb-false, eq-eqb, ne-eqb, le-ltb, not-false}
 use Rattle.endian.specs.Endian.{Bytes}
 use Rattle.endian.specs.BytesLaws.{bytes-take, bytes-drop}
-use Rattle.walk.specs.Lists.{All, Pairwise}
+use Rattle.lists.specs.Lists.{All}
 use Rattle.walk.specs.Registers.{nodes, NumberedFrom}
 use Rattle.walk.specs.Good.{Rises, BridgesRise}
 use Rattle.walk.specs.Ids.{DistinctIds}
@@ -114,7 +114,7 @@ rises-of-right k e w small b =
     }
 
 pub rise-of-right : (k : ℕ) (es : List Entry) → anyBreaks Buses es ≡ false → All BusBytes es → BridgesRise (nodesFrom k es)
-unfolding All anyBreaks breaks nodesFrom
+unfolding anyBreaks breaks nodesFrom
 rise-of-right k [] w small = tt
 rise-of-right k (e ∷ es) w small =
     let both = or-false-elim (busesWrong e) (anyBreaks Buses es) w in
@@ -124,14 +124,14 @@ rise-of-right k (e ∷ es) w small =
 
 absent : (k j : ℕ) (e : Entry) (es : List Entry) → hasId (e .id) es ≡ false
     → All (λ m. nodeOf k e .bus ≡ m .bus → nodeOf k e .devfn ≡ m .devfn → ⊥) (nodesFrom j es)
-unfolding All hasId nodesFrom
+unfolding hasId nodesFrom
 absent k j e [] h = tt
 absent k j e (x ∷ es) h =
     let both = or-false-elim (eqb (x .id) (e .id)) (hasId (e .id) es) h in
     (λ p q. eqb-false (x .id) (e .id) (both .0) (omega arith), absent k (j + 1) e es (both .1))
 
 pub distinct-of-once : (k : ℕ) (es : List Entry) → idTwice es ≡ false → DistinctIds (nodesFrom k es)
-unfolding Pairwise idTwice nodesFrom
+unfolding idTwice nodesFrom
 distinct-of-once k [] h = tt
 distinct-of-once k (e ∷ es) h =
     let both = or-false-elim (hasId (e .id) es) (idTwice es) h in
@@ -149,7 +149,6 @@ bytes-of-entry p b = go (isBridge (headerOf p))
     go false = omega arith
 
 bytes-from : (s : List ℕ) (at : ℕ) (es : List Entry) → Bytes s → entriesFrom s at ≡ es → Framed at s → All BusBytes es
-unfolding All
 bytes-from s at [] b e f = tt
 bytes-from s at (x ∷ es) b e f =
     let r = first-at s at x es f e in (

@@ -18,7 +18,7 @@ use Rattle.window.specs.declared.Window.{Window}
 use Rattle.window.specs.Window as windows
 use Rattle.walk.specs.Ranges.{Range, holds}
 use Rattle.walk.specs.Registers.{Claim}
-use Rattle.walk.specs.Lists.{select}
+use Rattle.lists.specs.Lists.{keep}
 use Rattle.walk.specs.Tally.{hitsOf}
 use Rattle.sheet.specs.declared.Space.{Space}
 use Rattle.sheet.specs.Spaces.{inSpace, barRange, barHere, barsFrom, barHolds, poolOf, openRange}
@@ -47,7 +47,7 @@ bars-end space rs vs i h = rw (drop-of-length-le rs h)
 
 -- a range that is there under a condition has one claim where it is there and holds the address
 hits-of-one : (b : Bool) (r : Range) (address : ℕ) (c : Claim) → hitsOf address c (cond b (r ∷ []) []) ≡ cond (b && holds r address) (c ∷ []) []
-unfolding hitsOf select
+unfolding hitsOf keep
 hits-of-one false r address c = refl
 hits-of-one true r address c = go (holds r address)
   where
@@ -57,7 +57,7 @@ hits-of-one true r address c = go (holds r address)
 
 pub bar-hits : (space : Space) (x : Slot) (vs : List ℕ) (address : ℕ) (c : Claim)
     → hitsOf address c (barHere space x vs) ≡ cond (barHolds space x (valueHere x vs) address) (c ∷ []) []
-unfolding hitsOf select
+unfolding hitsOf keep
 bar-hits space Unused vs address c = refl
 bar-hits space Upper vs address c = refl
 bar-hits space Bad vs address c = refl

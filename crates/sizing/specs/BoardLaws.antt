@@ -12,7 +12,7 @@ use lib.Seq.{sets}
 use borrow.Author.Tests.{lt-ltb, le-ltb}
 use Rattle.pools.specs.declared.Pool.{Pool}
 use Rattle.placing.specs.Order.{le-or-lt}
-use Rattle.placing.specs.Lists.{front}
+use Rattle.lists.specs.Lists.{front}
 use Rattle.placing.specs.Records.{Host, Function, Lawful, run}
 use Rattle.placing.specs.declared.Extent.{Extent}
 use Rattle.placing.specs.Sizing as placing

@@ -10,7 +10,8 @@ use lib.Seq.{sets}
 use Rattle.pools.specs.declared.Pool.{Pool}
 use Rattle.pools.specs.declared.Pool.the-variants.{Low, High, Io}
 use Rattle.pools.specs.Pools.{granule}
-use Rattle.placing.specs.ListLaws.{all-imp, all-keep, all-drop}
+use Rattle.lists.specs.ListLaws.{all-imp, all-drop}
+use Rattle.lists.specs.KeepLaws.{all-keep}
 use Rattle.placing.specs.Align.{PowerOfTwo}
 use Rattle.placing.specs.PoolLaws.{granule-power}
 use Rattle.placing.specs.Records.{Function, Lawful, Sized}

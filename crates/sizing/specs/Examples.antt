@@ -6,7 +6,7 @@ use Prim.Native.Nat.{ℕ}
 use Rattle.bar.specs.Bar.{sizeFrom, sized, ioSlot, narrowSlot, wideSlot, slotHere, slots}
 use Rattle.bar.specs.Bars.{barsFrom}
 use Rattle.placing.specs.Align.{alignUp}
-use Rattle.placing.specs.Lists.{keep, front}
+use Rattle.lists.specs.Lists.{keep, front}
 use Rattle.placing.specs.Pieces.{barPieces, windowPieces, ownPieces, pieces}
 use Rattle.placing.specs.Layout.{layoutEnd, largestAlign}
 use Rattle.placing.specs.Sizing.{extend, busLaid}

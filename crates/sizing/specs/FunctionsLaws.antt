@@ -6,33 +6,12 @@ use native.Mathlib.Omega.{arith}
 use native.Mathlib.Numerals.{add-one, add-two, add-three, add-four, add-five}
 use lib.ListN.{length, getD, take, drop}
 use lib.Seq.{drop-drop, drop-cons, getD-drop}
-use Rattle.bar.specs.declared.Slot.{Slot}
-use Rattle.bar.specs.declared.Slot.the-variants.{Unused, Bar, Upper, Bad}
-use Rattle.bar.specs.Bar.{slots, SizedSlot}
-use Rattle.bar.specs.Bars.{barsFrom}
-use Rattle.bar.specs.BarLaws.{sized-slots}
-use Rattle.placing.specs.Lists.{All}
-use Rattle.placing.specs.Align.{PowerOfTwo}
-use Rattle.placing.specs.Records as placing
+pub use Rattle.bar.specs.BarsLaws.{AllSized, bars-from-sized}
 use Rattle.placing.specs.Records.{Function, Sized}
 use Rattle.placing.specs.RecordLaws.{IsAt}
 use Rattle.sizing.specs.Functions.{functionIn, functionsIn, setAt, functionAt}
 
 -- ## Sizes are powers of two
-
-abbrev pub AllSized : List placing.Bar → Type 0
-AllSized = All (λ b. PowerOfTwo (b .size))
-
-bars-sized : (j : ℕ) (xs : List Slot) → ((i : ℕ) → SizedSlot (getD xs i Unused)) → AllSized (barsFrom j xs)
-unfolding barsFrom
-bars-sized j [] h = tt
-bars-sized j (Unused ∷ xs) h = bars-sized (suc j) xs (λ i. h (suc i))
-bars-sized j (Bar pool wide size ∷ xs) h = ((h 0 .bit, h 0 .power), bars-sized (suc j) xs (λ i. h (suc i)))
-bars-sized j (Upper ∷ xs) h = bars-sized (suc j) xs (λ i. h (suc i))
-bars-sized j (Bad ∷ xs) h = bars-sized (suc j) xs (λ i. h (suc i))
-
-pub bars-from-sized : (j : ℕ) (set : List ℕ) → AllSized (barsFrom j (slots set))
-bars-from-sized j set = bars-sized j (slots set) (sized-slots set)
 
 pub functions-sized : (ps hs ss : List ℕ) → Sized (functionsIn ps hs ss)
 unfolding functionsIn

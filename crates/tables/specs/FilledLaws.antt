@@ -9,7 +9,7 @@ use lib.Seq.{sets, sets-eq, length-sets, length-take-le, take-at, drop-at, drop-
 use Rattle.records.specs.Records.{partsOf, partsFrom}
 use Rattle.records.specs.RecordsLaws.{false-of-or}
 use Rattle.bar.specs.Bar.{anyBad}
-use Rattle.placing.specs.Lists.{All, any}
+use Rattle.lists.specs.Lists.{All, any}
 use Rattle.placing.specs.Records as placing
 use Rattle.placing.specs.Records.{DepthFirst, onlyHost}
 use Rattle.placing.specs.Numbering.{bridges}

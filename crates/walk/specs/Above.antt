@@ -5,12 +5,12 @@ use mathlib.Core.Bool.{Bool, true, false, _&&_}
 use mathlib.Core.List.{List, [], _∷_}
 use Prim.Native.Nat.{ℕ, zero, suc}
 use lib.Dec.{eqb}
-use Rattle.walk.specs.Lists.{_∈_, select}
+use Rattle.lists.specs.Lists.{_∈_, keep}
 use Rattle.walk.specs.Registers.{Node}
 
 -- the bridges that lead to a bus
 abbrev pub bridgesTo : ℕ → List Node → List Node
-bridgesTo bus ns = select (λ n. n .bridge && eqb (n .secondary) bus) ns
+bridgesTo bus ns = keep (λ n. n .bridge && eqb (n .secondary) bus) ns
 
 pub record LeadsTo (bus : ℕ) (ns : List Node) (b : Node) : Type 0 where
   pub in-sheet : b ∈ ns

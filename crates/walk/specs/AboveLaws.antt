@@ -9,7 +9,9 @@ use native.Mathlib.Omega.{arith}
 use lib.ListN.{length}
 use lib.Dec.{eqb}
 use borrow.Author.Tests.{eqb-true, eqb-false, eq-eqb}
-use Rattle.walk.specs.Lists.{_∈_, all-elim, select-elim, select-intro}
+use Rattle.lists.specs.Lists.{_∈_}
+use Rattle.lists.specs.ListLaws.{all-elim}
+use Rattle.lists.specs.KeepLaws.{keep-elim, keep-intro}
 use Rattle.walk.specs.Registers.{Node}
 use Rattle.walk.specs.Above.{bridgesTo, LeadsTo, Above, climb, aboveOver, above}
 use Rattle.walk.specs.Good.{Host, BridgesRise, OneWayUp, Tree}
@@ -17,12 +19,12 @@ use Rattle.walk.specs.Good.{Host, BridgesRise, OneWayUp, Tree}
 module _ (bus : ℕ) (ns : List Node) where
   pub bridges-to-elim : {b : Node} → b ∈ bridgesTo bus ns → LeadsTo bus ns b
   bridges-to-elim m =
-      let passed = select-elim (λ n. n .bridge && eqb (n .secondary) bus) ns m in
+      let passed = keep-elim (λ n. n .bridge && eqb (n .secondary) bus) ns m in
       let both = and-eq-true-iff _ _ .0 (passed .1) in
       record { in-sheet = passed .0; is-bridge = both .0; leads = eqb-true _ _ (both .1) }
 
   pub bridges-to-intro : {b : Node} → LeadsTo bus ns b → b ∈ bridgesTo bus ns
-  bridges-to-intro l = select-intro _ ns (l .in-sheet) (and-eq-true-iff _ _ .1 (l .is-bridge, eq-eqb _ _ (l .leads)))
+  bridges-to-intro l = keep-intro _ ns (l .in-sheet) (and-eq-true-iff _ _ .1 (l .is-bridge, eq-eqb _ _ (l .leads)))
 
   pub only-bridge-elim : {b : Node} → bridgesTo bus ns ≡ b ∷ [] → LeadsTo bus ns b
   only-bridge-elim e = bridges-to-elim (rw e (List·Memᴰ·head refl))

@@ -7,7 +7,8 @@ use mathlib.Core.List.{List, [], _∷_}
 use Prim.Native.Nat.{ℕ, _≤_}
 use native.Mathlib.Omega.{arith}
 use lib.ListN.{length}
-use Rattle.walk.specs.Lists.{_∈_, All, all-intro, Any}
+use Rattle.lists.specs.Lists.{_∈_, All, Some}
+use Rattle.lists.specs.ListLaws.{all-of}
 use Rattle.walk.specs.Ranges.{Holds}
 use Rattle.walk.specs.Registers.{Node, Registers, nodes, rootOf, NumberedFrom}
 use Rattle.walk.specs.RegistersLaws.{node-mem, number-unique}
@@ -29,7 +30,7 @@ outcomeOf host enabled fs address = walkFrom (tallyOn enabled fs address) (host 
 
 pub record Owns (host : Host) (enabled : ℕ → Bool) (fs : List Registers) (address : ℕ) (f : Registers) : Type 0 where
   pub in-sheet : f ∈ fs
-  pub bar-holds : Any (λ r. Holds r address) (f .bars)
+  pub bar-holds : Some (λ r. Holds r address) (f .bars)
   pub is-enabled : enabled (f .node .number) ≡ true
   pub bridges-enabled : All (λ b. enabled (b .number) ≡ true) (bridgesAbove host fs f)
 
@@ -124,11 +125,11 @@ outcome-from-first {host} (f ∷ fs) tree enabled address = ap (λ (b : ℕ). wa
 
 -- At most one function of the sheet has a BAR over an address, enabled or not.
 pub holder-unique : {host : Host} {fs : List Registers} → Sound host fs → NumberedFrom 1 fs → (address : ℕ) (f g : Registers) → f ∈ fs → g ∈ fs
-    → Any (λ r. Holds r address) (f .bars) → Any (λ r. Holds r address) (g .bars) → f ≡ g
+    → Some (λ r. Holds r address) (f .bars) → Some (λ r. Holds r address) (g .bars) → f ≡ g
 holder-unique {host} {fs} sound numbered address f g mf mg hf hg = owner-unique sound (λ n. true) address numbered f g (owns f mf hf) (owns g mg hg)
   where
-    owns : (x : Registers) → x ∈ fs → Any (λ r. Holds r address) (x .bars) → Owns host (λ n. true) fs address x
-    owns x m h = record { in-sheet = m; bar-holds = h; is-enabled = refl; bridges-enabled = all-intro _ _ (λ b _. refl) }
+    owns : (x : Registers) → x ∈ fs → Some (λ r. Holds r address) (x .bars) → Owns host (λ n. true) fs address x
+    owns x m h = record { in-sheet = m; bar-holds = h; is-enabled = refl; bridges-enabled = all-of _ (λ b. refl) (bridgesAbove host fs x) }
 
 -- The sentences of demand 3 for one address.
 pub record Delivers (host : Host) (enabled : ℕ → Bool) (fs : List Registers) (address : ℕ) : Type 0 where

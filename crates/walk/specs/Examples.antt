@@ -8,7 +8,7 @@ use Prim.Native.Nat.{ℕ, zero, suc, _^_, _-_, _≤_}
 use native.Mathlib.Omega.{arith}
 use lib.Dec.{eqb}
 use lib.ListN.{length}
-use Rattle.walk.specs.Lists.{All, Any, Pairwise, select}
+use Rattle.lists.specs.Lists.{All, keep}
 use Rattle.walk.specs.Ranges.{Pool, low, high, io, Range, Inside}
 use Rattle.walk.specs.Registers.{Node, Registers, nodes, itemsOf, items}
 use Rattle.walk.specs.Tally.{join, tallyOn}
@@ -112,7 +112,7 @@ abbrev pub AsShown : Example → Type 0
 AsShown e = walkFrom (tallyOn (e .enabled) (e .sheet) (e .address)) 0 0 ≡ e .outcome
 
 pub as-shown : All AsShown examples
-unfolding All tallyOn join items itemsOf flatMap select walkFrom walkOver row
+unfolding tallyOn join items itemsOf flatMap keep walkFrom walkOver row
 as-shown = (refl, (refl, (refl, (refl, (refl, (refl, (refl, (refl, (refl, (refl, (refl, (refl, (refl, (refl, tt))))))))))))))
 
 -- Source document 001's tree: the bridges A, C, D, E, B, F, G, H, J, I of document 01 and the functions behind them, in record order.
@@ -163,12 +163,12 @@ abbrev pub IdAsShown : IdExample → Type 0
 IdAsShown e = walkFrom (tallyById (e .nodes) (e .bus) (e .devfn)) 0 0 ≡ e .outcome
 
 pub id-as-shown : All IdAsShown id-examples
-unfolding All tallyById join select walkFrom walkOver
+unfolding tallyById join keep walkFrom walkOver
 id-as-shown = (refl, (refl, (refl, (refl, (refl, (refl, (refl, (refl, (refl, tt)))))))))
 
 -- the bridges above the function at the end of 255
 pub row-above : length (above 0 (nodes (row 255 0)) 255) ≡ 255
-unfolding above aboveOver select row
+unfolding above aboveOver keep row
 row-above = refl
 
 abbrev pub p10-host : Host
@@ -188,7 +188,7 @@ inside : (p : Pool) (a b c d : ℕ) → c ≤ a → b ≤ d → Inside (record {
 inside p a b c d h k = record { same-pool = refl; start-inside = h; stop-inside = k }
 
 p10-tree : Tree p10-host (nodes p10-memory)
-unfolding All Pairwise select
+unfolding keep
 p10-tree =
     record {
       first-on-root = refl;
@@ -200,7 +200,7 @@ p10-tree =
 
 -- the bridge's two windows on the root bus, then the function's two BARs on bus 1
 p10-nested : Nested p10-host p10-memory
-unfolding All Any items itemsOf flatMap
+unfolding items itemsOf flatMap
 p10-nested =
     record {
       in-pool = (
@@ -217,7 +217,7 @@ p10-nested =
     )
 
 p10-disjoint : Disjoint p10-memory
-unfolding All Pairwise items itemsOf flatMap
+unfolding items itemsOf flatMap
 p10-disjoint =
     record {
       apart-on-bus = (
@@ -227,5 +227,4 @@ p10-disjoint =
     }
 
 pub p10-good : Good p10-host p10-memory
-unfolding All
 p10-good = record { bridges-rise = (λ _. omega arith, (λ e. absurd (false≢true e), tt)); tree = p10-tree; nested = p10-nested; disjoint = p10-disjoint }

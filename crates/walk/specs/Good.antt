@@ -6,7 +6,7 @@ use mathlib.Core.Logic.{_⊎_}
 use mathlib.Core.Bool.{true}
 use mathlib.Core.List.{List, [], _∷_}
 use Prim.Native.Nat.{ℕ, suc, _≤_, _<_}
-use Rattle.walk.specs.Lists.{All, Any, Pairwise}
+use Rattle.lists.specs.Lists.{All, Some, Pairwise}
 use Rattle.walk.specs.Ranges.{Range, buses, Inside, Apart}
 use Rattle.walk.specs.Registers.{Node, Registers, nodes, Item, items}
 use Rattle.walk.specs.Above.{bridgesTo}
@@ -53,14 +53,14 @@ pub record Tree (host : Host) (ns : List Node) : Type 0 where
 
 -- What is on the bus below a bridge lies in the bridge's window of its pool.
 abbrev pub InWindowOf : Registers → Item → Type 0
-InWindowOf b i = i .owner .node .bus ≡ b .node .secondary → Any (Inside (i .range)) (b .windows)
+InWindowOf b i = i .owner .node .bus ≡ b .node .secondary → Some (Inside (i .range)) (b .windows)
 
 abbrev pub InWindowAbove : List Registers → Type 0
 InWindowAbove fs = All (λ b. b .node .bridge ≡ true → All (InWindowOf b) (items fs)) fs
 
 -- Refusal 51.
 pub record Nested (host : Host) (fs : List Registers) : Type 0 where
-  pub in-pool : All (λ i. i .owner .node .bus ≡ host .first → Any (Inside (i .range)) (host .pools)) (items fs)
+  pub in-pool : All (λ i. i .owner .node .bus ≡ host .first → Some (Inside (i .range)) (host .pools)) (items fs)
   pub in-window-above : InWindowAbove fs
 
 abbrev pub ApartOnBus : Item → Item → Type 0

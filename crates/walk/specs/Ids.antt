@@ -6,7 +6,7 @@ use mathlib.Core.Bool.{Bool, true, cond, _&&_}
 use mathlib.Core.List.{List, [], _∷_, map}
 use Prim.Native.Nat.{ℕ, suc}
 use lib.Dec.{eqb}
-use Rattle.walk.specs.Lists.{_∈_, Pairwise, select}
+use Rattle.lists.specs.Lists.{_∈_, Pairwise, keep}
 use Rattle.walk.specs.Ranges.{Range, buses, holds}
 use Rattle.walk.specs.Registers.{Node, Registers, Claim, bar, window}
 use Rattle.walk.specs.Tally.{Tally, none, one, join}
@@ -32,7 +32,7 @@ firstOf (n ∷ ns) = one (functionClaim n)
 -- As document 01 says it: on the target's bus only the exact ID counts, before any bridge's range.
 unfoldable pub tallyById : List Node → ℕ → ℕ → ℕ → Tally
 tallyById ns target devfn bus =
-    cond (eqb bus target) (firstOf (select (hasId target devfn) ns)) (join none (map bridgeClaim (select (leadsToward target bus) ns)))
+    cond (eqb bus target) (firstOf (keep (hasId target devfn) ns)) (join none (map bridgeClaim (keep (leadsToward target bus) ns)))
 
 abbrev pub ownBus : Node → Range
 ownBus n = record { pool = buses; start = n .bus; stop = suc (n .bus) }

@@ -9,8 +9,8 @@ use native.Mathlib.Omega.{arith}
 use lib.Dec.{eqb}
 use lib.ListN.{length}
 use borrow.Author.Tests.{eqb-true, eq-eqb}
-use Rattle.walk.specs.Lists.{_∈_, All, all-elim, all-intro, all-map-intro, Any, any-elim, Pairwise, mem-cond-elim, flat-elim}
-use Rattle.walk.specs.Lists.{pairwise-flat, pairwise-map, pairwise-imply, pairwise-both}
+use Rattle.lists.specs.Lists.{_∈_, Some, Pairwise}
+use Rattle.lists.specs.ListLaws.{all-of, all-elim, all-intro, all-map-intro, member-of-some, mem-cond-elim, flat-elim, pairwise-flat, pairwise-map, pairwise-imp-members, pairwise-both}
 use Rattle.walk.specs.Ranges.{Holds, Inside, Apart}
 use Rattle.walk.specs.Registers.{Node, Registers, Item, barItem, windowItem, openWindows, itemsOf, items}
 use Rattle.walk.specs.Tally.{tallyOn}
@@ -18,7 +18,7 @@ use Rattle.walk.specs.Walk.{delivered, refused, noOwner, walkFrom}
 use Rattle.walk.specs.WalkLaws.{walk-agree}
 use Rattle.walk.specs.Above.{above}
 use Rattle.walk.specs.Good.{Host, BridgesRise, busRange, SiblingsApart, Tree, InWindowOf, ApartOnBus, Sound}
-use Rattle.walk.specs.Delivery.{Owns, delivered-of-owner, owner-of-delivered, otherwise-nobody}
+use Rattle.walk.specs.Delivery.{Owns, bridgesAbove, delivered-of-owner, owner-of-delivered, otherwise-nobody}
 use Rattle.walk.specs.Ids.{tallyById, ownBus, byId, always, DistinctIds, HasId}
 use Rattle.walk.specs.IdsLaws.{by-id-nodes, tally-by-id-agree}
 
@@ -65,7 +65,7 @@ module _ {host : Host} {ns : List Node} (rise : BridgesRise ns) (tree : Tree hos
 
   -- a function's own bus and its range
   own-apart : (n : Node) → n ∈ ns → Pairwise ApartOnBus (itemsOf (byId devfn n))
-  unfolding itemsOf Pairwise All
+  unfolding itemsOf
   own-apart n m = go (eqb (n .devfn) devfn) (n .bridge) refl
     where
       go : (d b : Bool) → n .bridge ≡ b
@@ -83,7 +83,7 @@ module _ {host : Host} {ns : List Node} (rise : BridgesRise ns) (tree : Tree hos
   below-range n m in-n in-m is-bridge at i (bus-range p d r) = rw r (all-elim _ ns (all-elim _ ns (tree .in-parent) in-n is-bridge) in-m d at)
 
   below-node : (n : Node) → n ∈ ns → n .bridge ≡ true → (i : Item) → i ∈ items (map (byId devfn) ns) → InWindowOf (byId devfn n) i
-  unfolding items Any
+  unfolding items
   below-node n in-n is-bridge i in-items at =
       let (f, in-fs, in-part) = flat-elim itemsOf (map (byId devfn) ns) in-items in
       let (m, in-m, same) = Memᴰ·of-map (byId devfn) ns in-fs in
@@ -102,18 +102,17 @@ module _ {host : Host} {ns : List Node} (rise : BridgesRise ns) (tree : Tree hos
     where
       across : Pairwise (λ n m. (i j : Item) → i ∈ itemsOf (byId devfn n) → j ∈ itemsOf (byId devfn m) → ApartOnBus i j) ns
       across =
-          pairwise-imply _ _ ns
+          pairwise-imp-members _ _ ns
           (λ n m in-n in-m both i j mi mj. items-apart n m in-n in-m (both .0) (both .1) i j (id-item devfn n i mi) (id-item devfn m j mj))
           (pairwise-both _ _ ns distinct (tree .siblings-apart))
 
 -- By ID a function holds the target's bus where it has the ID.
-bar-of-id : (target devfn : ℕ) (n : Node) → n .bus ≡ target → n .devfn ≡ devfn → Any (λ r. Holds r target) (byId devfn n .bars)
-unfolding Any
+bar-of-id : (target devfn : ℕ) (n : Node) → n .bus ≡ target → n .devfn ≡ devfn → Some (λ r. Holds r target) (byId devfn n .bars)
 bar-of-id target devfn n at same = rw (eq-eqb _ _ same) (inl (record { from-start = omega arith; before-stop = omega arith }))
 
-id-of-bar : (target devfn : ℕ) (n : Node) → Any (λ r. Holds r target) (byId devfn n .bars) → (n .bus ≡ target) × (n .devfn ≡ devfn)
+id-of-bar : (target devfn : ℕ) (n : Node) → Some (λ r. Holds r target) (byId devfn n .bars) → (n .bus ≡ target) × (n .devfn ≡ devfn)
 id-of-bar target devfn n h =
-    let (r, in-bars, held) = any-elim _ (byId devfn n .bars) h in
+    let (r, in-bars, held) = member-of-some _ (byId devfn n .bars) h in
     let (same-devfn, only) = mem-cond-elim (eqb (n .devfn) devfn) (ownBus n ∷ []) in-bars in
     let own : Holds (ownBus n) target = rw (List·Memᴰ·eq-of-singleton only) at held in
     (omega (arith, own .from-start, own .before-stop), eqb-true _ _ same-devfn)
@@ -126,7 +125,7 @@ module _ {host : Host} {ns : List Node} (rise : BridgesRise ns) (tree : Tree hos
   has-id-of-owner : (f : Registers) → Owns host always (map (byId devfn) ns) target f → (n : Node) × (byId devfn n ≡ f) × HasId target devfn ns n
   has-id-of-owner f o =
       let (n, in-ns, same) = Memᴰ·of-map (byId devfn) ns (o .in-sheet) in
-      let (at, same-devfn) = id-of-bar target devfn n (subst (λ (g : Registers). Any (λ r. Holds r target) (g .bars)) (sym same) (o .bar-holds)) in
+      let (at, same-devfn) = id-of-bar target devfn n (subst (λ (g : Registers). Some (λ r. Holds r target) (g .bars)) (sym same) (o .bar-holds)) in
       (n, same, record { in-sheet = in-ns; bus-is = at; devfn-is = same-devfn })
 
   pub delivered-by-id : (n : Node) → HasId target devfn ns n
@@ -137,7 +136,7 @@ module _ {host : Host} {ns : List Node} (rise : BridgesRise ns) (tree : Tree hos
         in-sheet = Memᴰ·map (byId devfn) (h .in-sheet);
         bar-holds = bar-of-id target devfn n (h .bus-is) (h .devfn-is);
         is-enabled = refl;
-        bridges-enabled = all-intro _ _ (λ b m. refl);
+        bridges-enabled = all-of _ (λ b. refl) (bridgesAbove host (map (byId devfn) ns) (byId devfn n));
       } in
       by-id-walk (host .first) 0
       ∙ delivered-of-owner (by-id-sound rise tree distinct devfn) always target (byId devfn n) owns

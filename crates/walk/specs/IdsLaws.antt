@@ -9,7 +9,9 @@ use Prim.Native.Nat.{ℕ, _<_}
 use native.Mathlib.Omega.{arith}
 use lib.Dec.{eqb}
 use borrow.Author.Tests.{eqb-true, eqb-false, eq-eqb}
-use Rattle.walk.specs.Lists.{_∈_, All, all-elim, all-intro, AtMostOne, select, select-few}
+use Rattle.lists.specs.Lists.{_∈_, All, AtMostOne, keep}
+use Rattle.lists.specs.ListLaws.{all-elim, all-intro}
+use Rattle.lists.specs.KeepLaws.{keep-few}
 use Rattle.walk.specs.Ranges.{Range, holds, holds-iff}
 use Rattle.walk.specs.Registers.{Node, nodes, Claim, window, openWindows}
 use Rattle.walk.specs.Tally.{none, one, join, claimsOf, claimsOn, hitsOf, tallyOn}
@@ -64,15 +66,15 @@ node-claims target devfn bus n = go (eqb (n .bus) bus) refl
 -- Claims node by node, where each node makes one if it passes a test and none if not.
 claims-by-node : (devfn target bus : ℕ) (p : Node → Bool) (c : Node → Claim) (ns : List Node)
     → All (λ n. claimsOf always target bus (byId devfn n) ≡ oneIf (p n) (c n)) ns
-    → claimsOn always (map (byId devfn) ns) target bus ≡ map c (select p ns)
-unfolding All select
+    → claimsOn always (map (byId devfn) ns) target bus ≡ map c (keep p ns)
+unfolding keep
 claims-by-node devfn target bus p c [] h = claims-nil always target bus
 claims-by-node devfn target bus p c (n ∷ ns) h =
     claims-cons always target bus (byId devfn n) (map (byId devfn) ns)
     ∙ ap₂ _++_ (h .0) (claims-by-node devfn target bus p c ns (h .1))
     ∙ go (p n)
   where
-    go : (b : Bool) → oneIf b (c n) ++ map c (select p ns) ≡ map c (cond b (n ∷ select p ns) (select p ns))
+    go : (b : Bool) → oneIf b (c n) ++ map c (keep p ns) ≡ map c (cond b (n ∷ keep p ns) (keep p ns))
     go true = refl
     go false = refl
 
@@ -132,11 +134,11 @@ module _ (ns : List Node) (rise : BridgesRise ns) (target devfn bus : ℕ) where
       first-is-only found (inr (n, e)) = rw e
 
       go : (b : Bool) → eqb bus target ≡ b
-          → cond b (firstOf (select (hasId target devfn) ns)) (join none (map bridgeClaim (select (leadsToward target bus) ns)))
+          → cond b (firstOf (keep (hasId target devfn) ns)) (join none (map bridgeClaim (keep (leadsToward target bus) ns)))
           ≡ join none (claimsOn always (map (byId devfn) ns) target bus)
       go true e =
           let each = all-intro _ ns (claims-on-target (eqb-true _ _ e)) in
-          first-is-only _ (select-few (hasId target devfn) clash ns distinct)
+          first-is-only _ (keep-few (hasId target devfn) clash ns distinct)
           ∙ ap (join none) (sym (claims-by-node devfn target bus (hasId target devfn) functionClaim ns each))
       go false e =
           let each = all-intro _ ns (λ n _. claims-off-target (eqb-false _ _ e) n) in

@@ -1,5 +1,4 @@
 -- The walk of a packet, in reading order: definitions, then their laws, up to delivery.
-pub mod Lists
 pub mod Ranges
 pub mod Registers
 pub mod RegistersLaws

@@ -5,7 +5,8 @@ use mathlib.Core.Bool.{Bool, true}
 use mathlib.Core.List.{List, [], _∷_, _++_, map, map-append, reverse, reverseAux, reverse-append}
 use Prim.Native.Nat.{ℕ}
 use lib.ListN.{length, length-reverse, length-map}
-use Rattle.walk.specs.Lists.{_∈_, All, all-elim, all-append, Any, any-elim}
+use Rattle.lists.specs.Lists.{_∈_, All, Some}
+use Rattle.lists.specs.ListLaws.{all-elim, all-append, member-of-some}
 use Rattle.walk.specs.Ranges.{Holds, holds-of-inside}
 use Rattle.walk.specs.Registers.{Node, Registers, nodes, Item, items, window, barItem, windowItem}
 use Rattle.walk.specs.RegistersLaws.{item-of-bar, item-of-window, node-mem, nodes-elim}
@@ -19,7 +20,7 @@ use Rattle.walk.specs.Good.{Host, Sound}
 -- The function is reached from the bus `top` across these bridges, the nearest to the function first.
 pub record Reaches (enabled : ℕ → Bool) (fs : List Registers) (address top : ℕ) (f : Registers) (crossed : List Node) : Type 0 where
   pub in-sheet : f ∈ fs
-  pub bar-holds : Any (λ r. Holds r address) (f .bars)
+  pub bar-holds : Some (λ r. Holds r address) (f .bars)
   pub is-enabled : enabled (f .node .number) ≡ true
   pub way-up : Above top (nodes fs) (f .node .bus) crossed
   pub bridges-enabled : All (λ b. enabled (b .number) ≡ true) crossed
@@ -47,7 +48,7 @@ pub record Ends (enabled : ℕ → Bool) (fs : List Registers) (address top : �
 
 module _ (enabled : ℕ → Bool) (fs : List Registers) (address : ℕ) where
   ends-at-bar : (bus number : ℕ) → BarClaim enabled fs address bus number → Ends enabled fs address bus [] number
-  unfolding Above All
+  unfolding Above
   ends-at-bar bus number b =
       record {
         owner = b .owner;
@@ -59,7 +60,6 @@ module _ (enabled : ℕ → Bool) (fs : List Registers) (address : ℕ) where
 
   ends-past-window : (bus n secondary : ℕ) (trail : List ℕ) (number : ℕ) → WindowClaim enabled fs address bus n secondary
       → Ends enabled fs address secondary trail number → Ends enabled fs address bus (n ∷ trail) number
-  unfolding All
   ends-past-window bus n secondary trail number w e =
       let b = w .owner .node in
       let leads : LeadsTo secondary (nodes fs) b =
@@ -95,7 +95,7 @@ module _ {host : Host} {fs : List Registers} (sound : Sound host fs) (enabled : 
       let (g, in-fs, is-b) = nodes-elim fs (l .in-sheet) in
       let bridge : g .node .bridge ≡ true = ap (λ (n : Node). n .bridge) is-b ∙ l .is-bridge in
       let below : i .owner .node .bus ≡ g .node .secondary = sym (ap (λ (n : Node). n .secondary) is-b ∙ l .leads) in
-      let (r, in-windows, inside) = any-elim _ (g .windows) (all-elim _ (items fs) (all-elim _ fs (sound .in-window-above) in-fs bridge) m below) in (
+      let (r, in-windows, inside) = member-of-some _ (g .windows) (all-elim _ (items fs) (all-elim _ fs (sound .in-window-above) in-fs bridge) m below) in (
         windowItem g r,
         item-of-window fs in-fs bridge in-windows,
         holds-of-inside inside h,
@@ -108,7 +108,7 @@ module _ {host : Host} {fs : List Registers} (sound : Sound host fs) (enabled : 
       → All (λ b. enabled (b .number) ≡ true) bs
       → (ns : List ℕ) (number : ℕ) → Trail (tallyOn enabled fs address) (i .owner .node .bus) ns number
       → Trail (tallyOn enabled fs address) top (reverseAux (numbersOf bs) ns) number
-  unfolding Above All Trail
+  unfolding Above Trail
   trail-down i m h top [] a on ns number t = rw a at t
   trail-down i m h top (b ∷ bs) (l, a) on ns number t =
       let (w, in-items, holds-it, is-b, claim-is) = window-above i m h b l in
@@ -122,7 +122,7 @@ module _ {host : Host} {fs : List Registers} (sound : Sound host fs) (enabled : 
       → Trail (tallyOn enabled fs address) top (downward bs) (f .node .number)
   unfolding Trail
   trail-of-reaches top f bs reaches =
-      let (r, in-bars, holds-it) = any-elim _ (f .bars) (reaches .bar-holds) in
+      let (r, in-bars, holds-it) = member-of-some _ (f .bars) (reaches .bar-holds) in
       let in-items : barItem f r ∈ items fs = item-of-bar fs (reaches .in-sheet) in-bars in
       let claims-it : Claims enabled address (f .node .bus) (barItem f r) =
       record { on-bus = refl; is-enabled = reaches .is-enabled; in-range = holds-it } in

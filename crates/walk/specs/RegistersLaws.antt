@@ -8,7 +8,8 @@ use mathlib.Core.List.{Memᴰ·append-left, Memᴰ·append-right, Memᴰ·map, M
 use Prim.Native.Nat.{ℕ, suc, _+_, _≤_}
 use lib.ListN.{getD}
 use native.Mathlib.Omega.{arith}
-use Rattle.walk.specs.Lists.{_∈_, mem-cond-elim, flat-intro, flat-elim}
+use Rattle.lists.specs.Lists.{_∈_}
+use Rattle.lists.specs.ListLaws.{mem-cond-elim, flat-intro, flat-elim}
 use Rattle.walk.specs.Ranges.{Range}
 use Rattle.walk.specs.Registers.{Node, Registers, nodes, enabledIn, NumberedFrom}
 use Rattle.walk.specs.Registers.{Item, bar, window, barItem, windowItem, openWindows, itemsOf, items}

@@ -3,7 +3,7 @@ use mathlib.Core.Bool.{Bool, _&&_}
 use mathlib.Core.List.{List, [], _∷_, map}
 use Prim.Native.Nat.{ℕ}
 use lib.Dec.{eqb}
-use Rattle.walk.specs.Lists.{select}
+use Rattle.lists.specs.Lists.{keep}
 use Rattle.walk.specs.Ranges.{Range, holds}
 use Rattle.walk.specs.Registers.{Registers, Item, itemsOf, items, Claim}
 
@@ -27,14 +27,14 @@ abbrev pub claimsIn : List Item → List Claim
 claimsIn is = map (λ (i : Item). i .claim) is
 
 abbrev pub claimsOf : (ℕ → Bool) → ℕ → ℕ → Registers → List Claim
-claimsOf enabled address bus f = claimsIn (select (claims enabled address bus) (itemsOf f))
+claimsOf enabled address bus f = claimsIn (keep (claims enabled address bus) (itemsOf f))
 
 abbrev pub claimsOn : (ℕ → Bool) → List Registers → ℕ → ℕ → List Claim
-claimsOn enabled fs address bus = claimsIn (select (claims enabled address bus) (items fs))
+claimsOn enabled fs address bus = claimsIn (keep (claims enabled address bus) (items fs))
 
 unfoldable pub tallyOn : (ℕ → Bool) → List Registers → ℕ → ℕ → Tally
 tallyOn enabled fs address bus = join none (claimsOn enabled fs address bus)
 
 -- One claim for each of these ranges that holds the address.
 unfoldable pub hitsOf : ℕ → Claim → List Range → List Claim
-hitsOf address c rs = map (λ (r : Range). c) (select (λ r. holds r address) rs)
+hitsOf address c rs = map (λ (r : Range). c) (keep (λ r. holds r address) rs)

@@ -8,7 +8,9 @@ use native.Mathlib.Nat.{suc-ne-zero}
 use native.Mathlib.Omega.{arith}
 use lib.Dec.{eqb}
 use borrow.Author.Tests.{eqb-true, eq-eqb}
-use Rattle.walk.specs.Lists.{_∈_, all-elim, Any, any-intro, AtMostOne, select, select-elim, select-few, select-only, select-agree}
+use Rattle.lists.specs.Lists.{_∈_, Some, AtMostOne, keep}
+use Rattle.lists.specs.ListLaws.{all-elim, some-of-member}
+use Rattle.lists.specs.KeepLaws.{keep-elim, keep-few, keep-only, keep-agree}
 use Rattle.walk.specs.Ranges.{holds, Holds, holds-iff, apart-never-both}
 use Rattle.walk.specs.Registers.{Registers, nodes, Item, Claim, bar, window, items}
 use Rattle.walk.specs.RegistersLaws.{BarOf, WindowOf, item-elim, node-mem}
@@ -79,7 +81,7 @@ pub record BarClaim (enabled : ℕ → Bool) (fs : List Registers) (address bus 
   pub number-is : owner .node .number ≡ number
   pub on-bus : owner .node .bus ≡ bus
   pub is-enabled : enabled (owner .node .number) ≡ true
-  pub bar-holds : Any (λ r. Holds r address) (owner .bars)
+  pub bar-holds : Some (λ r. Holds r address) (owner .bars)
 
 pub record WindowClaim (enabled : ℕ → Bool) (fs : List Registers) (address bus number secondary : ℕ) : Type 0 where
   pub owner : Registers
@@ -89,15 +91,15 @@ pub record WindowClaim (enabled : ℕ → Bool) (fs : List Registers) (address b
   pub leads : owner .node .secondary ≡ secondary
   pub on-bus : owner .node .bus ≡ bus
   pub is-enabled : enabled (owner .node .number) ≡ true
-  pub window-holds : Any (λ r. Holds r address) (owner .windows)
+  pub window-holds : Some (λ r. Holds r address) (owner .windows)
 
 module _ (enabled : ℕ → Bool) (fs : List Registers) (address bus : ℕ) where
   claim-of-one : (c : Claim) → tallyOn enabled fs address bus ≡ one c → (i : Item) × (i ∈ items fs) × Claims enabled address bus i × (i .claim ≡ c)
   unfolding tallyOn
   claim-of-one c e =
       let only : c ∈ claimsOn enabled fs address bus = rw (claims-of-one _ c e) (List·Memᴰ·head refl) in
-      let from = Memᴰ·of-map (λ (i : Item). i .claim) (select (claims enabled address bus) (items fs)) only in
-      let passed = select-elim (claims enabled address bus) (items fs) (from .1) in
+      let from = Memᴰ·of-map (λ (i : Item). i .claim) (keep (claims enabled address bus) (items fs)) only in
+      let passed = keep-elim (claims enabled address bus) (items fs) (from .1) in
       (from .0, passed .0, claims-iff enabled address bus (from .0) .0 (passed .1), from .2)
 
   pub bar-of-tally : (number : ℕ) → tallyOn enabled fs address bus ≡ one (bar number) → BarClaim enabled fs address bus number
@@ -111,7 +113,7 @@ module _ (enabled : ℕ → Bool) (fs : List Registers) (address bus : ℕ) wher
             number-is = cc;
             on-bus = c .on-bus;
             is-enabled = c .is-enabled;
-            bar-holds = any-intro _ (i .owner .bars) (b .in-bars) (c .in-range);
+            bar-holds = some-of-member _ (i .owner .bars) (b .in-bars) (c .in-range);
           }
       go i c q (inr w) = absurd (suc-ne-zero 0 (cc))
 
@@ -131,7 +133,7 @@ module _ (enabled : ℕ → Bool) (fs : List Registers) (address bus : ℕ) wher
             leads = cc;
             on-bus = c .on-bus;
             is-enabled = c .is-enabled;
-            window-holds = any-intro _ (i .owner .windows) (w .in-windows) (c .in-range);
+            window-holds = some-of-member _ (i .owner .windows) (w .in-windows) (c .in-range);
           }
 
   module _ (disjoint : Disjoint fs) where
@@ -144,14 +146,14 @@ module _ (enabled : ℕ → Bool) (fs : List Registers) (address bus : ℕ) wher
     pub tally-of-claim : {i : Item} → i ∈ items fs → Claims enabled address bus i → tallyOn enabled fs address bus ≡ one (i .claim)
     unfolding tallyOn join
     tally-of-claim {i} m c =
-        rw (select-only (claims enabled address bus) never-both (items fs) (disjoint .apart-on-bus) m (claims-iff enabled address bus i .1 c))
+        rw (keep-only (claims enabled address bus) never-both (items fs) (disjoint .apart-on-bus) m (claims-iff enabled address bus i .1 c))
 
     pub tally-not-several : tallyOn enabled fs address bus ≡ several → ⊥
     unfolding tallyOn
-    tally-not-several e = few-not-several _ (select-few (claims enabled address bus) never-both (items fs) (disjoint .apart-on-bus)) e
+    tally-not-several e = few-not-several _ (keep-few (claims enabled address bus) never-both (items fs) (disjoint .apart-on-bus)) e
 
 pub tally-nil : (enabled : ℕ → Bool) (address bus : ℕ) → tallyOn enabled [] address bus ≡ none
-unfolding tallyOn join items flatMap select
+unfolding tallyOn join items flatMap keep
 tally-nil enabled address bus = refl
 
 -- A command bit matters only where something of its function holds the address.
@@ -160,7 +162,7 @@ pub tally-agree : (enabled enabled′ : ℕ → Bool) (fs : List Registers) (add
     → (bus : ℕ) → tallyOn enabled fs address bus ≡ tallyOn enabled′ fs address bus
 unfolding tallyOn
 tally-agree enabled enabled′ fs address h bus =
-    ap (λ (is : List Item). join none (claimsIn is)) (select-agree (claims enabled address bus) (claims enabled′ address bus) (items fs) same)
+    ap (λ (is : List Item). join none (claimsIn is)) (keep-agree (claims enabled address bus) (claims enabled′ address bus) (items fs) same)
   where
     go : (i : Item) → i ∈ items fs → (b : Bool) → holds (i .range) address ≡ b → claims enabled address bus i ≡ claims enabled′ address bus i
     go i m true e = ap (λ (on : Bool). eqb (i .owner .node .bus) bus && on && holds (i .range) address) (h i m (holds-iff _ _ .0 e))

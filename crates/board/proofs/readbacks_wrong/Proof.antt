@@ -9,7 +9,7 @@ use mathlib.Core.Path.{_≡_, sym, ap, _∙_}
 use mathlib.Core.Bool.{Bool, false}
 use mathlib.Core.List.{List, map}
 use lib.ListN.{length}
-use Rattle.placing.specs.Lists.{any}
+use Rattle.lists.specs.Lists.{any}
 use Rattle.records.specs.Records.{partsFrom, anyPart}
 use Rattle.records.specs.RecordsLaws.{fits-at, any-hit, any-miss, any-end, any-broken, none-here, none-later}
 use Rattle.board.specs.Function.{functionOfPart, headerWrong, readbacksWrong}

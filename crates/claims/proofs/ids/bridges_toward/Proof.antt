@@ -5,7 +5,7 @@ use mathlib.Core.List.{map}
 use Prim.Native.Nat.{_-_}
 use native.Mathlib.Omega.{arith}
 use borrow.Author.Needs.{needs}
-use Rattle.walk.specs.Lists.{select}
+use Rattle.lists.specs.Lists.{keep}
 use Rattle.walk.specs.Tally.{none, join}
 use Rattle.walk.specs.Ids.{leadsToward, bridgeClaim}
 use Rattle.sheet.specs.Spaces.{nodesOf}
@@ -18,7 +18,7 @@ use Rattle.claims.proofs.ids.bridges_toward.Tie as tie
 
 abbrev Inv-loop : tie.InvT-loop
 Inv-loop sheet target bus records tally₀ k₀ tally k =
-    join (tallyOf tally) (towardFrom target bus sheet k) ≡ join none (map bridgeClaim (select (leadsToward target bus) (nodesOf sheet)))
+    join (tallyOf tally) (towardFrom target bus sheet k) ≡ join none (map bridgeClaim (keep (leadsToward target bus) (nodesOf sheet)))
 
 abbrev μ-loop : tie.MeasureT-loop
 μ-loop sheet target bus records tally₀ k₀ tally k = records - k

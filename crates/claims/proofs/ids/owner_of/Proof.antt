@@ -3,7 +3,7 @@
 use mathlib.Core.Path.{_≡_, sym, _∙_}
 use Prim.Native.Nat.{_-_, _/_, _%_}
 use native.Mathlib.Omega.{arith}
-use Rattle.walk.specs.Lists.{select}
+use Rattle.lists.specs.Lists.{keep}
 use Rattle.walk.specs.Ids.{hasId, firstOf}
 use Rattle.sheet.specs.Spaces.{nodesOf}
 use Rattle.claims.specs.TurnLaws.{part-fits, number-le, sized}
@@ -12,7 +12,7 @@ use Rattle.claims.proofs.ids.owner_of.Statement.{statement}
 use Rattle.claims.proofs.ids.owner_of.Tie as tie
 
 abbrev Inv-loop : tie.InvT-loop
-Inv-loop sheet id records k₀ k = ownerFrom id sheet k ≡ firstOf (select (hasId (id / 256) (id % 256)) (nodesOf sheet))
+Inv-loop sheet id records k₀ k = ownerFrom id sheet k ≡ firstOf (keep (hasId (id / 256) (id % 256)) (nodesOf sheet))
 
 abbrev μ-loop : tie.MeasureT-loop
 μ-loop sheet id records k₀ k = records - k

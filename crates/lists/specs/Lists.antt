@@ -1,9 +1,14 @@
 -- What the definitions say of lists: all elements, some element, all pairs in order, the elements that pass a test, the longest front that does. Assumes nothing.
+use mathlib.Core.Path.{_≡_}
 use mathlib.Core.Logic.{_⊎_}
 use mathlib.Core.Bool.{Bool, false, cond, _||_}
-use mathlib.Core.List.{List, [], _∷_}
+use mathlib.Core.List.{List, [], _∷_, List·Memᴰ}
 
 module _ {A : Type 0} where
+  infix 5 _∈_
+  abbrev pub _∈_ : A → List A → Type 0
+  x ∈ xs = List·Memᴰ x xs
+
   -- Every element has P
   abbrev pub All : (A → Type 0) → List A → Type 0
   All P [] = Unit {0}
@@ -18,6 +23,9 @@ module _ {A : Type 0} where
   abbrev pub Pairwise : (A → A → Type 0) → List A → Type 0
   Pairwise R [] = Unit {0}
   Pairwise R (x ∷ xs) = All (R x) xs × Pairwise R xs
+
+  abbrev pub AtMostOne : List A → Type 0
+  AtMostOne xs = (xs ≡ []) ⊎ ((x : A) × (xs ≡ x ∷ []))
 
   -- The elements that pass the test, in their order
   unfoldable pub keep : (A → Bool) → List A → List A
