@@ -34,6 +34,16 @@ length-le p e = go (isBridgeHeader (getD p 3 0)) refl (length-of-header p e)
     go true b h = let k : length p ≡ 14 = rw b at h in omega arith
     go false b h = let k : length p ≡ 30 = rw b at h in omega arith
 
+-- a function record gives six read-backs
+pub length-readbacks : (p : List ℕ) → length (functionOfPart p .readbacks) ≡ 6
+unfolding functionOfPart
+length-readbacks p = go (isBridgeHeader (getD p 3 0))
+  where
+    go : (t : Bool)
+        → length (cond t (be 4 p 6 ∷ be 4 p 10 ∷ 0 ∷ 0 ∷ 0 ∷ 0 ∷ []) (be 4 p 6 ∷ be 4 p 10 ∷ be 4 p 14 ∷ be 4 p 18 ∷ be 4 p 22 ∷ be 4 p 26 ∷ [])) ≡ 6
+    go true = refl
+    go false = refl
+
 -- ---- 24 by length and type
 
 pub header-wrong-short : (p : List ℕ) → length p < 4 → headerWrong p ≡ true

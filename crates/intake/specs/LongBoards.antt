@@ -1,22 +1,22 @@
 -- An input longer than any lawful board: fed in pieces, wherever the cuts fall, it comes to document 01's number. Assumes nothing.
 use Prim.Native.Nat.{ℕ, zero, suc, _+_, _-_, _*_, min, _≤_, _<_}
 use mathlib.Core.Path.{_≡_, refl, sym, ap, _∙_}
-use mathlib.Core.Bool.{Bool, true, false, cond, not, _&&_, _||_, false≢true}
+use mathlib.Core.Bool.{Bool, true, false, cond, _||_, false≢true}
 use mathlib.Core.List.{List, [], _∷_, _++_}
 use native.Mathlib.Omega.{arith}
-use native.Mathlib.Numerals.{add-one}
-use borrow.Author.Tests.{eq-eqb, ne-eqb, lt-ltb, le-ltb, ltb-true, ltb-false, le-leb, lt-leb, eqb-true, eqb-false, not-false}
+use borrow.Author.Tests.{ne-eqb, lt-ltb, le-ltb, ltb-true, ltb-false, lt-leb, eqb-true, not-false}
 use lib.Dec.{eqb, ltb}
-use lib.ListN.{length, getD, take, drop, take-append-drop, length-take, length-drop}
+use lib.ListN.{length, take, drop, take-append-drop, length-drop}
 use lib.Seq.{length-take-le}
 use Rattle.records.specs.declared.Next.{Next}
 use Rattle.records.specs.declared.Next.the-variants.{End, Record, Broken}
 use Rattle.records.specs.Records.{nextOf, Parts, after, partsOf, anyPart}
-use Rattle.records.specs.RecordsLaws.{fits-of-record, partsOf-step}
+use Rattle.records.specs.RecordsLaws.{fits-of-record, partsOf-step, false-of-or}
 use Rattle.board.specs.Board.{isShort, noHost, misframed, boardNumber, fromVersion, fromFrame, fromCount, fromHeaders}
-use Rattle.board.specs.Function.{typeOf, isBridgeHeader, lengthFor, headerWrong}
+use Rattle.board.specs.Function.{headerWrong}
+use Rattle.board.specs.FunctionLaws.{length-le}
 use Rattle.intake.specs.declared.Stage.{Stage}
-use Rattle.intake.specs.declared.Stage.the-variants.{Start, Other, Between, Length, Inside}
+use Rattle.intake.specs.declared.Stage.the-variants.{Other, Between, Inside}
 use Rattle.intake.specs.declared.Intake.{Intake}
 use Rattle.intake.specs.Intake.{fresh, movedTo, misfitsOf, openedOf, countedOf, begunOf, restOf, stepOf, feedOf, finishBetween, finishOf}
 use Rattle.intake.specs.IntakeLaws.{feed-append}
@@ -39,14 +39,6 @@ or-false false = refl
 or-assoc : (a b c : Bool) → (a || b) || c ≡ a || (b || c)
 or-assoc true b c = refl
 or-assoc false b c = refl
-
-or-false-left : (a b : Bool) → a || b ≡ false → a ≡ false
-or-false-left true b e = e
-or-false-left false b e = refl
-
-or-false-right : (a b : Bool) → a || b ≡ false → b ≡ false
-or-false-right true b e = absurd (false≢true (sym e))
-or-false-right false b e = e
 
 -- ## Bytes of one record
 
@@ -238,24 +230,13 @@ length-parts (suc n) r h w = go (nextOf r) refl (λ k e. length-parts n (drop (2
         let t = ih k e (sym (ap (λ (x : Parts). x .whole) s) ∙ w) in
         rw s (omega (arith, length-drop (2 + k) r, length-take-le k (drop 2 r) (omega (arith, length-drop 2 r))))
 
--- a function whose length is right has at most 30 bytes
-short-of-right : (p : List ℕ) → headerWrong p ≡ false → length p ≤ 30
-unfolding headerWrong
-short-of-right p h =
-    let type-wrong = not (eqb (typeOf (getD p 3 0)) 0) && not (isBridgeHeader (getD p 3 0)) in
-    let right = eqb (length p) (lengthFor (getD p 3 0)) in
-    go (isBridgeHeader (getD p 3 0)) (eqb-true (length p) (lengthFor (getD p 3 0)) (not-false right (or-false-right type-wrong (not right) h)))
-  where
-    go : (b : Bool) → length p ≡ cond b 14 30 → length p ≤ 30
-    go true e = omega arith
-    go false e = omega arith
-
 total-of-right : (ps : List (List ℕ)) → anyPart headerWrong ps ≡ false → total ps ≤ 32 * length ps
 unfolding total anyPart
 total-of-right [] h = omega arith
 total-of-right (p ∷ ps) h =
-    let a = short-of-right p (or-false-left (headerWrong p) (anyPart headerWrong ps) h) in
-    let b = total-of-right ps (or-false-right (headerWrong p) (anyPart headerWrong ps) h) in
+    let right = false-of-or (headerWrong p) (anyPart headerWrong ps) h in
+    let a = length-le p (right .0) in
+    let b = total-of-right ps (right .1) in
     omega arith
 
 -- ## The theorem
@@ -308,7 +289,7 @@ long-frame true (p ∷ ps) l = finish-whole p ps ∙ go (noHost (p ∷ ps) || an
         → cond b 20 (cond t 22 24) ≡ fromFrame (record { parts = p ∷ ps; whole = true })
     go true b t c = rw b
     go false b true c = rw (b, c)
-    go false b false c = rw (b, c, wrong-of-long p ps (l refl) (or-false-left (noHost (p ∷ ps)) (anyPart isShort ps) b) c)
+    go false b false c = rw (b, c, wrong-of-long p ps (l refl) (false-of-or (noHost (p ∷ ps)) (anyPart isShort ps) b .0) c)
 
 -- Fed byte by byte, an input longer than any lawful board comes to the board's number
 pub long-board-number : (s : List ℕ) → mostBytes < length s → finishOf (feedOf fresh s) ≡ boardNumber s

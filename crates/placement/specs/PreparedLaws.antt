@@ -1,19 +1,19 @@
 -- What an accepted board gives of what the placing pass asks. Assumes nothing.
-use mathlib.Core.Path.{_≡_, refl, sym, ap, _∙_}
-use mathlib.Core.Bool.{Bool, true, false, cond}
+use mathlib.Core.Path.{_≡_, sym, ap, _∙_}
+use mathlib.Core.Bool.{true, false}
 use mathlib.Core.List.{List, [], _∷_, map, cons≢nil, head-eq-of-cons-eq}
 use Prim.Native.Nat.{ℕ, zero, suc, _+_, _*_, _≤_, _<_}
 use lib.ListN.{length, getD, take}
-use Rattle.endian.specs.Endian.{be}
 use Rattle.records.specs.Records.{partsFrom}
 use Rattle.records.specs.RecordsLaws.{false-of-or}
 use Rattle.bar.specs.Bar.{anyBad}
 use Rattle.lists.specs.Lists.{any}
 use Rattle.placing.specs.Numbering.{bridges}
 use Rattle.board.specs.declared.Function.{Function}
-use Rattle.board.specs.Function.{isBridge, isBridgeHeader, functionOfPart, readbacksWrong}
+use Rattle.board.specs.Function.{isBridge, functionOfPart, readbacksWrong}
+use Rattle.board.specs.FunctionLaws.{length-readbacks}
 use Rattle.board.specs.Board.{boardNumber, functionsOf}
-use Rattle.board.specs.BoardLaws.{Accepted, accepted-of-zero}
+use Rattle.board.specs.BoardLaws.{accepted-of-zero}
 use Rattle.board.specs.ToPlacing.{toPlacing}
 use Rattle.board.specs.ToPlacingLaws.{lawful-of-accepted}
 use Rattle.sizing.specs.Memo.{laidAt, below}
@@ -31,19 +31,10 @@ readable-of-right : (f : Function) → readbacksWrong f ≡ false → anyBad (sl
 unfolding readbacksWrong
 readable-of-right f e = e
 
-six-of-part : (p : List ℕ) → length (functionOfPart p .readbacks) ≡ 6
-unfolding functionOfPart
-six-of-part p = go (isBridgeHeader (getD p 3 0))
-  where
-    go : (t : Bool)
-        → length (cond t (be 4 p 6 ∷ be 4 p 10 ∷ 0 ∷ 0 ∷ 0 ∷ 0 ∷ []) (be 4 p 6 ∷ be 4 p 10 ∷ be 4 p 14 ∷ be 4 p 18 ∷ be 4 p 22 ∷ be 4 p 26 ∷ [])) ≡ 6
-    go true = refl
-    go false = refl
-
 six-at : (ls : List (List ℕ)) (i : ℕ) (f : Function) → RecordAt (map functionOfPart ls) i f → length (f .readbacks) ≡ 6
 six-at [] zero f e = absurd (cons≢nil (sym e))
 six-at [] (suc i) f e = absurd (cons≢nil (sym e))
-six-at (p ∷ ls) zero f e = ap (λ (x : Function). length (x .readbacks)) (sym (head-eq-of-cons-eq e)) ∙ six-of-part p
+six-at (p ∷ ls) zero f e = ap (λ (x : Function). length (x .readbacks)) (sym (head-eq-of-cons-eq e)) ∙ length-readbacks p
 six-at (p ∷ ls) (suc i) f e = six-at ls i f e
 
 -- what is left is the arrays' own: the bridges counted, what lies below each bridge, and bus numbers that fit

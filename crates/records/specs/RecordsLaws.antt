@@ -57,7 +57,7 @@ partsOf-step s (Record n) e =
 
 -- ---- lengths that end at the end
 
-empty-of-end : (s : List ℕ) → nextOf s ≡ End → length s ≡ 0
+pub empty-of-end : (s : List ℕ) → nextOf s ≡ End → length s ≡ 0
 unfolding nextOf
 empty-of-end [] e = refl
 empty-of-end (a ∷ []) e = cc

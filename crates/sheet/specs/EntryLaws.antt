@@ -1,6 +1,6 @@
 -- A record's fields as the code reads them from the record's bytes, and what the checks say of one record. Assumes nothing.
 use mathlib.Core.Path.{_≡_, refl, sym, ap, _∙_}
-use mathlib.Core.Bool.{Bool, true, false, cond, _||_, true≢false, and-eq-true-iff}
+use mathlib.Core.Bool.{Bool, true, false, cond, and-eq-true-iff}
 use mathlib.Core.List.{List}
 use Prim.Native.Nat.{ℕ, zero, suc, _+_, _*_, _≤_, _<_}
 use native.Mathlib.Omega.{arith}
@@ -9,6 +9,7 @@ use borrow.Author.Tests.{not-false}
 use Rattle.endian.specs.Endian.{be, le}
 use Rattle.pools.specs.declared.Pool.{Pool}
 use Rattle.pools.specs.declared.Pool.the-variants.{Low, High, Io}
+use Rattle.records.specs.RecordsLaws.{false-of-or}
 use Rattle.bar.specs.Bar.{slots, anyBad}
 use Rattle.bar.specs.Values.{valuesLawful}
 use Rattle.bar.specs.ValuesLaws.{lawful-of-values}
@@ -69,14 +70,10 @@ module _ (p : List ℕ) where
 
 -- ## What a check says of each record
 
-pub or-false-elim : (a b : Bool) → (a || b) ≡ false → (a ≡ false) × (b ≡ false)
-or-false-elim true b e = absurd (true≢false e)
-or-false-elim false b e = (refl, e)
-
 breaks-from : (rule : Rule) (s : List ℕ) (f : Framed 1 s) (k : ℕ) → k < length (entriesOf s) → anyBreaks rule (entriesFrom s (92 * k + 1)) ≡ false
     → (breaks rule (entryOf (partAt s k)) ≡ false) × (anyBreaks rule (entriesFrom s (92 * (k + 1) + 1)) ≡ false)
 unfolding anyBreaks
-breaks-from rule s f k h e = or-false-elim _ _ (sym (ap (anyBreaks rule) (entries-index s f k h)) ∙ e)
+breaks-from rule s f k h e = false-of-or _ _ (sym (ap (anyBreaks rule) (entries-index s f k h)) ∙ e)
 
 pub breaks-index : (rule : Rule) (s : List ℕ) (f : Framed 1 s) → anyBreaks rule (entriesOf s) ≡ false → (k : ℕ) → k < length (entriesOf s)
     → breaks rule (entryOf (partAt s k)) ≡ false

@@ -1,7 +1,7 @@
 -- A sheet that passes the 20s is its version byte and records of 92 bytes: what a pass with a cursor finds, where record k starts, and what its
 -- part is. Assumes nothing.
 use mathlib.Core.Path.{_≡_, refl, sym, ap, _∙_}
-use mathlib.Core.Bool.{Bool, true, false, cond, _&&_, and-false, and-eq-true-iff, false≢true}
+use mathlib.Core.Bool.{Bool, true, false, _&&_, and-false, and-eq-true-iff, false≢true}
 use mathlib.Core.List.{List, [], _∷_}
 use Prim.Native.Nat.{ℕ, zero, suc, _+_, _-_, _*_, _≤_, _<_}
 use native.Mathlib.Omega.{arith}
@@ -12,7 +12,7 @@ use Rattle.endian.specs.Endian.{be}
 use Rattle.records.specs.declared.Next.{Next}
 use Rattle.records.specs.declared.Next.the-variants.{End, Record, Broken}
 use Rattle.records.specs.Records.{nextOf, Parts, partsOf, partsFrom}
-use Rattle.records.specs.RecordsLaws.{fits-at, length-part, next-end, next-broken, next-record, parts-record, parts-end, parts-broken}
+use Rattle.records.specs.RecordsLaws.{empty-of-end, fits-at, length-part, next-end, next-broken, next-record, parts-record, parts-end, parts-broken}
 use Rattle.sheet.specs.Entry.{recordSize}
 use Rattle.sheet.specs.Sheet.{allSized, isFramed, Framed, partsIn, partAt}
 
@@ -40,16 +40,6 @@ module _ (s : List ℕ) (at : ℕ) where
   framed-on n h e k = let q : at + 2 + n ≡ at + 92 = omega arith in framed-record n h e ∙ rw (eq-eqb n recordSize k, q)
 
 -- ## A record of a framed sheet
-
-empty-of-end : (s : List ℕ) → nextOf s ≡ End → length s ≡ 0
-unfolding nextOf
-empty-of-end [] e = refl
-empty-of-end (a ∷ []) e = absurd (let z : _≡_ {A = ℕ} 0 1 = cc in omega arith)
-empty-of-end (a ∷ b ∷ s) e = go (ltb (length s) (a * 256 + b)) e
-  where
-    go : (t : Bool) → cond t Broken (Record (a * 256 + b)) ≡ End → suc (suc (length s)) ≡ 0
-    go true e = absurd (let z : _≡_ {A = ℕ} 0 1 = cc in omega arith)
-    go false e = absurd (let z : _≡_ {A = ℕ} 0 1 = cc in omega arith)
 
 pub record FramedAt (s : List ℕ) (at : ℕ) : Type 0 where
   pub fits : at + 92 ≤ length s

@@ -9,6 +9,7 @@ use lib.Dec.{eqb, leb, ltb}
 use borrow.Author.Tests.{ltb-true, ltb-false, leb-true, eqb-true, eqb-false, eq-eqb, ne-eqb, le-ltb, not-false}
 use Rattle.endian.specs.Endian.{Bytes}
 use Rattle.endian.specs.BytesLaws.{bytes-take, bytes-drop}
+use Rattle.records.specs.RecordsLaws.{false-of-or}
 use Rattle.lists.specs.Lists.{All}
 use Rattle.walk.specs.Registers.{nodes, NumberedFrom}
 use Rattle.walk.specs.Good.{Rises, BridgesRise}
@@ -17,7 +18,7 @@ use Rattle.sheet.specs.declared.Rule.the-variants.{HeaderType, Buses, Re
 use Rattle.sheet.specs.declared.Space.{Space}
 use Rattle.sheet.specs.Entry.{Entry, headerOf, isBridge, subordinateOf, entryOf, bus, devfn, bridges}
 use Rattle.sheet.specs.Sheet.{isFramed, Framed, partAt, entriesFrom, entriesOf, busesWrong, breaks, anyBreaks, hasId, idTwice, from20, from21, from22, from24, from25, from27, from28, from29, sheetNumber}
-use Rattle.sheet.specs.EntryLaws.{or-false-elim, breaks-index, lawful-entry}
+use Rattle.sheet.specs.EntryLaws.{breaks-index, lawful-entry}
 use Rattle.sheet.specs.CheckLaws.{partFrom, first-at}
 use Rattle.bar.specs.Bar.{anyBad}
 use Rattle.sheet.specs.Spaces.{slotsOf, nodeOf, functionsFrom, nodesFrom, registersOf, nodesOf}
@@ -117,7 +118,7 @@ pub rise-of-right : (k : ℕ) (es : List Entry) → anyBreaks Buses es ≡ false
 unfolding anyBreaks breaks nodesFrom
 rise-of-right k [] w small = tt
 rise-of-right k (e ∷ es) w small =
-    let both = or-false-elim (busesWrong e) (anyBreaks Buses es) w in
+    let both = false-of-or (busesWrong e) (anyBreaks Buses es) w in
     (rises-of-right k e (both .0) (small .0), rise-of-right (k + 1) es (both .1) (small .1))
 
 -- ## Check 28
@@ -127,14 +128,14 @@ absent : (k j : ℕ) (e : Entry) (es : List Entry) → hasId (e .id) es ≡ fals
 unfolding hasId nodesFrom
 absent k j e [] h = tt
 absent k j e (x ∷ es) h =
-    let both = or-false-elim (eqb (x .id) (e .id)) (hasId (e .id) es) h in
+    let both = false-of-or (eqb (x .id) (e .id)) (hasId (e .id) es) h in
     (λ p q. eqb-false (x .id) (e .id) (both .0) (omega arith), absent k (j + 1) e es (both .1))
 
 pub distinct-of-once : (k : ℕ) (es : List Entry) → idTwice es ≡ false → DistinctIds (nodesFrom k es)
 unfolding idTwice nodesFrom
 distinct-of-once k [] h = tt
 distinct-of-once k (e ∷ es) h =
-    let both = or-false-elim (hasId (e .id) es) (idTwice es) h in
+    let both = false-of-or (hasId (e .id) es) (idTwice es) h in
     (absent k (k + 1) e es (both .0), distinct-of-once (k + 1) es (both .1))
 
 -- ## Of a sheet

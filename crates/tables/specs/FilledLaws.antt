@@ -15,6 +15,7 @@ use Rattle.placing.specs.Records.{DepthFirst, onlyHost}
 use Rattle.placing.specs.Numbering.{bridges}
 use Rattle.board.specs.declared.Function.{Function}
 use Rattle.board.specs.Function.{functionOfPart, readbacksWrong}
+use Rattle.board.specs.FunctionLaws.{length-readbacks}
 use Rattle.board.specs.Board.{mostFunctions, boardNumber, functionsOf}
 use Rattle.board.specs.BoardLaws.{accepted-of-zero}
 use Rattle.board.specs.ToPlacing.{toFunction, toPlacing}
@@ -22,7 +23,6 @@ use Rattle.board.specs.ToPlacingLaws.{lawful-of-accepted}
 use Rattle.sizing.specs.Functions.{slotsIn, functionIn, functionsIn, setAt}
 use Rattle.sizing.specs.Board.{Board}
 use Rattle.tables.specs.Tables.{parentsOf, headersOf, readbacksOf, Room, Filled}
-use Rattle.tables.specs.TablesLaws.{length-readbacks}
 use Rattle.tables.specs.Counts.{countsOf}
 use Rattle.tables.specs.CountsLaws.{getD-counted}
 

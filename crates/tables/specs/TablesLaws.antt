@@ -1,6 +1,5 @@
 -- The pass that fills the arrays, one law for each thing that can stand at the cursor. Assumes nothing.
-use mathlib.Core.Path.{_≡_, refl, sym, ap, _∙_}
-use mathlib.Core.Bool.{Bool, true, false, cond}
+use mathlib.Core.Path.{_≡_, sym, ap, _∙_}
 use mathlib.Core.List.{List, [], _∷_, map, flatMap}
 use Prim.Native.Nat.{ℕ, suc, _+_, _*_, _≤_, _<_}
 use native.Mathlib.Nat.{add-zero, zero-add}
@@ -8,26 +7,16 @@ use native.Mathlib.Numerals.{add-one}
 use native.Mathlib.Omega.{arith}
 use lib.ListN.{length, getD, take, drop, set, length-set, length-map, drop-of-length-le}
 use lib.Seq.{sets, length-sets, drop-cons}
-use Rattle.endian.specs.Endian.{be}
 use Rattle.endian.specs.SetsLaws.{sets-sets}
 use Rattle.records.specs.declared.Next.the-variants.{End, Record, Broken}
 use Rattle.records.specs.Records.{nextOf, partsFrom}
 use Rattle.records.specs.RecordsLaws.{pass-record, pass-end, pass-broken, none-later}
 use Rattle.board.specs.declared.Function.{Function}
-use Rattle.board.specs.Function.{isBridgeHeader, functionOfPart, headerWrong}
+use Rattle.board.specs.Function.{functionOfPart, headerWrong}
+use Rattle.board.specs.FunctionLaws.{length-readbacks}
 use Rattle.board.specs.Board.{mostFunctions, boardNumber, functionsOf}
 use Rattle.board.specs.BoardLaws.{accepted-of-zero}
 use Rattle.tables.specs.Tables.{parentsOf, headersOf, readbacksOf, Room, Put, Filled, functionsFrom, Filling}
-
--- a function record gives six read-backs
-pub length-readbacks : (p : List ℕ) → length (functionOfPart p .readbacks) ≡ 6
-unfolding functionOfPart
-length-readbacks p = go (isBridgeHeader (getD p 3 0))
-  where
-    go : (t : Bool)
-        → length (cond t (be 4 p 6 ∷ be 4 p 10 ∷ 0 ∷ 0 ∷ 0 ∷ 0 ∷ []) (be 4 p 6 ∷ be 4 p 10 ∷ be 4 p 14 ∷ be 4 p 18 ∷ be 4 p 22 ∷ be 4 p 26 ∷ [])) ≡ 6
-    go true = refl
-    go false = refl
 
 -- ---- stores one by one: a run `vs` from `at` on, of which those before j are stored
 

@@ -8,7 +8,8 @@ use native.Mathlib.Omega.{arith}
 use lib.ListN.{length, drop, length-set}
 use lib.Seq.{sets}
 use Rattle.board.specs.Function.{functionOfPart}
-use Rattle.tables.specs.TablesLaws.{length-readbacks, run-turn, run-end}
+use Rattle.board.specs.FunctionLaws.{length-readbacks}
+use Rattle.tables.specs.TablesLaws.{run-turn, run-end}
 use Rattle.tables.proofs.put_set.Statement.{statement}
 use Rattle.tables.proofs.put_set.Tie as tie
 
