@@ -17,7 +17,7 @@ use Rattle.lists.specs.KeepLaws.{keep-append, keep-elim, keep-nil}
 use Rattle.placing.specs.Pools.{low, high, io}
 use Rattle.placing.specs.Records as placing
 use Rattle.placing.specs.Layout.{Piece, Placed, endOf}
-use Rattle.placing.specs.Layout.{select as selectOn}
+use Rattle.placing.specs.Layout.{select}
 use Rattle.placing.specs.Pieces.{windowOver, windowPieces, pieces}
 use Rattle.placing.specs.Placing.{placed}
 use Rattle.placing.specs.Numbering.{busNumber, rowOf, numberedFrom}
@@ -60,16 +60,16 @@ devfn-at (suc i) (g ∷ fs) f gs e = devfn-at i fs f gs e
 
 module _ (k b : ℕ) (rest : List Piece) where
   abbrev over : Pool → List Piece
-  over q = windowOver k b q (selectOn k q rest)
+  over q = windowOver k b q (select k q rest)
 
   memory-windows : keep (λ p. inSpace memorySpace (p .pool)) (windowPieces k b rest) ≡ over low ++ over high
   unfolding windowPieces
   memory-windows =
       let test : Piece → Bool = λ p. inSpace memorySpace (p .pool) in
       keep-append test (over low) (over high ++ over io)
-      ∙ ap₂ _++_ (over-kept k b memorySpace low (selectOn k low rest) refl)
+      ∙ ap₂ _++_ (over-kept k b memorySpace low (select k low rest) refl)
       (keep-append test (over high) (over io)
-      ∙ ap₂ _++_ (over-kept k b memorySpace high (selectOn k high rest) refl) (over-dropped k b memorySpace io (selectOn k io rest) refl)
+      ∙ ap₂ _++_ (over-kept k b memorySpace high (select k high rest) refl) (over-dropped k b memorySpace io (select k io rest) refl)
       ∙ append-nil (over high))
 
   io-windows : keep (λ p. inSpace ioSpace (p .pool)) (windowPieces k b rest) ≡ over io
@@ -77,9 +77,9 @@ module _ (k b : ℕ) (rest : List Piece) where
   io-windows =
       let test : Piece → Bool = λ p. inSpace ioSpace (p .pool) in
       keep-append test (over low) (over high ++ over io)
-      ∙ ap₂ _++_ (over-dropped k b ioSpace low (selectOn k low rest) refl)
+      ∙ ap₂ _++_ (over-dropped k b ioSpace low (select k low rest) refl)
       (keep-append test (over high) (over io)
-      ∙ ap₂ _++_ (over-dropped k b ioSpace high (selectOn k high rest) refl) (over-kept k b ioSpace io (selectOn k io rest) refl))
+      ∙ ap₂ _++_ (over-dropped k b ioSpace high (select k high rest) refl) (over-kept k b ioSpace io (select k io rest) refl))
 
 none-of-map : (ws : List Placed) → map (λ (x : Placed). x .piece) ws ≡ [] → ws ≡ []
 none-of-map [] e = refl
@@ -151,7 +151,7 @@ module _ (h : Host) (fs : List Function) (fits : BoardFits h fs) (planned : refu
         go : (t : Bool) → isBridge f ≡ t → sheetWindows Memory entry ≡ windowsOf memorySpace xs (suc i)
         go true e =
             rw (e, window-for-keep memorySpace (suc i) Low refl xs, window-for-keep memorySpace (suc i) High refl xs)
-            (ranges-of-two (suc i) (f .parent) (selectOn (suc i) low rest) (selectOn (suc i) high rest) (keep (isWindowOf memorySpace (suc i)) xs)
+            (ranges-of-two (suc i) (f .parent) (select (suc i) low rest) (select (suc i) high rest) (keep (isWindowOf memorySpace (suc i)) xs)
             ((rw e at (windows-are memorySpace)) ∙ memory-windows (suc i) (f .parent) rest) (edges memorySpace))
         go false e = rw (e, range-of-closed Low, range-of-closed High) (sym (no-windows memorySpace e))
     windows-agree ioSpace = go (isBridge f) refl
@@ -162,7 +162,7 @@ module _ (h : Host) (fs : List Function) (fits : BoardFits h fs) (planned : refu
         go : (t : Bool) → isBridge f ≡ t → sheetWindows Ports entry ≡ windowsOf ioSpace xs (suc i)
         go true e =
             rw (e, window-for-keep ioSpace (suc i) Io refl xs)
-            (ranges-of-one (suc i) (f .parent) (selectOn (suc i) io rest) (keep (isWindowOf ioSpace (suc i)) xs)
+            (ranges-of-one (suc i) (f .parent) (select (suc i) io rest) (keep (isWindowOf ioSpace (suc i)) xs)
             ((rw e at (windows-are ioSpace)) ∙ io-windows (suc i) (f .parent) rest) (edges ioSpace))
         go false e = rw (e, range-of-closed Io) (sym (no-windows ioSpace e))
 

@@ -15,7 +15,7 @@ use Rattle.placing.specs.Pools.{Pool, low, high, io}
 use Rattle.placing.specs.Records.{Bar, Host, Function, Lawful, Sized}
 use Rattle.placing.specs.RecordLaws.{IsAt}
 use Rattle.placing.specs.Layout.{bar, window, Piece, Placed, isWindow}
-use Rattle.placing.specs.Layout.{select as selectOn}
+use Rattle.placing.specs.Layout.{select}
 use Rattle.placing.specs.Pieces.{barPiece, barPieces, windowOver, windowPieces, ownPieces, pieces}
 use Rattle.placing.specs.PieceLaws.{own-pieces, pieces-owner}
 use Rattle.placing.specs.Placing.{Cursors, place, placed, fromBases}
@@ -113,11 +113,11 @@ module _ (sp : Space) (k b : ℕ) where
   unfolding windowPieces
   are-windows rest false = tt
   are-windows rest true =
-      all-append _ (over low) _ (window-over low (selectOn k low rest))
-      (all-append _ (over high) _ (window-over high (selectOn k high rest)) (window-over io (selectOn k io rest)))
+      all-append _ (over low) _ (window-over low (select k low rest))
+      (all-append _ (over high) _ (window-over high (select k high rest)) (window-over io (select k io rest)))
     where
       over : Pool → List Piece
-      over q = windowOver k b q (selectOn k q rest)
+      over q = windowOver k b q (select k q rest)
 
       window-over : (q : Pool) (content : List Piece) → All (λ p. p .part ≡ window) (windowOver k b q content)
       window-over q [] = tt
