@@ -3,5 +3,6 @@ pub mod Fields
 pub mod Widths
 pub mod WidthsLaws
 pub mod Rules
+pub mod RulesLaws
 pub mod Verdict
 pub mod VerdictLaws

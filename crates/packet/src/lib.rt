@@ -3,9 +3,15 @@
 // the reader and the writer: the writer's 2 and 10, and rules 4 to 9.
 ghost use mathlib.Core.Path.{_≡_};
 ghost use Prim.Native.Nat.{_<_};
+ghost use Rattle.pairs.specs.declared.MemoryKind.{MemoryKind};
+ghost use Rattle.pairs.specs.declared.IoKind.{IoKind};
+ghost use Rattle.pairs.specs.declared.ConfigKind.{ConfigKind};
+ghost use Rattle.packet.specs.declared.Target.{Target};
+ghost use Rattle.packet.specs.declared.Packet.the-variants.{Memory, Io, Config, Completion};
 ghost use Rattle.packet.specs.Fields.{kindOf, headOf};
 ghost use Rattle.packet.specs.Widths.{headFits, lengthIn, lengthFits, enablesFit, addressFits, targetFits, outcomeFits, bodyFits, fieldsFit};
-ghost use Rattle.packet.specs.Rules.{reservedSet, oneDword, fixedWrong, upperZero, isFirst, isLast, enablesLawful, enablesWrong, crossesPage, isStatus, statusWrong, ruleNumber};
+ghost use Rattle.packet.specs.Rules.{oneDword, isFirst, isLast, enablesLawful, isStatus, ruleNumber};
+ghost use Rattle.packet.specs.RulesLaws.{hasNoLength};
 ghost use Rattle.packet.specs.Verdict.{verdictOf, onFields};
 use pairs::CompletionKind;
 use pairs::ConfigKind;
@@ -88,26 +94,72 @@ fn judge_fields(row: Row, p: Packet) -> Verdict
     Verdict::Refused(n)
 }
 
-// The number of the first of rules 4 to 9 that the packet breaks, or 0.
-pub fn rule_number(p: Packet) -> u8
+// The number of the first of rules 4 to 9 that the packet breaks, or 0. The rules of a kind are given
+// its fields and never a packet: one that was just read would be stored and loaded again.
+fn rule_number(p: Packet) -> u8
     ensures { λ r. ⌜ r ≡ ruleNumber p ⌝ }
 {
-    if reserved_set(p) {
+    match p {
+        Packet::Memory(_, h, e, a) => memory_rules(h, e, a),
+        Packet::Io(_, h, e, a) => io_rules(h, e, a),
+        Packet::Config(_, h, e, _) => config_rules(h, e),
+        Packet::Completion(k, h, o) => completion_rules(k, h, o),
+    }
+}
+
+// Rules 4, 6, 7 and 8.
+pub fn memory_rules(h: Head, e: Enables, a: u64) -> u8
+    ensures { λ r. ⌜ ((k : MemoryKind) → r ≡ ruleNumber (Memory k h e a)) ⌝ }
+{
+    if !(a % 4 == 0) | (h.at == 3) {
         return 4;
     }
-    if fixed_wrong(p) {
-        return 5;
-    }
-    if upper_zero(p) {
+    if (h.form == 4) & (a < 4294967296) {
         return 6;
     }
-    if enables_wrong(p) {
+    if !enables_lawful(h.length, e) {
         return 7;
     }
-    if crosses_page(p) {
+    if 4096 < a % 4096 + 4 * wide(h.length) {
         return 8;
     }
-    if status_wrong(p) {
+    0
+}
+
+// Rules 4 and 5.
+pub fn io_rules(h: Head, e: Enables, a: u64) -> u8
+    ensures { λ r. ⌜ ((k : IoKind) → r ≡ ruleNumber (Io k h e a)) ⌝ }
+{
+    if !(a % 4 == 0) {
+        return 4;
+    }
+    if !one_dword(h, e) {
+        return 5;
+    }
+    0
+}
+
+// Rule 5.
+pub fn config_rules(h: Head, e: Enables) -> u8
+    ensures { λ r. ⌜ ((k : ConfigKind) (t : Target) → r ≡ ruleNumber (Config k h e t)) ⌝ }
+{
+    if !one_dword(h, e) {
+        return 5;
+    }
+    0
+}
+
+// Rules 4, 5 and 9.
+pub fn completion_rules(k: CompletionKind, h: Head, o: Outcome) -> u8
+    ensures { λ r. ⌜ r ≡ ruleNumber (Completion k h o) ⌝ }
+{
+    if !(h.at == 0) {
+        return 4;
+    }
+    if has_no_length(k) & !(h.length == 0) {
+        return 5;
+    }
+    if !is_status(o.status) {
         return 9;
     }
     0
@@ -205,14 +257,14 @@ fn body_fits(p: Packet) -> bool
     }
 }
 
-fn reserved_set(p: Packet) -> bool
-    ensures { λ r. ⌜ r ≡ reservedSet p ⌝ }
+fn has_no_length(k: CompletionKind) -> bool
+    ensures { λ r. ⌜ r ≡ hasNoLength k ⌝ }
 {
-    match p {
-        Packet::Memory(_, h, _, a) => !(a % 4 == 0) | (h.at == 3),
-        Packet::Io(_, _, _, a) => !(a % 4 == 0),
-        Packet::Config(_, _, _, _) => false,
-        Packet::Completion(_, h, _) => !(h.at == 0),
+    match k {
+        CompletionKind::Cpl => true,
+        CompletionKind::CplD => false,
+        CompletionKind::CplLk => true,
+        CompletionKind::CplDLk => false,
     }
 }
 
@@ -220,33 +272,6 @@ fn one_dword(h: Head, e: Enables) -> bool
     ensures { λ r. ⌜ r ≡ oneDword h e ⌝ }
 {
     (h.tc == 0) & (h.attr == 0) & (h.at == 0) & (h.length == 1) & (e.last == 0)
-}
-
-fn fixed_wrong(p: Packet) -> bool
-    ensures { λ r. ⌜ r ≡ fixedWrong p ⌝ }
-{
-    match p {
-        Packet::Memory(_, _, _, _) => false,
-        Packet::Io(_, h, e, _) => !one_dword(h, e),
-        Packet::Config(_, h, e, _) => !one_dword(h, e),
-        Packet::Completion(k, h, _) => match k {
-            CompletionKind::Cpl => !(h.length == 0),
-            CompletionKind::CplD => false,
-            CompletionKind::CplLk => !(h.length == 0),
-            CompletionKind::CplDLk => false,
-        },
-    }
-}
-
-fn upper_zero(p: Packet) -> bool
-    ensures { λ r. ⌜ r ≡ upperZero p ⌝ }
-{
-    match p {
-        Packet::Memory(_, h, _, a) => (h.form == 4) & (a < 4294967296),
-        Packet::Io(_, _, _, _) => false,
-        Packet::Config(_, _, _, _) => false,
-        Packet::Completion(_, _, _) => false,
-    }
 }
 
 fn is_first(x: u8) -> bool
@@ -273,47 +298,14 @@ fn enables_lawful(n: u16, e: Enables) -> bool
     is_first(e.first) & is_last(e.last)
 }
 
-fn enables_wrong(p: Packet) -> bool
-    ensures { λ r. ⌜ r ≡ enablesWrong p ⌝ }
-{
-    match p {
-        Packet::Memory(_, h, e, _) => !enables_lawful(h.length, e),
-        Packet::Io(_, _, _, _) => false,
-        Packet::Config(_, _, _, _) => false,
-        Packet::Completion(_, _, _) => false,
-    }
-}
-
 fn wide(x: u16) -> u64
     ensures { λ r. ⌜ (r ≡ x) × (r < 65536) ⌝ }
 {
     x as u64
 }
 
-fn crosses_page(p: Packet) -> bool
-    ensures { λ r. ⌜ r ≡ crossesPage p ⌝ }
-{
-    match p {
-        Packet::Memory(_, h, _, a) => 4096 < a % 4096 + 4 * wide(h.length),
-        Packet::Io(_, _, _, _) => false,
-        Packet::Config(_, _, _, _) => false,
-        Packet::Completion(_, _, _) => false,
-    }
-}
-
 fn is_status(x: u8) -> bool
     ensures { λ r. ⌜ r ≡ isStatus x ⌝ }
 {
     (x == 0) | (x == 1) | (x == 2) | (x == 4)
-}
-
-fn status_wrong(p: Packet) -> bool
-    ensures { λ r. ⌜ r ≡ statusWrong p ⌝ }
-{
-    match p {
-        Packet::Memory(_, _, _, _) => false,
-        Packet::Io(_, _, _, _) => false,
-        Packet::Config(_, _, _, _) => false,
-        Packet::Completion(_, _, o) => !is_status(o.status),
-    }
 }

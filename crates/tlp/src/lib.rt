@@ -6,16 +6,22 @@ mod room;
 ghost use mathlib.Core.Path.{_≡_};
 ghost use Prim.Native.Nat.{_≤_, _*_};
 ghost use lib.ListN.{length};
+ghost use Rattle.pairs.specs.declared.Kind.the-variants.{Memory, Io, Config, Completion};
 ghost use Rattle.pairs.specs.declared.Pair.the-variants.{Carried};
 ghost use Rattle.tlp.specs.Reading.{numberOf as readingNumber, readOf, readPair, readAs, judged};
 ghost use Rattle.tlp.specs.Layout.{bodyBytes};
 ghost use Rattle.tlp.specs.Writing.{numberOf as writingNumber, writeOf, roomAfter, size};
+ghost use Rattle.packet.specs.Rules.{ruleNumber};
 ghost use Rattle.packet.specs.Verdict.{verdictOf};
 ghost use Rattle.packet.specs.declared.Verdict.the-variants.{Lawful};
 ghost use lib.Seq.{sets};
 use packet::Packet;
 use packet::Verdict;
+use pairs::CompletionKind;
+use pairs::ConfigKind;
+use pairs::IoKind;
 use pairs::Kind;
+use pairs::MemoryKind;
 use pairs::Pair;
 use pairs::Row;
 
@@ -92,35 +98,10 @@ fn read_as(kind: Kind, form: u8, s: &[u8]) -> Reading
     ensures { λ r. ⌜ r ≡ readAs kind form (now (s .entry)) ⌝ }
 {
     match kind {
-        Kind::Memory(k) => {
-            let h = fields::request_head_at(form, s);
-            let e = fields::enables_at(s);
-            let a = fields::address_at(form, s);
-            judge(fields::unnamed(s), Packet::Memory(k, h, e, a))
-        }
-        Kind::Io(k) => {
-            let h = fields::request_head_at(form, s);
-            let e = fields::enables_at(s);
-            let a = fields::address_at(form, s);
-            judge(fields::unnamed(s), Packet::Io(k, h, e, a))
-        }
-        Kind::Config(k) => {
-            let h = fields::request_head_at(form, s);
-            let e = fields::enables_at(s);
-            let t = fields::target_at(s);
-            judge(
-                fields::unnamed(s) | fields::unnamed_target(s),
-                Packet::Config(k, h, e, t),
-            )
-        }
-        Kind::Completion(k) => {
-            let h = fields::completion_head_at(k, form, s);
-            let o = fields::outcome_at(s);
-            judge(
-                fields::unnamed(s) | fields::unnamed_lower(s),
-                Packet::Completion(k, h, o),
-            )
-        }
+        Kind::Memory(k) => read_memory(k, form, s),
+        Kind::Io(k) => read_io(k, form, s),
+        Kind::Config(k) => read_config(k, form, s),
+        Kind::Completion(k) => read_completion(k, form, s),
         Kind::Msg => Reading::Refused(3),
         Kind::MsgD => Reading::Refused(3),
         Kind::FetchAdd => Reading::Refused(3),
@@ -129,14 +110,63 @@ fn read_as(kind: Kind, form: u8, s: &[u8]) -> Reading
     }
 }
 
-// 4 for a bit that the layout does not name, then rules 4 to 9.
-fn judge(stray: bool, p: Packet) -> Reading
+// Each kind's rules look at its fields before they are put together: a packet made for the rules would
+// be stored and loaded again.
+fn read_memory(k: MemoryKind, form: u8, s: &[u8]) -> Reading
+    requires { ⌜ (12 ≤ length (now s)) × (4 * form ≤ length (now s)) ⌝ }
+    ensures { λ r. ⌜ r ≡ readAs (Memory k) form (now (s .entry)) ⌝ }
+{
+    let h = fields::request_head_at(form, s);
+    let e = fields::enables_at(s);
+    let a = fields::address_at(form, s);
+    let stray = fields::unnamed(s);
+    let n = packet::memory_rules(h, e, a);
+    judge(stray, n, Packet::Memory(k, h, e, a))
+}
+
+fn read_io(k: IoKind, form: u8, s: &[u8]) -> Reading
+    requires { ⌜ (12 ≤ length (now s)) × (4 * form ≤ length (now s)) ⌝ }
+    ensures { λ r. ⌜ r ≡ readAs (Io k) form (now (s .entry)) ⌝ }
+{
+    let h = fields::request_head_at(form, s);
+    let e = fields::enables_at(s);
+    let a = fields::address_at(form, s);
+    let stray = fields::unnamed(s);
+    let n = packet::io_rules(h, e, a);
+    judge(stray, n, Packet::Io(k, h, e, a))
+}
+
+fn read_config(k: ConfigKind, form: u8, s: &[u8]) -> Reading
+    requires { ⌜ 12 ≤ length (now s) ⌝ }
+    ensures { λ r. ⌜ r ≡ readAs (Config k) form (now (s .entry)) ⌝ }
+{
+    let h = fields::request_head_at(form, s);
+    let e = fields::enables_at(s);
+    let t = fields::target_at(s);
+    let stray = fields::unnamed(s) | fields::unnamed_target(s);
+    let n = packet::config_rules(h, e);
+    judge(stray, n, Packet::Config(k, h, e, t))
+}
+
+fn read_completion(k: CompletionKind, form: u8, s: &[u8]) -> Reading
+    requires { ⌜ 12 ≤ length (now s) ⌝ }
+    ensures { λ r. ⌜ r ≡ readAs (Completion k) form (now (s .entry)) ⌝ }
+{
+    let h = fields::completion_head_at(k, form, s);
+    let o = fields::outcome_at(s);
+    let stray = fields::unnamed(s) | fields::unnamed_lower(s);
+    let n = packet::completion_rules(k, h, o);
+    judge(stray, n, Packet::Completion(k, h, o))
+}
+
+// 4 for a bit that the layout does not name, then n: what rules 4 to 9 say of the packet.
+fn judge(stray: bool, n: u8, p: Packet) -> Reading
+    requires { ⌜ n ≡ ruleNumber p ⌝ }
     ensures { λ r. ⌜ r ≡ judged stray p ⌝ }
 {
     if stray {
         return Reading::Refused(4);
     }
-    let n = packet::rule_number(p);
     if n == 0 {
         return Reading::Accepted(p);
     }

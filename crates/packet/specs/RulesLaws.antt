@@ -1,0 +1,58 @@
+-- What the number of the first rule broken is for each kind: the rules that speak of the kind, in their order. Assumes nothing.
+use Prim.Native.Nat.{ℕ, _+_, _*_, _%_, _^_}
+use mathlib.Core.Path.{_≡_, refl, sym, ap, _∙_}
+use mathlib.Core.Bool.{Bool, true, false, cond, not, _&&_, _||_}
+use lib.Dec.{ltb, eqb}
+use Rattle.pairs.specs.declared.MemoryKind.{MemoryKind}
+use Rattle.pairs.specs.declared.IoKind.{IoKind}
+use Rattle.pairs.specs.declared.ConfigKind.{ConfigKind}
+use Rattle.pairs.specs.declared.CompletionKind.{CompletionKind}
+use Rattle.pairs.specs.declared.CompletionKind.the-variants.{Cpl, CplD, CplLk, CplDLk}
+use Rattle.packet.specs.declared.Head.{Head}
+use Rattle.packet.specs.declared.Enables.{Enables}
+use Rattle.packet.specs.declared.Target.{Target}
+use Rattle.packet.specs.declared.Outcome.{Outcome}
+use Rattle.packet.specs.declared.Packet.the-variants.{Memory, Io, Config, Completion}
+use Rattle.packet.specs.Rules.{reservedSet, oneDword, fixedWrong, upperZero, enablesLawful, enablesWrong, crossesPage, isStatus, statusWrong, fromRule9, fromRule8, fromRule7, fromRule6, fromRule5, ruleNumber}
+
+-- a check that answers no leaves those after it; one that answers yes gives its number
+pub passed : {t b : Bool} {n : ℕ} (k : ℕ) → t ≡ b → t ≡ false → cond b k n ≡ n
+passed {n = n} k e f = ap (λ (b : Bool). cond b k n) (sym e ∙ f)
+
+pub stopped : {t b : Bool} {k : ℕ} (n : ℕ) → t ≡ b → t ≡ true → cond b k n ≡ k
+stopped {k = k} n e f = ap (λ (b : Bool). cond b k n) (sym e ∙ f)
+
+pub rule-number-memory : (k : MemoryKind) (h : Head) (e : Enables) (a : ℕ) → ruleNumber (Memory k h e a)
+    ≡ cond (not (eqb (a % 4) 0) || eqb (h .at) 3) 4
+    (cond (eqb (h .form) 4 && ltb a (2 ^ 32)) 6
+    (cond (not (enablesLawful (h .length) e)) 7
+    (cond (ltb 4096 (a % 4096 + 4 * h .length)) 8 0)))
+unfolding ruleNumber fromRule5 fromRule6 fromRule7 fromRule8 fromRule9 reservedSet fixedWrong upperZero enablesWrong crossesPage statusWrong
+rule-number-memory k h e a = refl
+
+pub rule-number-io : (k : IoKind) (h : Head) (e : Enables) (a : ℕ) → ruleNumber (Io k h e a)
+    ≡ cond (not (eqb (a % 4) 0)) 4 (cond (not (oneDword h e)) 5 0)
+unfolding ruleNumber fromRule5 fromRule6 fromRule7 fromRule8 fromRule9 reservedSet fixedWrong upperZero enablesWrong crossesPage statusWrong
+rule-number-io k h e a = refl
+
+pub rule-number-config : (k : ConfigKind) (h : Head) (e : Enables) (t : Target) → ruleNumber (Config k h e t)
+    ≡ cond (not (oneDword h e)) 5 0
+unfolding ruleNumber fromRule5 fromRule6 fromRule7 fromRule8 fromRule9 reservedSet fixedWrong upperZero enablesWrong crossesPage statusWrong
+rule-number-config k h e t = refl
+
+-- Cpl and CplLk have no Length value
+abbrev pub hasNoLength : CompletionKind → Bool
+hasNoLength Cpl = true
+hasNoLength CplD = false
+hasNoLength CplLk = true
+hasNoLength CplDLk = false
+
+pub rule-number-completion : (k : CompletionKind) (h : Head) (o : Outcome) → ruleNumber (Completion k h o)
+    ≡ cond (not (eqb (h .at) 0)) 4
+    (cond (hasNoLength k && not (eqb (h .length) 0)) 5
+    (cond (not (isStatus (o .status))) 9 0))
+unfolding ruleNumber fromRule5 fromRule6 fromRule7 fromRule8 fromRule9 reservedSet fixedWrong upperZero enablesWrong crossesPage statusWrong
+rule-number-completion Cpl h o = refl
+rule-number-completion CplD h o = refl
+rule-number-completion CplLk h o = refl
+rule-number-completion CplDLk h o = refl
