@@ -1,16 +1,13 @@
+-- `intake::misfits` meets its contract. Assumes nothing.
 use Rattle.intake.proofs.misfits.Statement.{statement}
 use Rattle.intake.proofs.misfits.Tie as tie
-use Rattle.intake.proofs.misfits.Reads as reads
-use Rattle.intake.proofs.misfits.Lts as lts
 use Rattle.intake.specs.Intake.{misfitsOf}
-use borrow.Author.Tests.{eq-eqb, ne-eqb, lt-ltb, le-ltb, le-leb, lt-leb}
+use borrow.Author.Tests.{eq-eqb, ne-eqb}
 
--- src/lib.rt:136:9
 returns : tie.Need-returns
 unfolding misfitsOf
 returns c = rw (eq-eqb _ _ (c .if1 .taken))
 
--- src/lib.rt:132:1
 returns-2 : tie.Need-returns-2
 unfolding misfitsOf
 returns-2 c = rw (ne-eqb _ _ (c .if1 .left))

@@ -1,10 +1,7 @@
+-- `packet::completion_rules` meets its contract: rules 4, 5 and 9 in their order. Assumes nothing.
 use borrow.Author.Needs.{needs}
 use Rattle.packet.proofs.completion_rules.Statement.{statement}
 use Rattle.packet.proofs.completion_rules.Tie as tie
-use Rattle.packet.proofs.completion_rules.Reads as reads
-use Rattle.packet.proofs.completion_rules.Lts as lts
-use Rattle.packet.proofs.has_no_length.Reads as has-no-length-reads
-use Rattle.packet.proofs.is_status.Reads as is-status-reads
 use Rattle.packet.specs.declared.Head.{Head}
 use mathlib.Core.Path.{_≡_, refl, sym, ap, _∙_}
 use mathlib.Core.Bool.{Bool, not, _&&_}
@@ -15,27 +12,21 @@ use Rattle.packet.specs.RulesLaws.{passed, stopped, rule-number-completi
 no-length : {a b : Bool} (h : Head) → a ≡ b → a && not (eqb (h .length) 0) ≡ b && not (eqb (h .length) 0)
 no-length h e = ap (λ (a : Bool). a && not (eqb (h .length) 0)) e
 
--- src/lib.rt:157:9
 returns : tie.Need-returns
 returns c = sym (rule-number-completion _ _ _ ∙ stopped _ refl (c .if1 .taken))
 
--- src/lib.rt:159:8
 has-no-length-requires : tie.Need-has-no-length-requires
 has-no-length-requires c κs = search needs
 
--- src/lib.rt:160:9
 returns-2 : tie.Need-returns-2
 returns-2 c = sym (rule-number-completion _ _ _ ∙ passed 4 refl (c .before .before .before .if1 .left) ∙ stopped _ (no-length (c .before .before .before .before .before .args .h) (c .before .before .has-no-length .ensures)) (c .if2 .taken))
 
--- src/lib.rt:162:9
 is-status-requires : tie.Need-is-status-requires
 is-status-requires c κs = search needs
 
--- src/lib.rt:163:9
 returns-3 : tie.Need-returns-3
 returns-3 c = sym (rule-number-completion _ _ _ ∙ passed 4 refl (c .before .before .before .before .before .if1 .left) ∙ passed 5 (no-length (c .before .before .before .before .before .before .before .args .h) (c .before .before .before .before .has-no-length .ensures)) (c .before .before .if2 .left) ∙ stopped _ (ap not (c .before .is-status .ensures)) (c .if3 .taken))
 
--- src/lib.rt:153:1
 returns-4 : tie.Need-returns-4
 returns-4 c = sym (rule-number-completion _ _ _ ∙ passed 4 refl (c .before .before .before .before .before .if1 .left) ∙ passed 5 (no-length (c .before .before .before .before .before .before .before .args .h) (c .before .before .before .before .has-no-length .ensures)) (c .before .before .if2 .left) ∙ passed 9 (ap not (c .before .is-status .ensures)) (c .if3 .left))
 

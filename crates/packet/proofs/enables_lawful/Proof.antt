@@ -1,29 +1,21 @@
+-- `packet::enables_lawful` meets its contract. Assumes nothing.
 use borrow.Author.Needs.{needs}
 use Rattle.packet.proofs.enables_lawful.Statement.{statement}
 use Rattle.packet.proofs.enables_lawful.Tie as tie
-use Rattle.packet.proofs.enables_lawful.Reads as reads
-use Rattle.packet.proofs.enables_lawful.Lts as lts
-use Rattle.packet.proofs.is_first.Reads as is-first-reads
-use Rattle.packet.proofs.is_last.Reads as is-last-reads
 use borrow.Author.Tests.{eq-eqb, ne-eqb}
 
--- src/lib.rt:261:9
 returns : tie.Need-returns
 returns c = simp (eq-eqb _ _ (c .before .if1 .taken))
 
--- src/lib.rt:264:9
 returns-2 : tie.Need-returns-2
 returns-2 c = simp (ne-eqb _ _ (c .before .before .before .if1 .left), eq-eqb _ _ (c .before .before .if2 .taken))
 
--- src/lib.rt:266:5
 is-first-requires : tie.Need-is-first-requires
 is-first-requires c κs = search needs
 
--- src/lib.rt:266:25
 is-last-requires : tie.Need-is-last-requires
 is-last-requires c κs = search needs
 
--- src/lib.rt:257:1
 returns-3 : tie.Need-returns-3
 returns-3 c = simp (ne-eqb _ _ (c .before .before .before .if1 .left), ne-eqb _ _ (c .before .before .if2 .left)) (rw (c .before .is-first .ensures, c .is-last .ensures))
 

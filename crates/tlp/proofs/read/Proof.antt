@@ -1,53 +1,40 @@
+-- `tlp::read` meets its contract: 12 bytes, then the pair. Assumes nothing.
 use borrow.Author.Needs.{needs}
 use Rattle.tlp.proofs.read.Statement.{statement}
 use Rattle.tlp.proofs.read.Tie as tie
-use Rattle.tlp.proofs.read.Reads as reads
-use Rattle.tlp.proofs.read.Lts as lts
-use Rattle.pairs.proofs.pair_of.Reads as pair-of-reads
-use Rattle.tlp.proofs.read_row.Reads as read-row-reads
 use Rattle.tlp.specs.Reading.{readOf}
 use borrow.Author.Tests.{lt-ltb, le-ltb}
 
--- src/lib.rt:34:9
 returns : tie.Need-returns
 unfolding readOf
 returns c = rw (lt-ltb _ 12 (c .if1 .taken))
 
--- src/lib.rt:36:26
 shared-slice-read-pair-of : tie.Need-shared-slice-read-pair-of
 shared-slice-read-pair-of c = search needs
 
--- src/lib.rt:36:11
 pair-of-requires : tie.Need-pair-of-requires
 pair-of-requires c κs = search needs
 
--- src/lib.rt:37:26
 enum-told : tie.Need-enum-told
 enum-told c = search needs
 
--- src/lib.rt:38:29
 enum-told-2 : tie.Need-enum-told-2
 enum-told-2 c = search needs
 
--- src/lib.rt:39:23
 enum-known-row : tie.Need-enum-known-row
 enum-known-row c = search needs
 
--- src/lib.rt:39:31
 read-row-requires : tie.Need-read-row-requires
 read-row-requires c κs = search needs
 
--- src/lib.rt:30:1
 returns-2 : tie.Need-returns-2
 unfolding readOf
 returns-2 c = rw (le-ltb _ 12 (c .before .before .before .before .if1 .left), ← c .before .before .pair-of .ensures, c .enum-told .given .1)
 
--- src/lib.rt:30:1
 returns-3 : tie.Need-returns-3
 unfolding readOf
 returns-3 c = rw (le-ltb _ 12 (c .before .before .before .before .if1 .left), ← c .before .before .pair-of .ensures, c .enum-told2 .given .1)
 
--- src/lib.rt:30:1
 returns-4 : tie.Need-returns-4
 unfolding readOf
 returns-4 c = rw (le-ltb _ 12 (c .before .before .before .before .before .before .if1 .left), ← c .before .before .before .before .pair-of .ensures, c .before .before .row .given .1) (c .read-row .ensures)

@@ -1,91 +1,67 @@
+-- `tlp::write_body` meets its contract. Assumes nothing.
 use borrow.Author.Needs.{needs}
 use Rattle.tlp.proofs.write_body.Statement.{statement}
 use Rattle.tlp.proofs.write_body.Tie as tie
-use Rattle.tlp.proofs.write_body.Reads as reads
-use Rattle.tlp.proofs.write_body.Lts as lts
-use Rattle.tlp.proofs.room.put_address.Reads as put-address-reads
-use Rattle.tlp.proofs.room.put_completion.Reads as put-completion-reads
-use Rattle.tlp.proofs.room.put_request.Reads as put-request-reads
-use Rattle.tlp.proofs.room.put_target.Reads as put-target-reads
 use Rattle.packet.specs.VerdictLaws.{memory-of-lawful, io-of-lawful, config-of-lawful, completion-of-lawful}
 use Rattle.tlp.specs.Layout.{requestBytes, addressBytes, targetBytes}
 use Rattle.tlp.specs.LayoutLaws.{length-request}
 use Rattle.endian.specs.SetsLaws.{sets-append}
 use native.Mathlib.Omega.{arith}
 
--- src/lib.rt:154:27
 enum-known-p : tie.Need-enum-known-p
 enum-known-p c = search needs
 
--- src/lib.rt:155:13
 put-request-requires : tie.Need-put-request-requires
 put-request-requires c κs = let b = memory-of-lawful _ _ _ _ _ (rw (c .before .before .p .given .1) at (c .before .before .before .before .before .pre .0)) in (c .before .before .before .before .before .pre .1, b .0 .head .tag, b .0 .last, b .0 .first)
 
--- src/lib.rt:156:13
 put-address-requires : tie.Need-put-address-requires
 put-address-requires c κs = let s = rw (c .before .before .before .before .before .before .p .given .1) at (c .before .before .before .before .before .before .before .before .before .pre .2) in omega (arith, c .before .before .before .put-request .kept .1 .1 .0, c .before .before .before .before .before .before .before .before .before .pre .1)
 
--- src/lib.rt:158:23
 enum-known-p-2 : tie.Need-enum-known-p-2
 enum-known-p-2 c = search needs
 
--- src/lib.rt:159:13
 put-request-requires-2 : tie.Need-put-request-requires-2
 put-request-requires-2 c κs = let b = io-of-lawful _ _ _ _ _ (rw (c .before .before .p2 .given .1) at (c .before .before .before .before .before .pre .0)) in (c .before .before .before .before .before .pre .1, b .0 .head .tag, b .0 .last, b .0 .first)
 
--- src/lib.rt:160:13
 put-address-requires-2 : tie.Need-put-address-requires-2
 put-address-requires-2 c κs = let s = rw (c .before .before .before .before .before .before .p2 .given .1) at (c .before .before .before .before .before .before .before .before .before .pre .2) in omega (arith, c .before .before .before .put-request2 .kept .1 .1 .0, c .before .before .before .before .before .before .before .before .before .pre .1)
 
--- src/lib.rt:162:27
 enum-known-p-3 : tie.Need-enum-known-p-3
 enum-known-p-3 c = search needs
 
--- src/lib.rt:163:13
 put-request-requires-3 : tie.Need-put-request-requires-3
 put-request-requires-3 c κs = let b = config-of-lawful _ _ _ _ _ (rw (c .before .before .p3 .given .1) at (c .before .before .before .before .before .pre .0)) in (c .before .before .before .before .before .pre .1, b .0 .head .tag, b .0 .last, b .0 .first)
 
--- src/lib.rt:164:13
 put-target-requires : tie.Need-put-target-requires
 put-target-requires c κs = let b = config-of-lawful _ _ _ _ _ (rw (c .before .before .before .before .before .before .p3 .given .1) at (c .before .before .before .before .before .before .before .before .before .pre .0)) in (omega (arith, c .before .before .before .put-request3 .kept .1 .1 .0, c .before .before .before .before .before .before .before .before .before .pre .1), b .2)
 
--- src/lib.rt:166:31
 enum-known-p-4 : tie.Need-enum-known-p-4
 enum-known-p-4 c = search needs
 
--- src/lib.rt:167:13
 put-completion-requires : tie.Need-put-completion-requires
 put-completion-requires c κs = let b = completion-of-lawful _ _ _ _ (rw (c .before .before .p4 .given .1) at (c .before .before .before .before .before .pre .0)) in (c .before .before .before .before .before .pre .1, b .0 .tag, b .1)
 
--- src/lib.rt:149:1
 same-length : tie.Need-same-length
 same-length c = search needs
 
--- src/lib.rt:149:1
 returns : tie.Need-returns
 returns c = rw (c .before .before .before .before .before .before .before .before .before .p .given .1) (sets-append (c .before .before .before .before .before .before .before .before .before .before .before .before .args .room .now) 4 4 (requestBytes (c .before .before .before .before .before .before .before .before .before .p .given .0 .1 .0) (c .before .before .before .before .before .before .before .before .before .p .given .0 .1 .1 .0)) (addressBytes (c .before .before .before .before .before .before .before .before .before .p .given .0 .1 .0) (c .before .before .before .before .before .before .before .before .before .p .given .0 .1 .1 .1 .0)) (length-request (c .before .before .before .before .before .before .before .before .before .p .given .0 .1 .0) (c .before .before .before .before .before .before .before .before .before .p .given .0 .1 .1 .0)) (c .before .before .before .before .before .before .put-request .ensures) (c .before .before .put-address .ensures))
 
--- src/lib.rt:149:1
 same-length-2 : tie.Need-same-length-2
 same-length-2 c = search needs
 
--- src/lib.rt:149:1
 returns-2 : tie.Need-returns-2
 returns-2 c = rw (c .before .before .before .before .before .before .before .before .before .p2 .given .1) (sets-append (c .before .before .before .before .before .before .before .before .before .before .before .before .args .room .now) 4 4 (requestBytes (c .before .before .before .before .before .before .before .before .before .p2 .given .0 .1 .0) (c .before .before .before .before .before .before .before .before .before .p2 .given .0 .1 .1 .0)) (addressBytes (c .before .before .before .before .before .before .before .before .before .p2 .given .0 .1 .0) (c .before .before .before .before .before .before .before .before .before .p2 .given .0 .1 .1 .1 .0)) (length-request (c .before .before .before .before .before .before .before .before .before .p2 .given .0 .1 .0) (c .before .before .before .before .before .before .before .before .before .p2 .given .0 .1 .1 .0)) (c .before .before .before .before .before .before .put-request2 .ensures) (c .before .before .put-address2 .ensures))
 
--- src/lib.rt:149:1
 same-length-3 : tie.Need-same-length-3
 same-length-3 c = search needs
 
--- src/lib.rt:149:1
 returns-3 : tie.Need-returns-3
 returns-3 c = rw (c .before .before .before .before .before .before .before .before .before .p3 .given .1) (sets-append (c .before .before .before .before .before .before .before .before .before .before .before .before .args .room .now) 4 4 (requestBytes (c .before .before .before .before .before .before .before .before .before .p3 .given .0 .1 .0) (c .before .before .before .before .before .before .before .before .before .p3 .given .0 .1 .1 .0)) (targetBytes (c .before .before .before .before .before .before .before .before .before .p3 .given .0 .1 .1 .1 .0)) (length-request (c .before .before .before .before .before .before .before .before .before .p3 .given .0 .1 .0) (c .before .before .before .before .before .before .before .before .before .p3 .given .0 .1 .1 .0)) (c .before .before .before .before .before .before .put-request3 .ensures) (c .before .before .put-target .ensures))
 
--- src/lib.rt:149:1
 same-length-4 : tie.Need-same-length-4
 same-length-4 c = search needs
 
--- src/lib.rt:149:1
 returns-4 : tie.Need-returns-4
 returns-4 c = rw (c .before .before .before .before .before .p4 .given .1) (c .before .before .put-completion .ensures)
 

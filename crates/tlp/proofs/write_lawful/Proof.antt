@@ -1,48 +1,36 @@
+-- `tlp::write_lawful` meets its contract. Assumes nothing.
 use borrow.Author.Needs.{needs}
 use Rattle.tlp.proofs.write_lawful.Statement.{statement}
 use Rattle.tlp.proofs.write_lawful.Tie as tie
-use Rattle.tlp.proofs.write_lawful.Reads as reads
-use Rattle.tlp.proofs.write_lawful.Lts as lts
-use Rattle.packet.proofs.head_of.Reads as head-of-reads
-use Rattle.tlp.proofs.room.put_front.Reads as put-front-reads
-use Rattle.tlp.proofs.size_of.Reads as size-of-reads
-use Rattle.tlp.proofs.write_body.Reads as write-body-reads
 use Rattle.tlp.specs.WritingLaws.{outcome-short, outcome-written}
 use Rattle.tlp.specs.LayoutLaws.{row-of-lawful, size-of-lawful, layout-carried, length-front}
 use Rattle.tlp.specs.Layout.{frontBytes, bodyBytes}
 use Rattle.endian.specs.SetsLaws.{sets-append}
 use Rattle.packet.specs.Fields.{headOf}
-use mathlib.Core.Path.{_≡_, sym, _∙_}
+use mathlib.Core.Path.{_≡_, _∙_}
 use native.Mathlib.Omega.{arith}
 use Rattle.packet.specs.VerdictLaws.{head-of-lawful}
 use mathlib.Core.Path.{ap}
 use Rattle.packet.specs.declared.Head.{Head}
 
--- src/lib.rt:138:9
 head-of-requires : tie.Need-head-of-requires
 head-of-requires c κs = search needs
 
--- src/lib.rt:139:9
 size-of-requires : tie.Need-size-of-requires
 size-of-requires c κs = search needs
 
--- src/lib.rt:141:9
 returns : tie.Need-returns
 returns c = outcome-short _ _ _ (c .before .before .before .before .pre) (rw (← c .before .before .head-of .ensures, ← c .before .size-of .ensures) (c .if1 .taken))
 
--- src/lib.rt:143:5
 put-front-requires : tie.Need-put-front-requires
 put-front-requires c κs = let q = row-of-lawful (c .before .before .before .before .before .args .row) (c .before .before .before .before .before .args .p) (c .before .before .before .before .before .pre) in (omega (arith, size-of-lawful (c .before .before .before .before .before .args .row) (c .before .before .before .before .before .args .p) (c .before .before .before .before .before .pre), ap (λ (h : Head). h .form) (c .before .before .before .head-of .ensures), c .before .before .size-of .ensures), q .fmt-below, q .typ-below, rw (c .before .before .before .head-of .ensures) (head-of-lawful (c .before .before .before .before .before .args .row) (c .before .before .before .before .before .args .p) (c .before .before .before .before .before .pre)))
 
--- src/lib.rt:144:5
 write-body-requires : tie.Need-write-body-requires
 write-body-requires c κs = let s = size-of-lawful (c .before .before .before .before .before .before .before .before .before .args .row) (c .before .before .before .before .before .before .before .before .before .args .p) (c .before .before .before .before .before .before .before .before .before .pre) in let f = ap (λ (h : Head). h .form) (c .before .before .before .before .before .before .before .head-of .ensures) in (c .before .before .before .before .before .before .before .before .before .pre, omega (arith, c .before .before .before .before .before .before .size-of .ensures, c .before .before .before .put-front .kept .1 .1 .0), omega (arith, c .before .before .before .before .before .before .size-of .ensures, c .before .before .before .put-front .kept .1 .1 .0))
 
--- src/lib.rt:134:1
 same-length : tie.Need-same-length
 same-length c = search needs
 
--- src/lib.rt:134:1
 returns-2 : tie.Need-returns-2
 returns-2 c = let a = c .before .before .before .before .before .before .before .before .before .before .before .before .args in let e : _≡_ {A = Head} (c .before .before .before .before .before .before .before .before .before .before .head-of .result) (headOf (a .p)) = c .before .before .before .before .before .before .before .before .before .before .head-of .ensures in let w = outcome-written (a .row) (a .p) (a .room .now) (c .before .before .before .before .before .before .before .before .before .before .before .before .pre) (omega (arith, ap (λ (h : Head). h .form) e, c .before .before .before .before .before .before .before .before .before .size-of .ensures, c .before .before .before .before .before .before .before .before .if1 .left)) in (rw (c .before .before .before .before .before .before .before .before .before .size-of .ensures, e) (w .0), sets-append (a .room .now) 0 4 (frontBytes (a .row) (headOf (a .p))) (bodyBytes (a .p)) (length-front (a .row) (headOf (a .p))) (rw e at (c .before .before .before .before .before .before .put-front .ensures)) (c .before .before .write-body .ensures) ∙ rw (← layout-carried (a .row) (a .p) (c .before .before .before .before .before .before .before .before .before .before .before .before .pre)) (w .1))
 

@@ -1,12 +1,10 @@
+-- `intake::Intake::feed` meets its contract. Assumes nothing.
 use Rattle.intake.proofs.Intake.feed.Statement.{statement}
 use Rattle.intake.proofs.Intake.feed.Tie as tie
-use Rattle.intake.proofs.Intake.feed.Reads as reads
-use Rattle.intake.proofs.Intake.feed.Lts as lts
-use Rattle.intake.proofs.step.Reads as step-reads
 use Rattle.intake.specs.Intake.{feedOf}
 use Rattle.intake.specs.IntakeLaws.{feed-at, feed-all}
 use Prim.Native.Nat.{_≤_, _-_}
-use mathlib.Core.Path.{_≡_, refl, sym, ap, _∙_}
+use mathlib.Core.Path.{_≡_, refl, sym, _∙_}
 use lib.ListN.{length, drop}
 use native.Mathlib.Omega.{arith}
 use borrow.Author.Needs.{needs}
@@ -17,31 +15,24 @@ Inv-loop piece s₀ i₀ s i = (i ≤ length piece) × (feedOf s (drop i piece) 
 abbrev μ-loop : tie.MeasureT-loop
 μ-loop piece s₀ i₀ s i = length piece - i
 
--- src/lib.rt:47:9
 loop-holds : tie.Need-loop-holds Inv-loop μ-loop
 loop-holds c = (omega arith, refl)
 
--- src/lib.rt:48:25
 shared-slice-read-step : tie.Need-shared-slice-read-step Inv-loop μ-loop
 shared-slice-read-step c = omega arith
 
--- src/lib.rt:48:13
 step-requires : tie.Need-step-requires Inv-loop μ-loop
 step-requires c κs = search needs
 
--- src/lib.rt:49:13
 add-i : tie.Need-add-i Inv-loop μ-loop
 add-i c = omega arith
 
--- src/lib.rt:47:9
 loop-less : tie.Need-loop-less Inv-loop μ-loop
 loop-less c = omega arith
 
--- src/lib.rt:47:9
 loop-again : tie.Need-loop-again Inv-loop μ-loop
 loop-again c = (omega arith, rw (c .step .ensures) (sym (feed-at _ _ _ (c .before .before .loop-test .taken)) ∙ c .before .before .before .loop .inv .1))
 
--- src/lib.rt:42:5
 returns : tie.Need-returns Inv-loop μ-loop
 returns c = sym (feed-all _ _ _ (c .loop-test .left)) ∙ c .before .loop .inv .1
 

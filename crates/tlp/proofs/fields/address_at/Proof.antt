@@ -1,27 +1,20 @@
+-- `tlp::fields::address_at` meets its contract. Assumes nothing.
 use borrow.Author.Needs.{needs}
 use Rattle.tlp.proofs.fields.address_at.Statement.{statement}
 use Rattle.tlp.proofs.fields.address_at.Tie as tie
-use Rattle.tlp.proofs.fields.address_at.Reads as reads
-use Rattle.tlp.proofs.fields.address_at.Lts as lts
-use Rattle.endian.proofs.read_be32.Reads as read-be32-reads
-use Rattle.endian.proofs.read_be64.Reads as read-be64-reads
 use Rattle.tlp.specs.Reading.{addressAt}
 use borrow.Author.Tests.{eq-eqb, ne-eqb}
 
--- src/fields.rt:106:9
 read-be64-requires : tie.Need-read-be64-requires
 read-be64-requires c κs = search needs
 
--- src/fields.rt:106:9
 returns : tie.Need-returns
 unfolding addressAt
 returns c = rw (eq-eqb _ _ (c .before .if1 .taken)) (c .read-be64 .ensures .0)
 
--- src/fields.rt:108:5
 read-be32-requires : tie.Need-read-be32-requires
 read-be32-requires c κs = search needs
 
--- src/fields.rt:101:1
 returns-2 : tie.Need-returns-2
 unfolding addressAt
 returns-2 c = rw (ne-eqb _ _ (c .before .if1 .left)) (c .read-be32 .ensures .0)

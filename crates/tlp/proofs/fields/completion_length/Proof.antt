@@ -1,47 +1,35 @@
+-- `tlp::fields::completion_length` meets its contract. Assumes nothing.
 use borrow.Author.Needs.{needs}
 use Rattle.tlp.proofs.fields.completion_length.Statement.{statement}
 use Rattle.tlp.proofs.fields.completion_length.Tie as tie
-use Rattle.tlp.proofs.fields.completion_length.Reads as reads
-use Rattle.tlp.proofs.fields.completion_length.Lts as lts
-use Rattle.tlp.proofs.fields.length_of.Reads as length-of-reads
 
--- src/fields.rt:40:32
 enum-told : tie.Need-enum-told
 enum-told c = search needs
 
--- src/fields.rt:41:33
 enum-told-2 : tie.Need-enum-told-2
 enum-told-2 c = search needs
 
--- src/fields.rt:41:33
 length-of-requires : tie.Need-length-of-requires
 length-of-requires c κs = search needs
 
--- src/fields.rt:42:34
 enum-told-3 : tie.Need-enum-told-3
 enum-told-3 c = search needs
 
--- src/fields.rt:43:35
 enum-told-4 : tie.Need-enum-told-4
 enum-told-4 c = search needs
 
--- src/fields.rt:43:35
 length-of-requires-2 : tie.Need-length-of-requires-2
 length-of-requires-2 c κs = search needs
 
--- src/fields.rt:36:1
 returns : tie.Need-returns
 returns c = search needs
 
--- src/fields.rt:36:1
 returns-2 : tie.Need-returns-2
 returns-2 c = rw (c .before .enum-told2 .given .1) (c .length-of .ensures)
 
--- src/fields.rt:36:1
 returns-3 : tie.Need-returns-3
 returns-3 c = search needs
 
--- src/fields.rt:36:1
 returns-4 : tie.Need-returns-4
 returns-4 c = rw (c .before .enum-told4 .given .1) (c .length-of2 .ensures)
 

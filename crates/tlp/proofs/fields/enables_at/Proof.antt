@@ -1,20 +1,16 @@
+-- `tlp::fields::enables_at` meets its contract. Assumes nothing.
 use borrow.Author.Needs.{needs}
 use Rattle.tlp.proofs.fields.enables_at.Statement.{statement}
 use Rattle.tlp.proofs.fields.enables_at.Tie as tie
-use Rattle.tlp.proofs.fields.enables_at.Reads as reads
-use Rattle.tlp.proofs.fields.enables_at.Lts as lts
 use Rattle.tlp.specs.Reading.{enablesAt}
 use mathlib.Core.Path.{refl}
 
--- src/fields.rt:96:15
 shared-slice-read-t3 : tie.Need-shared-slice-read-t3
 shared-slice-read-t3 c = search needs
 
--- src/fields.rt:97:16
 shared-slice-read-t6 : tie.Need-shared-slice-read-t6
 shared-slice-read-t6 c = search needs
 
--- src/fields.rt:91:1
 returns : tie.Need-returns
 unfolding enablesAt
 returns c = refl

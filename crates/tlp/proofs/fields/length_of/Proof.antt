@@ -1,14 +1,11 @@
+-- `tlp::fields::length_of` meets its contract. Assumes nothing.
 use Rattle.tlp.proofs.fields.length_of.Statement.{statement}
 use Rattle.tlp.proofs.fields.length_of.Tie as tie
-use Rattle.tlp.proofs.fields.length_of.Reads as reads
-use Rattle.tlp.proofs.fields.length_of.Lts as lts
 use borrow.Author.Tests.{eq-eqb, ne-eqb}
 
--- src/fields.rt:30:1
 returns : tie.Need-returns
 returns c = rw (eq-eqb _ _ (c .if1 .taken))
 
--- src/fields.rt:30:1
 returns-2 : tie.Need-returns-2
 returns-2 c = rw (ne-eqb _ _ (c .if1 .left))
 

@@ -1,16 +1,13 @@
+-- `tlp::fields::unnamed_lower` meets its contract. Assumes nothing.
 use borrow.Author.Needs.{needs}
 use Rattle.tlp.proofs.fields.unnamed_lower.Statement.{statement}
 use Rattle.tlp.proofs.fields.unnamed_lower.Tie as tie
-use Rattle.tlp.proofs.fields.unnamed_lower.Reads as reads
-use Rattle.tlp.proofs.fields.unnamed_lower.Lts as lts
 use Rattle.tlp.specs.Reading.{unnamedLower}
 use mathlib.Core.Path.{refl}
 
--- src/fields.rt:154:5
 shared-slice-read-result : tie.Need-shared-slice-read-result
 shared-slice-read-result c = search needs
 
--- src/fields.rt:150:1
 returns : tie.Need-returns
 unfolding unnamedLower
 returns c = refl

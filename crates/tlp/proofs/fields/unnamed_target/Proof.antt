@@ -1,20 +1,16 @@
+-- `tlp::fields::unnamed_target` meets its contract. Assumes nothing.
 use borrow.Author.Needs.{needs}
 use Rattle.tlp.proofs.fields.unnamed_target.Statement.{statement}
 use Rattle.tlp.proofs.fields.unnamed_target.Tie as tie
-use Rattle.tlp.proofs.fields.unnamed_target.Reads as reads
-use Rattle.tlp.proofs.fields.unnamed_target.Lts as lts
 use Rattle.tlp.specs.Reading.{unnamedTarget}
 use mathlib.Core.Path.{refl}
 
--- src/fields.rt:147:7
 shared-slice-read-result : tie.Need-shared-slice-read-result
 shared-slice-read-result c = search needs
 
--- src/fields.rt:147:28
 shared-slice-read-result-2 : tie.Need-shared-slice-read-result-2
 shared-slice-read-result-2 c = search needs
 
--- src/fields.rt:143:1
 returns : tie.Need-returns
 unfolding unnamedTarget
 returns c = refl

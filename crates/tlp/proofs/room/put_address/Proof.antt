@@ -1,35 +1,26 @@
+-- `tlp::room::put_address` meets its contract. Assumes nothing.
 use borrow.Author.Needs.{needs}
 use Rattle.tlp.proofs.room.put_address.Statement.{statement}
 use Rattle.tlp.proofs.room.put_address.Tie as tie
-use Rattle.tlp.proofs.room.put_address.Reads as reads
-use Rattle.tlp.proofs.room.put_address.Lts as lts
-use Rattle.endian.proofs.write_be32.Reads as write-be32-reads
-use Rattle.endian.proofs.write_be64.Reads as write-be64-reads
 use Rattle.tlp.specs.Layout.{addressBytes}
 use borrow.Author.Tests.{eq-eqb, ne-eqb}
 
--- src/room.rt:51:9
 write-be64-requires : tie.Need-write-be64-requires
 write-be64-requires c κs = search needs
 
--- src/room.rt:52:9
 same-length : tie.Need-same-length
 same-length c = search needs
 
--- src/room.rt:52:9
 returns : tie.Need-returns
 unfolding addressBytes
 returns c = rw (eq-eqb _ _ (c .before .before .before .before .if1 .taken)) (c .before .before .write-be64 .ensures)
 
--- src/room.rt:54:5
 write-be32-requires : tie.Need-write-be32-requires
 write-be32-requires c κs = search needs
 
--- src/room.rt:46:1
 same-length-2 : tie.Need-same-length-2
 same-length-2 c = search needs
 
--- src/room.rt:46:1
 returns-2 : tie.Need-returns-2
 unfolding addressBytes
 returns-2 c = rw (ne-eqb _ _ (c .before .before .before .before .if1 .left)) (c .before .before .write-be32 .ensures)

@@ -1,51 +1,39 @@
+-- `tlp::room::put_completion` meets its contract. Assumes nothing.
 use borrow.Author.Needs.{needs}
 use Rattle.tlp.proofs.room.put_completion.Statement.{statement}
 use Rattle.tlp.proofs.room.put_completion.Tie as tie
-use Rattle.tlp.proofs.room.put_completion.Reads as reads
-use Rattle.tlp.proofs.room.put_completion.Lts as lts
-use Rattle.endian.proofs.write_be16.Reads as write-be16-reads
-use Rattle.tlp.proofs.room.put_outcome.Reads as put-outcome-reads
 use Rattle.tlp.specs.Layout.{outcomeBytes, completionBytes}
 use Rattle.tlp.specs.LayoutLaws.{length-outcome}
 use lib.ListN.{length-set}
 use native.Mathlib.Omega.{arith}
 use Rattle.endian.specs.SetsLaws.{sets-append}
-use Rattle.endian.specs.EndianLaws.{length-beBytes}
 use Rattle.endian.specs.Endian.{beBytes}
 use mathlib.Core.List.{[], _∷_}
-use Prim.Native.Nat.{_+_, _*_, _/_, _%_}
+use Prim.Native.Nat.{_+_}
 use mathlib.Core.Path.{refl}
 use mathlib.Core.List.{_++_}
 
--- src/room.rt:72:5
 put-outcome-requires : tie.Need-put-outcome-requires
 put-outcome-requires c κs = search needs
 
--- src/room.rt:73:33
 cast-write-be16 : tie.Need-cast-write-be16
 cast-write-be16 c = search needs
 
--- src/room.rt:73:5
 write-be16-requires : tie.Need-write-be16-requires
 write-be16-requires c κs = search needs
 
--- src/room.rt:74:16
 cast-room : tie.Need-cast-room
 cast-room c = search needs
 
--- src/room.rt:74:5
 slice-write-room : tie.Need-slice-write-room
 slice-write-room c = search needs
 
--- src/room.rt:75:5
 slice-write-room-2 : tie.Need-slice-write-room-2
 slice-write-room-2 c = simp length-set (omega arith)
 
--- src/room.rt:68:1
 same-length : tie.Need-same-length
 same-length c = simp length-set (omega arith)
 
--- src/room.rt:68:1
 returns : tie.Need-returns
 unfolding completionBytes outcomeBytes beBytes
 returns c = let s = c .before .before .before .before .before .before .before .before .before .before .before .args in sets-append (s .room .now) 4 6 (outcomeBytes (s .o) ++ beBytes 2 (s .h .requester)) (s .h .tag ∷ s .o .lower ∷ []) refl (sets-append (s .room .now) 4 4 (outcomeBytes (s .o)) (beBytes 2 (s .h .requester)) (length-outcome (s .o)) (c .before .before .before .before .before .before .before .before .put-outcome .ensures) (c .before .before .before .write-be16 .ensures)) refl

@@ -1,102 +1,77 @@
+-- `tlp::room::put_front` meets its contract. Assumes nothing.
 use borrow.Author.Needs.{needs}
 use Rattle.tlp.proofs.room.put_front.Statement.{statement}
 use Rattle.tlp.proofs.room.put_front.Tie as tie
-use Rattle.tlp.proofs.room.put_front.Reads as reads
-use Rattle.tlp.proofs.room.put_front.Lts as lts
-use Rattle.tlp.proofs.room.bit.Reads as bit-reads
 use Rattle.tlp.specs.Layout.{frontBytes}
 use lib.ListN.{length-set}
 use native.Mathlib.Omega.{arith}
 
--- src/room.rt:26:9
 bit-requires : tie.Need-bit-requires
 bit-requires c κs = search needs
 
--- src/room.rt:27:9
 bit-requires-2 : tie.Need-bit-requires-2
 bit-requires-2 c κs = search needs
 
--- src/room.rt:29:15
 mul-room : tie.Need-mul-room
 mul-room c = search needs
 
--- src/room.rt:29:15
 add-room : tie.Need-add-room
 add-room c = search needs
 
--- src/room.rt:29:5
 slice-write-room : tie.Need-slice-write-room
 slice-write-room c = search needs
 
--- src/room.rt:30:15
 mul-room-2 : tie.Need-mul-room-2
 mul-room-2 c = search needs
 
--- src/room.rt:30:27
 mul-room-3 : tie.Need-mul-room-3
 mul-room-3 c = search needs
 
--- src/room.rt:30:15
 add-room-2 : tie.Need-add-room-2
 add-room-2 c = search needs
 
--- src/room.rt:30:5
 slice-write-room-2 : tie.Need-slice-write-room-2
 slice-write-room-2 c = simp length-set (omega arith)
 
--- src/room.rt:31:15
 mul-room-4 : tie.Need-mul-room-4
 mul-room-4 c = search needs
 
--- src/room.rt:31:26
 mul-room-5 : tie.Need-mul-room-5
 mul-room-5 c = search needs
 
--- src/room.rt:31:15
 add-room-3 : tie.Need-add-room-3
 add-room-3 c = search needs
 
--- src/room.rt:31:36
 mul-room-6 : tie.Need-mul-room-6
 mul-room-6 c = search needs
 
--- src/room.rt:31:15
 add-room-4 : tie.Need-add-room-4
 add-room-4 c = search needs
 
--- src/room.rt:31:54
 mul-room-7 : tie.Need-mul-room-7
 mul-room-7 c = search needs
 
--- src/room.rt:31:15
 add-room-5 : tie.Need-add-room-5
 add-room-5 c = search needs
 
--- src/room.rt:31:65
 cast-room : tie.Need-cast-room
 cast-room c = search needs
 
--- src/room.rt:31:15
 add-room-6 : tie.Need-add-room-6
 add-room-6 c = search needs
 
--- src/room.rt:31:5
 slice-write-room-3 : tie.Need-slice-write-room-3
 slice-write-room-3 c = simp length-set (omega arith)
 
--- src/room.rt:32:15
 cast-room-2 : tie.Need-cast-room-2
 cast-room-2 c = search needs
 
--- src/room.rt:32:5
 slice-write-room-4 : tie.Need-slice-write-room-4
 slice-write-room-4 c = simp length-set (omega arith)
 
--- src/room.rt:22:1
 same-length : tie.Need-same-length
 same-length c = search needs
 
--- src/room.rt:22:1
 returns : tie.Need-returns
 unfolding frontBytes
 returns c = rw (c .before .before .before .before .before .before .before .before .bit .ensures .0, c .before .before .before .before .before .before .before .bit2 .ensures .0)

@@ -1,10 +1,7 @@
+-- `tlp::room::put_outcome` meets its contract. Assumes nothing.
 use borrow.Author.Needs.{needs}
 use Rattle.tlp.proofs.room.put_outcome.Statement.{statement}
 use Rattle.tlp.proofs.room.put_outcome.Tie as tie
-use Rattle.tlp.proofs.room.put_outcome.Reads as reads
-use Rattle.tlp.proofs.room.put_outcome.Lts as lts
-use Rattle.endian.proofs.write_be16.Reads as write-be16-reads
-use Rattle.tlp.proofs.room.bit.Reads as bit-reads
 use Rattle.tlp.specs.Layout.{bit as bitOf, outcomeBytes}
 use lib.ListN.{length-set}
 use native.Mathlib.Omega.{arith}
@@ -15,55 +12,42 @@ use mathlib.Core.List.{[], _∷_}
 use Prim.Native.Nat.{_+_, _*_, _/_, _%_}
 use mathlib.Core.Path.{refl}
 
--- src/room.rt:82:9
 bit-requires : tie.Need-bit-requires
 bit-requires c κs = search needs
 
--- src/room.rt:83:33
 cast-write-be16 : tie.Need-cast-write-be16
 cast-write-be16 c = search needs
 
--- src/room.rt:83:5
 write-be16-requires : tie.Need-write-be16-requires
 write-be16-requires c κs = search needs
 
--- src/room.rt:84:15
 mul-room : tie.Need-mul-room
 mul-room c = search needs
 
--- src/room.rt:84:31
 mul-room-2 : tie.Need-mul-room-2
 mul-room-2 c = search needs
 
--- src/room.rt:84:15
 add-room : tie.Need-add-room
 add-room c = search needs
 
--- src/room.rt:84:42
 cast-room : tie.Need-cast-room
 cast-room c = search needs
 
--- src/room.rt:84:15
 add-room-2 : tie.Need-add-room-2
 add-room-2 c = search needs
 
--- src/room.rt:84:5
 slice-write-room : tie.Need-slice-write-room
 slice-write-room c = search needs
 
--- src/room.rt:85:15
 cast-room-2 : tie.Need-cast-room-2
 cast-room-2 c = search needs
 
--- src/room.rt:85:5
 slice-write-room-2 : tie.Need-slice-write-room-2
 slice-write-room-2 c = simp length-set (omega arith)
 
--- src/room.rt:78:1
 same-length : tie.Need-same-length
 same-length c = search needs
 
--- src/room.rt:78:1
 returns : tie.Need-returns
 unfolding outcomeBytes
 returns c = let s = c .before .before .before .before .before .before .before .before .before .before .args in rw (c .before .before .before .before .before .before .before .before .bit .ensures .0) (sets-append (s .room .now) 4 2 (beBytes 2 (s .o .completer)) ((s .o .status * 32 + bitOf (s .o .bcm) * 16 + s .o .count / 256) ∷ (s .o .count % 256) ∷ []) (length-beBytes 2 (s .o .completer)) (c .before .before .before .before .before .write-be16 .ensures) refl)
