@@ -17,7 +17,7 @@ use Rattle.board.specs.declared.Function.{Function}
 use Rattle.board.specs.declared.order.Found.the-variants.{At, Nowhere}
 use Rattle.board.specs.Function.{isBridge, functionOfPart}
 use Rattle.board.specs.Order.{mostAbove}
-use Rattle.board.specs.Stack.{Level, fresh, closeTo, unplacedAt, entered, opened, enter, sharedAfter, unplacedFrom}
+use Rattle.board.specs.Stack.{Level, fresh, closeTo, unplacedAt, entered, enter, sharedAfter, unplacedFrom}
 use Rattle.board.specs.Levels.{levelAt, deepest, foundIn, openAfter}
 
 -- ---- finding

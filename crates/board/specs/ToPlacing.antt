@@ -1,14 +1,9 @@
 -- A board's host and functions as numbering and placing see them: the pools' bases and lasts, and each function's BARs by their slots. Assumes nothing.
-use Prim.Native.Nat.{ℕ, suc}
-use mathlib.Core.List.{List, [], _∷_, map}
+use mathlib.Core.List.{List, map}
 use lib.ListN.{take}
-use Rattle.pools.specs.declared.Pool.{Pool}
-use Rattle.pools.specs.declared.Pool.the-variants.{Low, High, Io}
-use Rattle.bar.specs.declared.Slot.{Slot}
-use Rattle.bar.specs.declared.Slot.the-variants.{Unused, Bar, Upper, Bad}
 use Rattle.bar.specs.Bar.{slots}
 use Rattle.placing.specs.Pools.{Pool as PlacingPool, low, high, io}
-use Rattle.placing.specs.Records.{Bar as PlacingBar, Host as PlacingHost, Function as PlacingFunction}
+use Rattle.placing.specs.Records.{Host as PlacingHost, Function as PlacingFunction}
 use Rattle.board.specs.declared.Host.{Host}
 use Rattle.board.specs.declared.Span.{Span}
 use Rattle.board.specs.declared.Function.{Function}

@@ -1,7 +1,7 @@
 -- A board fed byte by byte: what is kept of the bytes so far, and the number that they come to. `long-board-number` of LongBoards says that this is document
 -- 01's number of any input longer than a lawful board, wherever the cuts fall. Assumes nothing.
 use Prim.Native.Nat.{ℕ, _+_, _-_, _*_}
-use mathlib.Core.Bool.{Bool, true, false, cond, not, _||_}
+use mathlib.Core.Bool.{Bool, false, cond, not, _||_}
 use mathlib.Core.List.{List, [], _∷_}
 use lib.Dec.{eqb, ltb, leb}
 use Rattle.intake.specs.declared.Stage.{Stage}

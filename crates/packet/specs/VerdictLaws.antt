@@ -1,8 +1,8 @@
 -- A lawful packet is one whose row is carried, whose fields fit and which breaks none of rules 4 to 9: both ways. Assumes nothing.
 use Prim.Native.Nat.{ℕ, _<_}
-use mathlib.Core.Path.{_≡_, refl, sym, _∙_}
+use mathlib.Core.Path.{_≡_, refl}
 use mathlib.Core.Bool.{Bool, true, false, cond}
-use borrow.Author.Tests.{eqb-true, eq-eqb}
+use borrow.Author.Tests.{eqb-true}
 use native.Mathlib.Omega.{arith}
 use lib.Dec.{eqb}
 use Rattle.pairs.specs.declared.Row.{Row}
@@ -19,7 +19,6 @@ use Rattle.packet.specs.declared.Target.{Target}
 use Rattle.packet.specs.declared.Outcome.{Outcome}
 use Rattle.packet.specs.declared.Packet.{Packet}
 use Rattle.packet.specs.declared.Packet.the-variants.{Memory, Io, Config, Completion}
-use Rattle.packet.specs.declared.Verdict.{Verdict}
 use Rattle.packet.specs.declared.Verdict.the-variants.{Lawful, Refused}
 use Rattle.packet.specs.Fields.{kindOf, headOf}
 use Rattle.packet.specs.Widths.{enablesFit, addressFits, targetFits, bodyFits, fieldsFit}

@@ -15,10 +15,9 @@ use Rattle.pools.specs.declared.Pool.{Pool}
 use Rattle.pools.specs.declared.Pool.the-variants.{Low, High, Io}
 use Rattle.placing.specs.Order.{eq-or-ne}
 use Rattle.window.specs.Window.{closed, opened}
-use Rattle.records.specs.declared.Next.{Next}
 use Rattle.records.specs.declared.Next.the-variants.{End, Record, Broken}
-use Rattle.records.specs.Records.{nextOf, partsOf, partsFrom, anyPart}
-use Rattle.records.specs.RecordsLaws.{fits-at, pass-record, pass-end, pass-broken, none-here, none-later}
+use Rattle.records.specs.Records.{nextOf, partsFrom}
+use Rattle.records.specs.RecordsLaws.{pass-record, pass-end, pass-broken, none-here, none-later}
 use Rattle.placing.specs.Records as placing
 use Rattle.placing.specs.Layout.{Placed}
 use Rattle.placing.specs.Placing.{placed}
@@ -26,7 +25,7 @@ use Rattle.board.specs.declared.Host.{Host}
 use Rattle.board.specs.declared.Function.{Function}
 use Rattle.board.specs.Function.{isBridge, functionOfPart, headerWrong}
 use Rattle.board.specs.Board.{hostOf, functionsOf}
-use Rattle.board.specs.BoardLaws.{Accepted, accepted-of-zero}
+use Rattle.board.specs.BoardLaws.{accepted-of-zero}
 use Rattle.board.specs.ToPlacing.{toHost, toPlacing}
 use Rattle.sizing.specs.Memo.{laidAt}
 use Rattle.placing.specs.declared.Extent.{Extent}

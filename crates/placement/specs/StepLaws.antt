@@ -3,8 +3,8 @@
 use mathlib.Core.Path.{_≡_, refl, sym, ap, _∙_}
 use mathlib.Core.Logic.{⊎-elim}
 use mathlib.Core.Bool.{Bool, true, false, true≢false, cond}
-use mathlib.Core.List.{List, [], _∷_, _++_, map, append-nil}
-use Prim.Native.Nat.{ℕ, zero, suc, _+_, _*_, _-_, _≤_, _<_, max}
+use mathlib.Core.List.{List, [], _∷_, map, append-nil}
+use Prim.Native.Nat.{ℕ, zero, suc, _+_, _*_, _-_, _≤_, _<_}
 use native.Mathlib.Nat.{add-zero}
 use native.Mathlib.Omega.{arith}
 use lib.ListN.{length, getD, take, drop, replicate, length-append}
@@ -13,14 +13,12 @@ use Rattle.endian.specs.SetsLaws.{getD-sets-before, getD-sets-after, getD-sets-
 use Rattle.records.specs.RecordsLaws.{false-of-or}
 use Rattle.pools.specs.declared.Pool.{Pool}
 use Rattle.pools.specs.declared.Pool.the-variants.{Low, High, Io}
-use Rattle.pools.specs.Pools.{granule}
 use Rattle.bar.specs.declared.Slot.{Slot}
 use Rattle.bar.specs.declared.Slot.the-variants.{Unused, Bar, Upper, Bad}
 use Rattle.bar.specs.Bar.{narrowSlot, wideSlot, isWide, slotHere, slots, isBad, anyBad, takesNext}
 use Rattle.bar.specs.BarLaws.{narrow-takes-one, wide-takes-next}
 use Rattle.window.specs.Window.{closed}
 use Rattle.placing.specs.Order.{le-or-lt}
-use Rattle.placing.specs.Align.{PowerOfTwo}
 use Rattle.placing.specs.Records as placing
 use Rattle.placing.specs.Records.{Host, Lawful}
 use Rattle.placing.specs.RecordLaws.{IsAt}
@@ -28,7 +26,6 @@ use Rattle.placing.specs.Placing.{placed}
 use Rattle.placing.specs.Numbering.{bridges, busNumber, subordinateOf}
 use Rattle.placing.specs.NumberingLaws.{bridges-split}
 use Rattle.placing.specs.Numbered.{subordinate-laid}
-use Rattle.placing.specs.Sizing as sizing
 use Rattle.placing.specs.Sizing.{busLaid, laidFrom}
 use Rattle.placing.specs.SizingLaws.{next-le}
 use Rattle.placing.specs.Cap.{cap, capped}
@@ -40,11 +37,11 @@ use Rattle.sizing.specs.Memo.{laidAt, below}
 use Rattle.placer.specs.declared.Cursors.{Cursors}
 use Rattle.placer.specs.Function.{Ends, registersAt, valuesAt, barStarts, afterBars, afterWindow, belowWindow}
 use Rattle.placer.specs.Registers.{valuesFrom, windowFor}
-use Rattle.placer.specs.Kept.{word, endsOf, keptCursors, keptValues, keptWindow, extentIn}
+use Rattle.placer.specs.Kept.{word, endsOf, keptValues, keptWindow, extentIn}
 use Rattle.placer.specs.KeptLaws.{Starts, starts-here, ends-kept}
 use Rattle.placer.specs.JoinLaws.{Room, insideOf, parent-lt}
 use Rattle.placer.specs.LoopLaws.{Agrees, values-planned, window-planned, agrees-leaf, agrees-bridge, align-power}
-use Rattle.layout.specs.Layout.{Planned, plannedOf}
+use Rattle.layout.specs.Layout.{plannedOf}
 use Rattle.planning.specs.Plan.{slotsOf, entryFor}
 use Rattle.placement.specs.Step.{cursorsIn, endsList, extentsIn, busIn, barsIn, windowsIn, leafRegisters, bridgeRegisters, registersOf, leafNext, bridgeNext, cursorsNext, Placeable, Bridged}
 

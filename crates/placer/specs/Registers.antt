@@ -11,7 +11,6 @@ use Rattle.bar.specs.declared.Slot.the-variants.{Unused, Bar, Upper, Bad}
 use Rattle.bar.specs.Values.{valueOf, registersOf}
 use Rattle.window.specs.declared.Window.{Window}
 use Rattle.window.specs.Window.{closed, opened}
-use Rattle.placing.specs.Records as placing
 use Rattle.placing.specs.Layout.{Part, bar, window, Placed, endOf, isWindow as isWindowPart}
 unfoldable pub use Rattle.bar.specs.Bars.{barsFrom}
 

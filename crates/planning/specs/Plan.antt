@@ -2,7 +2,7 @@
 -- numbers every bus has is the crate placing's rule, on the board's own records. Assumes nothing.
 use Prim.Native.Nat.{ℕ, suc, _+_, _*_}
 use mathlib.Core.Bool.{cond}
-use mathlib.Core.List.{List, [], _∷_, _++_, map}
+use mathlib.Core.List.{List, [], _∷_, _++_}
 use lib.ListN.{length, take, drop}
 use lib.Dec.{eqb, ltb}
 use Rattle.pools.specs.declared.Pool.the-variants.{Low, High, Io}
@@ -16,7 +16,6 @@ use Rattle.placing.specs.Numbering.{busNumber, subordinateOf}
 use Rattle.placing.specs.Refusals.{refusalOf}
 use Rattle.board.specs.declared.Host.{Host}
 use Rattle.board.specs.declared.Function.{Function}
-use Rattle.board.specs.Host.{spanOf}
 use Rattle.board.specs.Function.{isBridge, slotCount}
 use Rattle.board.specs.Board.{boardNumber, hostOf, functionsOf}
 use Rattle.board.specs.ToPlacing.{toHost, toPlacing}

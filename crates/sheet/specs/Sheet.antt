@@ -14,7 +14,7 @@ use Rattle.sheet.specs.declared.Found.{Found}
 use Rattle.sheet.specs.declared.Found.the-variants.{At, Nothing}
 use Rattle.sheet.specs.declared.Rule.{Rule}
 use Rattle.sheet.specs.declared.Rule.the-variants.{HeaderType, Buses, ReadBacks, Nibbles}
-use Rattle.sheet.specs.Entry.{Entry, recordSize, entryOf, commandOf, bus, bridges, slotCount, window}
+use Rattle.sheet.specs.Entry.{Entry, recordSize, entryOf, commandOf, bus, bridges, slotCount}
 
 -- ## The frame: version byte 1, then records of 90 bytes
 

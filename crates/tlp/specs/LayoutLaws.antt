@@ -1,10 +1,9 @@
 -- How long each part of the layout is. Assumes nothing.
 use Prim.Native.Nat.{ℕ, _+_, _*_, _≤_}
-use mathlib.Core.Path.{_≡_, refl, sym, ap, _∙_}
-use mathlib.Core.Logic.{_⊎_, inl, inr, ⊎-elim}
-use mathlib.Core.List.{List, _++_}
+use mathlib.Core.Path.{_≡_, refl}
+use mathlib.Core.Logic.{_⊎_, ⊎-elim}
+use mathlib.Core.List.{_++_}
 use lib.ListN.{length, length-append}
-use borrow.Author.Tests.{eq-eqb, ne-eqb}
 use native.Mathlib.Omega.{arith}
 use Rattle.endian.specs.Endian.{beBytes}
 use Rattle.pairs.specs.declared.Row.{Row}
@@ -18,7 +17,7 @@ use Rattle.packet.specs.declared.Packet.the-variants.{Memory, Io, Config, Compl
 use Rattle.packet.specs.declared.Verdict.the-variants.{Lawful}
 use Rattle.packet.specs.Fields.{kindOf, headOf}
 use Rattle.packet.specs.Verdict.{verdictOf}
-use Rattle.packet.specs.VerdictLaws.{lawful-elim, Passes}
+use Rattle.packet.specs.VerdictLaws.{lawful-elim}
 use Rattle.tlp.specs.Layout.{frontBytes, requestBytes, addressBytes, targetBytes, outcomeBytes, completionBytes, bodyBytes, layout}
 use Rattle.tlp.specs.Writing.{size}
 

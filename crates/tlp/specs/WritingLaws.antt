@@ -1,8 +1,8 @@
 -- Writing by its three outcomes: not lawful, no room, written. Assumes nothing.
 use Prim.Native.Nat.{ℕ, _+_, _≤_, _<_}
-use mathlib.Core.Path.{_≡_, refl, sym, _∙_}
-use mathlib.Core.List.{List, _++_}
-use lib.ListN.{length, drop}
+use mathlib.Core.Path.{_≡_, _∙_}
+use mathlib.Core.List.{List}
+use lib.ListN.{length}
 use lib.Seq.{sets, sets-eq}
 use native.Mathlib.Omega.{arith}
 use borrow.Author.Tests.{lt-ltb, le-ltb}
@@ -14,7 +14,7 @@ use Rattle.tlp.specs.declared.Writing.{Writing}
 use Rattle.tlp.specs.declared.Writing.the-variants.{Written, Refused}
 use Rattle.tlp.specs.Layout.{layout}
 use Rattle.tlp.specs.LayoutLaws.{length-layout}
-use Rattle.tlp.specs.Writing.{size, writeAs, writeOf, roomAs, roomAfter}
+use Rattle.tlp.specs.Writing.{size, writeOf, roomAfter}
 
 -- the answer and the room afterwards, together
 abbrev pub Outcome : Packet → List ℕ → Writing → List ℕ → Type 0

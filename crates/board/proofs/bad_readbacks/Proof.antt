@@ -1,9 +1,7 @@
 -- `board::bad_readbacks` meets its contract. Assumes nothing.
 use borrow.Author.Needs.{needs}
-use mathlib.Core.Path.{sym}
 use Rattle.board.proofs.bad_readbacks.Statement.{statement}
 use Rattle.board.proofs.bad_readbacks.Tie as tie
-use Rattle.board.specs.Function.{functionOfPart}
 use Rattle.board.specs.FunctionLaws.{readbacks-wrong}
 
 readbacks-of-requires : tie.Need-readbacks-of-requires
