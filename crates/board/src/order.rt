@@ -3,7 +3,7 @@
 ghost use mathlib.Core.Path.{_≡_};
 ghost use mathlib.Core.Bool.{false};
 ghost use mathlib.Core.List.{[], map};
-ghost use Prim.Native.Nat.{suc, _+_, _≤_};
+ghost use Prim.Native.Nat.{_+_, _≤_};
 ghost use Rattle.records.specs.Records.{partsFrom, anyPart};
 ghost use Rattle.board.specs.Function.{functionOfPart, headerWrong};
 ghost use Rattle.board.specs.Order.{anyMisplaced};

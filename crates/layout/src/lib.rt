@@ -5,8 +5,8 @@ ghost use Prim.Native.Nat.{_+_, _<_, _≤_};
 ghost use lib.ListN.{length};
 ghost use lib.Seq.{sets};
 ghost use Rattle.endian.specs.Endian.{beBytes, leBytes};
-ghost use Rattle.sheet.specs.Entry.{recordSize, isBridge};
-ghost use Rattle.layout.specs.Layout.{zeros, dwordBytes, numberBytes, memoryBytes, windowBytes, bodyBytes, bridgeBytes, endBytes, commonBytes, recordBytes, plannedOf};
+ghost use Rattle.sheet.specs.Entry.{recordSize};
+ghost use Rattle.layout.specs.Layout.{zeros, dwordBytes, numberBytes, memoryBytes, windowBytes, bodyBytes, commonBytes, recordBytes, plannedOf};
 use window::Window;
 
 // What is planned of one function. A bridge has the first two values and read-backs; buses and windows are a bridge's only.

@@ -3,7 +3,7 @@
 ghost use mathlib.Core.Path.{_≡_};
 ghost use lib.ListN.{length};
 ghost use Rattle.endian.specs.Endian.{be, le};
-ghost use Rattle.sheet.specs.Entry.{recordSize, idOf, busOf, commandOf, headerOf, isBridge, slotCount, primaryOf, secondaryOf, subordinateOf, windowOf, dwords, entryOf};
+ghost use Rattle.sheet.specs.Entry.{recordSize, idOf, busOf, commandOf, headerOf, isBridge, slotCount, secondaryOf, subordinateOf, windowOf, dwords, entryOf};
 ghost use Rattle.sheet.specs.Spaces.{enables};
 ghost use Rattle.sheet.specs.Sheet.{allZero, typeWrong, busesWrong, readBacksWrong, nibblesWrong, breaks as breaksOf};
 use super::Rule;
