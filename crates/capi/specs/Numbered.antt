@@ -12,7 +12,7 @@ use Rattle.pairs.specs.declared.Kind.the-variants.{Memory as MemoryKind, Io as 
 use Rattle.pairs.specs.declared.Row.{Row}
 use Rattle.pairs.specs.declared.Pair.{Pair}
 use Rattle.pairs.specs.declared.Pair.the-variants.{Carried, NotCarried, Unknown}
-use Rattle.pairs.specs.Pairs.{pairOf, rowOf}
+use Rattle.pairs.specs.Pairs.{kindNamed, pairOf, rowOf}
 use Rattle.packet.specs.declared.Packet.{Packet}
 use Rattle.packet.specs.declared.Verdict.{Verdict}
 use Rattle.packet.specs.declared.Verdict.the-variants.{Lawful, Refused as Unlawful}
@@ -113,7 +113,7 @@ numbered-pair : (pair : Pair) (s : List ℕ) → NumberedReading (readPair pair 
 numbered-pair Unknown s = omega arith
 numbered-pair NotCarried s = omega arith
 numbered-pair (Carried row) s =
-    either NumberedReading (ltb (length s) (4 * row .form)) (NotRead 1) (readAs (row .kind) (row .form) s) (omega arith) (numbered-as (row .kind) (row .form) s)
+    either NumberedReading (ltb (length s) (4 * row .form)) (NotRead 1) (readAs (kindNamed (row .name)) (row .form) s) (omega arith) (numbered-as (kindNamed (row .name)) (row .form) s)
 
 pub numbered-read : (header : List ℕ) → Numbered (readAnswer header)
 unfolding readOf

@@ -11,7 +11,7 @@ use lib.Seq.{drop-cons}
 use Rattle.pairs.specs.declared.Row.{Row}
 use Rattle.pairs.specs.declared.Looked.{Looked}
 use Rattle.pairs.specs.declared.Looked.the-variants.{Found, Missing}
-use Rattle.pairs.specs.Pairs.{table, noRow, rowAt, first}
+use Rattle.pairs.specs.Pairs.{table, noRow, first}
 
 -- the search from row i on, by what the test says of row i
 first-drop : (p : Row → Bool) (rows : List Row) (i : ℕ) (d : Row) → i < length rows
@@ -19,12 +19,13 @@ first-drop : (p : Row → Bool) (rows : List Row) (i : ℕ) (d : Row) → i < le
 unfolding first
 first-drop p rows i d below = rw (add-one, drop-cons rows i d)
 
-module _ (p : Row → Bool) (i : ℕ) (below : i < 38) {row : Row} {b : Bool} (same : row ≡ rowAt i) (test : b ≡ p row) where
-  first-step : first p (drop i table) ≡ cond b (Found row) (first p (drop (i + 1) table))
-  unfolding table rowAt
+-- `all` is the code's copy of the table
+module _ (p : Row → Bool) (i : ℕ) (below : i < 38) {all : List Row} {b : Bool} (same : all ≡ table) (test : b ≡ p (getD all i noRow)) where
+  first-step : first p (drop i table) ≡ cond b (Found (getD all i noRow)) (first p (drop (i + 1) table))
+  unfolding table
   first-step = rw (test, same) (first-drop p table i noRow below)
 
-  pub first-hit : {whole : Looked} → b ≡ true → first p (drop i table) ≡ whole → Found row ≡ whole
+  pub first-hit : {whole : Looked} → b ≡ true → first p (drop i table) ≡ whole → Found (getD all i noRow) ≡ whole
   first-hit hit rest = sym (rw hit at first-step) ∙ rest
 
   pub first-miss : {whole : Looked} → b ≡ false → first p (drop i table) ≡ whole → first p (drop (i + 1) table) ≡ whole
@@ -33,6 +34,12 @@ module _ (p : Row → Bool) (i : ℕ) (below : i < 38) {row : Row} {b : Bool} (s
 pub first-none : (p : Row → Bool) (i : ℕ) {whole : Looked} → 38 ≤ i → i ≤ 38 → first p (drop i table) ≡ whole → Missing ≡ whole
 unfolding first table
 first-none p i low high rest = let end : i ≡ 38 = omega arith in rw end at rest
+
+-- two tests that agree find the same
+pub first-same : (p q : Row → Bool) (rows : List Row) → ((row : Row) → p row ≡ q row) → first p rows ≡ first q rows
+unfolding first
+first-same p q [] e = refl
+first-same p q (row ∷ rows) e = rw (e row, first-same p q rows e)
 
 -- all rows pass a test
 unfoldable pub every : (Row → Bool) → List Row → Bool

@@ -1,4 +1,4 @@
 pub mod Pairs
 pub mod FirstLaws
+pub mod KindLaws
 pub mod PairsLaws
-pub mod Starts

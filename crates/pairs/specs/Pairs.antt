@@ -2,9 +2,8 @@
 -- Assumes nothing.
 use mathlib.Core.List.{List, [], _∷_}
 use mathlib.Core.Bool.{Bool, true, false, cond, _&&_}
-use Prim.Native.Nat.{ℕ, _/_, _%_}
+use Prim.Native.Nat.{ℕ, _+_, _*_, _/_}
 use lib.Dec.{eqb}
-use lib.ListN.{getD}
 use Rattle.pairs.specs.declared.Row.{Row}
 use Rattle.pairs.specs.declared.Kind.{Kind}
 use Rattle.pairs.specs.declared.Kind.the-variants.{Memory, Io, Config, Completion, Msg, MsgD, FetchAdd, Swap, Cas}
@@ -12,67 +11,87 @@ use Rattle.pairs.specs.declared.MemoryKind.the-variants.{MRd, MRdLk, MWr
 use Rattle.pairs.specs.declared.IoKind.the-variants.{IORd, IOWr}
 use Rattle.pairs.specs.declared.ConfigKind.the-variants.{CfgRd0, CfgWr0, CfgRd1, CfgWr1}
 use Rattle.pairs.specs.declared.CompletionKind.the-variants.{Cpl, CplD, CplLk, CplDLk}
+use Rattle.pairs.specs.declared.Name.{Name}
+use Rattle.pairs.specs.declared.Name.the-variants as name
 use Rattle.pairs.specs.declared.Looked.{Looked}
 use Rattle.pairs.specs.declared.Looked.the-variants.{Found, Missing}
 use Rattle.pairs.specs.declared.Pair.{Pair}
 use Rattle.pairs.specs.declared.Pair.the-variants.{Carried, NotCarried, Unknown}
 
--- a row of the table: Fmt, Type, kind, and the header's length in dwords
-abbrev pub carries : ℕ → ℕ → Kind → ℕ → Row
-carries fmt typ kind form = record { fmt = fmt; typ = typ; kind = kind; form = form; carried = true }
+-- a row of the table: Fmt, Type, the kind's name, and the header's length in dwords. Byte 0 has Fmt in bits 7:5 and Type in 4:0.
+abbrev pub carries : ℕ → ℕ → Name → ℕ → Row
+carries fmt typ name form = record { byte = fmt * 32 + typ; name = name; form = form; carried = true }
 
-abbrev pub knows : ℕ → ℕ → Kind → ℕ → Row
-knows fmt typ kind form = record { fmt = fmt; typ = typ; kind = kind; form = form; carried = false }
+abbrev pub knows : ℕ → ℕ → Name → ℕ → Row
+knows fmt typ name form = record { byte = fmt * 32 + typ; name = name; form = form; carried = false }
 
 -- first the carried pairs, then Type 10rrr and the AtomicOps, which are known but not carried
 unfoldable pub table : List Row
 table =
-    carries 0b000 0b00000 (Memory MRd) 3
-    ∷ carries 0b001 0b00000 (Memory MRd) 4
-    ∷ carries 0b000 0b00001 (Memory MRdLk) 3
-    ∷ carries 0b001 0b00001 (Memory MRdLk) 4
-    ∷ carries 0b010 0b00000 (Memory MWr) 3
-    ∷ carries 0b011 0b00000 (Memory MWr) 4
-    ∷ carries 0b000 0b00010 (Io IORd) 3
-    ∷ carries 0b010 0b00010 (Io IOWr) 3
-    ∷ carries 0b000 0b00100 (Config CfgRd0) 3
-    ∷ carries 0b010 0b00100 (Config CfgWr0) 3
-    ∷ carries 0b000 0b00101 (Config CfgRd1) 3
-    ∷ carries 0b010 0b00101 (Config CfgWr1) 3
-    ∷ carries 0b000 0b01010 (Completion Cpl) 3
-    ∷ carries 0b010 0b01010 (Completion CplD) 3
-    ∷ carries 0b000 0b01011 (Completion CplLk) 3
-    ∷ carries 0b010 0b01011 (Completion CplDLk) 3
-    ∷ knows 0b001 0b10000 Msg 4
-    ∷ knows 0b001 0b10001 Msg 4
-    ∷ knows 0b001 0b10010 Msg 4
-    ∷ knows 0b001 0b10011 Msg 4
-    ∷ knows 0b001 0b10100 Msg 4
-    ∷ knows 0b001 0b10101 Msg 4
-    ∷ knows 0b001 0b10110 Msg 4
-    ∷ knows 0b001 0b10111 Msg 4
-    ∷ knows 0b011 0b10000 MsgD 4
-    ∷ knows 0b011 0b10001 MsgD 4
-    ∷ knows 0b011 0b10010 MsgD 4
-    ∷ knows 0b011 0b10011 MsgD 4
-    ∷ knows 0b011 0b10100 MsgD 4
-    ∷ knows 0b011 0b10101 MsgD 4
-    ∷ knows 0b011 0b10110 MsgD 4
-    ∷ knows 0b011 0b10111 MsgD 4
-    ∷ knows 0b010 0b01100 FetchAdd 3
-    ∷ knows 0b011 0b01100 FetchAdd 4
-    ∷ knows 0b010 0b01101 Swap 3
-    ∷ knows 0b011 0b01101 Swap 4
-    ∷ knows 0b010 0b01110 Cas 3
-    ∷ knows 0b011 0b01110 Cas 4
+    carries 0b000 0b00000 name.MRd 3
+    ∷ carries 0b001 0b00000 name.MRd 4
+    ∷ carries 0b000 0b00001 name.MRdLk 3
+    ∷ carries 0b001 0b00001 name.MRdLk 4
+    ∷ carries 0b010 0b00000 name.MWr 3
+    ∷ carries 0b011 0b00000 name.MWr 4
+    ∷ carries 0b000 0b00010 name.IORd 3
+    ∷ carries 0b010 0b00010 name.IOWr 3
+    ∷ carries 0b000 0b00100 name.CfgRd0 3
+    ∷ carries 0b010 0b00100 name.CfgWr0 3
+    ∷ carries 0b000 0b00101 name.CfgRd1 3
+    ∷ carries 0b010 0b00101 name.CfgWr1 3
+    ∷ carries 0b000 0b01010 name.Cpl 3
+    ∷ carries 0b010 0b01010 name.CplD 3
+    ∷ carries 0b000 0b01011 name.CplLk 3
+    ∷ carries 0b010 0b01011 name.CplDLk 3
+    ∷ knows 0b001 0b10000 name.Msg 4
+    ∷ knows 0b001 0b10001 name.Msg 4
+    ∷ knows 0b001 0b10010 name.Msg 4
+    ∷ knows 0b001 0b10011 name.Msg 4
+    ∷ knows 0b001 0b10100 name.Msg 4
+    ∷ knows 0b001 0b10101 name.Msg 4
+    ∷ knows 0b001 0b10110 name.Msg 4
+    ∷ knows 0b001 0b10111 name.Msg 4
+    ∷ knows 0b011 0b10000 name.MsgD 4
+    ∷ knows 0b011 0b10001 name.MsgD 4
+    ∷ knows 0b011 0b10010 name.MsgD 4
+    ∷ knows 0b011 0b10011 name.MsgD 4
+    ∷ knows 0b011 0b10100 name.MsgD 4
+    ∷ knows 0b011 0b10101 name.MsgD 4
+    ∷ knows 0b011 0b10110 name.MsgD 4
+    ∷ knows 0b011 0b10111 name.MsgD 4
+    ∷ knows 0b010 0b01100 name.FetchAdd 3
+    ∷ knows 0b011 0b01100 name.FetchAdd 4
+    ∷ knows 0b010 0b01101 name.Swap 3
+    ∷ knows 0b011 0b01101 name.Swap 4
+    ∷ knows 0b010 0b01110 name.Cas 3
+    ∷ knows 0b011 0b01110 name.Cas 4
     ∷ []
 
 -- what stands past the table's end
 abbrev pub noRow : Row
-noRow = knows 0 0 (Memory MRd) 0
+noRow = knows 0 0 name.MRd 0
 
-unfoldable pub rowAt : ℕ → Row
-rowAt i = getD table i noRow
+-- the kind that a name stands for
+abbrev pub kindNamed : Name → Kind
+kindNamed name.MRd = Memory MRd
+kindNamed name.MRdLk = Memory MRdLk
+kindNamed name.MWr = Memory MWr
+kindNamed name.IORd = Io IORd
+kindNamed name.IOWr = Io IOWr
+kindNamed name.CfgRd0 = Config CfgRd0
+kindNamed name.CfgWr0 = Config CfgWr0
+kindNamed name.CfgRd1 = Config CfgRd1
+kindNamed name.CfgWr1 = Config CfgWr1
+kindNamed name.Cpl = Completion Cpl
+kindNamed name.CplD = Completion CplD
+kindNamed name.CplLk = Completion CplLk
+kindNamed name.CplDLk = Completion CplDLk
+kindNamed name.Msg = Msg
+kindNamed name.MsgD = MsgD
+kindNamed name.FetchAdd = FetchAdd
+kindNamed name.Swap = Swap
+kindNamed name.Cas = Cas
 
 -- kinds are told apart by number
 abbrev pub kindNumber : Kind → ℕ
@@ -95,30 +114,41 @@ kindNumber FetchAdd = 15
 kindNumber Swap = 16
 kindNumber Cas = 17
 
-abbrev pub isPair : ℕ → ℕ → Row → Bool
-isPair fmt typ row = eqb (row .typ) typ && eqb (row .fmt) fmt
+-- a kind's number and a form as one number
+abbrev pub keyOf : ℕ → ℕ → ℕ
+keyOf number form = 256 * form + number
+
+abbrev pub isPair : ℕ → Row → Bool
+isPair byte row = eqb (row .byte) byte
 
 abbrev pub isKind : Kind → ℕ → Row → Bool
-isKind kind form row = eqb (kindNumber (row .kind)) (kindNumber kind) && eqb (row .form) form
+isKind kind form row = eqb (kindNumber (kindNamed (row .name))) (kindNumber kind) && eqb (row .form) form
 
 -- the first row that passes a test
 unfoldable pub first : (Row → Bool) → List Row → Looked
 first p [] = Missing
 first p (row ∷ rows) = cond (p row) (Found row) (first p rows)
 
-unfoldable pub findPair : ℕ → ℕ → Looked
-findPair fmt typ = first (isPair fmt typ) table
+unfoldable pub findPair : ℕ → Looked
+findPair byte = first (isPair byte) table
 
 unfoldable pub findKind : Kind → ℕ → Looked
 findKind kind form = first (isKind kind form) table
+
+-- the same search as the code makes it, with one comparison for each row: `find-key` of KindLaws says that it is the same
+abbrev pub isKey : ℕ → Row → Bool
+isKey wanted row = eqb (keyOf (kindNumber (kindNamed (row .name))) (row .form)) wanted
+
+unfoldable pub findKey : ℕ → Looked
+findKey wanted = first (isKey wanted) table
 
 abbrev pub answerOf : Looked → Pair
 answerOf (Found row) = cond (row .carried) (Carried row) NotCarried
 answerOf Missing = Unknown
 
--- what byte 0 says, Fmt in bits 7:5 and Type in 4:0. Fmt 100, a TLP prefix, is known but not carried whatever the Type.
+-- what byte 0 says. Fmt 100, a TLP prefix, is known but not carried whatever the Type.
 unfoldable pub pairOf : ℕ → Pair
-pairOf byte = cond (eqb (byte / 32) 0b100) NotCarried (answerOf (findPair (byte / 32) (byte % 32)))
+pairOf byte = cond (eqb (byte / 32) 0b100) NotCarried (answerOf (findPair byte))
 
 -- what a kind and form are written with
 unfoldable pub rowOf : Kind → ℕ → Pair

@@ -4,57 +4,22 @@ use mathlib.Core.Path.{_≡_, refl, ap, sym, _∙_}
 use mathlib.Core.Logic.{_⊎_, inl, inr}
 use mathlib.Core.List.{List, [], _∷_}
 use mathlib.Core.Bool.{Bool, true, false, cond, _&&_, _||_, and-eq-true-iff, false≢true}
-use Prim.Native.Nat.{ℕ, _+_, _*_, _/_, _%_, _<_}
+use Prim.Native.Nat.{ℕ, _+_, _/_, _%_, _<_}
 use native.Mathlib.Omega.{arith}
 use borrow.Author.Tests.{eqb-true, ltb-true}
 use lib.Dec.{eqb, ltb}
-use lib.ListN.{getD}
 use Rattle.pairs.specs.declared.Row.{Row}
 use Rattle.pairs.specs.declared.Kind.{Kind}
 use Rattle.pairs.specs.declared.Kind.the-variants.{Memory, Io, Config, Completion, Msg, MsgD, FetchAdd, Swap, Cas}
-use Rattle.pairs.specs.declared.MemoryKind.the-variants.{MRd, MRdLk, MWr}
-use Rattle.pairs.specs.declared.IoKind.the-variants.{IORd, IOWr}
-use Rattle.pairs.specs.declared.ConfigKind.the-variants.{CfgRd0, CfgWr0, CfgRd1, CfgWr1}
-use Rattle.pairs.specs.declared.CompletionKind.the-variants.{Cpl, CplD, CplLk, CplDLk}
 use Rattle.pairs.specs.declared.Looked.{Looked}
 use Rattle.pairs.specs.declared.Looked.the-variants.{Found, Missing}
 use Rattle.pairs.specs.declared.Pair.{Pair}
 use Rattle.pairs.specs.declared.Pair.the-variants.{Carried, NotCarried, Unknown}
-use Rattle.pairs.specs.Pairs.{table, kindNumber, isPair, isKind, first, findPair, findKind, answerOf, pairOf, rowOf}
+use Rattle.pairs.specs.Pairs.{table, kindNamed, kindNumber, isPair, isKind, first, findPair, findKind, answerOf, pairOf, rowOf}
 use Rattle.pairs.specs.FirstLaws.{every, first-found}
+use Rattle.pairs.specs.KindLaws.{kind-unique, name-unique}
 
--- ## Kinds and rows are told apart by numbers
-
-kinds : List Kind
-kinds =
-    Memory MRd ∷ Memory MRdLk ∷ Memory MWr ∷ Io IORd ∷ Io IOWr
-    ∷ Config CfgRd0 ∷ Config CfgWr0 ∷ Config CfgRd1 ∷ Config CfgWr1
-    ∷ Completion Cpl ∷ Completion CplD ∷ Completion CplLk ∷ Completion CplDLk
-    ∷ Msg ∷ MsgD ∷ FetchAdd ∷ Swap ∷ Cas ∷ []
-
-kinds-at : (k : Kind) → getD kinds (kindNumber k) Msg ≡ k
-unfolding kinds
-kinds-at (Memory MRd) = refl
-kinds-at (Memory MRdLk) = refl
-kinds-at (Memory MWr) = refl
-kinds-at (Io IORd) = refl
-kinds-at (Io IOWr) = refl
-kinds-at (Config CfgRd0) = refl
-kinds-at (Config CfgWr0) = refl
-kinds-at (Config CfgRd1) = refl
-kinds-at (Config CfgWr1) = refl
-kinds-at (Completion Cpl) = refl
-kinds-at (Completion CplD) = refl
-kinds-at (Completion CplLk) = refl
-kinds-at (Completion CplDLk) = refl
-kinds-at Msg = refl
-kinds-at MsgD = refl
-kinds-at FetchAdd = refl
-kinds-at Swap = refl
-kinds-at Cas = refl
-
-kind-unique : (a b : Kind) → eqb (kindNumber a) (kindNumber b) ≡ true → a ≡ b
-kind-unique a b h = sym (kinds-at a) ∙ ap (λ (n : ℕ). getD kinds n Msg) (eqb-true _ _ h) ∙ kinds-at b
+-- ## Rows are told apart by their fields
 
 -- the conjunction of some tests, and what it says of each
 abbrev conj : List Bool → Bool
@@ -72,9 +37,8 @@ conj-elim (b ∷ bs) h = let e = and-eq-true-iff b (conj bs) .0 h in (e .0, conj
 -- two carried rows are one
 sameTests : Row → Row → List Bool
 sameTests a b =
-    eqb (a .fmt) (b .fmt)
-    ∷ eqb (a .typ) (b .typ)
-    ∷ eqb (kindNumber (a .kind)) (kindNumber (b .kind))
+    eqb (a .byte) (b .byte)
+    ∷ eqb (kindNumber (kindNamed (a .name))) (kindNumber (kindNamed (b .name)))
     ∷ eqb (a .form) (b .form)
     ∷ a .carried
     ∷ b .carried
@@ -86,11 +50,10 @@ row-unique a b h =
     let e = conj-elim (sameTests a b) h in
     λ i.
     record {
-      fmt = eqb-true (a .fmt) (b .fmt) (e .0) i;
-      typ = eqb-true (a .typ) (b .typ) (e .1 .0) i;
-      kind = kind-unique (a .kind) (b .kind) (e .1 .1 .0) i;
-      form = eqb-true (a .form) (b .form) (e .1 .1 .1 .0) i;
-      carried = (e .1 .1 .1 .1 .0 ∙ sym (e .1 .1 .1 .1 .1 .0)) i;
+      byte = eqb-true (a .byte) (b .byte) (e .0) i;
+      name = name-unique (a .name) (b .name) (e .1 .0) i;
+      form = eqb-true (a .form) (b .form) (e .1 .1 .0) i;
+      carried = (e .1 .1 .1 .0 ∙ sym (e .1 .1 .1 .1 .0)) i;
     }
 
 -- ## What holds of a carried row
@@ -109,15 +72,14 @@ Forms Cas f = ⊥
 
 pub record CarriedRow (row : Row) : Type 0 where
   pub carried : row .carried ≡ true
-  pub fmt-below : row .fmt < 8
-  pub typ-below : row .typ < 32
+  pub byte-below : row .byte < 256
   -- the reader finds the row by its pair, and the writer by its kind and form
-  pub read : pairOf (row .fmt * 32 + row .typ) ≡ Carried row
-  pub written : rowOf (row .kind) (row .form) ≡ Carried row
+  pub read : pairOf (row .byte) ≡ Carried row
+  pub written : rowOf (kindNamed (row .name)) (row .form) ≡ Carried row
   -- Fmt bit 0 is the four-dword form
-  pub form-fmt : row .form ≡ 3 + row .fmt % 2
+  pub form-fmt : row .form ≡ 3 + row .byte / 32 % 2
   pub dwords : (row .form ≡ 3) ⊎ (row .form ≡ 4)
-  pub forms : Forms (row .kind) (row .form)
+  pub forms : Forms (kindNamed (row .name)) (row .form)
 
 -- ## The test that antt computes over the table
 
@@ -164,13 +126,12 @@ finds-elim row Unknown h = absurd (false≢true h)
 
 rowTests : Row → List Bool
 rowTests row =
-    ltb (row .fmt) 8
-    ∷ ltb (row .typ) 32
-    ∷ finds row (pairOf (row .fmt * 32 + row .typ))
-    ∷ finds row (rowOf (row .kind) (row .form))
-    ∷ eqb (row .form) (3 + row .fmt % 2)
+    ltb (row .byte) 256
+    ∷ finds row (pairOf (row .byte))
+    ∷ finds row (rowOf (kindNamed (row .name)) (row .form))
+    ∷ eqb (row .form) (3 + row .byte / 32 % 2)
     ∷ (eqb (row .form) 3 || eqb (row .form) 4)
-    ∷ isForm (row .kind) (row .form)
+    ∷ isForm (kindNamed (row .name)) (row .form)
     ∷ []
 
 -- a row passes its tests where it is carried
@@ -191,13 +152,12 @@ carried-of-right row carried right =
     let e = conj-elim (rowTests row) (tests-of-carried (row .carried) (conj (rowTests row)) carried right) in
     record {
       carried = carried;
-      fmt-below = ltb-true (row .fmt) 8 (e .0);
-      typ-below = ltb-true (row .typ) 32 (e .1 .0);
-      read = finds-elim row (pairOf (row .fmt * 32 + row .typ)) (e .1 .1 .0);
-      written = finds-elim row (rowOf (row .kind) (row .form)) (e .1 .1 .1 .0);
-      form-fmt = eqb-true (row .form) (3 + row .fmt % 2) (e .1 .1 .1 .1 .0);
-      dwords = three-or-four (row .form) (e .1 .1 .1 .1 .1 .0);
-      forms = forms-of-test (row .kind) (row .form) (e .1 .1 .1 .1 .1 .1 .0);
+      byte-below = ltb-true (row .byte) 256 (e .0);
+      read = finds-elim row (pairOf (row .byte)) (e .1 .0);
+      written = finds-elim row (rowOf (kindNamed (row .name)) (row .form)) (e .1 .1 .0);
+      form-fmt = eqb-true (row .form) (3 + row .byte / 32 % 2) (e .1 .1 .1 .0);
+      dwords = three-or-four (row .form) (e .1 .1 .1 .1 .0);
+      forms = forms-of-test (kindNamed (row .name)) (row .form) (e .1 .1 .1 .1 .1 .0);
     }
 
 -- ## The laws
@@ -218,28 +178,24 @@ found-carried p {row} h =
     (t .0, carried-of-right row (f .1) (t .1))
 
 -- what the reader finds in byte 0, the writer finds by its kind and form, and writes as that byte
-pub pair-row : (b : ℕ) {row : Row} → pairOf b ≡ Carried row → (row .fmt * 32 + row .typ ≡ b) × CarriedRow row
+pub pair-row : (b : ℕ) {row : Row} → pairOf b ≡ Carried row → (row .byte ≡ b) × CarriedRow row
 unfolding pairOf findPair
 pair-row b {row} h = go (eqb (b / 32) 4) h
   where
-    go : (prefix : Bool) → cond prefix NotCarried (answerOf (first (isPair (b / 32) (b % 32)) table)) ≡ Carried row
-        → (row .fmt * 32 + row .typ ≡ b) × CarriedRow row
+    go : (prefix : Bool) → cond prefix NotCarried (answerOf (first (isPair b) table)) ≡ Carried row → (row .byte ≡ b) × CarriedRow row
     go true h = let z : _≡_ {A = ℕ} 0 1 = cc in absurd (omega arith)
-    go false h =
-        let f = found-carried (isPair (b / 32) (b % 32)) h in
-        let e = and-eq-true-iff (eqb (row .typ) (b % 32)) (eqb (row .fmt) (b / 32)) .0 (f .0) in
-        (omega (arith, eqb-true (row .typ) (b % 32) (e .0), eqb-true (row .fmt) (b / 32) (e .1)), f .1)
+    go false h = let f = found-carried (isPair b) h in (eqb-true (row .byte) b (f .0), f .1)
 
 -- what the writer finds is of the kind and form asked for, and the reader finds it in the byte written
-pub row-pair : (k : Kind) (f : ℕ) {row : Row} → rowOf k f ≡ Carried row → (row .kind ≡ k) × (row .form ≡ f) × CarriedRow row
+pub row-pair : (k : Kind) (f : ℕ) {row : Row} → rowOf k f ≡ Carried row → (kindNamed (row .name) ≡ k) × (row .form ≡ f) × CarriedRow row
 unfolding rowOf findKind
 row-pair k f {row} h =
     let r = found-carried (isKind k f) h in
-    let e = and-eq-true-iff (eqb (kindNumber (row .kind)) (kindNumber k)) (eqb (row .form) f) .0 (r .0) in
-    (kind-unique (row .kind) k (e .0), eqb-true (row .form) f (e .1), r .1)
+    let e = and-eq-true-iff (eqb (kindNumber (kindNamed (row .name))) (kindNumber k)) (eqb (row .form) f) .0 (r .0) in
+    (kind-unique (kindNamed (row .name)) k (e .0), eqb-true (row .form) f (e .1), r .1)
 
 -- `Forms` computes at a kind whose class is known
-pub forms-of-kind : {row : Row} {k : Kind} → CarriedRow row → row .kind ≡ k → Forms k (row .form)
+pub forms-of-kind : {row : Row} {k : Kind} → CarriedRow row → kindNamed (row .name) ≡ k → Forms k (row .form)
 forms-of-kind r e = rw e at (r .forms)
 
 pub row-forms : (k : Kind) (f : ℕ) {row : Row} → rowOf k f ≡ Carried row → Forms k f

@@ -1,8 +1,6 @@
-// The Fmt and Type pairs of a TLP header's byte 0: one constant table, searched by pair for the reader and by kind and form for the writer.
+// The Fmt and Type pairs of a TLP header's byte 0: one constant table, searched by byte for the reader and by kind and form for the writer.
 ghost use mathlib.Core.Path.{_≡_};
-ghost use Prim.Native.Nat.{_≤_, _<_};
-ghost use Rattle.pairs.specs.Starts.{startOf, kindStart};
-ghost use Rattle.pairs.specs.Pairs.{table, rowAt, kindNumber, isPair, isKind, findPair, findKind, answerOf, pairOf, rowOf};
+ghost use Rattle.pairs.specs.Pairs.{table, kindNamed, kindNumber, keyOf, isPair, isKey, findPair, findKey, answerOf, pairOf, rowOf};
 
 pub enum MemoryKind {
     MRd,
@@ -41,11 +39,33 @@ pub enum Kind {
     Cas,
 }
 
-// One pair: its kind, the header's length in dwords (3 or 4), and whether the codec carries it.
+// What a kind is called: one byte, so that a row is four bytes and a search looks at it by one load.
+pub enum Name {
+    MRd,
+    MRdLk,
+    MWr,
+    IORd,
+    IOWr,
+    CfgRd0,
+    CfgWr0,
+    CfgRd1,
+    CfgWr1,
+    Cpl,
+    CplD,
+    CplLk,
+    CplDLk,
+    Msg,
+    MsgD,
+    FetchAdd,
+    Swap,
+    Cas,
+}
+
+// One pair: byte 0 of the header, Fmt in bits 7:5 and Type in 4:0, its kind's name, the header's length in dwords (3 or 4),
+// and whether the codec carries it.
 pub struct Row {
-    pub fmt: u8,
-    pub typ: u8,
-    pub kind: Kind,
+    pub byte: u8,
+    pub name: Name,
     pub form: u8,
     pub carried: bool,
 }
@@ -69,367 +89,252 @@ const PREFIX_FMT: u8 = 0b100;
 // The rows in document 01's order: the carried pairs, then Type 10rrr and the AtomicOps.
 const ROWS: usize = 38;
 
-const MRD_3: Row = Row {
-    fmt: 0b000,
-    typ: 0b00000,
-    kind: Kind::Memory(MemoryKind::MRd),
-    form: 3,
-    carried: true,
-};
-
-const MRD_4: Row = Row {
-    fmt: 0b001,
-    typ: 0b00000,
-    kind: Kind::Memory(MemoryKind::MRd),
-    form: 4,
-    carried: true,
-};
-
-const MRD_LK_3: Row = Row {
-    fmt: 0b000,
-    typ: 0b00001,
-    kind: Kind::Memory(MemoryKind::MRdLk),
-    form: 3,
-    carried: true,
-};
-
-const MRD_LK_4: Row = Row {
-    fmt: 0b001,
-    typ: 0b00001,
-    kind: Kind::Memory(MemoryKind::MRdLk),
-    form: 4,
-    carried: true,
-};
-
-const MWR_3: Row = Row {
-    fmt: 0b010,
-    typ: 0b00000,
-    kind: Kind::Memory(MemoryKind::MWr),
-    form: 3,
-    carried: true,
-};
-
-const MWR_4: Row = Row {
-    fmt: 0b011,
-    typ: 0b00000,
-    kind: Kind::Memory(MemoryKind::MWr),
-    form: 4,
-    carried: true,
-};
-
-const IO_RD: Row = Row {
-    fmt: 0b000,
-    typ: 0b00010,
-    kind: Kind::Io(IoKind::IORd),
-    form: 3,
-    carried: true,
-};
-
-const IO_WR: Row = Row {
-    fmt: 0b010,
-    typ: 0b00010,
-    kind: Kind::Io(IoKind::IOWr),
-    form: 3,
-    carried: true,
-};
-
-const CFG_RD_0: Row = Row {
-    fmt: 0b000,
-    typ: 0b00100,
-    kind: Kind::Config(ConfigKind::CfgRd0),
-    form: 3,
-    carried: true,
-};
-
-const CFG_WR_0: Row = Row {
-    fmt: 0b010,
-    typ: 0b00100,
-    kind: Kind::Config(ConfigKind::CfgWr0),
-    form: 3,
-    carried: true,
-};
-
-const CFG_RD_1: Row = Row {
-    fmt: 0b000,
-    typ: 0b00101,
-    kind: Kind::Config(ConfigKind::CfgRd1),
-    form: 3,
-    carried: true,
-};
-
-const CFG_WR_1: Row = Row {
-    fmt: 0b010,
-    typ: 0b00101,
-    kind: Kind::Config(ConfigKind::CfgWr1),
-    form: 3,
-    carried: true,
-};
-
-const CPL: Row = Row {
-    fmt: 0b000,
-    typ: 0b01010,
-    kind: Kind::Completion(CompletionKind::Cpl),
-    form: 3,
-    carried: true,
-};
-
-const CPL_D: Row = Row {
-    fmt: 0b010,
-    typ: 0b01010,
-    kind: Kind::Completion(CompletionKind::CplD),
-    form: 3,
-    carried: true,
-};
-
-const CPL_LK: Row = Row {
-    fmt: 0b000,
-    typ: 0b01011,
-    kind: Kind::Completion(CompletionKind::CplLk),
-    form: 3,
-    carried: true,
-};
-
-const CPL_D_LK: Row = Row {
-    fmt: 0b010,
-    typ: 0b01011,
-    kind: Kind::Completion(CompletionKind::CplDLk),
-    form: 3,
-    carried: true,
-};
-
-const MSG_0: Row = Row {
-    fmt: 0b001,
-    typ: 0b10000,
-    kind: Kind::Msg,
-    form: 4,
-    carried: false,
-};
-
-const MSG_1: Row = Row {
-    fmt: 0b001,
-    typ: 0b10001,
-    kind: Kind::Msg,
-    form: 4,
-    carried: false,
-};
-
-const MSG_2: Row = Row {
-    fmt: 0b001,
-    typ: 0b10010,
-    kind: Kind::Msg,
-    form: 4,
-    carried: false,
-};
-
-const MSG_3: Row = Row {
-    fmt: 0b001,
-    typ: 0b10011,
-    kind: Kind::Msg,
-    form: 4,
-    carried: false,
-};
-
-const MSG_4: Row = Row {
-    fmt: 0b001,
-    typ: 0b10100,
-    kind: Kind::Msg,
-    form: 4,
-    carried: false,
-};
-
-const MSG_5: Row = Row {
-    fmt: 0b001,
-    typ: 0b10101,
-    kind: Kind::Msg,
-    form: 4,
-    carried: false,
-};
-
-const MSG_6: Row = Row {
-    fmt: 0b001,
-    typ: 0b10110,
-    kind: Kind::Msg,
-    form: 4,
-    carried: false,
-};
-
-const MSG_7: Row = Row {
-    fmt: 0b001,
-    typ: 0b10111,
-    kind: Kind::Msg,
-    form: 4,
-    carried: false,
-};
-
-const MSG_D_0: Row = Row {
-    fmt: 0b011,
-    typ: 0b10000,
-    kind: Kind::MsgD,
-    form: 4,
-    carried: false,
-};
-
-const MSG_D_1: Row = Row {
-    fmt: 0b011,
-    typ: 0b10001,
-    kind: Kind::MsgD,
-    form: 4,
-    carried: false,
-};
-
-const MSG_D_2: Row = Row {
-    fmt: 0b011,
-    typ: 0b10010,
-    kind: Kind::MsgD,
-    form: 4,
-    carried: false,
-};
-
-const MSG_D_3: Row = Row {
-    fmt: 0b011,
-    typ: 0b10011,
-    kind: Kind::MsgD,
-    form: 4,
-    carried: false,
-};
-
-const MSG_D_4: Row = Row {
-    fmt: 0b011,
-    typ: 0b10100,
-    kind: Kind::MsgD,
-    form: 4,
-    carried: false,
-};
-
-const MSG_D_5: Row = Row {
-    fmt: 0b011,
-    typ: 0b10101,
-    kind: Kind::MsgD,
-    form: 4,
-    carried: false,
-};
-
-const MSG_D_6: Row = Row {
-    fmt: 0b011,
-    typ: 0b10110,
-    kind: Kind::MsgD,
-    form: 4,
-    carried: false,
-};
-
-const MSG_D_7: Row = Row {
-    fmt: 0b011,
-    typ: 0b10111,
-    kind: Kind::MsgD,
-    form: 4,
-    carried: false,
-};
-
-const FETCH_ADD_3: Row = Row {
-    fmt: 0b010,
-    typ: 0b01100,
-    kind: Kind::FetchAdd,
-    form: 3,
-    carried: false,
-};
-
-const FETCH_ADD_4: Row = Row {
-    fmt: 0b011,
-    typ: 0b01100,
-    kind: Kind::FetchAdd,
-    form: 4,
-    carried: false,
-};
-
-const SWAP_3: Row = Row {
-    fmt: 0b010,
-    typ: 0b01101,
-    kind: Kind::Swap,
-    form: 3,
-    carried: false,
-};
-
-const SWAP_4: Row = Row {
-    fmt: 0b011,
-    typ: 0b01101,
-    kind: Kind::Swap,
-    form: 4,
-    carried: false,
-};
-
-const CAS_3: Row = Row {
-    fmt: 0b010,
-    typ: 0b01110,
-    kind: Kind::Cas,
-    form: 3,
-    carried: false,
-};
-
-const CAS_4: Row = Row {
-    fmt: 0b011,
-    typ: 0b01110,
-    kind: Kind::Cas,
-    form: 4,
-    carried: false,
-};
-
 const TABLE: [Row; ROWS] = [
-    MRD_3,
-    MRD_4,
-    MRD_LK_3,
-    MRD_LK_4,
-    MWR_3,
-    MWR_4,
-    IO_RD,
-    IO_WR,
-    CFG_RD_0,
-    CFG_WR_0,
-    CFG_RD_1,
-    CFG_WR_1,
-    CPL,
-    CPL_D,
-    CPL_LK,
-    CPL_D_LK,
-    MSG_0,
-    MSG_1,
-    MSG_2,
-    MSG_3,
-    MSG_4,
-    MSG_5,
-    MSG_6,
-    MSG_7,
-    MSG_D_0,
-    MSG_D_1,
-    MSG_D_2,
-    MSG_D_3,
-    MSG_D_4,
-    MSG_D_5,
-    MSG_D_6,
-    MSG_D_7,
-    FETCH_ADD_3,
-    FETCH_ADD_4,
-    SWAP_3,
-    SWAP_4,
-    CAS_3,
-    CAS_4,
+    Row {
+        byte: 0b000_00000,
+        name: Name::MRd,
+        form: 3,
+        carried: true,
+    },
+    Row {
+        byte: 0b001_00000,
+        name: Name::MRd,
+        form: 4,
+        carried: true,
+    },
+    Row {
+        byte: 0b000_00001,
+        name: Name::MRdLk,
+        form: 3,
+        carried: true,
+    },
+    Row {
+        byte: 0b001_00001,
+        name: Name::MRdLk,
+        form: 4,
+        carried: true,
+    },
+    Row {
+        byte: 0b010_00000,
+        name: Name::MWr,
+        form: 3,
+        carried: true,
+    },
+    Row {
+        byte: 0b011_00000,
+        name: Name::MWr,
+        form: 4,
+        carried: true,
+    },
+    Row {
+        byte: 0b000_00010,
+        name: Name::IORd,
+        form: 3,
+        carried: true,
+    },
+    Row {
+        byte: 0b010_00010,
+        name: Name::IOWr,
+        form: 3,
+        carried: true,
+    },
+    Row {
+        byte: 0b000_00100,
+        name: Name::CfgRd0,
+        form: 3,
+        carried: true,
+    },
+    Row {
+        byte: 0b010_00100,
+        name: Name::CfgWr0,
+        form: 3,
+        carried: true,
+    },
+    Row {
+        byte: 0b000_00101,
+        name: Name::CfgRd1,
+        form: 3,
+        carried: true,
+    },
+    Row {
+        byte: 0b010_00101,
+        name: Name::CfgWr1,
+        form: 3,
+        carried: true,
+    },
+    Row {
+        byte: 0b000_01010,
+        name: Name::Cpl,
+        form: 3,
+        carried: true,
+    },
+    Row {
+        byte: 0b010_01010,
+        name: Name::CplD,
+        form: 3,
+        carried: true,
+    },
+    Row {
+        byte: 0b000_01011,
+        name: Name::CplLk,
+        form: 3,
+        carried: true,
+    },
+    Row {
+        byte: 0b010_01011,
+        name: Name::CplDLk,
+        form: 3,
+        carried: true,
+    },
+    Row {
+        byte: 0b001_10000,
+        name: Name::Msg,
+        form: 4,
+        carried: false,
+    },
+    Row {
+        byte: 0b001_10001,
+        name: Name::Msg,
+        form: 4,
+        carried: false,
+    },
+    Row {
+        byte: 0b001_10010,
+        name: Name::Msg,
+        form: 4,
+        carried: false,
+    },
+    Row {
+        byte: 0b001_10011,
+        name: Name::Msg,
+        form: 4,
+        carried: false,
+    },
+    Row {
+        byte: 0b001_10100,
+        name: Name::Msg,
+        form: 4,
+        carried: false,
+    },
+    Row {
+        byte: 0b001_10101,
+        name: Name::Msg,
+        form: 4,
+        carried: false,
+    },
+    Row {
+        byte: 0b001_10110,
+        name: Name::Msg,
+        form: 4,
+        carried: false,
+    },
+    Row {
+        byte: 0b001_10111,
+        name: Name::Msg,
+        form: 4,
+        carried: false,
+    },
+    Row {
+        byte: 0b011_10000,
+        name: Name::MsgD,
+        form: 4,
+        carried: false,
+    },
+    Row {
+        byte: 0b011_10001,
+        name: Name::MsgD,
+        form: 4,
+        carried: false,
+    },
+    Row {
+        byte: 0b011_10010,
+        name: Name::MsgD,
+        form: 4,
+        carried: false,
+    },
+    Row {
+        byte: 0b011_10011,
+        name: Name::MsgD,
+        form: 4,
+        carried: false,
+    },
+    Row {
+        byte: 0b011_10100,
+        name: Name::MsgD,
+        form: 4,
+        carried: false,
+    },
+    Row {
+        byte: 0b011_10101,
+        name: Name::MsgD,
+        form: 4,
+        carried: false,
+    },
+    Row {
+        byte: 0b011_10110,
+        name: Name::MsgD,
+        form: 4,
+        carried: false,
+    },
+    Row {
+        byte: 0b011_10111,
+        name: Name::MsgD,
+        form: 4,
+        carried: false,
+    },
+    Row {
+        byte: 0b010_01100,
+        name: Name::FetchAdd,
+        form: 3,
+        carried: false,
+    },
+    Row {
+        byte: 0b011_01100,
+        name: Name::FetchAdd,
+        form: 4,
+        carried: false,
+    },
+    Row {
+        byte: 0b010_01101,
+        name: Name::Swap,
+        form: 3,
+        carried: false,
+    },
+    Row {
+        byte: 0b011_01101,
+        name: Name::Swap,
+        form: 4,
+        carried: false,
+    },
+    Row {
+        byte: 0b010_01110,
+        name: Name::Cas,
+        form: 3,
+        carried: false,
+    },
+    Row {
+        byte: 0b011_01110,
+        name: Name::Cas,
+        form: 4,
+        carried: false,
+    },
 ];
 
 // The pair in byte 0 of a header.
 pub fn pair_of(byte: u8) -> Pair
     ensures { λ r. ⌜ r ≡ pairOf byte ⌝ }
 {
-    let fmt = byte / 32;
-    if fmt == PREFIX_FMT {
+    if byte / 32 == PREFIX_FMT {
         return Pair::NotCarried;
     }
-    answer(find_pair(fmt, byte % 32))
+    answer(find_pair(byte))
 }
 
 // The pair that a kind is written with in a form of so many dwords.
 pub fn row_of(kind: Kind, form: u8) -> Pair
     ensures { λ r. ⌜ r ≡ rowOf kind form ⌝ }
 {
-    answer(find_kind(kind, form))
+    answer(find_key(key(kind_number(kind), form)))
 }
 
 fn answer(looked: Looked) -> Pair
@@ -446,13 +351,14 @@ fn answer(looked: Looked) -> Pair
     }
 }
 
-fn find_pair(fmt: u8, typ: u8) -> Looked
-    ensures { λ r. ⌜ r ≡ findPair fmt typ ⌝ }
+fn find_pair(byte: u8) -> Looked
+    ensures { λ r. ⌜ r ≡ findPair byte ⌝ }
 {
-    let mut i = start_of(typ);
+    let table = rows();
+    let mut i: usize = 0;
     while i < ROWS {
-        let row = row_at(i);
-        if is_pair(row, fmt, typ) {
+        let row = table[i];
+        if is_pair(row, byte) {
             return Looked::Found(row);
         }
         i += 1;
@@ -460,13 +366,14 @@ fn find_pair(fmt: u8, typ: u8) -> Looked
     Looked::Missing
 }
 
-fn find_kind(kind: Kind, form: u8) -> Looked
-    ensures { λ r. ⌜ r ≡ findKind kind form ⌝ }
+fn find_key(wanted: u32) -> Looked
+    ensures { λ r. ⌜ r ≡ findKey wanted ⌝ }
 {
-    let mut i = kind_start(kind);
+    let table = rows();
+    let mut i: usize = 0;
     while i < ROWS {
-        let row = row_at(i);
-        if is_kind(row, kind, form) {
+        let row = table[i];
+        if is_key(row, wanted) {
             return Looked::Found(row);
         }
         i += 1;
@@ -474,17 +381,24 @@ fn find_kind(kind: Kind, form: u8) -> Looked
     Looked::Missing
 }
 
-fn is_pair(row: Row, fmt: u8, typ: u8) -> bool
-    ensures { λ r. ⌜ r ≡ isPair fmt typ row ⌝ }
+fn is_pair(row: Row, byte: u8) -> bool
+    ensures { λ r. ⌜ r ≡ isPair byte row ⌝ }
 {
-    (row.typ == typ) & (row.fmt == fmt)
+    row.byte == byte
 }
 
-fn is_kind(row: Row, kind: Kind, form: u8) -> bool
-    ensures { λ r. ⌜ r ≡ isKind kind form row ⌝ }
+fn is_key(row: Row, wanted: u32) -> bool
+    ensures { λ r. ⌜ r ≡ isKey wanted row ⌝ }
 {
-    let own = row.kind;
-    (kind_number(own) == kind_number(kind)) & (row.form == form)
+    let name = row.name;
+    key(name_number(name), row.form) == wanted
+}
+
+// A kind and a form as one number: with one comparison for each row the compiled search is a jump by the number.
+fn key(number: u8, form: u8) -> u32
+    ensures { λ r. ⌜ r ≡ keyOf number form ⌝ }
+{
+    256 * (form as u32) + (number as u32)
 }
 
 // The whole table.
@@ -494,91 +408,55 @@ pub fn rows() -> [Row; ROWS]
     TABLE
 }
 
-// Row i alone, so that a search does not build the whole table.
-fn row_at(i: usize) -> Row
-    requires { ⌜ i < 38 ⌝ }
-    ensures { λ r. ⌜ r ≡ rowAt i ⌝ }
+// The kind that a name stands for.
+pub fn kind_named(name: Name) -> Kind
+    ensures { λ r. ⌜ r ≡ kindNamed name ⌝ }
 {
-    match i {
-        0 => MRD_3,
-        1 => MRD_4,
-        2 => MRD_LK_3,
-        3 => MRD_LK_4,
-        4 => MWR_3,
-        5 => MWR_4,
-        6 => IO_RD,
-        7 => IO_WR,
-        8 => CFG_RD_0,
-        9 => CFG_WR_0,
-        10 => CFG_RD_1,
-        11 => CFG_WR_1,
-        12 => CPL,
-        13 => CPL_D,
-        14 => CPL_LK,
-        15 => CPL_D_LK,
-        16 => MSG_0,
-        17 => MSG_1,
-        18 => MSG_2,
-        19 => MSG_3,
-        20 => MSG_4,
-        21 => MSG_5,
-        22 => MSG_6,
-        23 => MSG_7,
-        24 => MSG_D_0,
-        25 => MSG_D_1,
-        26 => MSG_D_2,
-        27 => MSG_D_3,
-        28 => MSG_D_4,
-        29 => MSG_D_5,
-        30 => MSG_D_6,
-        31 => MSG_D_7,
-        32 => FETCH_ADD_3,
-        33 => FETCH_ADD_4,
-        34 => SWAP_3,
-        35 => SWAP_4,
-        36 => CAS_3,
-        _ => CAS_4,
+    match name {
+        Name::MRd => Kind::Memory(MemoryKind::MRd),
+        Name::MRdLk => Kind::Memory(MemoryKind::MRdLk),
+        Name::MWr => Kind::Memory(MemoryKind::MWr),
+        Name::IORd => Kind::Io(IoKind::IORd),
+        Name::IOWr => Kind::Io(IoKind::IOWr),
+        Name::CfgRd0 => Kind::Config(ConfigKind::CfgRd0),
+        Name::CfgWr0 => Kind::Config(ConfigKind::CfgWr0),
+        Name::CfgRd1 => Kind::Config(ConfigKind::CfgRd1),
+        Name::CfgWr1 => Kind::Config(ConfigKind::CfgWr1),
+        Name::Cpl => Kind::Completion(CompletionKind::Cpl),
+        Name::CplD => Kind::Completion(CompletionKind::CplD),
+        Name::CplLk => Kind::Completion(CompletionKind::CplLk),
+        Name::CplDLk => Kind::Completion(CompletionKind::CplDLk),
+        Name::Msg => Kind::Msg,
+        Name::MsgD => Kind::MsgD,
+        Name::FetchAdd => Kind::FetchAdd,
+        Name::Swap => Kind::Swap,
+        Name::Cas => Kind::Cas,
     }
 }
 
-// Completions stand after the requests, so a search for one starts there.
-fn start_of(typ: u8) -> usize
-    ensures { λ r. ⌜ (r ≡ startOf typ) × (r ≤ 38) ⌝ }
+// The number of the kind that a name stands for, with no detour by the kind: a search asks for it row by row.
+fn name_number(name: Name) -> u8
+    ensures { λ r. ⌜ r ≡ kindNumber (kindNamed name) ⌝ }
 {
-    if typ / 2 == 5 { 12 } else { 0 }
-}
-
-// The rows of a kind stand together. What is not carried starts at row 16.
-fn kind_start(kind: Kind) -> usize
-    ensures { λ r. ⌜ (r ≡ kindStart kind) × (r ≤ 38) ⌝ }
-{
-    match kind {
-        Kind::Memory(k) => match k {
-            MemoryKind::MRd => 0,
-            MemoryKind::MRdLk => 2,
-            MemoryKind::MWr => 4,
-        },
-        Kind::Io(k) => match k {
-            IoKind::IORd => 6,
-            IoKind::IOWr => 7,
-        },
-        Kind::Config(k) => match k {
-            ConfigKind::CfgRd0 => 8,
-            ConfigKind::CfgWr0 => 9,
-            ConfigKind::CfgRd1 => 10,
-            ConfigKind::CfgWr1 => 11,
-        },
-        Kind::Completion(k) => match k {
-            CompletionKind::Cpl => 12,
-            CompletionKind::CplD => 13,
-            CompletionKind::CplLk => 14,
-            CompletionKind::CplDLk => 15,
-        },
-        Kind::Msg => 16,
-        Kind::MsgD => 16,
-        Kind::FetchAdd => 16,
-        Kind::Swap => 16,
-        Kind::Cas => 16,
+    match name {
+        Name::MRd => 0,
+        Name::MRdLk => 1,
+        Name::MWr => 2,
+        Name::IORd => 3,
+        Name::IOWr => 4,
+        Name::CfgRd0 => 5,
+        Name::CfgWr0 => 6,
+        Name::CfgRd1 => 7,
+        Name::CfgWr1 => 8,
+        Name::Cpl => 9,
+        Name::CplD => 10,
+        Name::CplLk => 11,
+        Name::CplDLk => 12,
+        Name::Msg => 13,
+        Name::MsgD => 14,
+        Name::FetchAdd => 15,
+        Name::Swap => 16,
+        Name::Cas => 17,
     }
 }
 

@@ -249,7 +249,7 @@ module _ (s : List ℕ) (bytes : Bytes s) where
       four x low = omega arith
 
   pub frontBytes-headAt : (row : Row) (form dwords requester tag : ℕ) → 4 ≤ length s → unnamed s ≡ false
-      → row .fmt * 32 + row .typ ≡ getD s 0 0 → lengthCode dwords ≡ codeAt s
+      → row .byte ≡ getD s 0 0 → lengthCode dwords ≡ codeAt s
       → frontBytes row (headAt form dwords requester tag s) ≡ take 4 s
   unfolding frontBytes headAt
   frontBytes-headAt row form dwords requester tag fits clean first code =

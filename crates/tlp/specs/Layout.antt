@@ -27,7 +27,7 @@ lengthCode n = n % 1024
 -- Byte 0: Fmt 7:5, Type 4:0. Byte 1: TC 6:4, Attr2 bit 2. Byte 2: TD 7, EP 6, Attr 5:4, AT 3:2, Length 9:8 in 1:0. Byte 3: Length 7:0
 unfoldable pub frontBytes : Row → Head → List ℕ
 frontBytes row h =
-    (row .fmt * 32 + row .typ)
+    row .byte
     ∷ (h .tc * 16 + h .attr / 4 * 4)
     ∷ (bit (h .td) * 128 + bit (h .ep) * 64 + h .attr % 4 * 16 + h .at * 4 + lengthCode (h .length) / 256)
     ∷ (lengthCode (h .length) % 256)

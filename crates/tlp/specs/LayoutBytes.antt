@@ -31,13 +31,13 @@ bytes-two x y small small′ = bytes-cons x (y ∷ []) small (bytes-cons y [] sm
 bytes-id-two : (id x y : ℕ) → x < 256 → y < 256 → Bytes (beBytes 2 id ++ (x ∷ y ∷ []))
 bytes-id-two id x y small small′ = bytes-append (beBytes 2 id) (x ∷ y ∷ []) (bytes-beBytes 2 id) (bytes-two x y small small′)
 
-bytes-front : (row : Row) (h : Head) → row .fmt < 8 → row .typ < 32 → HeadBounds h → Bytes (frontBytes row h)
+bytes-front : (row : Row) (h : Head) → row .byte < 256 → HeadBounds h → Bytes (frontBytes row h)
 unfolding frontBytes
-bytes-front row h fmt typ b =
+bytes-front row h byte b =
     let one-td = bit-le-one (h .td) in
     let one-ep = bit-le-one (h .ep) in
     bytes-append (_ ∷ _ ∷ []) (_ ∷ _ ∷ [])
-    (bytes-two (row .fmt * 32 + row .typ) (h .tc * 16 + h .attr / 4 * 4) (omega arith) (omega arith))
+    (bytes-two (row .byte) (h .tc * 16 + h .attr / 4 * 4) byte (omega arith))
     (bytes-two (bit (h .td) * 128 + bit (h .ep) * 64 + h .attr % 4 * 16 + h .at * 4 + lengthCode (h .length) / 256) (lengthCode (h .length) % 256) (omega arith) (omega arith))
 
 bytes-request : (h : Head) (e : Enables) → RequestBounds h e → Bytes (requestBytes h e)
@@ -83,5 +83,5 @@ bytes-layout row p lawful =
     let c = row-of-lawful row p lawful in
     rw (layout-carried row p lawful)
     (bytes-append (frontBytes row (headOf p)) (bodyBytes p)
-    (bytes-front row (headOf p) (c .fmt-below) (c .typ-below) (head-of-lawful row p lawful))
+    (bytes-front row (headOf p) (c .byte-below) (head-of-lawful row p lawful))
     (bytes-body row p lawful))

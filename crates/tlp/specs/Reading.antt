@@ -11,7 +11,7 @@ use Rattle.pairs.specs.declared.CompletionKind.{CompletionKind as Completing}
 use Rattle.pairs.specs.declared.CompletionKind.the-variants.{Cpl, CplD, CplLk, CplDLk}
 use Rattle.pairs.specs.declared.Pair.{Pair}
 use Rattle.pairs.specs.declared.Pair.the-variants.{Carried, NotCarried, Unknown}
-use Rattle.pairs.specs.Pairs.{pairOf}
+use Rattle.pairs.specs.Pairs.{kindNamed, pairOf}
 use Rattle.packet.specs.declared.Head.{Head}
 use Rattle.packet.specs.declared.Enables.{Enables}
 use Rattle.packet.specs.declared.Target.{Target}
@@ -118,7 +118,7 @@ readAs Cas form s = Refused 3
 abbrev pub readPair : Pair → List ℕ → Reading
 readPair Unknown s = Refused 2
 readPair NotCarried s = Refused 3
-readPair (Carried row) s = cond (ltb (length s) (4 * row .form)) (Refused 1) (readAs (row .kind) (row .form) s)
+readPair (Carried row) s = cond (ltb (length s) (4 * row .form)) (Refused 1) (readAs (kindNamed (row .name)) (row .form) s)
 
 -- under 12 bytes (1)
 unfoldable pub readOf : List ℕ → Reading

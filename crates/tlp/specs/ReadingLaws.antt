@@ -16,7 +16,7 @@ use Rattle.pairs.specs.declared.CompletionKind.{CompletionKind as Completing}
 use Rattle.pairs.specs.declared.CompletionKind.the-variants.{Cpl, CplD, CplLk, CplDLk}
 use Rattle.pairs.specs.declared.Pair.{Pair}
 use Rattle.pairs.specs.declared.Pair.the-variants.{Carried, NotCarried, Unknown}
-use Rattle.pairs.specs.Pairs.{pairOf, rowOf}
+use Rattle.pairs.specs.Pairs.{kindNamed, pairOf, rowOf}
 use Rattle.pairs.specs.PairsLaws.{CarriedRow, row-pair, pair-row, forms-of-kind}
 use Rattle.packet.specs.declared.Head.{Head}
 use Rattle.packet.specs.declared.Enables.{Enables}
@@ -88,7 +88,7 @@ read-as-layout row (Completion k h o) rest lawful =
 
 -- the pair found and the bytes there, the rest of the reading is by kind
 read-row : (s : List ℕ) (row : Row) → pairOf (getD s 0 0) ≡ Carried row → 12 ≤ length s → 4 * row .form ≤ length s
-    → readOf s ≡ readAs (row .kind) (row .form) s
+    → readOf s ≡ readAs (kindNamed (row .name)) (row .form) s
 unfolding readOf
 read-row s row pair twelve whole = simp (le-ltb (length s) 12 twelve, pair, le-ltb (length s) (4 * row .form) whole)
 
@@ -129,14 +129,14 @@ record RowRead (s : List ℕ) (p : Packet) : Type 0 where
   pair : pairOf (getD s 0 0) ≡ Carried row
   twelve : 12 ≤ length s
   whole : 4 * row .form ≤ length s
-  by-kind : readAs (row .kind) (row .form) s ≡ Accepted p
+  by-kind : readAs (kindNamed (row .name)) (row .form) s ≡ Accepted p
 
 row-read : (s : List ℕ) (p : Packet) → readOf s ≡ Accepted p → RowRead s p
 unfolding readOf
 row-read s p = on-length (ltb (length s) 12) refl
   where
     on-form : (row : Row) → pairOf (getD s 0 0) ≡ Carried row → 12 ≤ length s
-        → (b : Bool) → ltb (length s) (4 * row .form) ≡ b → cond b (Refused 1) (readAs (row .kind) (row .form) s) ≡ Accepted p → RowRead s p
+        → (b : Bool) → ltb (length s) (4 * row .form) ≡ b → cond b (Refused 1) (readAs (kindNamed (row .name)) (row .form) s) ≡ Accepted p → RowRead s p
     on-form row pair twelve true t e = refused-not-accepted e
     on-form row pair twelve false t e = record { row = row; pair = pair; twelve = twelve; whole = ltb-false _ _ t; by-kind = e }
 
@@ -166,12 +166,12 @@ pub record WrittenBack (s : List ℕ) (p : Packet) : Type 0 where
   pub whole : size p ≤ length s
   pub bytes : layout p ≡ take (size p) s
 
-module _ (s : List ℕ) (bytes : Bytes s) (row : Row) (c : CarriedRow row) (pair : row .fmt * 32 + row .typ ≡ getD s 0 0) (whole : 4 * row .form ≤ length s) where
+module _ (s : List ℕ) (bytes : Bytes s) (row : Row) (c : CarriedRow row) (pair : row .byte ≡ getD s 0 0) (whole : 4 * row .form ≤ length s) where
   three-le-form : 3 ≤ row .form
   three-le-form = omega (arith, c .form-fmt)
 
   -- a header's parts make it whole
-  written-back : (p : Packet) → row .kind ≡ kindOf p → headOf p .form ≡ row .form → FieldsFit p → ruleNumber p ≡ 0
+  written-back : (p : Packet) → kindNamed (row .name) ≡ kindOf p → headOf p .form ≡ row .form → FieldsFit p → ruleNumber p ≡ 0
       → frontBytes row (headOf p) ≡ take 4 s → bodyBytes p ≡ take (4 * row .form - 4) (drop 4 s)
       → WrittenBack s p
   written-back p kind form fits rules front body =
@@ -224,7 +224,7 @@ module _ (s : List ℕ) (bytes : Bytes s) (row : Row) (c : CarriedRow row) (pair
   three-dwords : {body : List ℕ} → row .form ≡ 3 → body ≡ take 8 (drop 4 s) → body ≡ take (4 * row .form - 4) (drop 4 s)
   three-dwords form body = body ∙ ap (λ (n : ℕ). take (4 * n - 4) (drop 4 s)) (sym form)
 
-  read-as-back : (p : Packet) (k : Kind) → row .kind ≡ k → readAs k (row .form) s ≡ Accepted p → WrittenBack s p
+  read-as-back : (p : Packet) (k : Kind) → kindNamed (row .name) ≡ k → readAs k (row .form) s ≡ Accepted p → WrittenBack s p
   unfolding headAt lengthFits bodyFits
   read-as-back p (MemoryKind k) kind e =
       let q = Memory k (requestHeadAt (row .form) s) (enablesAt s) (addressAt (row .form) s) in
@@ -264,4 +264,4 @@ pub layout-read : (s : List ℕ) (p : Packet) → Bytes s → readOf s ≡ Accep
 layout-read s p bytes e =
     let r = row-read s p e in
     let c = pair-row (getD s 0 0) (r .pair) in
-    read-as-back s bytes (r .row) (c .1) (c .0) (r .whole) p (r .row .kind) refl (r .by-kind)
+    read-as-back s bytes (r .row) (c .1) (c .0) (r .whole) p (kindNamed (r .row .name)) refl (r .by-kind)

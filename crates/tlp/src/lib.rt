@@ -80,11 +80,11 @@ fn read_row(row: Row, s: &[u8]) -> Reading
     ensures { λ r. ⌜ r ≡ readPair (Carried row) (now (s .entry)) ⌝ }
 {
     let form = row.form;
-    let kind = row.kind;
+    let name = row.name;
     if s.len() < size_of(form) {
         return Reading::Refused(1);
     }
-    read_as(kind, form, s)
+    read_as(pairs::kind_named(name), form, s)
 }
 
 fn size_of(form: u8) -> usize

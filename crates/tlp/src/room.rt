@@ -19,13 +19,13 @@ fn bit(b: bool) -> u8
 
 // Bytes 0 to 3.
 pub fn put_front(row: Row, h: Head, room: &mut [u8])
-    requires { ⌜ (12 ≤ length (now room)) × (row .fmt < 8) × (row .typ < 32) × HeadBounds h ⌝ }
+    requires { ⌜ (12 ≤ length (now room)) × HeadBounds h ⌝ }
     ensures { λ _. ⌜ now (room .exit) ≡ sets (now (room .entry)) 0 (frontBytes row h) ⌝ }
 {
     let td = bit(h.td);
     let ep = bit(h.ep);
     let code = h.length % 1024;
-    room[0] = row.fmt * 32 + row.typ;
+    room[0] = row.byte;
     room[1] = h.tc * 16 + h.attr / 4 * 4;
     room[2] = td * 128 + ep * 64 + h.attr % 4 * 16 + h.at * 4 + (code / 256) as u8;
     room[3] = (code % 256) as u8;

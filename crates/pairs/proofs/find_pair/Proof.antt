@@ -1,35 +1,38 @@
 -- `pairs::find_pair` meets its contract. The loop's invariant: the search of the rows from `i` on is the search of the table.
 -- The measure is the number of rows left. Assumes nothing.
-use mathlib.Core.Path.{_≡_, ap, _∙_}
-use Prim.Native.Nat.{ℕ, _≤_, _-_}
+use mathlib.Core.Path.{_≡_, refl}
+use Prim.Native.Nat.{_≤_, _-_}
 use native.Mathlib.Omega.{arith}
 use lib.ListN.{drop}
 use Rattle.pairs.specs.Pairs.{table, isPair, first, findPair}
 use Rattle.pairs.specs.FirstLaws.{first-hit, first-miss, first-none}
-use Rattle.pairs.specs.Starts.{first-from}
 use Rattle.pairs.proofs.find_pair.Statement.{statement}
 use Rattle.pairs.proofs.find_pair.Tie as tie
 
 abbrev Inv-loop : tie.InvT-loop
-Inv-loop fmt typ i₀ i = (i ≤ 38) × (first (isPair fmt typ) (drop i table) ≡ findPair fmt typ)
+Inv-loop byte all i₀ i = (i ≤ 38) × (first (isPair byte) (drop i table) ≡ findPair byte)
 
 abbrev μ-loop : tie.MeasureT-loop
-μ-loop fmt typ i₀ i = 38 - i
+μ-loop byte all i₀ i = 38 - i
 
-start-of-requires : tie.Need-start-of-requires Inv-loop μ-loop
-start-of-requires c κs = tt
+rows-requires : tie.Need-rows-requires Inv-loop μ-loop
+rows-requires c κs = tt
 
 loop-holds : tie.Need-loop-holds Inv-loop μ-loop
-loop-holds c = (c .start-of .ensures .1, ap (λ (n : ℕ). first (isPair (c .before .args .fmt) (c .before .args .typ)) (drop n table)) (c .start-of .ensures .0) ∙ first-from (c .before .args .fmt) (c .before .args .typ))
+unfolding findPair
+loop-holds c = (omega arith, refl)
 
-row-at-requires : tie.Need-row-at-requires Inv-loop μ-loop
-row-at-requires c κs = omega arith
+mul-row : tie.Need-mul-row Inv-loop μ-loop
+mul-row c = omega arith
+
+array-copy-out-row : tie.Need-array-copy-out-row Inv-loop μ-loop
+array-copy-out-row c = omega arith
 
 is-pair-requires : tie.Need-is-pair-requires Inv-loop μ-loop
 is-pair-requires c κs = tt
 
 returns : tie.Need-returns Inv-loop μ-loop
-returns c = first-hit _ _ (omega arith) (c .before .before .row-at .ensures) (c .before .is-pair .ensures) (c .if1 .taken) (c .before .before .before .before .loop .inv .1)
+returns c = first-hit _ _ (omega arith) (c .before .before .before .before .before .rows .ensures) (c .before .is-pair .ensures) (c .if1 .taken) (c .before .before .before .before .loop .inv .1)
 
 add-i : tie.Need-add-i Inv-loop μ-loop
 add-i c = omega arith
@@ -38,7 +41,7 @@ loop-less : tie.Need-loop-less Inv-loop μ-loop
 loop-less c = omega arith
 
 loop-again : tie.Need-loop-again Inv-loop μ-loop
-loop-again c = (omega arith, first-miss _ _ (omega arith) (c .before .before .row-at .ensures) (c .before .is-pair .ensures) (c .if1 .left) (c .before .before .before .before .loop .inv .1))
+loop-again c = (omega arith, first-miss _ _ (omega arith) (c .before .before .before .before .before .rows .ensures) (c .before .is-pair .ensures) (c .if1 .left) (c .before .before .before .before .loop .inv .1))
 
 returns-2 : tie.Need-returns-2 Inv-loop μ-loop
 returns-2 c = first-none _ (c .before .loop .i) (omega arith) (omega arith) (c .before .loop .inv .1)
@@ -49,9 +52,10 @@ find-pair-spec =
     (tie.spec
     Inv-loop
     μ-loop
-    start-of-requires
+    rows-requires
     loop-holds
-    row-at-requires
+    mul-row
+    array-copy-out-row
     is-pair-requires
     returns
     add-i

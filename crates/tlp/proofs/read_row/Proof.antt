@@ -10,11 +10,14 @@ size-of-requires c κs = search needs
 returns : tie.Need-returns
 returns c = rw (← c .before .size-of .ensures, lt-ltb _ _ (c .if1 .taken))
 
+kind-named-requires : tie.Need-kind-named-requires
+kind-named-requires c κs = search needs
+
 read-as-requires : tie.Need-read-as-requires
 read-as-requires c κs = search needs
 
 returns-2 : tie.Need-returns-2
-returns-2 c = rw (← c .before .before .size-of .ensures, le-ltb _ _ (c .before .if1 .left)) (c .read-as .ensures)
+returns-2 c = rw (← c .before .before .before .size-of .ensures, le-ltb _ _ (c .before .before .if1 .left), ← c .before .kind-named .ensures) (c .read-as .ensures)
 
 pub read-row-spec : {M : Type 1} → statement M
-read-row-spec = tie.close (tie.spec size-of-requires returns read-as-requires returns-2)
+read-row-spec = tie.close (tie.spec size-of-requires returns kind-named-requires read-as-requires returns-2)

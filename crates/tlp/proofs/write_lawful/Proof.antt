@@ -3,7 +3,7 @@ use borrow.Author.Needs.{needs}
 use Rattle.tlp.proofs.write_lawful.Statement.{statement}
 use Rattle.tlp.proofs.write_lawful.Tie as tie
 use Rattle.tlp.specs.WritingLaws.{outcome-short, outcome-written}
-use Rattle.tlp.specs.LayoutLaws.{row-of-lawful, size-of-lawful, layout-carried, length-front}
+use Rattle.tlp.specs.LayoutLaws.{size-of-lawful, layout-carried, length-front}
 use Rattle.tlp.specs.Layout.{frontBytes, bodyBytes}
 use Rattle.endian.specs.SetsLaws.{sets-append}
 use Rattle.packet.specs.Fields.{headOf}
@@ -23,7 +23,7 @@ returns : tie.Need-returns
 returns c = outcome-short _ _ _ (c .before .before .before .before .pre) (rw (← c .before .before .head-of .ensures, ← c .before .size-of .ensures) (c .if1 .taken))
 
 put-front-requires : tie.Need-put-front-requires
-put-front-requires c κs = let q = row-of-lawful (c .before .before .before .before .before .args .row) (c .before .before .before .before .before .args .p) (c .before .before .before .before .before .pre) in (omega (arith, size-of-lawful (c .before .before .before .before .before .args .row) (c .before .before .before .before .before .args .p) (c .before .before .before .before .before .pre), ap (λ (h : Head). h .form) (c .before .before .before .head-of .ensures), c .before .before .size-of .ensures), q .fmt-below, q .typ-below, rw (c .before .before .before .head-of .ensures) (head-of-lawful (c .before .before .before .before .before .args .row) (c .before .before .before .before .before .args .p) (c .before .before .before .before .before .pre)))
+put-front-requires c κs = (omega (arith, size-of-lawful (c .before .before .before .before .before .args .row) (c .before .before .before .before .before .args .p) (c .before .before .before .before .before .pre), ap (λ (h : Head). h .form) (c .before .before .before .head-of .ensures), c .before .before .size-of .ensures), rw (c .before .before .before .head-of .ensures) (head-of-lawful (c .before .before .before .before .before .args .row) (c .before .before .before .before .before .args .p) (c .before .before .before .before .before .pre)))
 
 write-body-requires : tie.Need-write-body-requires
 write-body-requires c κs = let s = size-of-lawful (c .before .before .before .before .before .before .before .before .before .args .row) (c .before .before .before .before .before .before .before .before .before .args .p) (c .before .before .before .before .before .before .before .before .before .pre) in let f = ap (λ (h : Head). h .form) (c .before .before .before .before .before .before .before .head-of .ensures) in (c .before .before .before .before .before .before .before .before .before .pre, omega (arith, c .before .before .before .before .before .before .size-of .ensures, c .before .before .before .put-front .kept .1 .1 .0), omega (arith, c .before .before .before .before .before .before .size-of .ensures, c .before .before .before .put-front .kept .1 .1 .0))

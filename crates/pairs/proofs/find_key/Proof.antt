@@ -1,0 +1,64 @@
+-- `pairs::find_key` meets its contract. The loop's invariant: the search of the rows from `i` on is the search of the table.
+-- The measure is the number of rows left. Assumes nothing.
+use mathlib.Core.Path.{_≡_, refl}
+use Prim.Native.Nat.{_≤_, _-_}
+use native.Mathlib.Omega.{arith}
+use lib.ListN.{drop}
+use Rattle.pairs.specs.Pairs.{table, isKey, first, findKey}
+use Rattle.pairs.specs.FirstLaws.{first-hit, first-miss, first-none}
+use Rattle.pairs.proofs.find_key.Statement.{statement}
+use Rattle.pairs.proofs.find_key.Tie as tie
+
+abbrev Inv-loop : tie.InvT-loop
+Inv-loop wanted all i₀ i = (i ≤ 38) × (first (isKey wanted) (drop i table) ≡ findKey wanted)
+
+abbrev μ-loop : tie.MeasureT-loop
+μ-loop wanted all i₀ i = 38 - i
+
+rows-requires : tie.Need-rows-requires Inv-loop μ-loop
+rows-requires c κs = tt
+
+loop-holds : tie.Need-loop-holds Inv-loop μ-loop
+unfolding findKey
+loop-holds c = (omega arith, refl)
+
+mul-row : tie.Need-mul-row Inv-loop μ-loop
+mul-row c = omega arith
+
+array-copy-out-row : tie.Need-array-copy-out-row Inv-loop μ-loop
+array-copy-out-row c = omega arith
+
+is-key-requires : tie.Need-is-key-requires Inv-loop μ-loop
+is-key-requires c κs = tt
+
+returns : tie.Need-returns Inv-loop μ-loop
+returns c = first-hit _ _ (omega arith) (c .before .before .before .before .before .rows .ensures) (c .before .is-key .ensures) (c .if1 .taken) (c .before .before .before .before .loop .inv .1)
+
+add-i : tie.Need-add-i Inv-loop μ-loop
+add-i c = omega arith
+
+loop-less : tie.Need-loop-less Inv-loop μ-loop
+loop-less c = omega arith
+
+loop-again : tie.Need-loop-again Inv-loop μ-loop
+loop-again c = (omega arith, first-miss _ _ (omega arith) (c .before .before .before .before .before .rows .ensures) (c .before .is-key .ensures) (c .if1 .left) (c .before .before .before .before .loop .inv .1))
+
+returns-2 : tie.Need-returns-2 Inv-loop μ-loop
+returns-2 c = first-none _ (c .before .loop .i) (omega arith) (omega arith) (c .before .loop .inv .1)
+
+pub find-key-spec : {M : Type 1} → statement M
+find-key-spec =
+    tie.close
+    (tie.spec
+    Inv-loop
+    μ-loop
+    rows-requires
+    loop-holds
+    mul-row
+    array-copy-out-row
+    is-key-requires
+    returns
+    add-i
+    loop-less
+    loop-again
+    returns-2)
