@@ -6,7 +6,7 @@ ghost use mathlib.Core.List.{[], _∷_, _++_};
 ghost use Prim.Native.Nat.{_+_, _≤_};
 ghost use lib.ListN.{length, getD};
 ghost use lib.Seq.{sets};
-ghost use Rattle.numbers.specs.Numbers.{bit as bitOf, headNumbers, requestNumbers, outcomeNumbers, absent, bodyNumbers, numbersOf};
+ghost use Rattle.numbers.specs.Numbers.{bit as bitOf, headNumbers, requestNumbers, outcomeNumbers, absent, numbersOf};
 ghost use Rattle.numbers.specs.Parsing.{byte, word, lastKind, headMost, requestMost, outcomeMost, byAddress, byTarget, completing, kindAt, anyAbove, Within};
 ghost use Rattle.numbers.specs.Parsing.{headFrom, enablesFrom, targetFrom, outcomeFrom};
 ghost use Rattle.numbers.specs.Fields.{orAbove, tooLarge, fieldsAs, fieldsOf};
@@ -277,18 +277,50 @@ fn outcome_from(numbers: &[u64]) -> Outcome
 
 // ---- a packet to numbers
 
-// Stores the packet's twenty numbers from a place on.
+// Stores the packet's twenty numbers from a place on. The kind is looked at once.
 pub fn put_packet(out: &mut [u64], at: usize, p: Packet)
     requires { ⌜ at + 20 ≤ length (now out) ⌝ }
     ensures { λ _. ⌜ now (out .exit) ≡ sets (now (out .entry)) at (numbersOf p) ⌝ }
 {
-    put_head(
-        out,
-        at,
-        pairs::kind_number(packet::kind_of(p)),
-        packet::head_of(p),
-    );
-    put_body(out, at + 10, p);
+    match p {
+        Packet::Memory(k, h, e, a) => put_request(
+            out,
+            at,
+            pairs::kind_number(Kind::Memory(k)),
+            h,
+            e,
+            a,
+            0,
+            0,
+        ),
+        Packet::Io(k, h, e, a) => put_request(
+            out,
+            at,
+            pairs::kind_number(Kind::Io(k)),
+            h,
+            e,
+            a,
+            0,
+            0,
+        ),
+        Packet::Config(k, h, e, t) => put_request(
+            out,
+            at,
+            pairs::kind_number(Kind::Config(k)),
+            h,
+            e,
+            0,
+            t.id as u64,
+            t.register as u64,
+        ),
+        Packet::Completion(k, h, o) => put_completion(
+            out,
+            at,
+            pairs::kind_number(Kind::Completion(k)),
+            h,
+            o,
+        ),
+    }
 }
 
 fn put_head(out: &mut [u64], at: usize, kind: u8, h: Head)
@@ -317,19 +349,33 @@ fn put_head(out: &mut [u64], at: usize, kind: u8, h: Head)
     );
 }
 
-fn put_body(out: &mut [u64], at: usize, p: Packet)
-    requires { ⌜ at + 10 ≤ length (now out) ⌝ }
-    ensures { λ _. ⌜ now (out .exit) ≡ sets (now (out .entry)) at (bodyNumbers p) ⌝ }
+fn put_request(
+    out: &mut [u64],
+    at: usize,
+    kind: u8,
+    h: Head,
+    e: Enables,
+    address: u64,
+    target: u64,
+    register: u64,
+)
+    requires { ⌜ at + 20 ≤ length (now out) ⌝ }
+    ensures { λ _. ⌜ now (out .exit) ≡ sets (now (out .entry)) at (headNumbers kind h ++ (requestNumbers e address target register ++ absent)) ⌝ }
 {
-    match p {
-        Packet::Memory(_, _, e, a) => put_request(out, at, e, a, 0, 0),
-        Packet::Io(_, _, e, a) => put_request(out, at, e, a, 0, 0),
-        Packet::Config(_, _, e, t) => put_request(out, at, e, 0, t.id as u64, t.register as u64),
-        Packet::Completion(_, _, o) => put_outcome(out, at, o),
-    }
+    put_head(out, at, kind, h);
+    put_target(out, at + 10, e, address, target, register);
 }
 
-fn put_request(out: &mut [u64], at: usize, e: Enables, address: u64, target: u64, register: u64)
+fn put_completion(out: &mut [u64], at: usize, kind: u8, h: Head, o: Outcome)
+    requires { ⌜ at + 20 ≤ length (now out) ⌝ }
+    ensures { λ _. ⌜ now (out .exit) ≡ sets (now (out .entry)) at (headNumbers kind h ++ (absent ++ outcomeNumbers o)) ⌝ }
+{
+    put_head(out, at, kind, h);
+    put_outcome(out, at + 10, o);
+}
+
+// Enables, address, target and register of a request.
+fn put_target(out: &mut [u64], at: usize, e: Enables, address: u64, target: u64, register: u64)
     requires { ⌜ at + 10 ≤ length (now out) ⌝ }
     ensures { λ _. ⌜ now (out .exit) ≡ sets (now (out .entry)) at (requestNumbers e address target register ++ absent) ⌝ }
 {

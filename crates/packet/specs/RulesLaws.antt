@@ -1,7 +1,7 @@
 -- What the number of the first rule broken is for each kind: the rules that speak of the kind, in their order. Assumes nothing.
 use Prim.Native.Nat.{ℕ, _+_, _*_, _%_, _^_}
 use mathlib.Core.Path.{_≡_, refl, sym, ap, _∙_}
-use mathlib.Core.Bool.{Bool, true, false, cond, not, _&&_, _||_}
+use mathlib.Core.Bool.{Bool, true, false, cond, not, _&&_, _||_, false≢true}
 use lib.Dec.{ltb, eqb}
 use Rattle.pairs.specs.declared.MemoryKind.{MemoryKind}
 use Rattle.pairs.specs.declared.IoKind.{IoKind}
@@ -56,3 +56,41 @@ rule-number-completion Cpl h o = refl
 rule-number-completion CplD h o = refl
 rule-number-completion CplLk h o = refl
 rule-number-completion CplDLk h o = refl
+
+-- ## Tests joined with no branch between them
+
+pub picked : (t x y : Bool) → t && x || not t && y ≡ cond t x y
+picked true true y = refl
+picked true false y = refl
+picked false x y = refl
+
+four-joined : (a b c d : Bool) → ((a || b) || c) || d ≡ true → _≡_ {A = ℕ} (cond a 4 (cond b 6 (cond c 7 8))) (cond a 4 (cond b 6 (cond c 7 (cond d 8 0))))
+four-joined true b c d h = refl
+four-joined false true c d h = refl
+four-joined false false true d h = refl
+four-joined false false false true h = refl
+four-joined false false false false h = absurd (false≢true h)
+
+none-joined : (a b c d : Bool) → ((a || b) || c) || d ≡ false → _≡_ {A = ℕ} 0 (cond a 4 (cond b 6 (cond c 7 (cond d 8 0))))
+none-joined true b c d h = absurd (false≢true (sym h))
+none-joined false true c d h = absurd (false≢true (sym h))
+none-joined false false true d h = absurd (false≢true (sym h))
+none-joined false false false true h = absurd (false≢true (sym h))
+none-joined false false false false h = refl
+
+-- the four rules of a memory request: t is what was answered of the enables, and l the Length that was added
+module _ (k : MemoryKind) (h : Head) (e : Enables) (a : ℕ) {t : Bool} {l : ℕ} (enables : t ≡ enablesLawful (h .length) e) (dwords : l ≡ h .length) where
+  abbrev reserved : Bool
+  reserved = not (eqb (a % 4) 0) || eqb (h .at) 3
+
+  abbrev upper : Bool
+  upper = eqb (h .form) 4 && ltb a (2 ^ 32)
+
+  pub one-broken : ((reserved || upper) || not t) || ltb 4096 (a % 4096 + 4 * l) ≡ true
+      → cond reserved 4 (cond upper 6 (cond (not t) 7 8)) ≡ ruleNumber (Memory k h e a)
+  one-broken given =
+      rw (rule-number-memory k h e a, ← enables, ← dwords) (four-joined reserved upper (not t) (ltb 4096 (a % 4096 + 4 * l)) given)
+
+  pub none-broken : ((reserved || upper) || not t) || ltb 4096 (a % 4096 + 4 * l) ≡ false → 0 ≡ ruleNumber (Memory k h e a)
+  none-broken given =
+      rw (rule-number-memory k h e a, ← enables, ← dwords) (none-joined reserved upper (not t) (ltb 4096 (a % 4096 + 4 * l)) given)

@@ -2,6 +2,7 @@
 // packets are the same when they are equal. The checks here look at fields only and are shared by
 // the reader and the writer: the writer's 2 and 10, and rules 4 to 9.
 ghost use mathlib.Core.Path.{_≡_};
+ghost use mathlib.Core.Bool.{cond};
 ghost use Prim.Native.Nat.{_<_};
 ghost use Rattle.pairs.specs.declared.MemoryKind.{MemoryKind};
 ghost use Rattle.pairs.specs.declared.IoKind.{IoKind};
@@ -21,17 +22,18 @@ use pairs::MemoryKind;
 use pairs::Pair;
 use pairs::Row;
 
-// The fields that every packet has.
+// The fields that every packet has. No two that follow each other among a packet's numbers are neighbours here: neighbours would be stored one by one and
+// loaded as a pair, which has to wait for both stores.
 pub struct Head {
-    pub form: u8,
-    pub tc: u8,
-    pub attr: u8,
-    pub td: bool,
-    pub ep: bool,
-    pub at: u8,
-    pub length: u16,
     pub requester: u16,
+    pub form: u8,
+    pub attr: u8,
+    pub length: u16,
+    pub ep: bool,
+    pub tc: u8,
     pub tag: u16,
+    pub td: bool,
+    pub at: u8,
 }
 
 // Byte enables of a request, four bits each.
@@ -46,10 +48,11 @@ pub struct Target {
     pub register: u16,
 }
 
-// What a completion tells.
+// What a completion tells. In this order it takes ten bytes: a struct of eight would be moved as one number, and a packet, whose fields of another kind
+// then lie across it, would be stored and loaded in pieces that do not match.
 pub struct Outcome {
-    pub completer: u16,
     pub status: u8,
+    pub completer: u16,
     pub bcm: bool,
     pub count: u16,
     pub lower: u8,
@@ -111,19 +114,27 @@ fn rule_number(p: Packet) -> u8
 pub fn memory_rules(h: Head, e: Enables, a: u64) -> u8
     ensures { λ r. ⌜ ((k : MemoryKind) → r ≡ ruleNumber (Memory k h e a)) ⌝ }
 {
-    if !(a % 4 == 0) | (h.at == 3) {
-        return 4;
-    }
-    if (h.form == 4) & (a < 4294967296) {
-        return 6;
-    }
-    if !enables_lawful(h.length, e) {
-        return 7;
-    }
-    if 4096 < a % 4096 + 4 * wide(h.length) {
-        return 8;
+    let reserved = !(a % 4 == 0) | (h.at == 3);
+    let upper = (h.form == 4) & (a < 4294967296);
+    let enables = !enables_lawful(h.length, e);
+    let crosses = 4096 < a % 4096 + 4 * wide(h.length);
+    if reserved | upper | enables | crosses {
+        return first_broken(reserved, upper, enables);
     }
     0
+}
+
+// Which it is, where one of the four is broken: a lawful request passes one branch.
+fn first_broken(reserved: bool, upper: bool, enables: bool) -> u8
+    ensures { λ r. ⌜ r ≡ cond reserved 4 (cond upper 6 (cond enables 7 8)) ⌝ }
+{
+    if reserved {
+        return 4;
+    }
+    if upper {
+        return 6;
+    }
+    if enables { 7 } else { 8 }
 }
 
 // Rules 4 and 5.
@@ -289,13 +300,19 @@ fn is_last(x: u8) -> bool
 fn enables_lawful(n: u16, e: Enables) -> bool
     ensures { λ r. ⌜ r ≡ enablesLawful n e ⌝ }
 {
-    if n == 1 {
-        return e.last == 0;
-    }
-    if n == 2 {
-        return !(e.last == 0) & !(e.first == 0);
-    }
-    is_first(e.first) & is_last(e.last)
+    let two = pick(
+        n == 2,
+        !(e.last == 0) & !(e.first == 0),
+        is_first(e.first) & is_last(e.last),
+    );
+    pick(n == 1, e.last == 0, two)
+}
+
+// A choice with no branch.
+fn pick(test: bool, x: bool, y: bool) -> bool
+    ensures { λ r. ⌜ r ≡ cond test x y ⌝ }
+{
+    (test & x) | (!test & y)
 }
 
 fn wide(x: u16) -> u64

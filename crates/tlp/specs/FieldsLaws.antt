@@ -356,3 +356,11 @@ module _ (s : List ℕ) (bytes : Bytes s) where
   code-of-completion CplD = code-of-length
   code-of-completion CplLk = omega (arith, code-lt)
   code-of-completion CplDLk = code-of-length
+
+-- an address's lower dword stands inside a header as long as its form says
+pub low-fits : (form n : ℕ) → 12 ≤ n → 4 * form ≤ n → cond (eqb form 4) 12 8 + 4 ≤ n
+low-fits form n least whole = go (eqb form 4) refl
+  where
+    go : (b : Bool) → eqb form 4 ≡ b → cond b 12 8 + 4 ≤ n
+    go true e = let four = eqb-true form 4 e in omega (arith, four)
+    go false e = omega arith

@@ -2,6 +2,8 @@
 ghost use mathlib.Core.Path.{_≡_};
 ghost use Prim.Native.Nat.{_+_, _≤_, _<_, _*_};
 ghost use lib.ListN.{length};
+ghost use lib.Dec.{eqb};
+ghost use mathlib.Core.Bool.{cond};
 ghost use Rattle.endian.specs.Endian.{be};
 ghost use Rattle.tlp.specs.Reading.{
   codeAt,
@@ -108,14 +110,24 @@ pub fn enables_at(s: &[u8]) -> Enables
     }
 }
 
+// Of the four-dword form the first dword is the upper half. Both forms read two dwords, so that nothing branches on the form.
 pub fn address_at(form: u8, s: &[u8]) -> u64
     requires { ⌜ (12 ≤ length (now s)) × (4 * form ≤ length (now s)) ⌝ }
     ensures { λ r. ⌜ r ≡ addressAt form (now (s .entry)) ⌝ }
 {
+    let low = endian::read_be32(s, low_at(form));
+    let high = endian::read_be32(s, 8);
     if form == 4 {
-        return endian::read_be64(s, 8);
+        high * 4294967296 + low
+    } else {
+        low
     }
-    endian::read_be32(s, 8)
+}
+
+fn low_at(form: u8) -> usize
+    ensures { λ r. ⌜ r ≡ cond (eqb form 4) 12 8 ⌝ }
+{
+    if form == 4 { 12 } else { 8 }
 }
 
 pub fn target_at(s: &[u8]) -> Target

@@ -1,43 +1,31 @@
--- `numbers::put_request` meets its contract: two runs of five that meet are one. Assumes nothing.
+-- `numbers::put_request` meets its contract: two runs of ten that meet are one. Assumes nothing.
 use borrow.Author.Needs.{needs}
 use mathlib.Core.Path.{refl}
+use mathlib.Core.List.{_++_}
 use Rattle.endian.specs.SetsLaws.{sets-append}
-use Rattle.numbers.specs.Numbers.{absent, requestNumbers}
+use Rattle.numbers.specs.Numbers.{headNumbers, requestNumbers, absent}
 use Rattle.numbers.proofs.put_request.Statement.{statement}
 use Rattle.numbers.proofs.put_request.Tie as tie
 
-cast-put-five : tie.Need-cast-put-five
-cast-put-five c = search needs
+put-head-requires : tie.Need-put-head-requires
+put-head-requires c κs = search needs
 
-cast-put-five-2 : tie.Need-cast-put-five-2
-cast-put-five-2 c = search needs
+add-put-target : tie.Need-add-put-target
+add-put-target c = search needs
 
-put-five-requires : tie.Need-put-five-requires
-put-five-requires c κs = search needs
-
-add-put-five : tie.Need-add-put-five
-add-put-five c = search needs
-
-put-five-requires-2 : tie.Need-put-five-requires-2
-put-five-requires-2 c κs = search needs
+put-target-requires : tie.Need-put-target-requires
+put-target-requires c κs = search needs
 
 same-length : tie.Need-same-length
 same-length c = search needs
 
 returns : tie.Need-returns
 returns c =
-    let s = c .before .before .before .before .before .before .before .before .before .before .before .args in
-    sets-append (s .out .now) (s .at) 5 (requestNumbers (s .e) (s .address) (s .target) (s .register)) absent refl
-    (c .before .before .before .before .before .before .put-five .ensures) (c .before .before .put-five2 .ensures)
+    let first = c .before .before .before .before .before .before in
+    let s = first .before .before .before .args in
+    sets-append (s .out .now) (s .at) 10 (headNumbers (s .kind) (s .h)) (requestNumbers (s .e) (s .address) (s .target) (s .register) ++ absent) refl
+    (first .put-head .ensures) (c .before .before .put-target .ensures)
 
 pub put-request-spec : {M : Type 1} → statement M
 put-request-spec =
-    tie.close
-    (tie.spec
-    cast-put-five
-    cast-put-five-2
-    put-five-requires
-    add-put-five
-    put-five-requires-2
-    same-length
-    returns)
+    tie.close (tie.spec put-head-requires add-put-target put-target-requires same-length returns)

@@ -1,23 +1,44 @@
 -- `tlp::fields::address_at` meets its contract. Assumes nothing.
 use borrow.Author.Needs.{needs}
+use native.Mathlib.Omega.{arith}
+use borrow.Author.Tests.{eq-eqb, ne-eqb}
+use Rattle.endian.specs.EndianLaws.{be-add}
+use Rattle.tlp.specs.Reading.{addressAt}
+use Rattle.tlp.specs.FieldsLaws.{low-fits}
 use Rattle.tlp.proofs.fields.address_at.Statement.{statement}
 use Rattle.tlp.proofs.fields.address_at.Tie as tie
-use Rattle.tlp.specs.Reading.{addressAt}
-use borrow.Author.Tests.{eq-eqb, ne-eqb}
 
-read-be64-requires : tie.Need-read-be64-requires
-read-be64-requires c κs = search needs
+low-at-requires : tie.Need-low-at-requires
+low-at-requires c κs = search needs
+
+read-be32-requires : tie.Need-read-be32-requires
+read-be32-requires c κs = rw (c .low-at .ensures) (low-fits _ _ (c .before .before .pre .0) (c .before .before .pre .1))
+
+read-be32-requires-2 : tie.Need-read-be32-requires-2
+read-be32-requires-2 c κs = search needs
+
+mul-result : tie.Need-mul-result
+mul-result c = search needs
+
+add-result : tie.Need-add-result
+add-result c = search needs
 
 returns : tie.Need-returns
 unfolding addressAt
-returns c = rw (eq-eqb _ _ (c .before .if1 .taken)) (c .read-be64 .ensures .0)
-
-read-be32-requires : tie.Need-read-be32-requires
-read-be32-requires c κs = search needs
+returns c = let four = eq-eqb _ _ (c .if1 .taken) in let low = rw (c .before .before .before .low-at .ensures, four) at (c .before .before .read-be32 .ensures .0) in let high = c .before .read-be322 .ensures .0 in rw four (omega (arith, be-add 4 4 (c .before .before .before .before .before .args .s .now) 8, low, high))
 
 returns-2 : tie.Need-returns-2
 unfolding addressAt
-returns-2 c = rw (ne-eqb _ _ (c .before .if1 .left)) (c .read-be32 .ensures .0)
+returns-2 c = let three = ne-eqb _ _ (c .if1 .left) in rw three (rw (c .before .before .before .low-at .ensures, three) at (c .before .before .read-be32 .ensures .0))
 
 pub address-at-spec : {M : Type 1} → statement M
-address-at-spec = tie.close (tie.spec read-be64-requires returns read-be32-requires returns-2)
+address-at-spec =
+    tie.close
+    (tie.spec
+    low-at-requires
+    read-be32-requires
+    read-be32-requires-2
+    mul-result
+    add-result
+    returns
+    returns-2)
