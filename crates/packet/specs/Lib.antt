@@ -4,5 +4,6 @@ pub mod Widths
 pub mod WidthsLaws
 pub mod Rules
 pub mod RulesLaws
+pub mod Patterns
 pub mod Verdict
 pub mod VerdictLaws

@@ -285,16 +285,22 @@ fn one_dword(h: Head, e: Enables) -> bool
     (h.tc == 0) & (h.attr == 0) & (h.at == 0) & (h.length == 1) & (e.last == 0)
 }
 
+// Bit x is set where x is 1111, 1110, 1100 or 1000: one shift in place of four comparisons.
+const FIRST_PATTERNS: u32 = 0b1101_0001_0000_0000;
+
+// The same for 1111, 0111, 0011 and 0001.
+const LAST_PATTERNS: u32 = 0b1000_0000_1000_1010;
+
 fn is_first(x: u8) -> bool
     ensures { λ r. ⌜ r ≡ isFirst x ⌝ }
 {
-    (x == 15) | (x == 14) | (x == 12) | (x == 8)
+    (x < 16) & ((FIRST_PATTERNS >> (x % 16)) % 2 == 1)
 }
 
 fn is_last(x: u8) -> bool
     ensures { λ r. ⌜ r ≡ isLast x ⌝ }
 {
-    (x == 15) | (x == 7) | (x == 3) | (x == 1)
+    (x < 16) & ((LAST_PATTERNS >> (x % 16)) % 2 == 1)
 }
 
 fn enables_lawful(n: u16, e: Enables) -> bool
