@@ -4,7 +4,7 @@ use mathlib.Core.Path.{_≡_, refl, sym, ap, _∙_}
 use mathlib.Core.Logic.{_⊎_, inl, inr, _↔_}
 use mathlib.Core.Bool.{Bool, true}
 use mathlib.Core.List.{List, [], _∷_}
-use Prim.Native.Nat.{ℕ, _≤_}
+use Prim.Native.Nat.{ℕ, _≤_, _<_}
 use native.Mathlib.Omega.{arith}
 use lib.ListN.{length}
 use Rattle.lists.specs.Lists.{_∈_, All, Some}
@@ -18,7 +18,7 @@ use Rattle.walk.specs.Walk.{Outcome, delivered, refused, noOwner, contes
 use Rattle.walk.specs.WalkLaws.{walk-none, trail-of-delivered, walk-of-trail, refused-elim}
 use Rattle.walk.specs.Above.{Above, above}
 use Rattle.walk.specs.AboveLaws.{above-is, above-unique, above-at-most-255}
-use Rattle.walk.specs.Good.{Host, Tree, Good, Sound, sound-of-good}
+use Rattle.walk.specs.Good.{Host, FirstOn, Tree, Good, Sound, sound-of-good}
 use Rattle.walk.specs.Reach.{downward, length-downward, ends-of-trail, trail-of-reaches}
 
 abbrev pub bridgesAbove : Host → List Registers → Registers → List Node
@@ -117,6 +117,10 @@ module _ {host : Host} {fs : List Registers} (sound : Sound host fs) (enabled : 
       from (o, count-is) = delivered-of-owner f o ∙ ap (delivered (f .node .number)) (sym count-is)
 
 -- The router starts on the bus of the first record: that is the host's first bus, and a sheet with no record has no claim on any.
+pub root-is-first : (first : ℕ) (ns : List Node) → FirstOn first ns → 0 < length ns → rootOf ns ≡ first
+root-is-first first [] on some = absurd (omega arith)
+root-is-first first (n ∷ ns) on some = on
+
 pub outcome-from-first : {host : Host} (fs : List Registers) → Tree host (nodes fs) → (enabled : ℕ → Bool) (address : ℕ)
     → walkFrom (tallyOn enabled fs address) (rootOf (nodes fs)) 0 ≡ outcomeOf host enabled fs address
 outcome-from-first {host} [] tree enabled address =

@@ -14,11 +14,12 @@ use Rattle.lists.specs.ListLaws.{all-of, all-elim, all-intro, all-map-intro, me
 use Rattle.walk.specs.Ranges.{Holds, Inside, Apart}
 use Rattle.walk.specs.Registers.{Node, Registers, Item, barItem, windowItem, openWindows, itemsOf, items}
 use Rattle.walk.specs.Tally.{tallyOn}
-use Rattle.walk.specs.Walk.{delivered, refused, noOwner, walkFrom}
-use Rattle.walk.specs.WalkLaws.{walk-agree}
+use Rattle.walk.specs.Walk.{delivered, refused, noOwner, walkFrom, Trail}
+use Rattle.walk.specs.WalkLaws.{walk-agree, trail-agree}
 use Rattle.walk.specs.Above.{above}
 use Rattle.walk.specs.Good.{Host, BridgesRise, busRange, SiblingsApart, Tree, InWindowOf, ApartOnBus, Sound}
-use Rattle.walk.specs.Delivery.{Owns, bridgesAbove, delivered-of-owner, owner-of-delivered, otherwise-nobody}
+use Rattle.walk.specs.Reach.{downward}
+use Rattle.walk.specs.Delivery.{Owns, bridgesAbove, crosses-bridges-above, delivered-of-owner, owner-of-delivered, otherwise-nobody}
 use Rattle.walk.specs.Ids.{tallyById, ownBus, byId, always, DistinctIds, HasId}
 use Rattle.walk.specs.IdsLaws.{by-id-nodes, tally-by-id-agree}
 
@@ -128,19 +129,31 @@ module _ {host : Host} {ns : List Node} (rise : BridgesRise ns) (tree : Tree hos
       let (at, same-devfn) = id-of-bar target devfn n (subst (λ (g : Registers). Some (λ r. Holds r target) (g .bars)) (sym same) (o .bar-holds)) in
       (n, same, record { in-sheet = in-ns; bus-is = at; devfn-is = same-devfn })
 
-  pub delivered-by-id : (n : Node) → HasId target devfn ns n
-      → walkFrom (tallyById ns target devfn) (host .first) 0 ≡ delivered (n .number) (length (above (host .first) ns (n .bus)))
-  delivered-by-id n h =
-      let owns : Owns host always (map (byId devfn) ns) target (byId devfn n) =
+  owns-of-id : (n : Node) → HasId target devfn ns n → Owns host always (map (byId devfn) ns) target (byId devfn n)
+  owns-of-id n h =
       record {
         in-sheet = Memᴰ·map (byId devfn) (h .in-sheet);
         bar-holds = bar-of-id target devfn n (h .bus-is) (h .devfn-is);
         is-enabled = refl;
         bridges-enabled = all-of _ (λ b. refl) (bridgesAbove host (map (byId devfn) ns) (byId devfn n));
-      } in
+      }
+
+  pub delivered-by-id : (n : Node) → HasId target devfn ns n
+      → walkFrom (tallyById ns target devfn) (host .first) 0 ≡ delivered (n .number) (length (above (host .first) ns (n .bus)))
+  delivered-by-id n h =
       by-id-walk (host .first) 0
-      ∙ delivered-of-owner (by-id-sound rise tree distinct devfn) always target (byId devfn n) owns
+      ∙ delivered-of-owner (by-id-sound rise tree distinct devfn) always target (byId devfn n) (owns-of-id n h)
       ∙ ap (λ (ms : List Node). delivered (n .number) (length (above (host .first) ms (n .bus)))) (by-id-nodes devfn ns)
+
+  -- it crosses those bridges, the uppermost first
+  pub crosses-by-id : (n : Node) → HasId target devfn ns n
+      → Trail (tallyById ns target devfn) (host .first) (downward (above (host .first) ns (n .bus))) (n .number)
+  crosses-by-id n h =
+      let tally = tallyOn always (map (byId devfn) ns) target in
+      let by-registers = crosses-bridges-above (by-id-sound rise tree distinct devfn) always target (byId devfn n) (owns-of-id n h) in
+      trail-agree _ _ (λ bus. sym (tally-by-id-agree ns rise target devfn bus distinct)) _ _ _
+      (subst (λ (ms : List Node). Trail tally (host .first) (downward (above (host .first) ms (n .bus))) (n .number)) (by-id-nodes devfn ns)
+      by-registers)
 
   pub has-id-of-delivered : (number count : ℕ) → walkFrom (tallyById ns target devfn) (host .first) 0 ≡ delivered number count
       → (n : Node) × HasId target devfn ns n × (n .number ≡ number) × (count ≡ length (above (host .first) ns (n .bus)))

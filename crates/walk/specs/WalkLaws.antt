@@ -1,5 +1,5 @@
 -- Laws of the walk: where bus numbers rise the bound on the number of buses does not matter, and the walk is told by its trail. Assumes nothing.
-use mathlib.Core.Path.{_≡_, refl, sym, ap, ap₂, fun-ext, _∙_}
+use mathlib.Core.Path.{_≡_, refl, sym, ap, ap₂, subst, fun-ext, _∙_}
 use mathlib.Core.Logic.{_⊎_, inl, inr}
 use Prim.Native.Nat.{ℕ, zero, suc, _+_, _≤_, _<_}
 use native.Mathlib.Nat.{suc-ne-zero}
@@ -123,3 +123,8 @@ refused-elim tally (suc n) bus crossed number e = go (tally bus) refl e (λ b. r
 -- Tallies that agree on every bus give one walk.
 pub walk-agree : (t s : ℕ → Tally) → ((bus : ℕ) → t bus ≡ s bus) → (bus crossed : ℕ) → walkFrom t bus crossed ≡ walkFrom s bus crossed
 walk-agree t s h bus crossed = ap (λ (q : ℕ → Tally). walkFrom q bus crossed) (fun-ext h)
+
+-- and one trail
+pub trail-agree : (t s : ℕ → Tally) → ((bus : ℕ) → t bus ≡ s bus)
+    → (bus : ℕ) (ns : List ℕ) (number : ℕ) → Trail t bus ns number → Trail s bus ns number
+trail-agree t s h bus ns number trail = subst (λ (q : ℕ → Tally). Trail q bus ns number) (fun-ext h) trail
