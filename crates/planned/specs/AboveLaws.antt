@@ -98,13 +98,17 @@ module _ (h : Host) (fs : List Function) (board : Board h fs) (kept : BusesKept 
           ∙ sym (above-parent (board .lawful) (x .number) pos)
 
   -- By bus numbers and by parent records the bridges above a function are the same, in the same order
+  pub row-above-agree : (x : Numbered) → x ∈ planRows h fs
+      → numbersOf (above (h .firstBus) (planNodes h fs devfn) (x .bus)) ≡ aboveByParents fs (x .number)
+  row-above-agree x m = numbers-above (x .number) x m (omega arith)
+
   pub above-agree : (sp : Space) (f : Registers) → f ∈ planRegisters sp h fs devfn
       → numbersOf (bridgesAbove (planHost sp h) (planRegisters sp h fs devfn) f) ≡ aboveByParents fs (f .node .number)
   unfolding planRegisters
   above-agree sp f m =
       let (x, there, e) = Memᴰ·of-map (planRegister sp (placed h fs) devfn) (planRows h fs) m in
       ap (λ (ns : List Node). numbersOf (above (h .firstBus) ns (f .node .bus))) (nodes-plan sp h fs devfn)
-      ∙ subst (λ (g : Registers). byBuses (g .node .bus) ≡ aboveByParents fs (g .node .number)) e (numbers-above (x .number) x there (omega arith))
+      ∙ subst (λ (g : Registers). byBuses (g .node .bus) ≡ aboveByParents fs (g .node .number)) e (row-above-agree x there)
 
   -- and so as many
   pub length-above : (sp : Space) (f : Registers) → f ∈ planRegisters sp h fs devfn

@@ -1,10 +1,11 @@
--- Planned boards over registers. First the definitions (Spaces, Boards, Registers, Above, Delivery); then the laws by subject; then the theorems that
--- others cite: PlannedGood, AboveLaws, DeliveryLaws, NestedAndApart, RefusedExactly, Ids.
+-- Planned boards over registers. First the definitions (Spaces, Boards, Registers, Above, Delivery, ById); then the laws by subject; then
+-- the theorems that others cite: PlannedGood, AboveLaws, DeliveryLaws, NestedAndApart, RefusedExactly, Ids, ByIdLaws.
 pub mod Spaces
 pub mod Boards
 pub mod Registers
 pub mod Above
 pub mod Delivery
+pub mod ById
 pub mod Rows
 pub mod BusRanges
 pub mod Tree
@@ -19,4 +20,5 @@ pub mod DeliveryLaws
 pub mod NestedAndApart
 pub mod RefusedExactly
 pub mod Ids
+pub mod ByIdLaws
 pub mod Examples

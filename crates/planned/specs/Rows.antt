@@ -4,11 +4,11 @@ use mathlib.Core.Path.{_≡_, refl, sym, ap, subst, _∙_}
 use mathlib.Core.Logic.{inl, inr, ⊎-elim}
 use mathlib.Core.Bool.{true}
 use mathlib.Core.List.{List, [], _∷_, cons≢nil, head-eq-of-cons-eq}
-use Prim.Native.Nat.{ℕ, zero, suc, _≤_, _<_}
+use Prim.Native.Nat.{ℕ, zero, suc, _+_, _≤_, _<_}
 use native.Mathlib.Omega.{arith}
 use lib.ListN.{length, drop, length-drop, List·getD-eq-default}
 use lib.Seq.{drop-cons}
-use Rattle.placing.specs.Order.{le-or-lt}
+use Rattle.placing.specs.Order.{le-or-lt, eq-or-ne}
 use Rattle.lists.specs.Lists.{All, Some, Pairwise}
 use Rattle.lists.specs.ListLaws.{all-imp, drop-suc}
 use Rattle.placing.specs.Records.{Host, Function, DepthFirst, Lawful, Sized}
@@ -79,6 +79,25 @@ module _ (first : ℕ) (fs : List Function) (lawful : Lawful fs) where
 
   pub rows : All (Row first fs) (numbered first fs)
   rows = rows-from 0 fs refl (every-parent-rises first fs lawful)
+
+-- Every record from 1 on has a row
+row-from : (first : ℕ) (all : List Function) (i : ℕ) (fs : List Function) (k : ℕ) → i ≤ k → k < i + length fs
+    → Some (λ x. x .number ≡ k) (numberedFrom first all i fs)
+unfolding numberedFrom
+row-from first all i [] k l g = absurd (omega arith)
+row-from first all i (f ∷ fs) k l g =
+    ⊎-elim (λ (e : i ≡ k). inl e) (λ n. inr (row-from first all (suc i) fs k (omega arith) (omega arith))) (eq-or-ne i k)
+
+pub row-at : (first : ℕ) (fs : List Function) (k : ℕ) → 1 ≤ k → k ≤ length fs → Some (λ x. x .number ≡ k) (numbered first fs)
+row-at first fs k l g = row-from first fs 1 fs k l (omega arith)
+
+length-from : (first : ℕ) (all : List Function) (k : ℕ) (fs : List Function) → length (numberedFrom first all k fs) ≡ length fs
+unfolding numberedFrom
+length-from first all k [] = refl
+length-from first all k (f ∷ fs) = ap suc (length-from first all (suc k) fs)
+
+pub length-rows : (first : ℕ) (fs : List Function) → length (numbered first fs) ≡ length fs
+length-rows first fs = length-from first fs 1 fs
 
 -- Record numbers rise
 numbers-ge : (first : ℕ) (all : List Function) (k : ℕ) (fs : List Function) → All (λ x. k ≤ x .number) (numberedFrom first all k fs)
