@@ -2,4 +2,5 @@
 pub mod Route
 pub mod Examples
 pub mod RouteLaws
+pub mod OrderLaws
 pub mod RequestLaws
