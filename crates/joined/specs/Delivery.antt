@@ -1,9 +1,10 @@
--- Demand 3's delivery on the planned sheet as bytes, as planned or with its command words rewritten: the walk over the sheet's own registers, from
--- the bus of its first record, delivers as placed. Assumes nothing.
+-- Delivery on the planned sheet as bytes, as planned or with its command words rewritten: the walk over the sheet's own registers, from the
+-- bus of its first record, delivers by address as placed and by ID as numbered. Assumes nothing.
 use mathlib.Core.Path.{_≡_, sym, ap, subst, _∙_}
 use mathlib.Core.List.{List}
-use Prim.Native.Nat.{ℕ, _≤_}
-use lib.ListN.{length}
+use Prim.Native.Nat.{ℕ, _/_, _%_, _≤_, _<_}
+use native.Mathlib.Omega.{arith}
+use lib.ListN.{length, length-map}
 use Rattle.endian.specs.Endian.{Bytes}
 use Rattle.placing.specs.Refusals.{refusalOf}
 use Rattle.board.specs.declared.Host.{Host}
@@ -13,27 +14,33 @@ use Rattle.board.specs.ToPlacing.{toHost, toPlacing}
 use Rattle.walk.specs.Registers.{Node, Registers, nodes, rootOf}
 use Rattle.walk.specs.Tally.{tallyOn}
 use Rattle.walk.specs.Walk.{Outcome, walkFrom}
-use Rattle.walk.specs.Good.{Good}
-use Rattle.walk.specs.Delivery.{outcomeOf, outcome-from-first}
+use Rattle.walk.specs.Good.{FirstOn, Good}
+use Rattle.walk.specs.Delivery.{outcomeOf, root-is-first, outcome-from-first}
+use Rattle.walk.specs.Ids.{tallyById}
 use Rattle.sheet.specs.declared.Space.{Space as SheetSpace}
 use Rattle.sheet.specs.Sheet.{entriesOf, sheetNumber}
 use Rattle.sheet.specs.SheetLaws.{nodes-functions}
 use Rattle.sheet.specs.Spaces.{registersOf, nodesOf, enabledOf}
 use Rattle.sheet.specs.Commands.{SameButCommands}
-use Rattle.sheet.specs.CommandsLaws.{registers-same}
+use Rattle.sheet.specs.CommandsLaws.{registers-same, nodes-same}
 use Rattle.layout.specs.Layout.{sheetBytes}
 use Rattle.layout.specs.ReadBack.{framed-sheetBytes}
-use Rattle.planned.specs.Spaces.{Space}
-use Rattle.planned.specs.Registers.{planRegisters, planHost}
+use Rattle.planned.specs.Spaces.{Space, memorySpace}
+use Rattle.planned.specs.Registers.{planNode, planRows, planNodes, planRegisters, planHost}
+use Rattle.planned.specs.Rows.{length-rows}
+use Rattle.planned.specs.Items.{nodes-plan}
 use Rattle.planned.specs.Above.{aboveByParents}
 use Rattle.planned.specs.Delivery.{DeliversAsPlaced}
+use Rattle.planned.specs.ById.{DeliversAsNumbered}
+use Rattle.planned.specs.ByIdLaws.{planned-delivers-by-id}
 use Rattle.planned.specs.DeliveryLaws.{planned-delivers}
 use Rattle.planned.specs.PlannedGood.{planned-good}
 use Rattle.planning.specs.Plan.{planOf}
 use Rattle.joined.specs.Fits.{devfnOf, BoardFits}
+use Rattle.joined.specs.FitsLaws.{devfn-lt}
 use Rattle.joined.specs.Accepted.{fits-of-accepted}
 use Rattle.joined.specs.BarRanges.{spaceOf}
-use Rattle.joined.specs.Registers.{registers-agree}
+use Rattle.joined.specs.Registers.{registers-agree, nodes-agree}
 use Rattle.joined.specs.Passes.{rewritten-sheet-passes}
 
 -- what a request with this start address comes to on a sheet: the walk starts on the bus of the first record
@@ -47,6 +54,10 @@ pub record PlannedSheet (h : Host) (fs : List Function) (t : List ℕ) : Type 0 
   pub good : (sp : Space) → Good (planHost sp (toHost h)) (registersOf (spaceOf sp) t)
   pub delivers : (sp : Space) (address : ℕ)
       → DeliversAsPlaced sp (toHost h) (toPlacing fs) (enabledOf (spaceOf sp) t) address (sheetOutcome (spaceOf sp) t address)
+  pub nodes-are : nodesOf t ≡ planNodes (toHost h) (toPlacing fs) (devfnOf fs)
+  pub as-many : length (nodesOf t) ≡ length (toPlacing fs)
+  pub root-is : 0 < length (toPlacing fs) → rootOf (nodesOf t) ≡ toHost h .firstBus
+  pub delivers-by-id : (id : ℕ) → DeliversAsNumbered (toHost h) (toPlacing fs) (devfnOf fs) id (tallyById (nodesOf t) (id / 256) (id % 256))
   pub at-most-16-above : (k : ℕ) → length (aboveByParents (toPlacing fs) k) ≤ 16
 
 module _ (h : Host) (fs : List Function) (fits : BoardFits h fs) (planned : refusalOf (toHost h) (toPlacing fs) ≡ 0) (t : List ℕ)
@@ -68,6 +79,27 @@ module _ (h : Host) (fs : List Function) (fits : BoardFits h fs) (planned : refu
       ∙ ap (λ (rs : List Registers). walkFrom (tallyOn enabled rs address) (rootOf (nodes rs)) 0) (registers-are sp)
       ∙ outcome-from-first (planRegisters sp (toHost h) (toPlacing fs) (devfnOf fs)) (plan-good sp .tree) enabled address
 
+  nodes-are : nodesOf t ≡ planNodes (toHost h) (toPlacing fs) (devfnOf fs)
+  nodes-are = nodes-same same (framed-sheetBytes (planOf h fs)) ∙ nodes-agree h fs fits planned
+
+  as-many : length (nodesOf t) ≡ length (toPlacing fs)
+  as-many =
+      ap length nodes-are
+      ∙ length-map (planRows (toHost h) (toPlacing fs)) (planNode (devfnOf fs))
+      ∙ length-rows (toHost h .firstBus) (toPlacing fs)
+
+  root-is : 0 < length (toPlacing fs) → rootOf (nodesOf t) ≡ toHost h .firstBus
+  root-is some =
+      let by-plan = plan-good memorySpace .tree .first-on-root in
+      let same = nodes-plan memorySpace (toHost h) (toPlacing fs) (devfnOf fs) ∙ sym nodes-are in
+      root-is-first (toHost h .firstBus) (nodesOf t) (subst (FirstOn (toHost h .firstBus)) same by-plan) (omega (arith, as-many))
+
+  delivers-by-id : (id : ℕ) → DeliversAsNumbered (toHost h) (toPlacing fs) (devfnOf fs) id (tallyById (nodesOf t) (id / 256) (id % 256))
+  delivers-by-id id =
+      subst (λ (ns : List Node). DeliversAsNumbered (toHost h) (toPlacing fs) (devfnOf fs) id (tallyById ns (id / 256) (id % 256)))
+      (sym nodes-are)
+      (planned-delivers-by-id (fits .board) planned (devfnOf fs) (fits .siblings-rise) (devfn-lt fs (fits .functions)) id)
+
   pub planned-sheet : PlannedSheet h fs t
   planned-sheet =
       record {
@@ -79,6 +111,10 @@ module _ (h : Host) (fs : List Function) (fits : BoardFits h fs) (planned : refu
             let enabled = enabledOf (spaceOf sp) t in
             subst (DeliversAsPlaced sp (toHost h) (toPlacing fs) enabled address) (sym (outcome-is sp address))
             (planned-delivers (fits .board) planned sp (devfnOf fs) enabled address);
+        nodes-are = nodes-are;
+        as-many = as-many;
+        root-is = root-is;
+        delivers-by-id = delivers-by-id;
         at-most-16-above = fits .shallow;
       }
 

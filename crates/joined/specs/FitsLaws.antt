@@ -19,12 +19,13 @@ use Rattle.records.specs.Records.{nextOf, step, partsOver, partsOf, anyPart}
 use Rattle.records.specs.RecordsLaws.{false-of-or}
 use Rattle.lists.specs.Lists.{All, any}
 use Rattle.board.specs.declared.Span.{Span}
+use Rattle.board.specs.declared.Function.{Function}
 use Rattle.board.specs.Host.{hostOfPart, isOpen, outside, offEdges, poolWrong, hostWrong}
 use Rattle.board.specs.Function.{typeOf, isBridgeHeader, lengthFor, readbacksFor, functionOfPart, headerWrong, readbacksWrong}
 use Rattle.board.specs.ToPlacing.{toHost}
 use Rattle.sheet.specs.Sheet.{allZero}
 use Rattle.planned.specs.Boards.{HostEdges}
-use Rattle.joined.specs.Fits.{FunctionFits}
+use Rattle.joined.specs.Fits.{devfnOf, FunctionFits}
 
 -- ## Parts are bytes
 
@@ -120,6 +121,16 @@ functions-fit (p ∷ ps) b e r =
     let h = false-of-or (headerWrong p) (anyPart headerWrong ps) e in
     let k = false-of-or (readbacksWrong (functionOfPart p)) (any readbacksWrong (map functionOfPart ps)) r in
     (function-fits p (b .0) (h .0) (k .0), functions-fit ps (b .1) (h .1) (k .1))
+
+-- a record's device/function is a byte, and past the end of the list 0
+devfn-at-lt : (fs : List Function) → All FunctionFits fs → (i : ℕ) → getD (map (λ (f : Function). f .devfn) fs) i 0 < 256
+devfn-at-lt [] fit zero = omega arith
+devfn-at-lt [] fit (suc i) = omega arith
+devfn-at-lt (f ∷ fs) fit zero = fit .0 .devfn
+devfn-at-lt (f ∷ fs) fit (suc i) = devfn-at-lt fs (fit .1) i
+
+pub devfn-lt : (fs : List Function) → All FunctionFits fs → (k : ℕ) → devfnOf fs k < 256
+devfn-lt fs fit k = devfn-at-lt fs fit _
 
 -- ## The host's edges
 
