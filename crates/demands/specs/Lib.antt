@@ -1,5 +1,7 @@
--- Document 01's examples and the user's demands.
+-- Document 01's examples, the user's demands, and what becomes of a packet that goes by ID.
 pub mod Examples
 pub mod Demand2
 pub mod Demand3
 pub mod Demand3Laws
+pub mod ById
+pub mod ByIdLaws

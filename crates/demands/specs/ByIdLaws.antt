@@ -1,0 +1,278 @@
+-- A packet that goes by ID over the sheet of a planned board is delivered to the function with that ID, or refused with 40 or 42. And so no
+-- accepted packet is contested there. Assumes nothing.
+use mathlib.Core.Path.{_≡_, refl, sym, ap, ap₂, subst, _∙_}
+use mathlib.Core.Logic.{_⊎_, inl, inr, ⊎-elim}
+use mathlib.Core.Bool.{Bool, true, false, not, true≢false}
+use mathlib.Core.List.{List, reverse}
+use Prim.Native.Nat.{ℕ, _/_, _%_}
+use native.Mathlib.Nat.{suc-ne-zero}
+use native.Mathlib.Omega.{arith}
+use lib.ListN.{length, take}
+use lib.Dec.{eqb}
+use borrow.Author.Tests.{eqb-true, eqb-false, eq-eqb, ne-eqb, not-true}
+use Rattle.endian.specs.Endian.{Bytes}
+use Rattle.pairs.specs.declared.ConfigKind.{ConfigKind}
+use Rattle.pairs.specs.declared.ConfigKind.the-variants.{CfgRd0, CfgWr0, CfgRd1, CfgWr1}
+use Rattle.packet.specs.declared.Packet.{Packet}
+use Rattle.packet.specs.declared.Packet.the-variants.{Memory, Io, Config, Completion}
+use Rattle.tlp.specs.declared.Reading.the-variants.{Accepted}
+use Rattle.tlp.specs.Reading.{readOf}
+use Rattle.placing.specs.Order.{eq-or-ne, true-or-false}
+use Rattle.board.specs.Board.{hostOf, functionsOf}
+use Rattle.walk.specs.Walk.{Outcome, delivered, refused}
+use Rattle.walk.specs.WalkLaws.{trail-unique}
+use Rattle.walk.specs.Ids.{tallyById}
+use Rattle.sheet.specs.Spaces.{nodesOf}
+use Rattle.sheet.specs.Commands.{SameButCommands}
+use Rattle.planned.specs.Spaces.{Space, memorySpace, ioSpace}
+use Rattle.planned.specs.ById.{DeliversAsNumbered}
+use Rattle.planning.specs.declared.Planning.the-variants.{Planned}
+use Rattle.planning.specs.Plan.{planning, sheetAfter}
+use Rattle.joined.specs.Fits.{devfnOf}
+use Rattle.joined.specs.Delivery.{PlannedSheet}
+use Rattle.joined.specs.Answer.{planned-sheet-of-answer}
+use Rattle.claims.specs.declared.Aim.{Aim}
+use Rattle.claims.specs.declared.Aim.the-variants.{Id}
+use Rattle.route.specs.declared.Routing.the-variants.{Delivered, Refused}
+use Rattle.route.specs.Route.{numberOf as routingNumber, aimOf, kindWrong, typeWrong, arrived, answer, walked, root, routeOf}
+use Rattle.route.specs.OrderLaws.{route-no-functions, route-wrong-type, route-walked}
+use Rattle.demands.specs.Demand3.{host, functions, IsRequest, bridgesAbove, routeNumber, DeliveredTo, Crosses, Routed}
+use Rattle.demands.specs.Demand3Laws.{demand-3}
+use Rattle.demands.specs.ById.{GoesById, typeOf, arrival, HasFunctions, rootBus, Misfits, WrongType, HasId, RoutedById}
+
+-- ## The packet
+
+aim-by-id : (p : Packet) (id : ℕ) → GoesById p id → aimOf p ≡ Id id
+aim-by-id (Memory k h e a) id by = absurd by
+aim-by-id (Io k h e a) id by = absurd by
+aim-by-id (Config k h e t) id by = ap Id (sym by)
+aim-by-id (Completion k h o) id by = ap Id (sym by)
+
+arrival-agree : (p : Packet) → arrived p ≡ arrival p
+arrival-agree (Memory k h e a) = refl
+arrival-agree (Io k h e a) = refl
+arrival-agree (Config CfgRd0 h e t) = refl
+arrival-agree (Config CfgWr0 h e t) = refl
+arrival-agree (Config CfgRd1 h e t) = refl
+arrival-agree (Config CfgWr1 h e t) = refl
+arrival-agree (Completion k h o) = refl
+
+-- type 0 is wrong off the root bus, type 1 on it
+wrong-by-type : (k : ConfigKind)
+    → ((typeOf k ≡ 0) × ((on : Bool) → kindWrong k on ≡ not on)) ⊎ ((typeOf k ≡ 1) × ((on : Bool) → kindWrong k on ≡ on))
+wrong-by-type CfgRd0 = inl (refl, λ on. refl)
+wrong-by-type CfgWr0 = inl (refl, λ on. refl)
+wrong-by-type CfgRd1 = inr (refl, λ on. refl)
+wrong-by-type CfgWr1 = inr (refl, λ on. refl)
+
+module _ (k : ConfigKind) (bus top : ℕ) where
+  misfits-of-wrong : kindWrong k (eqb bus top) ≡ true → Misfits k bus top
+  misfits-of-wrong e =
+      ⊎-elim (λ (is-0, wrong). inl (is-0, eqb-false bus top (not-true (eqb bus top) (sym (wrong (eqb bus top)) ∙ e))))
+      (λ (is-1, wrong). inr (is-1, eqb-true bus top (sym (wrong (eqb bus top)) ∙ e)))
+      (wrong-by-type k)
+
+  wrong-of-misfits : Misfits k bus top → kindWrong k (eqb bus top) ≡ true
+  wrong-of-misfits = go (wrong-by-type k)
+    where
+      go : ((typeOf k ≡ 0) × ((on : Bool) → kindWrong k on ≡ not on)) ⊎ ((typeOf k ≡ 1) × ((on : Bool) → kindWrong k on ≡ on))
+          → Misfits k bus top → kindWrong k (eqb bus top) ≡ true
+      go (inl (is-0, wrong)) (inl (_, off)) = wrong (eqb bus top) ∙ ap not (ne-eqb bus top off)
+      go (inl (is-0, wrong)) (inr (is-1, _)) = absurd (omega arith)
+      go (inr (is-1, wrong)) (inl (is-0, _)) = absurd (omega arith)
+      go (inr (is-1, wrong)) (inr (_, on)) = wrong (eqb bus top) ∙ eq-eqb bus top on
+
+-- the router's test of the type, on a board that has functions
+wrong-type-of-test : (b : List ℕ) (p : Packet) → HasFunctions b → typeWrong (rootBus b) p ≡ true → WrongType b p
+wrong-type-of-test b (Memory k h e a) some wrong = absurd (true≢false (sym wrong))
+wrong-type-of-test b (Io k h e a) some wrong = absurd (true≢false (sym wrong))
+wrong-type-of-test b (Config k h e t) some wrong = (some, misfits-of-wrong k (t .id / 256) (rootBus b) wrong)
+wrong-type-of-test b (Completion k h o) some wrong = absurd (true≢false (sym wrong))
+
+test-of-wrong-type : (b : List ℕ) (p : Packet) → WrongType b p → HasFunctions b × (typeWrong (rootBus b) p ≡ true)
+test-of-wrong-type b (Memory k h e a) wrong = absurd wrong
+test-of-wrong-type b (Io k h e a) wrong = absurd wrong
+test-of-wrong-type b (Config k h e t) (some, misfits) = (some, wrong-of-misfits k (t .id / 256) (rootBus b) misfits)
+test-of-wrong-type b (Completion k h o) wrong = absurd wrong
+
+-- ## Over the planned sheet
+
+module _ (b room : List ℕ) (n : ℕ) (bytes : Bytes b) (planned : planning b (length room) ≡ Planned n)
+    (t : List ℕ) (same : SameButCommands (take n (sheetAfter b room)) t) where
+  sheet : PlannedSheet (hostOf b) (functionsOf b) t
+  sheet = planned-sheet-of-answer b room n bytes planned t same
+
+  module _ (header : List ℕ) (p : Packet) (read : readOf header ≡ Accepted p) (id : ℕ) (by : GoesById p id) where
+    delivers : DeliversAsNumbered (host b) (functions b) (devfnOf (functionsOf b)) id (tallyById (nodesOf t) (id / 256) (id % 256))
+    delivers = sheet .delivers-by-id id
+
+    -- the three answers, each with what it comes from
+    data Answered : Type 0 where
+      wrong-type : WrongType b p → routeOf header t ≡ Refused 42 → Answered
+      delivered-to : ¬ WrongType b p → (k : ℕ) → HasId b id k
+          → routeOf header t ≡ Delivered k (length (bridgesAbove b k)) (arrival p) → Answered
+      no-owner : ¬ WrongType b p → ((k : ℕ) → ¬ HasId b id k) → routeOf header t ≡ Refused 40 → Answered
+
+    -- what the walk comes to, from the root bus
+    abbrev outcome : Outcome
+    outcome = walked (Id id) t (rootBus b) 0
+
+    walk-answered : ¬ WrongType b p → routeOf header t ≡ answer p outcome → Answered
+    walk-answered right route-is = go outcome refl
+      where
+        go : (o : Outcome) → outcome ≡ o → Answered
+        go (delivered k count) e =
+            let (has, count-is) = delivers .delivered-exactly k count .0 e in
+            delivered-to right k has (route-is ∙ ap (answer p) e ∙ ap₂ (Delivered k) count-is (arrival-agree p))
+        go (refused m) e =
+            let nobody : (k : ℕ) → ¬ HasId b id k =
+            λ k has. let d = delivers .delivered-exactly k (length (bridgesAbove b k)) .1 (has, refl) in suc-ne-zero 0 (cc) in
+            no-owner right nobody (route-is ∙ ap (answer p) (delivers .else-no-owner .1 nobody))
+
+    answered-over : HasFunctions b → Answered
+    answered-over some = ⊎-elim wrong right (true-or-false (typeWrong (root t) p))
+      where
+        filled : ¬ (length (nodesOf t) ≡ 0)
+        filled none = omega (arith, sheet .as-many)
+
+        top : root t ≡ rootBus b
+        top = sheet .root-is some
+
+        wrong : typeWrong (root t) p ≡ true → Answered
+        wrong e =
+            wrong-type (wrong-type-of-test b p some (subst (λ (r : ℕ). typeWrong r p ≡ true) top e))
+            (route-wrong-type header t p read (sheet .passes) filled e)
+
+        right : typeWrong (root t) p ≡ false → Answered
+        right e =
+            walk-answered (λ w. true≢false (sym (test-of-wrong-type b p w .1) ∙ ap (λ (r : ℕ). typeWrong r p) (sym top) ∙ e))
+            (route-walked header t p read (sheet .passes) filled e
+            ∙ ap₂ (λ (a : Aim) (r : ℕ). answer p (walked a t r 0)) (aim-by-id p id by) top)
+
+    answered : Answered
+    answered = ⊎-elim none (λ e. answered-over (omega arith)) (eq-or-ne (length (functions b)) 0)
+      where
+        none : length (functions b) ≡ 0 → Answered
+        none e =
+            no-owner (λ w. omega (arith, test-of-wrong-type b p w .0)) (λ k has. omega (arith, has .from-1, has .in-list))
+            (route-no-functions header t p read (sheet .passes) (sheet .as-many ∙ e))
+
+    wrong-of-42 : Answered → routeNumber header t ≡ 42 → WrongType b p
+    wrong-of-42 (wrong-type w e) number = w
+    wrong-of-42 (delivered-to r k has e) number = absurd (omega (arith, ap routingNumber e))
+    wrong-of-42 (no-owner r nobody e) number = absurd (omega (arith, ap routingNumber e))
+
+    number-of-wrong : Answered → WrongType b p → routeNumber header t ≡ 42
+    number-of-wrong (wrong-type w e) wrong = ap routingNumber e
+    number-of-wrong (delivered-to r k has e) wrong = absurd (r wrong)
+    number-of-wrong (no-owner r nobody e) wrong = absurd (r wrong)
+
+    nobody-of-40 : Answered → routeNumber header t ≡ 40 → ¬ WrongType b p × ((k : ℕ) → ¬ HasId b id k)
+    nobody-of-40 (wrong-type w e) number = absurd (omega (arith, ap routingNumber e))
+    nobody-of-40 (delivered-to r k has e) number = absurd (omega (arith, ap routingNumber e))
+    nobody-of-40 (no-owner r nobody e) number = (r, nobody)
+
+    number-of-nobody : Answered → ¬ WrongType b p × ((k : ℕ) → ¬ HasId b id k) → routeNumber header t ≡ 40
+    number-of-nobody (wrong-type w e) (r, nobody) = absurd (r w)
+    number-of-nobody (delivered-to r k has e) (_, nobody) = absurd (nobody k has)
+    number-of-nobody (no-owner r nobody e) right = ap routingNumber e
+
+    -- what a delivery says
+    record Arrived (k count : ℕ) (q : Packet) : Type 0 where
+      right-type : ¬ WrongType b p
+      has-id : HasId b id k
+      count-is : count ≡ length (bridgesAbove b k)
+      packet-is : q ≡ arrival p
+
+    arrived-of : Answered → (k count : ℕ) (q : Packet) → routeOf header t ≡ Delivered k count q → Arrived k count q
+    arrived-of (wrong-type w e) k count q d = absurd (suc-ne-zero 0 (cc))
+    arrived-of (delivered-to r j has e) k count q d =
+        let same : j ≡ k = cc in
+        let counted : length (bridgesAbove b j) ≡ count = cc in
+        record {
+          right-type = r;
+          has-id = subst (HasId b id) same has;
+          count-is = sym counted ∙ ap (λ (i : ℕ). length (bridgesAbove b i)) same;
+          packet-is = cc;
+        }
+    arrived-of (no-owner r nobody e) k count q d = absurd (suc-ne-zero 0 (cc))
+
+    delivered-of : Answered → (k : ℕ) → ¬ WrongType b p × HasId b id k → DeliveredTo header t k
+    delivered-of (wrong-type w e) k (r, has) = absurd (r w)
+    delivered-of (delivered-to _ j has-j e) k (r, has) = subst (DeliveredTo header t) (delivers .one-owner j k has-j has) (_, _, e)
+    delivered-of (no-owner _ nobody e) k (r, has) = absurd (nobody k has)
+
+    one-of-three : Answered → ((k : ℕ) × DeliveredTo header t k) ⊎ ((routeNumber header t ≡ 40) ⊎ (routeNumber header t ≡ 42))
+    one-of-three (wrong-type w e) = inr (inr (ap routingNumber e))
+    one-of-three (delivered-to r k has e) = inl (k, (_, _, e))
+    one-of-three (no-owner r nobody e) = inr (inl (ap routingNumber e))
+
+    crosses : (k : ℕ) → HasId b id k → Crosses p t (reverse (bridgesAbove b k)) k
+    crosses k has =
+        let some : HasFunctions b = omega (arith, has .from-1, has .in-list) in
+        rw (aim-by-id p id by, sheet .root-is some) (delivers .crosses-above k has)
+
+    nobody-of-none : ¬ HasFunctions b → ¬ WrongType b p × ((k : ℕ) → ¬ HasId b id k)
+    nobody-of-none none = (λ w. none (test-of-wrong-type b p w .0), λ k has. none (omega (arith, has .from-1, has .in-list)))
+
+    routed : RoutedById b t header p id
+    routed =
+        record {
+          no-functions-40 = λ none. number-of-nobody answered (nobody-of-none none);
+          wrong-type-42 = (wrong-of-42 answered, number-of-wrong answered);
+          delivered-exactly = λ k. (
+            λ (count, q, e). let a = arrived-of answered k count q e in (a .right-type, a .has-id),
+            delivered-of answered k,
+          );
+          else-no-owner = (nobody-of-40 answered, number-of-nobody answered);
+          delivered-40-or-42 = one-of-three answered;
+          one-owner = delivers .one-owner;
+          arrives = λ k count q e. arrived-of answered k count q e .packet-is;
+          crosses-exactly =
+              λ k count q e bridges.
+              let way = crosses k (arrived-of answered k count q e .has-id) in
+              (λ trail. trail-unique _ _ _ _ _ _ trail way .0, λ those. rw those way);
+          count-reported =
+              λ k count q e. let c = arrived-of answered k count q e .count-is in (c, omega (arith, sheet .at-most-16-above k));
+        }
+
+-- ## The theorem
+
+-- over the sheet that the planner left, as planned or with its command words rewritten
+pub by-id-routed : (b room : List ℕ) (n : ℕ) → Bytes b → planning b (length room) ≡ Planned n
+    → (t : List ℕ) → SameButCommands (take n (sheetAfter b room)) t
+    → (header : List ℕ) (p : Packet) → readOf header ≡ Accepted p
+    → (id : ℕ) → GoesById p id → RoutedById b t header p id
+by-id-routed = routed
+
+-- ## 41
+
+not-41 : (header t : List ℕ) → ((k : ℕ) × DeliveredTo header t k) ⊎ ((routeNumber header t ≡ 40) ⊎ (routeNumber header t ≡ 42))
+    → ¬ (routeNumber header t ≡ 41)
+not-41 header t (inl (k, (count, q, e))) number = omega (arith, ap routingNumber e)
+not-41 header t (inr (inl e)) number = omega arith
+not-41 header t (inr (inr e)) number = omega arith
+
+-- no accepted packet is contested over a planned sheet, by address or by ID
+pub never-contested : (b room : List ℕ) (n : ℕ) → Bytes b → planning b (length room) ≡ Planned n
+    → (t : List ℕ) → SameButCommands (take n (sheetAfter b room)) t
+    → (header : List ℕ) (p : Packet) → readOf header ≡ Accepted p → ¬ (routeNumber header t ≡ 41)
+never-contested b room n bytes planned t same header p read = not-41 header t (go p read)
+  where
+    of-request : ((k : ℕ) × DeliveredTo header t k) ⊎ (routeNumber header t ≡ 40)
+        → ((k : ℕ) × DeliveredTo header t k) ⊎ ((routeNumber header t ≡ 40) ⊎ (routeNumber header t ≡ 42))
+    of-request = ⊎-elim (λ d. inl d) (λ e. inr (inl e))
+
+    request : (q : Packet) → readOf header ≡ Accepted q → (sp : Space) (address : ℕ) → IsRequest q sp address
+        → Routed b t header q sp address
+    request = demand-3 .requests-routed b room n bytes planned t same header
+
+    by-id : (q : Packet) → readOf header ≡ Accepted q → (id : ℕ) → GoesById q id → RoutedById b t header q id
+    by-id = by-id-routed b room n bytes planned t same header
+
+    go : (q : Packet) → readOf header ≡ Accepted q
+        → ((k : ℕ) × DeliveredTo header t k) ⊎ ((routeNumber header t ≡ 40) ⊎ (routeNumber header t ≡ 42))
+    go (Memory k h e a) r = of-request (request (Memory k h e a) r memorySpace a (refl, refl) .delivered-or-40)
+    go (Io k h e a) r = of-request (request (Io k h e a) r ioSpace a (refl, refl) .delivered-or-40)
+    go (Config k h e c) r = by-id (Config k h e c) r (c .id) refl .delivered-40-or-42
+    go (Completion k h o) r = by-id (Completion k h o) r (h .requester) refl .delivered-40-or-42
