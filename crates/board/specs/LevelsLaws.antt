@@ -13,10 +13,10 @@ use borrow.Author.Tests.{eq-eqb, ne-eqb, ltb-false}
 use Rattle.records.specs.declared.Next.the-variants.{Record}
 use Rattle.records.specs.Records.{nextOf, partsFrom}
 use Rattle.records.specs.RecordsLaws.{pass-record, false-of-or}
+use Rattle.placing.specs.Above.{mostAbove}
 use Rattle.board.specs.declared.Function.{Function}
 use Rattle.board.specs.declared.order.Found.the-variants.{At, Nowhere}
 use Rattle.board.specs.Function.{isBridge, functionOfPart}
-use Rattle.board.specs.Order.{mostAbove}
 use Rattle.board.specs.Stack.{Level, fresh, closeTo, unplacedAt, entered, enter, sharedAfter, unplacedFrom}
 use Rattle.board.specs.Levels.{levelAt, deepest, foundIn, openAfter}
 

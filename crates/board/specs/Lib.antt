@@ -14,4 +14,5 @@ pub mod Board
 pub mod BoardLaws
 pub mod ToPlacing
 pub mod ToPlacingLaws
+pub mod Depth
 pub mod Examples

@@ -6,6 +6,7 @@ use mathlib.Core.List.{List, [], _∷_, _++_}
 use lib.ListN.{length}
 use lib.Dec.{eqb, ltb}
 use Rattle.lists.specs.Lists.{any}
+use Rattle.placing.specs.Above.{mostAbove}
 use Rattle.board.specs.declared.Function.{Function}
 use Rattle.board.specs.Function.{isBridge}
 
@@ -38,10 +39,7 @@ isFunctionZero p device g = eqb (g .parent) p && eqb (g .devfn / 8) device && is
 abbrev pub hasFunctionZero : List Function → Function → Bool
 hasFunctionZero before f = eqb (f .devfn % 8) 0 || any (isFunctionZero (f .parent) (f .devfn / 8)) before
 
--- "at most 16 bridges above any"
-abbrev pub mostAbove : ℕ
-mostAbove = 16
-
+-- "at most 16 bridges above any" is `mostAbove`
 unfoldable pub misplaced : ℕ → List Function → Function → Bool
 misplaced n before f =
     not (any (eqb (f .parent)) (parents n before))

@@ -9,9 +9,10 @@ use lib.Dec.{eqb, ltb, eqb·zero-suc}
 use borrow.Author.Tests.{eqb-true, eq-eqb, ne-eqb, eqb-false, ltb-false}
 use Rattle.lists.specs.Lists.{All, any}
 use Rattle.lists.specs.ListLaws.{all-imp, all-append}
+use Rattle.placing.specs.Above.{mostAbove}
 use Rattle.board.specs.declared.Function.{Function}
 use Rattle.board.specs.Function.{isBridge}
-use Rattle.board.specs.Order.{above, parents, lastSibling, hasFunctionZero, mostAbove, misplaced}
+use Rattle.board.specs.Order.{above, parents, lastSibling, hasFunctionZero, misplaced}
 
 -- ---- what 23 leaves true of a function and the records before it
 

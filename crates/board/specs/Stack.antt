@@ -4,9 +4,10 @@ use mathlib.Core.Bool.{Bool, true, false, cond, not, _||_}
 use mathlib.Core.List.{List, [], _∷_}
 use lib.ListN.{length}
 use lib.Dec.{eqb, ltb}
+use Rattle.placing.specs.Above.{mostAbove}
 use Rattle.board.specs.declared.Function.{Function}
 use Rattle.board.specs.Function.{isBridge}
-use Rattle.board.specs.Order.{isShared, mostAbove}
+use Rattle.board.specs.Order.{isShared}
 
 -- the bus below record `bus`: one more than the device/function of its last function, and than the device of its last shared function 0; 0 for none
 pub record Level : Type 0 where

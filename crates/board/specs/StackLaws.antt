@@ -8,9 +8,10 @@ use lib.ListN.{length, drop, length-map, length-append}
 use lib.Dec.{eqb, ltb, eqb·zero-suc, eqb·suc-suc}
 use borrow.Author.Tests.{eqb-true, eq-eqb, ne-eqb, eqb-false, ltb-false}
 use Rattle.lists.specs.Lists.{All, any}
+use Rattle.placing.specs.Above.{mostAbove}
 use Rattle.board.specs.declared.Function.{Function}
 use Rattle.board.specs.Function.{isBridge}
-use Rattle.board.specs.Order.{above, parents, lastSibling, isShared, isFunctionZero, hasFunctionZero, mostAbove, misplaced, anyMisplaced}
+use Rattle.board.specs.Order.{above, parents, lastSibling, isShared, isFunctionZero, hasFunctionZero, misplaced, anyMisplaced}
 use Rattle.board.specs.OrderLaws.{Placed, placed-of-not-misplaced, Ordered, upToHost, lt-up-to-host, fromOn, fromOn-none, fromOn-parents, le-of-parent, parents-bridge, parents-end}
 use Rattle.board.specs.Stack.{Level, fresh, closeTo, unplacedAt, unplaced, entered, opened, enter, sharedAfter, unplacedFrom}
 

@@ -80,7 +80,7 @@ fn unplaced(part: &[u8], depth: usize, next: usize, shared: usize) -> bool
 {
     let devfn = crate::devfn_of(part);
     ((devfn as usize) < next)
-        | (16 < depth)
+        | (placing::MOST_ABOVE < depth)
         | !((devfn % 8 == 0) | (shared == (devfn / 8) as usize + 1))
 }
 

@@ -15,6 +15,7 @@ use Rattle.placing.specs.Pools.{Pool, low, high, io}
 use Rattle.placing.specs.Records.{Host, Function}
 use Rattle.placing.specs.Placing.{placed}
 use Rattle.placing.specs.Placed.{WellPlaced}
+use Rattle.placing.specs.Above.{aboveByParents}
 use Rattle.board.specs.Board.{boardNumber, hostOf, functionsOf}
 use Rattle.board.specs.ToPlacing.{toHost, toPlacing}
 use Rattle.walk.specs.Good.{Good}
@@ -27,7 +28,6 @@ use Rattle.planned.specs.Spaces.{Space, memorySpace, ioSpace}
 use Rattle.planned.specs.Registers.{planRegisters, planHost}
 use Rattle.planned.specs.RefusedExactly.{BusesRunOut, PoolRunsOut}
 use Rattle.planned.specs.NestedAndApart.{NestedAndApart}
-use Rattle.planned.specs.Above.{aboveByParents}
 use Rattle.planned.specs.Delivery.{BarHolds, OwnsAsPlaced}
 use Rattle.planning.specs.declared.Planning.the-variants.{Planned, Refused}
 use Rattle.planning.specs.Plan.{numberOf as planningNumber, planning, sheetAfter}

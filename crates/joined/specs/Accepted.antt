@@ -16,11 +16,11 @@ use Rattle.board.specs.Board.{boardNumber, hostOf, functionsOf}
 use Rattle.board.specs.BoardLaws.{Accepted, accepted-of-zero}
 use Rattle.board.specs.ToPlacing.{toHost, toPlacing}
 use Rattle.board.specs.ToPlacingLaws.{lawful-of-accepted}
+use Rattle.board.specs.Depth.{few-above-of-accepted}
 use Rattle.planned.specs.Boards.{HostEdges, Board}
 use Rattle.joined.specs.Fits.{FunctionFits, BoardFits}
 use Rattle.joined.specs.FitsLaws.{bytes-parts, functions-fit, edges-of-right}
 use Rattle.joined.specs.Rising.{siblings-rise-of-placed}
-use Rattle.joined.specs.Depth.{shallow-of-placed}
 
 module _ (b : List ℕ) (bytes : Bytes b) (accepted : boardNumber b ≡ 0) where
   a : Accepted b
@@ -54,5 +54,5 @@ module _ (b : List ℕ) (bytes : Bytes b) (accepted : boardNumber b ≡ 0) where
         functions = functions;
         few = few;
         siblings-rise = siblings-rise-of-placed (functionsOf b) (a .order);
-        shallow = shallow-of-placed (functionsOf b) (board-of-accepted .lawful) (a .order);
+        shallow = few-above-of-accepted b accepted;
       }

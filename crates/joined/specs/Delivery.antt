@@ -6,6 +6,7 @@ use Prim.Native.Nat.{ℕ, _/_, _%_, _≤_, _<_}
 use native.Mathlib.Omega.{arith}
 use lib.ListN.{length, length-map}
 use Rattle.endian.specs.Endian.{Bytes}
+use Rattle.placing.specs.Above.{aboveByParents}
 use Rattle.placing.specs.Refusals.{refusalOf}
 use Rattle.board.specs.declared.Host.{Host}
 use Rattle.board.specs.declared.Function.{Function}
@@ -29,7 +30,6 @@ use Rattle.planned.specs.Spaces.{Space, memorySpace}
 use Rattle.planned.specs.Registers.{planNode, planRows, planNodes, planRegisters, planHost}
 use Rattle.planned.specs.Rows.{length-rows}
 use Rattle.planned.specs.Items.{nodes-plan}
-use Rattle.planned.specs.Above.{aboveByParents}
 use Rattle.planned.specs.Delivery.{DeliversAsPlaced}
 use Rattle.planned.specs.ById.{DeliversAsNumbered}
 use Rattle.planned.specs.ByIdLaws.{planned-delivers-by-id}

@@ -6,6 +6,7 @@ use Prim.Native.Nat.{ℕ, pred, _%_, _^_, _≤_, _<_}
 use lib.ListN.{length, getD, take, drop}
 use Rattle.bar.specs.Bar.{slots, anyBad}
 use Rattle.lists.specs.Lists.{All}
+use Rattle.placing.specs.Above.{aboveByParents, mostAbove}
 use Rattle.board.specs.declared.Host.{Host}
 use Rattle.board.specs.declared.Function.{Function}
 use Rattle.board.specs.Function.{slotCount}
@@ -13,7 +14,6 @@ use Rattle.board.specs.ToPlacing.{toHost, toPlacing}
 use Rattle.sheet.specs.Sheet.{allZero}
 use Rattle.planned.specs.Boards.{Board}
 use Rattle.planned.specs.Ids.{SiblingsRise}
-use Rattle.planned.specs.Above.{aboveByParents}
 
 -- the device/function byte of each record, by its number
 abbrev pub devfnOf : List Function → ℕ → ℕ
@@ -35,4 +35,4 @@ pub record BoardFits (h : Host) (fs : List Function) : Type 0 where
   pub functions : All FunctionFits fs
   pub few : length fs ≤ 256
   pub siblings-rise : SiblingsRise (toPlacing fs) (devfnOf fs)
-  pub shallow : (k : ℕ) → length (aboveByParents (toPlacing fs) k) ≤ 16
+  pub shallow : (k : ℕ) → length (aboveByParents (toPlacing fs) k) ≤ mostAbove

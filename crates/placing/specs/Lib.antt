@@ -1,5 +1,5 @@
 -- Numbering and placing of a board in whole numbers. First the definitions, in the order of the house rules; then the laws; then the theorems
--- that others cite: Placed, RefusalLaws, Numbered, SizingLaws, Cap, Siblings, Preorder.
+-- that others cite: Placed, RefusalLaws, Numbered, SizingLaws, Cap, Siblings, Preorder, AboveLaws.
 pub mod Align
 pub mod Pools
 pub mod Records
@@ -9,6 +9,7 @@ pub mod Placing
 pub mod Numbering
 pub mod Refusals
 pub mod Sizing
+pub mod Above
 pub mod Examples
 pub mod Order
 pub mod AlignLaws
@@ -27,3 +28,4 @@ pub mod SizingLaws
 pub mod Cap
 pub mod Siblings
 pub mod Preorder
+pub mod AboveLaws

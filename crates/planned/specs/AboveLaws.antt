@@ -1,12 +1,14 @@
--- The bridges above a function: step by step, and on a planned board the same by bus numbers as by parent records. Assumes nothing.
-use mathlib.Core.Path.{_≡_, refl, sym, ap, subst, _∙_}
+-- The bridges above a function: on a planned board the same by bus numbers as by parent records. Assumes nothing.
+use mathlib.Core.Path.{_≡_, sym, ap, subst, _∙_}
 use mathlib.Core.Logic.{⊎-elim}
-use mathlib.Core.List.{List, [], _∷_, Memᴰ·map, Memᴰ·of-map}
+use mathlib.Core.List.{List, _∷_, Memᴰ·map, Memᴰ·of-map}
 use Prim.Native.Nat.{ℕ, zero, suc, _≤_, _<_}
 use native.Mathlib.Omega.{arith}
 use lib.ListN.{length, length-map}
-use Rattle.placing.specs.Records.{Host, Function, Lawful}
+use Rattle.placing.specs.Records.{Host, Function}
 use Rattle.placing.specs.Preorder.{parentOf}
+use Rattle.placing.specs.Above.{aboveByParents}
+use Rattle.placing.specs.AboveLaws.{above-host, above-parent}
 use Rattle.placing.specs.Placing.{placed}
 use Rattle.placing.specs.Numbering.{Numbered}
 use Rattle.placing.specs.RefusalLaws.{BusesKept}
@@ -20,44 +22,10 @@ use Rattle.walk.specs.Delivery.{bridgesAbove}
 use Rattle.planned.specs.Spaces.{Space, memorySpace}
 use Rattle.planned.specs.Boards.{Board}
 use Rattle.planned.specs.Registers.{planNode, planRows, planNodes, planRegister, planRegisters, planHost}
-use Rattle.planned.specs.Rows.{Row, parent-before}
+use Rattle.planned.specs.Rows.{Row}
 use Rattle.planned.specs.BusRanges.{ParentRow, parent-row, row-of}
 use Rattle.planned.specs.Tree.{bridges-rise, planned-tree}
 use Rattle.planned.specs.Items.{nodes-plan}
-use Rattle.planned.specs.Above.{stepUp, aboveWithin, aboveByParents}
-
-step-up-pos : (p : ℕ) (on : ℕ → List ℕ) → 0 < p → stepUp p on ≡ p ∷ on p
-step-up-pos zero on l = absurd (omega arith)
-step-up-pos (suc p) on l = refl
-
--- The bound does not matter
-above-within-agree : {fs : List Function} → Lawful fs → (m n k : ℕ) → k ≤ m → k ≤ n → aboveWithin m fs k ≡ aboveWithin n fs k
-unfolding aboveWithin
-above-within-agree lawful zero zero k l g = refl
-above-within-agree lawful zero (suc n) zero l g = refl
-above-within-agree lawful zero (suc n) (suc k) l g = absurd (omega arith)
-above-within-agree lawful (suc m) zero zero l g = refl
-above-within-agree lawful (suc m) zero (suc k) l g = absurd (omega arith)
-above-within-agree lawful (suc m) (suc n) zero l g = refl
-above-within-agree {fs} lawful (suc m) (suc n) (suc k) l g = go (parentOf fs (suc k)) (parent-before lawful k) (λ p a. above-within-agree lawful m n p (omega arith) (omega arith))
-  where
-    go : (p : ℕ) → p ≤ k → ((p : ℕ) → p ≤ k → aboveWithin m fs p ≡ aboveWithin n fs p) → stepUp p (aboveWithin m fs) ≡ stepUp p (aboveWithin n fs)
-    go zero a on = refl
-    go (suc p) a on = ap (suc p ∷_) (on (suc p) a)
-
--- Below the host there is no bridge above
-pub above-host : (fs : List Function) (k : ℕ) → parentOf fs k ≡ 0 → aboveByParents fs k ≡ []
-unfolding aboveByParents aboveWithin
-above-host fs zero e = refl
-above-host fs (suc k) e = rw e
-
--- Below a bridge there are that bridge and those above it
-pub above-parent : {fs : List Function} → Lawful fs → (k : ℕ) → 0 < parentOf fs k → aboveByParents fs k ≡ parentOf fs k ∷ aboveByParents fs (parentOf fs k)
-unfolding aboveByParents aboveWithin
-above-parent lawful zero l = absurd (omega arith)
-above-parent {fs} lawful (suc k) l =
-    let p = parentOf fs (suc k) in
-    step-up-pos p (aboveWithin k fs) l ∙ ap (p ∷_) (above-within-agree lawful k p p (parent-before lawful k) (omega arith))
 
 module _ (h : Host) (fs : List Function) (board : Board h fs) (kept : BusesKept h fs) (devfn : ℕ → ℕ) where
   rise : BridgesRise (planNodes h fs devfn)

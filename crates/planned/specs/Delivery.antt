@@ -10,9 +10,9 @@ use Rattle.lists.specs.Lists.{All, Some}
 use Rattle.placing.specs.Records.{Host, Function}
 use Rattle.placing.specs.Layout.{Placed, isWindow}
 use Rattle.placing.specs.Placing.{placed}
+use Rattle.placing.specs.Above.{aboveByParents}
 use Rattle.walk.specs.Walk.{Outcome, delivered, refused}
 use Rattle.planned.specs.Spaces.{Space, inSpace}
-use Rattle.planned.specs.Above.{aboveByParents}
 
 -- x is a BAR of record k in the space, and holds the address: its size in addresses from where it is placed
 pub record BarHolds (sp : Space) (k address : ℕ) (x : Placed) : Type 0 where

@@ -13,6 +13,7 @@ use Rattle.placing.specs.Records.{Host, Function}
 use Rattle.placing.specs.Placing.{placed}
 use Rattle.placing.specs.Numbering.{Numbered}
 use Rattle.placing.specs.Refusals.{refusalOf}
+use Rattle.placing.specs.Above.{aboveByParents}
 use Rattle.walk.specs.Ranges.{Holds}
 use Rattle.walk.specs.Registers.{Node, Registers}
 use Rattle.walk.specs.Tally.{tallyOn}
@@ -22,7 +23,6 @@ use Rattle.walk.specs.Reach.{numbersOf}
 use Rattle.walk.specs.Delivery.{Owns, Delivers, bridgesAbove, outcomeOf, owner-of-delivered, good-delivers}
 use Rattle.planned.specs.Spaces.{Space}
 use Rattle.planned.specs.Boards.{Board}
-use Rattle.planned.specs.Above.{aboveByParents}
 use Rattle.planned.specs.Delivery.{BarHolds, OwnsAsPlaced, DeliversAsPlaced}
 use Rattle.planned.specs.Registers.{rangeOf, barsOf, planRows, planRegister, planRegisters, planHost}
 use Rattle.planned.specs.Rows.{placed-has-row}

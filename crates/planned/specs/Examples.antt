@@ -13,6 +13,7 @@ use Rattle.placing.specs.Placing.{place, placed}
 use Rattle.placing.specs.Numbering.{bridges, busNumber, greatestBelow, subordinateOf, numberedFrom}
 use Rattle.placing.specs.Refusals.{outOfPool, refusalOf}
 use Rattle.placing.specs.Examples.{p10, p10-functions}
+use Rattle.placing.specs.Above.{aboveWithin, aboveByParents}
 use Rattle.walk.specs.Registers.{itemsOf, items}
 use Rattle.walk.specs.Tally.{join, tallyOn}
 use Rattle.walk.specs.Walk.{Outcome, delivered, refused, walkOver, walkFrom}
@@ -20,7 +21,6 @@ use Rattle.walk.specs.Delivery.{outcomeOf}
 use Rattle.planned.specs.Spaces.{Space, memorySpace, ioSpace}
 use Rattle.planned.specs.Boards.{HostEdges, Board}
 use Rattle.planned.specs.Registers.{planRegisters, planHost}
-use Rattle.planned.specs.Above.{aboveWithin, aboveByParents}
 
 -- Both functions are function 0 of device 0
 abbrev noDevfn : ℕ → ℕ

@@ -1,9 +1,8 @@
--- Planned boards over registers. First the definitions (Spaces, Boards, Registers, Above, Delivery, ById); then the laws by subject; then
--- the theorems that others cite: PlannedGood, AboveLaws, DeliveryLaws, NestedAndApart, RefusedExactly, Ids, ByIdLaws.
+-- Planned boards over registers. First the definitions (Spaces, Boards, Registers, Delivery, ById); then the laws by subject; then the
+-- theorems that others cite: PlannedGood, AboveLaws, DeliveryLaws, NestedAndApart, RefusedExactly, Ids, ByIdLaws.
 pub mod Spaces
 pub mod Boards
 pub mod Registers
-pub mod Above
 pub mod Delivery
 pub mod ById
 pub mod Rows

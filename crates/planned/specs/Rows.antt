@@ -1,19 +1,18 @@
 -- What holds of each numbered record and of each placed piece by the record's number: its parent, its bus, that it has a row.
 -- Assumes nothing.
-use mathlib.Core.Path.{_≡_, refl, sym, ap, subst, _∙_}
-use mathlib.Core.Logic.{inl, inr, ⊎-elim}
+use mathlib.Core.Path.{_≡_, refl, sym, ap, _∙_}
+use mathlib.Core.Logic.{inl, inr}
 use mathlib.Core.Bool.{true}
-use mathlib.Core.List.{List, [], _∷_, cons≢nil, head-eq-of-cons-eq}
-use Prim.Native.Nat.{ℕ, zero, suc, _+_, _≤_, _<_}
+use mathlib.Core.List.{List, [], _∷_}
+use Prim.Native.Nat.{ℕ, suc, _+_, _≤_, _<_}
 use native.Mathlib.Omega.{arith}
-use lib.ListN.{length, drop, length-drop, List·getD-eq-default}
-use lib.Seq.{drop-cons}
-use Rattle.placing.specs.Order.{le-or-lt, eq-or-ne}
+use lib.ListN.{length, drop, length-drop}
+use Rattle.placing.specs.Order.{eq-or-ne}
 use Rattle.lists.specs.Lists.{All, Some, Pairwise}
 use Rattle.lists.specs.ListLaws.{all-imp, drop-suc}
-use Rattle.placing.specs.Records.{Host, Function, DepthFirst, Lawful, Sized}
-use Rattle.placing.specs.RecordLaws.{ordered-from}
-use Rattle.placing.specs.Preorder.{noFunction, parentOf}
+use Rattle.placing.specs.Records.{Host, Function, Lawful, Sized}
+use Rattle.placing.specs.Preorder.{parentOf}
+use Rattle.placing.specs.AboveLaws.{parent-at, parent-before}
 use Rattle.placing.specs.Pieces.{pieces}
 use Rattle.placing.specs.PieceLaws.{all-pieces}
 use Rattle.placing.specs.Placing.{fromBases, placed}
@@ -32,25 +31,6 @@ pub record Row (first : ℕ) (fs : List Function) (x : Numbered) : Type 0 where
   pub subordinate-is : x .subordinate ≡ subordinateOf first fs (x .number)
   pub parent-rises : Rises first fs (x .parent)
   pub bridge-rises : x .bridge ≡ true → Rises first fs (x .number)
-
-pub parent-at : (i : ℕ) (l : List Function) (f : Function) (fs : List Function) → drop i l ≡ f ∷ fs → parentOf l (suc i) ≡ f .parent
-parent-at zero [] f fs e = absurd (cons≢nil (sym e))
-parent-at zero (g ∷ l) f fs e = ap (λ (x : Function). x .parent) (head-eq-of-cons-eq e)
-parent-at (suc i) [] f fs e = absurd (cons≢nil (sym e))
-parent-at (suc i) (g ∷ l) f fs e = parent-at i l f fs e
-
--- On a lawful board a record's parent comes before it
-pub parent-before : {fs : List Function} → Lawful fs → (i : ℕ) → parentOf fs (suc i) ≤ i
-parent-before {fs} lawful i = ⊎-elim past there (le-or-lt (length fs) i)
-  where
-    past : length fs ≤ i → parentOf fs (suc i) ≤ i
-    past l = omega (arith, ap (λ (f : Function). f .parent) (List·getD-eq-default fs noFunction l))
-
-    there : i < length fs → parentOf fs (suc i) ≤ i
-    there l =
-        let o = ordered-from fs (lawful .ordered) i in
-        let d = subst (DepthFirst (o .allowed) (suc i)) (drop-cons fs i noFunction l) (o .ordered) in
-        omega (arith, o .bounded (parentOf fs (suc i)) (d .0))
 
 pub first-le-bus-number : (first : ℕ) (fs : List Function) (k : ℕ) → first ≤ busNumber first fs k
 unfolding busNumber

@@ -14,13 +14,15 @@ use Rattle.placing.specs.Order.{le-or-lt}
 use Rattle.placing.specs.Records.{Lawful}
 use Rattle.placing.specs.Records as placing
 use Rattle.placing.specs.Preorder.{noFunction, parentOf}
+use Rattle.placing.specs.Above.{aboveWithin, aboveByParents, aboveBus, mostAbove}
+use Rattle.placing.specs.AboveLaws.{parent-before, above-host, above-on-bus}
 use Rattle.board.specs.declared.Function.{Function}
 use Rattle.board.specs.Order.{above, misplaced, anyMisplaced}
 use Rattle.board.specs.OrderLaws.{placed-of-not-misplaced, above-here, above-later}
+use Rattle.board.specs.Board.{boardNumber, functionsOf}
+use Rattle.board.specs.BoardLaws.{accepted-of-zero}
 use Rattle.board.specs.ToPlacing.{toFunction, toPlacing}
-use Rattle.planned.specs.Above.{stepUp, aboveWithin, aboveByParents}
-use Rattle.planned.specs.AboveLaws.{above-host, above-parent}
-use Rattle.planned.specs.Rows.{parent-before}
+use Rattle.board.specs.ToPlacingLaws.{lawful-of-accepted}
 
 -- the records before, nearest first, put back in front of the rest
 abbrev onto : List Function → List Function → List Function
@@ -38,69 +40,61 @@ parent-onto before f fs =
         let place : suc (length b) + i ≡ length b + suc i = omega arith in
         ap (λ (k : ℕ). getD (toPlacing (onto b (g ∷ gs))) k noFunction .parent) place ∙ go b (g ∷ gs) (suc i)
 
--- one step up: the parent, then those above it
-above-step : {fs : List placing.Function} → Lawful fs → (k : ℕ) → aboveByParents fs k ≡ stepUp (parentOf fs k) (aboveByParents fs)
-above-step {fs} lawful k = go (parentOf fs k) refl
-  where
-    go : (p : ℕ) → parentOf fs k ≡ p → aboveByParents fs k ≡ stepUp p (aboveByParents fs)
-    go zero e = above-host fs k e
-    go (suc p) e = above-parent lawful k (omega arith) ∙ ap (λ (n : ℕ). n ∷ aboveByParents fs n) e
-
 -- the bridges above, told by the records before and by parent records
 above-agree : (before fs : List Function) → Lawful (toPlacing (onto before fs)) → (p : ℕ) → p ≤ length before
-    → above (length before) p before ≡ stepUp p (aboveByParents (toPlacing (onto before fs)))
+    → above (length before) p before ≡ aboveBus (toPlacing (onto before fs)) p
 unfolding above
 above-agree [] fs lawful zero l = refl
 above-agree [] fs lawful (suc p) l = absurd (omega arith)
 above-agree (g ∷ before) fs lawful p l = go (eqb p (suc (length before))) refl (above-agree before (g ∷ fs) lawful)
   where
-    n : ℕ
-    n = length before
-
-    above-of : ℕ → List ℕ
-    above-of = aboveByParents (toPlacing (onto before (g ∷ fs)))
+    all : List placing.Function
+    all = toPlacing (onto before (g ∷ fs))
 
     go : (t : Bool) → eqb p (suc (length before)) ≡ t
-        → ((q : ℕ) → q ≤ length before → above (length before) q before ≡ stepUp q (aboveByParents (toPlacing (onto before (g ∷ fs)))))
-        → above (suc (length before)) p (g ∷ before) ≡ stepUp p (aboveByParents (toPlacing (onto before (g ∷ fs))))
+        → ((q : ℕ) → q ≤ length before → above (length before) q before ≡ aboveBus all q)
+        → above (suc (length before)) p (g ∷ before) ≡ aboveBus all p
     go true e on =
         let is : p ≡ suc (length before) = eqb-true p (suc (length before)) e in
         let up = parent-onto before g fs in
         let next = on (g .parent) (omega (arith, parent-before lawful (length before))) in
         above-here (length before) p g before e
-        ∙ ap (p ∷_) (next ∙ sym (above-step lawful (suc (length before)) ∙ ap (λ (q : ℕ). stepUp q above-of) up))
-        ∙ ap (λ (q : ℕ). q ∷ above-of (suc (length before))) is
-        ∙ ap (λ (q : ℕ). stepUp q above-of) (sym is)
+        ∙ ap (p ∷_) (next ∙ sym (above-on-bus lawful (suc (length before)) ∙ ap (aboveBus all) up))
+        ∙ ap (λ (q : ℕ). q ∷ aboveByParents all (suc (length before))) is
+        ∙ ap (aboveBus all) (sym is)
     go false e on = above-later (length before) p g before e ∙ on p (omega (arith, eqb-false p (suc (length before)) e))
 
-shallow-from : (before fs : List Function) → Lawful (toPlacing (onto before fs)) → anyMisplaced (length before) before fs ≡ false
-    → (i : ℕ) → i < length fs → length (aboveByParents (toPlacing (onto before fs)) (suc (length before + i))) ≤ 16
+few-above-from : (before fs : List Function) → Lawful (toPlacing (onto before fs)) → anyMisplaced (length before) before fs ≡ false
+    → (i : ℕ) → i < length fs → length (aboveByParents (toPlacing (onto before fs)) (suc (length before + i))) ≤ mostAbove
 unfolding anyMisplaced
-shallow-from before [] lawful e i l = absurd (omega arith)
-shallow-from before (f ∷ fs) lawful e zero l =
+few-above-from before [] lawful e i l = absurd (omega arith)
+few-above-from before (f ∷ fs) lawful e zero l =
     let both = false-of-or (misplaced (length before) before f) (anyMisplaced (suc (length before)) (f ∷ before) fs) e in
     let up = parent-onto before f fs in
     let low : f .parent ≤ length before = omega (arith, parent-before lawful (length before)) in
     let all = toPlacing (onto before (f ∷ fs)) in
     let same : aboveByParents all (suc (length before)) ≡ above (length before) (f .parent) before =
-    above-step lawful (suc (length before)) ∙ ap (λ (q : ℕ). stepUp q (aboveByParents all)) up ∙ sym (above-agree before (f ∷ fs) lawful (f .parent) low) in
+    above-on-bus lawful (suc (length before)) ∙ ap (aboveBus all) up ∙ sym (above-agree before (f ∷ fs) lawful (f .parent) low) in
     rw (add-zero (length before), same) (placed-of-not-misplaced (length before) before f (both .0) .shallow)
-shallow-from before (f ∷ fs) lawful e (suc i) l =
+few-above-from before (f ∷ fs) lawful e (suc i) l =
     let both = false-of-or (misplaced (length before) before f) (anyMisplaced (suc (length before)) (f ∷ before) fs) e in
     let place : length before + suc i ≡ suc (length before) + i = omega arith in
-    rw place (shallow-from (f ∷ before) fs lawful (both .1) i (omega arith))
+    rw place (few-above-from (f ∷ before) fs lawful (both .1) i (omega arith))
 
-pub shallow-of-placed : (fs : List Function) → Lawful (toPlacing fs) → anyMisplaced 0 [] fs ≡ false
-    → (k : ℕ) → length (aboveByParents (toPlacing fs) k) ≤ 16
+pub few-above-of-placed : (fs : List Function) → Lawful (toPlacing fs) → anyMisplaced 0 [] fs ≡ false
+    → (k : ℕ) → length (aboveByParents (toPlacing fs) k) ≤ mostAbove
 unfolding aboveByParents aboveWithin
-shallow-of-placed fs lawful e zero = omega arith
-shallow-of-placed fs lawful e (suc i) = ⊎-elim past there (le-or-lt (length fs) i)
+few-above-of-placed fs lawful e zero = omega arith
+few-above-of-placed fs lawful e (suc i) = ⊎-elim past there (le-or-lt (length fs) i)
   where
-    past : length fs ≤ i → length (aboveByParents (toPlacing fs) (suc i)) ≤ 16
+    past : length fs ≤ i → length (aboveByParents (toPlacing fs) (suc i)) ≤ mostAbove
     past l =
         let none = List·getD-eq-default (toPlacing fs) noFunction {n = i} (omega (arith, length-map fs toFunction)) in
         let host = above-host (toPlacing fs) (suc i) (ap (λ (f : placing.Function). f .parent) none) in
         omega (arith, ap length host)
 
-    there : i < length fs → length (aboveByParents (toPlacing fs) (suc i)) ≤ 16
-    there l = let place : 0 + i ≡ i = omega arith in rw place at (shallow-from [] fs lawful e i l)
+    there : i < length fs → length (aboveByParents (toPlacing fs) (suc i)) ≤ mostAbove
+    there l = let place : 0 + i ≡ i = omega arith in rw place at (few-above-from [] fs lawful e i l)
+
+pub few-above-of-accepted : (b : List ℕ) → boardNumber b ≡ 0 → (k : ℕ) → length (aboveByParents (toPlacing (functionsOf b)) k) ≤ mostAbove
+few-above-of-accepted b e = few-above-of-placed (functionsOf b) (lawful-of-accepted b e) (accepted-of-zero b e .order)

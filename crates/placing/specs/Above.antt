@@ -1,8 +1,9 @@
--- Document 01, "Bridges above a function: its parent record, that one's parent and so on, stopping short of the host." Assumes nothing.
+-- Document 01, "Bridges above a function: its parent record, that one's parent and so on, stopping short of the host", and how many may
+-- be. Assumes nothing.
 use mathlib.Core.List.{List, [], _∷_}
 use Prim.Native.Nat.{ℕ, zero, suc}
 use Rattle.placing.specs.Records.{Function}
 use Rattle.placing.specs.Preorder.{parentOf}
 
 -- One step up, with the way on from there handed in: at the host, record 0, it ends
 abbrev pub stepUp : ℕ → (ℕ → List ℕ) → List ℕ
@@ -16,3 +17,11 @@ aboveWithin (suc n) fs k = stepUp (parentOf fs k) (aboveWithin n fs)
 -- A parent is an earlier record, so the record's own number bounds the way up (`above-parent`)
 unfoldable pub aboveByParents : List Function → ℕ → List ℕ
 aboveByParents fs k = aboveWithin k fs k
+
+-- Those above whatever stands on bus b, the bus of the host or of bridge b: the bridge itself, and those above it (`above-on-bus`)
+abbrev pub aboveBus : List Function → ℕ → List ℕ
+aboveBus fs b = stepUp b (aboveByParents fs)
+
+-- Document 01, "at most 16 bridges above any"
+abbrev pub mostAbove : ℕ
+mostAbove = 16
