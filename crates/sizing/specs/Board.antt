@@ -11,6 +11,7 @@ use Rattle.pools.specs.declared.Pool.{Pool}
 use Rattle.pools.specs.declared.Pool.the-variants.{Low, High, Io}
 use Rattle.bar.specs.Bar.{anyBad}
 use Rattle.placing.specs.Records.{Function, DepthFirst, onlyHost}
+use Rattle.placing.specs.Above.{aboveByParents, aboveBus, mostAbove}
 use Rattle.placing.specs.Sizing as placing
 use Rattle.placing.specs.Sizing.{busLaid, functionLaid}
 use Rattle.placing.specs.SizingLaws.{Ready}
@@ -19,11 +20,12 @@ use Rattle.sizing.specs.Functions.{slotsIn, functionsIn, setAt, function
 use Rattle.sizing.specs.Cut.{says, cut, Whole}
 use Rattle.sizing.specs.Memo.{memoFrom, memoBetween}
 
--- the arrays of a lawful board: long enough, depth-first, and no read-back unlawful
+-- the arrays of a lawful board: long enough, depth-first, no more bridges above a function than may be, and no read-back unlawful
 pub record Board (ps hs ss : List ℕ) : Type 0 where
   pub headers : length ps ≤ length hs
   pub readbacks : 6 * length ps ≤ length ss
   pub ordered : DepthFirst onlyHost 1 (functionsIn ps hs ss)
+  pub shallow : (k : ℕ) → length (aboveByParents (functionsIn ps hs ss) k) ≤ mostAbove
   pub readable : (i : ℕ) → i < length ps → anyBad (slotsIn (getD hs i 0) (setAt ss i)) ≡ false
 
 -- a function whose BARs can be laid out: it has its header type and its set, and no read-back is unlawful
@@ -37,12 +39,13 @@ pub record OwnBars (hs ss : List ℕ) (l : Laid) : Type 0 where
 abbrev pub isChild : List ℕ → ℕ → ℕ → Bool
 isChild ps i b = ltb i (length ps) && eqb (getD ps i 0) b
 
--- the walk over bus b stands at l
-pub record Standing (ps hs ss memo : List ℕ) (b : ℕ) (l : Laid) : Type 0 where
+-- the walk over bus b stands at l, and buses may lie d bridges below it
+pub record Standing (ps hs ss memo : List ℕ) (b d : ℕ) (l : Laid) : Type 0 where
   pub board : Board ps hs ss
   pub room : 8 * length ps ≤ length memo
   pub whole : Whole l
   pub within : l .next ≤ length ps
+  pub deep : mostAbove < length (aboveBus (functionsIn ps hs ss) b) + d
   pub ready : Ready (functionsIn ps hs ss) b (l .next)
 
 -- from l the walk has come to r, which is what is kept of m, and has stored the numbers of the records that it passed
@@ -58,8 +61,8 @@ FunctionSized ps hs ss memo memo' l r =
     Walked (functionsIn ps hs ss) memo memo' l (functionLaid (functionsIn ps hs ss) (functionAt ps hs ss (l .next)) (says l)) r
 
 -- the loop over bus b, from `start`, stands at l
-pub record OnBus (ps hs ss memo memo' : List ℕ) (b : ℕ) (start l : Laid) : Type 0 where
-  pub standing : Standing ps hs ss memo' b l
+pub record OnBus (ps hs ss memo memo' : List ℕ) (b d : ℕ) (start l : Laid) : Type 0 where
+  pub standing : Standing ps hs ss memo' b d l
   pub from : start .next ≤ l .next
   pub same : cut (busLaid (functionsIn ps hs ss) b (says l)) ≡ cut (busLaid (functionsIn ps hs ss) b (says start))
   pub stored : memo' ≡ sets memo (8 * start .next) (memoBetween (functionsIn ps hs ss) (start .next) (l .next))

@@ -15,6 +15,7 @@ use Rattle.placing.specs.Order.{le-or-lt}
 use Rattle.lists.specs.Lists.{front}
 use Rattle.placing.specs.Records.{Host, Function, Lawful, run}
 use Rattle.placing.specs.declared.Extent.{Extent}
+use Rattle.placing.specs.Above.{mostAbove}
 use Rattle.placing.specs.Sizing as placing
 use Rattle.placing.specs.Sizing.{busLaid, rootLaid, endsPast}
 use Rattle.placing.specs.SizingLaws.{laid-ext, ready-start}
@@ -40,16 +41,17 @@ root-next : (gs : List Function) (bases : Pool → ℕ) → busLaid gs 0 (rootFr
 unfolding busLaid
 root-next gs bases = omega (arith, run-root gs)
 
--- the walk over the root bus
-pub root-standing : {ps hs ss : List ℕ} (memo : List ℕ) (bases : Pool → ℕ) {start : Laid} → Board ps hs ss → 8 * length ps ≤ length memo
-    → start ≡ cut (rootFrom bases) → Standing ps hs ss memo 0 start
-root-standing {ps} {hs} {ss} memo bases b room e =
+-- the walk over the root bus, from a depth that is enough for every bus
+pub root-standing : {ps hs ss : List ℕ} (memo : List ℕ) (bases : Pool → ℕ) {d : ℕ} {start : Laid} → Board ps hs ss
+    → 8 * length ps ≤ length memo → mostAbove < d → start ≡ cut (rootFrom bases) → Standing ps hs ss memo 0 d start
+root-standing {ps} {hs} {ss} memo bases b room deep e =
     rw e
     (record {
       board = b;
       room = room;
       whole = whole-of-cut (cut (rootFrom bases)) (rootFrom bases) refl;
       within = omega arith;
+      deep = omega arith;
       ready = ready-start (functionsIn ps hs ss) (lawful-of-board b);
     })
 

@@ -2,7 +2,7 @@
 use mathlib.Core.Path.{_≡_, refl, sym, ap, _∙_}
 use mathlib.Core.Bool.{true, false}
 use mathlib.Core.List.{List}
-use Prim.Native.Nat.{ℕ, suc, _+_, _*_, _≤_, _<_}
+use Prim.Native.Nat.{ℕ, suc, _+_, _-_, _*_, _≤_, _<_}
 use native.Mathlib.Numerals.{add-one}
 use native.Mathlib.Omega.{arith}
 use lib.ListN.{length, getD, drop}
@@ -16,6 +16,8 @@ use Rattle.placing.specs.Align.{PowerOfTwo}
 use Rattle.placing.specs.PoolLaws.{granule-power}
 use Rattle.placing.specs.Records.{Function, Lawful, Sized}
 use Rattle.placing.specs.RecordLaws.{IsAt}
+use Rattle.placing.specs.Above.{aboveByParents, aboveBus}
+use Rattle.placing.specs.AboveLaws.{parent-at, above-on-bus}
 use Rattle.placing.specs.Layout.{isOn, select, largestAlign}
 use Rattle.placing.specs.LayoutLaws.{largest-align-power}
 use Rattle.placing.specs.Pieces.{windowAlign, pieces}
@@ -51,7 +53,8 @@ window-align-power fs h b k q =
     (largest-align-power (granule q) content (granule-power q)
     (all-imp _ _ content (all-keep (isOn b q) Shaped rest (pieces-shaped (suc k) (drop k fs) (all-drop BarsSized k fs h))) (λ p s. s .align-power)))
 
-module _ {ps hs ss memo : List ℕ} {b : ℕ} {l : Laid} (s : Standing ps hs ss memo b l) (here : l .next < length ps) where
+module _ {ps hs ss memo : List ℕ} {d : ℕ} {l : Laid} (s : Standing ps hs ss memo (getD ps (l .next) 0) d l)
+    (here : l .next < length ps) where
   abbrev fs : List Function
   fs = functionsIn ps hs ss
 
@@ -63,6 +66,14 @@ module _ {ps hs ss memo : List ℕ} {b : ℕ} {l : Laid} (s : Standing ps hs ss 
 
   at : IsAt fs (l .next) f
   at = functions-at ps hs ss (l .next) here
+
+  -- the function's own bus is that of its parent record
+  on-bus : aboveByParents fs (suc (l .next)) ≡ aboveBus fs (getD ps (l .next) 0)
+  on-bus = above-on-bus lawful (suc (l .next)) ∙ ap (aboveBus fs) (parent-at (l .next) fs f (drop (suc (l .next)) fs) at)
+
+  -- at most so many bridges stand above a function, so there is depth left for its own bus
+  pub depth-left : 0 < d
+  depth-left = omega (arith, s .deep, s .board .shallow (suc (l .next)), ap length on-bus)
 
   pub own-bars-of-standing : OwnBars hs ss l
   own-bars-of-standing =
@@ -86,7 +97,7 @@ module _ {ps hs ss memo : List ℕ} {b : ℕ} {l : Laid} (s : Standing ps hs ss 
 
   module _ {inside : Laid} (fresh : inside ≡ cut (laidFrom (l .next + 1))) where
     -- the walk over a bridge's own bus starts right after it
-    pub inside-standing : Standing ps hs ss memo (l .next + 1) inside
+    pub inside-standing : Standing ps hs ss memo (l .next + 1) (d - 1) inside
     inside-standing =
         rw fresh
         (record {
@@ -94,7 +105,8 @@ module _ {ps hs ss memo : List ℕ} {b : ℕ} {l : Laid} (s : Standing ps hs ss 
           room = s .room;
           whole = refl;
           within = omega arith;
-          ready = rw (add-one (l .next)) (ready-below fs lawful b (l .next) f (s .ready) at);
+          deep = rw (add-one (l .next)) (omega (arith, s .deep, depth-left, ap length on-bus));
+          ready = rw (add-one (l .next)) (ready-below fs lawful (getD ps (l .next) 0) (l .next) f (s .ready) at);
         })
 
     -- and comes to what lies below it

@@ -35,8 +35,8 @@ not-child ps i b e =
 pub lawful-of-board : {ps hs ss : List ℕ} → Board ps hs ss → Lawful (functionsIn ps hs ss)
 lawful-of-board {ps} {hs} {ss} b = record { ordered = b .ordered; sized = functions-sized ps hs ss }
 
-pub on-bus-start : {ps hs ss memo : List ℕ} {b : ℕ} {l : Laid} → Standing ps hs ss memo b l → OnBus ps hs ss memo memo b l l
-on-bus-start {ps} {hs} {ss} {memo} {b} {l} s =
+pub on-bus-start : {ps hs ss memo : List ℕ} {b d : ℕ} {l : Laid} → Standing ps hs ss memo b d l → OnBus ps hs ss memo memo b d l l
+on-bus-start {ps} {hs} {ss} {memo} {b} {d} {l} s =
     record {
       standing = s;
       from = omega arith;
@@ -44,7 +44,7 @@ on-bus-start {ps} {hs} {ss} {memo} {b} {l} s =
       stored = ap (sets memo (8 * l .next)) (sym (memo-between-none (functionsIn ps hs ss) (l .next)));
     }
 
-module _ {ps hs ss memo memo' : List ℕ} {b : ℕ} {start l : Laid} (on : OnBus ps hs ss memo memo' b start l) where
+module _ {ps hs ss memo memo' : List ℕ} {b d : ℕ} {start l : Laid} (on : OnBus ps hs ss memo memo' b d start l) where
   abbrev fs : List Function
   fs = functionsIn ps hs ss
 
@@ -82,7 +82,7 @@ module _ {ps hs ss memo memo' : List ℕ} {b : ℕ} {start l : Laid} (on : OnBus
     at = functions-at ps hs ss (l .next) child-within
 
     -- a child's own walk stands where the bus's does
-    pub child-standing : Standing ps hs ss memo' (getD ps (l .next) 0) l
+    pub child-standing : Standing ps hs ss memo' (getD ps (l .next) 0) d l
     child-standing = rw parent (on .standing)
 
     module _ {memo'' : List ℕ} {r : Laid} (w : FunctionSized ps hs ss memo' memo'' l r) where
@@ -93,7 +93,7 @@ module _ {ps hs ss memo memo' : List ℕ} {b : ℕ} {start l : Laid} (on : OnBus
       pub lt-next-of-turn : l .next < r .next
       lt-next-of-turn = omega (arith, next, next-lt fs lawful (says l) f)
 
-      pub on-bus-turn : OnBus ps hs ss memo memo'' b start r
+      pub on-bus-turn : OnBus ps hs ss memo memo'' b d start r
       on-bus-turn =
           record {
             standing =
@@ -102,6 +102,7 @@ module _ {ps hs ss memo memo' : List ℕ} {b : ℕ} {start l : Laid} (on : OnBus
                   room = omega (arith, on .standing .room, ap length (w .stored) ∙ length-sets memo' (8 * l .next) (memoBetween fs (l .next) (r .next)));
                   whole = whole-of-cut r (functionLaid fs f (says l)) (w .laid);
                   within = omega (arith, next, function-next-le fs lawful (says l) f (omega (arith, child-within, count)), count);
+                  deep = on .standing .deep;
                   ready = rw next (ready-next fs lawful b (says l) f (on .standing .ready) at parent);
                 };
             from = omega (arith, on .from, lt-next-of-turn);

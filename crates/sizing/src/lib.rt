@@ -28,6 +28,9 @@ pub struct Laid {
     pub io: Extent,
 }
 
+// How deep a bus can lie: below one more bridge than may stand above a function.
+const DEEPEST: usize = placing::MOST_ABOVE + 1;
+
 // Every bus of the board, in one pass: what the root bus comes to from the pools' bases, and in `memo`, eight numbers for each function, what
 // lies below each bridge. Function i has its parent record and its header type byte at i, its six read-backs at 6 * i, its numbers at 8 * i.
 pub fn size_board(
@@ -43,7 +46,7 @@ pub fn size_board(
     ensures { λ r. ⌜ BoardSized (functionsIn (now (parents .entry)) (now (headers .entry)) (now (readbacks .entry))) (basesOf «base_low» «base_high» «base_io») (now (memo .entry)) (now (memo .exit)) r ⌝ }
 {
     let start = root_from(base_low, base_high, base_io);
-    bus_size(parents, headers, readbacks, memo, 0, start)
+    bus_size(parents, headers, readbacks, memo, 0, DEEPEST, start)
 }
 
 // What was stored of the function at index i.
@@ -99,20 +102,22 @@ pub fn window_align(q: Pool, largest: u64) -> u64
 
 // ---- a bus from its functions, a bridge from its bus
 
+// `depth` is what remains: a bus may lie so many bridges below this one. It falls at each bridge, and so do the records left.
 fn bus_size(
     parents: &[u16],
     headers: &[u8],
     readbacks: &[u32],
     memo: &mut [u64],
     bus: usize,
+    depth: usize,
     start: Laid,
 ) -> Laid
-    requires { ⌜ Standing (now parents) (now headers) (now readbacks) (now memo) bus start ⌝ }
+    requires { ⌜ Standing (now parents) (now headers) (now readbacks) (now memo) bus depth start ⌝ }
     ensures { λ r. ⌜ BusSized (now (parents .entry)) (now (headers .entry)) (now (readbacks .entry)) (now (memo .entry)) (now (memo .exit)) bus start r ⌝ }
 {
     let mut l = start;
     while is_child(parents, l.next, bus) {
-        l = function_size(parents, headers, readbacks, memo, l);
+        l = function_size(parents, headers, readbacks, memo, depth, l);
     }
     l
 }
@@ -122,16 +127,17 @@ fn function_size(
     headers: &[u8],
     readbacks: &[u32],
     memo: &mut [u64],
+    depth: usize,
     l: Laid,
 ) -> Laid
-    requires { ⌜ Standing (now parents) (now headers) (now readbacks) (now memo) (getD (now parents) (l .next) 0) l × (l .next < length (now parents)) ⌝ }
+    requires { ⌜ Standing (now parents) (now headers) (now readbacks) (now memo) (getD (now parents) (l .next) 0) depth l × (l .next < length (now parents)) ⌝ }
     ensures { λ r. ⌜ FunctionSized (now (parents .entry)) (now (headers .entry)) (now (readbacks .entry)) (now (memo .entry)) (now (memo .exit)) l r ⌝ }
 {
     let i = l.next;
     let own = own_bars(headers, readbacks, l);
     if is_bridge(headers, i) {
         let inside = laid_from(i + 1);
-        let inner = bus_size(parents, headers, readbacks, memo, i + 1, inside);
+        let inner = bus_size(parents, headers, readbacks, memo, i + 1, depth - 1, inside);
         store(memo, i, inner);
         return with_windows(own, inner);
     }

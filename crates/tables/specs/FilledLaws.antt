@@ -20,6 +20,7 @@ use Rattle.board.specs.Board.{mostFunctions, boardNumber, functionsOf}
 use Rattle.board.specs.BoardLaws.{accepted-of-zero}
 use Rattle.board.specs.ToPlacing.{toFunction, toPlacing}
 use Rattle.board.specs.ToPlacingLaws.{lawful-of-accepted}
+use Rattle.board.specs.Depth.{few-above-of-accepted}
 use Rattle.sizing.specs.Functions.{slotsIn, functionIn, functionsIn, setAt}
 use Rattle.sizing.specs.Board.{Board}
 use Rattle.tables.specs.Tables.{parentsOf, headersOf, readbacksOf, Room, Filled}
@@ -81,6 +82,7 @@ board-of-lists b e =
       headers = omega (arith, ps, hs);
       readbacks = omega (arith, ps, length-readbacksOf fs six);
       ordered = subst (λ (l : List placing.Function). DepthFirst onlyHost 1 l) (sym (functions-of-lists fs six)) (lawful-of-accepted b e .ordered);
+      shallow = rw (functions-of-lists fs six) (few-above-of-accepted b e);
       readable = readable-of fs six (accepted-of-zero b e .readbacks);
     }
 

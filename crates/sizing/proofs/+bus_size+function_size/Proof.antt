@@ -1,6 +1,6 @@
--- `sizing::bus_size` and `sizing::function_size` meet their contracts. The records left fall: a bus counts them twice and one more, a function
--- twice. The loop over a bus stands where `OnBus` says: what is still to come, from what was laid out, comes to what the bus comes to.
--- Assumes nothing.
+-- `sizing::bus_size` and `sizing::function_size` meet their contracts. The measure is the depth that remains and the records left, and one
+-- more for a bus: from a bus to its function neither rises, from a bridge to its bus both fall. The loop over a bus stands where `OnBus`
+-- says: what is still to come, from what was laid out, comes to what the bus comes to. Assumes nothing.
 use borrow.Author.Needs.{needs}
 use mathlib.Core.Path.{sym, ap, _∙_}
 use Prim.Native.Nat.{ℕ, _+_, _-_, _*_, _<_}
@@ -11,7 +11,7 @@ use Rattle.sizing.specs.declared.Laid.{Laid}
 use Rattle.sizing.specs.Memo.{numbersOf}
 use Rattle.sizing.specs.Board.{OnBus}
 use Rattle.sizing.specs.BusLaws.{on-bus-start, on-bus-length, on-bus-end, child-within, child-standing, lt-next-of-turn, on-bus-turn}
-use Rattle.sizing.specs.BridgeLaws.{own-bars-of-standing, inside-standing, inner-align-power, leaf-walked, bridge-walked}
+use Rattle.sizing.specs.BridgeLaws.{depth-left, own-bars-of-standing, inside-standing, inner-align-power, leaf-walked, bridge-walked}
 use borrow.Fn.Kinds.{In}
 use borrow.Fn.PlainCycle.{Measures, is, falls, and}
 use Rattle.sizing.proofs.bus_size.Reads as bus-size
@@ -30,10 +30,10 @@ use Rattle.sizing.proofs.+bus_size+function_size.{statement}
 use Rattle.sizing.proofs.+bus_size+function_size.Tie.{close}
 
 abbrev μ-bus-size : Measures 4 bus-size-kinds.ps ℕ
-μ-bus-size κs a = 2 * (length (a .0 .now) - a .1 .1 .1 .1 .1 .0 .next) + 1
+μ-bus-size κs a = a .1 .1 .1 .1 .1 .0 + (length (a .0 .now) - a .1 .1 .1 .1 .1 .1 .0 .next) + 1
 
 abbrev μ-function-size : Measures 4 function-size-kinds.ps ℕ
-μ-function-size κs a = 2 * (length (a .0 .now) - a .1 .1 .1 .1 .0 .next)
+μ-function-size κs a = a .1 .1 .1 .1 .0 + (length (a .0 .now) - a .1 .1 .1 .1 .1 .0 .next)
 
 abbrev bus-size-at : ℕ → In 4 bus-size-kinds.ps
 bus-size-at t = and 4 bus-size-kinds.ps (is 4 bus-size-kinds.ps μ-bus-size t) bus-size.Pre
@@ -80,10 +80,10 @@ function-size-claims t = (
 )
 
 abbrev bus-size-Inv-loop : bus-size-lts.InvT-loop
-bus-size-Inv-loop parents headers readbacks memo₀ bus l₀ memo l = OnBus parents headers readbacks memo₀ memo bus l₀ l
+bus-size-Inv-loop parents headers readbacks memo₀ bus depth l₀ memo l = OnBus parents headers readbacks memo₀ memo bus depth l₀ l
 
 abbrev bus-size-μ-loop : bus-size-lts.MeasureT-loop
-bus-size-μ-loop parents headers readbacks memo₀ bus l₀ memo l = length parents - l .next
+bus-size-μ-loop parents headers readbacks memo₀ bus depth l₀ memo l = length parents - l .next
 
 bus-size-loop-holds : (t : ℕ) → bus-size-lts.Need-loop-holds (bus-size-claims t) (bus-size-at t) bus-size.Post bus-size-Inv-loop bus-size-μ-loop
 bus-size-loop-holds t c = on-bus-start (c .before .before .before .before .pre .1)
@@ -129,11 +129,17 @@ function-size-laid-from-requires t c κs = search needs
 function-size-add-bus-size : (t : ℕ) → function-size-lts.Need-add-bus-size (function-size-claims t) (function-size-at t) function-size.Post
 function-size-add-bus-size t c = omega (arith, c .before .before .before .before .before .before .before .before .before .pre .1 .1)
 
+function-size-sub-bus-size : (t : ℕ) → function-size-lts.Need-sub-bus-size (function-size-claims t) (function-size-at t) function-size.Post
+function-size-sub-bus-size t c =
+    let pre = c .before .before .before .before .before .before .before .before .before .pre .1 in
+    depth-left (pre .0) (pre .1)
+
 function-size-bus-size-requires : (t : ℕ) → function-size-lts.Need-bus-size-requires (function-size-claims t) (function-size-at t) function-size.Post
 function-size-bus-size-requires t c κs =
     let pre = c .before .before .before .before .before .before .before .before .before .pre in
     let fresh = c .before .laid-from .ensures in
-    (omega (arith, pre .0, pre .1 .1, ap (λ (x : Laid). x .next) fresh), inside-standing (pre .1 .0) (pre .1 .1) fresh)
+    let left = depth-left (pre .1 .0) (pre .1 .1) in
+    (omega (arith, pre .0, pre .1 .1, left, ap (λ (x : Laid). x .next) fresh), inside-standing (pre .1 .0) (pre .1 .1) fresh)
 
 function-size-store-requires : (t : ℕ) → function-size-lts.Need-store-requires (function-size-claims t) (function-size-at t) function-size.Post
 function-size-store-requires t c κs =
@@ -196,6 +202,7 @@ pub +bus-size+function-size-spec : {M : Type 1} → statement M
     (function-size-add-laid-from t)
     (function-size-laid-from-requires t)
     (function-size-add-bus-size t)
+    (function-size-sub-bus-size t)
     (function-size-bus-size-requires t)
     (function-size-store-requires t)
     (function-size-with-windows-requires t)

@@ -2,6 +2,7 @@
 use borrow.Author.Needs.{needs}
 use Rattle.sizing.proofs.size_board.Statement.{statement}
 use Rattle.sizing.proofs.size_board.Tie as tie
+use native.Mathlib.Omega.{arith}
 use Rattle.sizing.specs.Board.{basesOf}
 use Rattle.sizing.specs.BoardLaws.{root-standing, board-sized}
 
@@ -9,7 +10,10 @@ root-from-requires : tie.Need-root-from-requires
 root-from-requires c κs = search needs
 
 bus-size-requires : tie.Need-bus-size-requires
-bus-size-requires c κs = let a = c .before .before .before .before .before .before .args in root-standing (a .memo .now) (basesOf (a .base-low) (a .base-high) (a .base-io)) (c .before .before .before .before .before .before .pre .0) (c .before .before .before .before .before .before .pre .1) (c .before .root-from .ensures)
+bus-size-requires c κs =
+    let start = c .before .before .before .before .before .before in
+    let bases = basesOf (start .args .base-low) (start .args .base-high) (start .args .base-io) in
+    root-standing (start .args .memo .now) bases (start .pre .0) (start .pre .1) (omega arith) (c .before .root-from .ensures)
 
 same-length : tie.Need-same-length
 same-length c = search needs
