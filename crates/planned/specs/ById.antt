@@ -10,7 +10,7 @@ use Rattle.placing.specs.Preorder.{parentOf}
 use Rattle.placing.specs.Numbering.{busNumber}
 use Rattle.walk.specs.Tally.{Tally}
 use Rattle.walk.specs.Walk.{delivered, refused, walkFrom, Trail}
-use Rattle.planned.specs.Above.{aboveByParents}
+use Rattle.placing.specs.Above.{aboveByParents}
 
 -- The number of the bus that record k is on, the one below its parent: the first bus below the host, else the bridge's secondary
 abbrev pub busOf : Host → List Function → ℕ → ℕ

@@ -21,7 +21,7 @@ use Rattle.walk.specs.Ids.{tallyById, DistinctIds, HasId}
 use Rattle.walk.specs.IdsDelivery.{delivered-by-id, crosses-by-id, has-id-of-delivered, nobody-by-id}
 use Rattle.planned.specs.Spaces.{memorySpace}
 use Rattle.planned.specs.Boards.{Board}
-use Rattle.planned.specs.Above.{aboveByParents}
+use Rattle.placing.specs.Above.{aboveByParents}
 use Rattle.planned.specs.Registers.{planNode, planRows, planNodes, planHost}
 use Rattle.planned.specs.ById.{busOf, HasIdAsNumbered, DeliversAsNumbered}
 use Rattle.planned.specs.Rows.{row-at}
