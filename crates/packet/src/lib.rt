@@ -22,8 +22,8 @@ use pairs::MemoryKind;
 use pairs::Pair;
 use pairs::Row;
 
-// The fields that every packet has. No two that follow each other among a packet's numbers are neighbours here: neighbours would be stored one by one and
-// loaded as a pair, which has to wait for both stores.
+// The fields that every packet has. None stands beside the one that follows it among a packet's numbers: the two would be stored one by one
+// and then loaded as a pair, which has to wait for both stores.
 pub struct Head {
     pub requester: u16,
     pub form: u8,
@@ -48,7 +48,7 @@ pub struct Target {
     pub register: u16,
 }
 
-// What a completion tells. In this order it takes ten bytes: a struct of eight would be moved as one number, and a packet, whose fields of another kind
+// What a completion tells. In this order it takes ten bytes: eight would be moved as one number, and a packet, whose fields of another kind
 // then lie across it, would be stored and loaded in pieces that do not match.
 pub struct Outcome {
     pub status: u8,

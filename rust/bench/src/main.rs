@@ -7,7 +7,7 @@ mod subjects;
 
 use measure::{compare, Times, ROUNDS};
 use std::hint::black_box;
-use subjects::{plain_calls, proved_calls, Backplane};
+use subjects::{plain_calls, proved_calls, Backplane, Mixed};
 
 /// What happens to the buffer that a call writes.
 const NONE: &str = "none";
@@ -25,8 +25,11 @@ fn main() {
     println!("| call | input | buffer written | plain ns | proved ns | proved/plain |");
     println!("|---|---|---|---:|---:|---:|");
     let headers = subjects::headers();
+    let mixed = subjects::mixed();
     headers.iter().for_each(|(name, header)| read(name, header));
+    read_mixed(&mixed);
     headers.iter().for_each(|(name, header)| write(name, header));
+    write_mixed(&mixed);
     let backplanes = [16, 64, 256].map(Backplane::new);
     backplanes.iter().for_each(plan);
     backplanes.iter().for_each(plan_fresh);
@@ -50,6 +53,27 @@ fn read(name: &str, header: &[u8]) {
     );
     assert_eq!(answers.0, answers.1);
     row("read, as numbers", name, REUSED, times);
+}
+
+/// One header after the other, so that neither side can foresee the next one's kind.
+fn read_mixed(mixed: &[Mixed]) {
+    let mut answers = ([0; 20], [0; 20]);
+    let mut turns = (mixed.iter().cycle(), mixed.iter().cycle());
+    let times = compare(
+        || turns.0.next().map(|m| plain_calls::read_numbers(black_box(&m.header), black_box(&mut answers.0))),
+        || turns.1.next().map(|m| proved_calls::read_numbers(black_box(&m.header), black_box(&mut answers.1))),
+    );
+    row("read, as numbers", subjects::MIXED, REUSED, times);
+}
+
+fn write_mixed(mixed: &[Mixed]) {
+    let mut rooms = ([0; 16], [0; 16]);
+    let mut turns = (mixed.iter().cycle(), mixed.iter().cycle());
+    let times = compare(
+        || turns.0.next().map(|m| plain_calls::write_numbers(black_box(&m.numbers), black_box(&mut rooms.0)).is_ok()),
+        || turns.1.next().map(|m| proved_calls::write_numbers(black_box(&m.numbers), black_box(&mut rooms.1))),
+    );
+    row("write, as numbers", subjects::MIXED, REUSED, times);
 }
 
 fn write(name: &str, header: &[u8]) {

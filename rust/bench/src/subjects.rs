@@ -2,6 +2,8 @@
 
 use inputs::board::{high, memory, Board};
 use inputs::foreign::{completion, request, CPLD, MRD};
+use inputs::numbers;
+use inputs::random::Random;
 
 /// The plain calls, each in a function of its own, as the proved ones are behind the C ABI.
 pub mod plain_calls {
@@ -94,6 +96,34 @@ pub fn headers() -> [(&'static str, Vec<u8>); 3] {
         ("memory read, 16 bytes", request(MRD, 0x2_4000_0000)),
         ("completion, 12 bytes", completion(CPLD, 0x0100)),
     ]
+}
+
+pub const MIXED: &str = "65,536 lawful headers of every kind, in turn";
+
+/// A lawful packet as bytes and as numbers.
+pub struct Mixed {
+    pub header: [u8; 16],
+    pub numbers: [u64; 20],
+}
+
+/// Lawful headers of every kind at random; both sides read each the same.
+pub fn mixed() -> Vec<Mixed> {
+    let mut random = Random::new(1);
+    (0..65_536).map(|_| Mixed::new(&mut random)).collect()
+}
+
+impl Mixed {
+    fn new(random: &mut Random) -> Mixed {
+        let numbers = numbers::lawful(random);
+        let mut header = [0; 16];
+        let bytes = numbers::header(&numbers);
+        header[..bytes.len()].copy_from_slice(&bytes);
+        let mut answers = ([0; 20], [0; 20]);
+        assert_eq!(plain_calls::read_numbers(&header, &mut answers.0), 0);
+        assert_eq!(proved_calls::read_numbers(&header, &mut answers.1), 0);
+        assert_eq!((answers.0, answers.1), (numbers, numbers));
+        Mixed { header, numbers }
+    }
 }
 
 /// Functions in a chain with its endpoints, at most.
