@@ -1,135 +1,73 @@
-// A line of input as a state that each byte moves on. The bytes of its board are fed to the planner's
-// input, which keeps the first of them in lent room.
+// A line of input. The letters of its word are kept in lent room. The bytes of its board are fed to
+// the planner's input, which keeps the first of them in lent room too.
 use input::Input;
 use input::KEPT;
-use text::digits;
-use text::digits::Digit;
-
-// What a line has shown so far.
-pub enum Stage {
-    // nothing but spaces
-    Start,
-    Comment,
-    // so many letters of `board`
-    Word(u8),
-    // whole bytes
-    Between,
-    // and the first digit of one more
-    Half(u8),
-    // what no line has
-    Wrong,
-}
+use lines::Ended;
+use lines::Stage;
+use lines::WORD;
+use text::front;
+use text::put_byte;
 
 pub struct Line {
     pub stage: Stage,
+    pub letters: usize,
     pub input: Input,
+    // whether every answer so far could be written
+    pub written: bool,
 }
 
-pub fn start() -> Line {
+pub fn start(written: bool) -> Line {
     Line {
         stage: Stage::Start,
+        letters: 0,
         input: Input::start(),
+        written,
     }
 }
 
-pub fn take(line: Line, byte: u8, kept: &mut [u8; KEPT]) -> Line {
+pub fn take(line: Line, byte: u8, word: &mut [u8; WORD], kept: &mut [u8; KEPT]) -> Line {
     if byte == b'\n' {
-        end(line, kept);
-        return start();
+        return start(end(line, word, kept));
     }
-    let stage = line.stage;
+    let before = line.stage;
+    let stage = lines::next(before, byte);
     match stage {
-        Stage::Start => moved(line, first(byte)),
-        Stage::Comment => line,
-        Stage::Word(letters) => moved(line, next_letter(letters, byte)),
-        Stage::Between => moved(line, between(byte)),
-        Stage::Half(high) => second(line, high, byte, kept),
-        Stage::Wrong => line,
+        Stage::Letter(letter) => Line {
+            stage,
+            letters: put_byte(word, line.letters, letter),
+            ..line
+        },
+        Stage::Byte(value) => Line {
+            stage,
+            input: fed(line.input, value, kept),
+            ..line
+        },
+        _ => Line { stage, ..line },
     }
 }
 
-// Answers the line, unless it is a comment or blank.
-pub fn end(line: Line, kept: &[u8; KEPT]) {
+// Answers the line, unless it is a comment or blank, and says whether the answer could be written.
+pub fn end(line: Line, word: &[u8; WORD], kept: &[u8; KEPT]) -> bool {
     let stage = line.stage;
-    match stage {
-        Stage::Start => {}
-        Stage::Comment => {}
-        Stage::Word(letters) => {
-            if letters == 5 {
-                console::print_plan(line.input, kept);
-            } else {
-                print_wrong();
-            }
-        }
-        Stage::Between => console::print_plan(line.input, kept),
-        Stage::Half(_) => print_wrong(),
-        Stage::Wrong => print_wrong(),
+    match lines::end(stage) {
+        Ended::Passed => true,
+        Ended::Whole => answer(line, word, kept),
+        Ended::Wrong => print_wrong(),
     }
 }
 
-fn print_wrong() {
-    console::print(b"not a line\n");
+fn answer(line: Line, word: &[u8; WORD], kept: &[u8; KEPT]) -> bool {
+    if check::same(front(word, line.letters), b"board") {
+        return printer::print(line.input, kept);
+    }
+    print_wrong()
 }
 
-fn moved(line: Line, stage: Stage) -> Line {
-    let input = line.input;
-    Line { stage, input }
+fn print_wrong() -> bool {
+    console::print(b"not a line\n")
 }
 
-fn first(byte: u8) -> Stage {
-    match byte {
-        b' ' => Stage::Start,
-        b'#' => Stage::Comment,
-        _ => next_letter(0, byte),
-    }
-}
-
-// The next letter of `board`, or the space after it.
-fn next_letter(letters: u8, byte: u8) -> Stage {
-    if byte != letter(letters) {
-        return Stage::Wrong;
-    }
-    if letters == 5 {
-        return Stage::Between;
-    }
-    Stage::Word(letters % 5 + 1)
-}
-
-fn letter(i: u8) -> u8 {
-    match i {
-        0 => b'b',
-        1 => b'o',
-        2 => b'a',
-        3 => b'r',
-        4 => b'd',
-        _ => b' ',
-    }
-}
-
-// A space, or the first digit of a byte.
-fn between(byte: u8) -> Stage {
-    if byte == b' ' {
-        return Stage::Between;
-    }
-    match digits::value_of(byte) {
-        Digit::Value(high) => Stage::Half(high),
-        Digit::Nothing => Stage::Wrong,
-    }
-}
-
-// The second digit of a byte, which is then fed.
-fn second(line: Line, high: u8, byte: u8, kept: &mut [u8; KEPT]) -> Line {
-    match digits::value_of(byte) {
-        Digit::Value(low) => fed(line, digits::joined(high, low), kept),
-        Digit::Nothing => moved(line, Stage::Wrong),
-    }
-}
-
-fn fed(line: Line, byte: u8, kept: &mut [u8; KEPT]) -> Line {
+fn fed(input: Input, byte: u8, kept: &mut [u8; KEPT]) -> Input {
     let piece = [byte];
-    let input = line.input;
-    Line {
-        stage: Stage::Between,
-        input: input.feed(&piece, kept),
-    }
+    input.feed(&piece, kept)
 }

@@ -5,54 +5,39 @@
 // bytes as one likes; a board may have any length, or no byte. A line that starts with `#` is a
 // comment, and a blank line is passed over. Any other line is answered by `not a line`. The
 // last line may lack its newline. Where standard input cannot be read, what was read of the last
-// line has no answer, and there is a message on standard error.
+// line has no answer; there, and where standard output cannot be written, a message goes to standard
+// error and the program ends.
 mod line;
 
+use console::Next;
+use console::Reader;
 use input::KEPT;
-use libc::STDIN_FILENO;
-use line::Line;
-
-enum Taken {
-    Whole(Line),
-    Failed,
-}
+use lines::WORD;
 
 fn main() {
     let mut piece = io::buffer();
+    let mut word = [0u8; WORD];
     let mut kept = [0u8; KEPT];
-    match take_lines(&mut piece, &mut kept) {
-        Taken::Whole(last) => line::end(last, &kept),
-        Taken::Failed => console::report(b"standard input could not be read\n"),
-    }
+    answer_lines(&mut piece, &mut word, &mut kept);
 }
 
-// Takes the input in pieces to its end, and answers what stands after the last newline. A proved
-// loop has to end and nothing says that an input does, so the pieces are counted down from a number
-// that no input uses up.
-fn take_lines(piece: &mut [u8], kept: &mut [u8; KEPT]) -> Taken {
-    let mut line = line::start();
-    let mut left = u64::MAX;
-    while left > 0 {
-        let got = libc::read(STDIN_FILENO, piece);
-        if got < 0 {
-            return Taken::Failed;
+// Answers each line, and what stands after the last newline.
+fn answer_lines(piece: &mut [u8], word: &mut [u8; WORD], kept: &mut [u8; KEPT]) {
+    let mut reader = Reader::start();
+    let mut line = line::start(true);
+    while line.written {
+        match reader.byte(piece) {
+            Next::Byte(byte, after) => {
+                line = line::take(line, byte, word, kept);
+                reader = after;
+            }
+            Next::End => {
+                line::end(line, word, kept);
+                return;
+            }
+            Next::Failed => {
+                return;
+            }
         }
-        let count = io::count(got, piece);
-        if count == 0 {
-            return Taken::Whole(line);
-        }
-        line = take_piece(line, &piece[..count], kept);
-        left -= 1;
     }
-    Taken::Failed
-}
-
-fn take_piece(before: Line, piece: &[u8], kept: &mut [u8; KEPT]) -> Line {
-    let mut line = before;
-    let mut i = 0;
-    while i < piece.len() {
-        line = line::take(line, piece[i], kept);
-        i += 1;
-    }
-    line
 }

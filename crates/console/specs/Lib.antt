@@ -1,0 +1,2 @@
+-- That reading comes to an end.
+pub mod Console
