@@ -1,6 +1,5 @@
 // The line that answers a header: `refused N`, or the packet field by field and then `same` where it
 // is written back to the header's own bytes, `differs` where not.
-use libc::STDOUT_FILENO;
 use packet::Packet;
 use text::front;
 use text::put_named;
@@ -8,15 +7,11 @@ use text::put_text;
 use tlp::Reading;
 use tlp::Writing;
 
-// Answers the header that is the first `count` bytes. The longest answer has 131 bytes.
-pub fn print(bytes: &[u8], count: usize) {
+// Whether the answer could be written. The longest has 131 bytes.
+pub fn print(header: &[u8]) -> bool {
     let mut line = [0u8; 256];
-    let n = put_answer(&mut line, front(bytes, count));
-    io::write_all(STDOUT_FILENO, front(&line, n));
-}
-
-pub fn print_wrong() {
-    io::write_all(STDOUT_FILENO, b"not hexadecimal\n");
+    let n = put_answer(&mut line, header);
+    console::print(front(&line, n))
 }
 
 fn put_answer(out: &mut [u8], header: &[u8]) -> usize {

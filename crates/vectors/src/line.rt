@@ -1,77 +1,79 @@
-// A line of input as a state that each byte moves on. The bytes of its header are kept in lent room.
+// A line of input. The bytes of its header are kept in lent room.
 use crate::answer;
-use text::digits;
-use text::digits::Digit;
+use lines::Ended;
+use lines::Stage;
+use text::front;
+use text::put_byte;
 
-// What a line has shown so far.
-pub enum Line {
-    Start,
-    Comment,
-    Dash,
-    // that many bytes, none where there were only spaces
-    Whole(usize),
-    // that many bytes, and the first digit of one more
-    Half(usize, u8),
-    // what no header has
-    Wrong,
+// A header longer than this keeps its first bytes: the codec looks at 16 at the most.
+pub const KEPT: usize = 64;
+
+pub struct Line {
+    pub stage: Stage,
+    pub count: usize,
+    // whether every answer so far could be written
+    pub written: bool,
 }
 
-pub fn take(line: Line, byte: u8, header: &mut [u8]) -> Line {
+pub fn start(written: bool) -> Line {
+    Line {
+        stage: Stage::Start,
+        count: 0,
+        written,
+    }
+}
+
+pub fn take(line: Line, byte: u8, header: &mut [u8; KEPT]) -> Line {
     if byte == b'\n' {
-        end(line, header);
-        return Line::Start;
+        return start(end(line, header));
     }
-    match line {
-        Line::Start => first(byte),
-        Line::Comment => Line::Comment,
-        Line::Dash => Line::Wrong,
-        Line::Whole(count) => between(count, byte),
-        Line::Half(count, high) => second(count, high, byte, header),
-        Line::Wrong => Line::Wrong,
-    }
-}
-
-// Answers the line, unless it is a comment or blank.
-pub fn end(line: Line, header: &[u8]) {
-    match line {
-        Line::Start => {}
-        Line::Comment => {}
-        Line::Dash => answer::print(header, 0),
-        Line::Whole(count) => {
-            if count > 0 {
-                answer::print(header, count);
-            }
-        }
-        Line::Half(_, _) => answer::print_wrong(),
-        Line::Wrong => answer::print_wrong(),
+    let before = line.stage;
+    let stage = next(before, byte);
+    match stage {
+        Stage::Byte(value) => Line {
+            stage,
+            count: put_byte(header, line.count, value),
+            ..line
+        },
+        _ => Line { stage, ..line },
     }
 }
 
-fn first(byte: u8) -> Line {
-    if byte == b'#' {
-        return Line::Comment;
-    }
-    if byte == b'-' {
-        return Line::Dash;
-    }
-    between(0, byte)
-}
-
-// A space, or the first digit of a byte.
-fn between(count: usize, byte: u8) -> Line {
-    if byte == b' ' {
-        return Line::Whole(count);
-    }
-    match digits::value_of(byte) {
-        Digit::Value(high) => Line::Half(count, high),
-        Digit::Nothing => Line::Wrong,
+// Answers the line, unless it is a comment or blank, and says whether the answer could be written.
+pub fn end(line: Line, header: &[u8; KEPT]) -> bool {
+    let stage = line.stage;
+    match lines::end(stage) {
+        Ended::Passed => true,
+        Ended::Whole => answer_whole(line, header),
+        Ended::Wrong => console::print(b"not hexadecimal\n"),
     }
 }
 
-// The second digit of a byte, which is then kept as long as there is room.
-fn second(count: usize, high: u8, byte: u8, header: &mut [u8]) -> Line {
-    match digits::value_of(byte) {
-        Digit::Value(low) => Line::Whole(text::put_byte(header, count, digits::joined(high, low))),
-        Digit::Nothing => Line::Wrong,
+// The header of no bytes is `-`; other lines of none are blank.
+fn answer_whole(line: Line, header: &[u8; KEPT]) -> bool {
+    let stage = line.stage;
+    if let Stage::Letter(_) = stage {
+        return answer::print(front(header, 0));
+    }
+    if line.count == 0 {
+        return true;
+    }
+    answer::print(front(header, line.count))
+}
+
+// No word comes first, so `#` and `-` count as the first byte only. `-` stands alone.
+fn next(stage: Stage, byte: u8) -> Stage {
+    match stage {
+        Stage::Start => first(byte),
+        Stage::Letter(_) => Stage::Wrong,
+        _ => lines::next(stage, byte),
+    }
+}
+
+fn first(byte: u8) -> Stage {
+    match byte {
+        b'#' => Stage::Comment,
+        b'-' => Stage::Letter(byte),
+        _ => lines::next(Stage::Space, byte),
     }
 }

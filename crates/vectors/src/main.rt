@@ -4,47 +4,38 @@
 // A line of hexadecimal digits is a header, with spaces between bytes as one likes. A line that
 // starts with `#` is a comment, and a blank line is passed over. A line that is only `-` is the
 // header of no bytes. Any other line is answered by `not hexadecimal`. The last line may lack its
-// newline.
+// newline. Where standard input cannot be read, what was read of the last line has no answer; there,
+// and where standard output cannot be written, a message goes to standard error and the program
+// ends.
 mod answer;
 mod line;
 
-use libc::STDIN_FILENO;
-use line::Line;
-
-// A header longer than this keeps its first bytes: the codec looks at 16 at the most.
-const KEPT: usize = 64;
+use console::Next;
+use console::Reader;
 
 fn main() {
     let mut piece = io::large_buffer();
-    let mut header = [0u8; KEPT];
-    let last = read_lines(&mut piece, &mut header);
-    line::end(last, &header);
+    let mut header = [0u8; line::KEPT];
+    answer_lines(&mut piece, &mut header);
 }
 
-// Takes the input in pieces to its end, or to a read that fails, and answers what stands after the
-// last newline. A proved loop has to end and nothing says that an input does, so the pieces are
-// counted down from a number that no input uses up.
-fn read_lines(piece: &mut [u8], header: &mut [u8]) -> Line {
-    let mut line = Line::Start;
-    let mut left = u64::MAX;
-    while left > 0 {
-        let got = libc::read(STDIN_FILENO, piece);
-        let count = io::count(got, piece);
-        if count == 0 {
-            return line;
+// Answers each line, and what stands after the last newline.
+fn answer_lines(piece: &mut [u8], header: &mut [u8; line::KEPT]) {
+    let mut reader = Reader::start();
+    let mut line = line::start(true);
+    while line.written {
+        match reader.byte(piece) {
+            Next::Byte(byte, after) => {
+                line = line::take(line, byte, header);
+                reader = after;
+            }
+            Next::End => {
+                line::end(line, header);
+                return;
+            }
+            Next::Failed => {
+                return;
+            }
         }
-        line = take_piece(line, &piece[..count], header);
-        left -= 1;
     }
-    line
-}
-
-fn take_piece(before: Line, piece: &[u8], header: &mut [u8]) -> Line {
-    let mut line = before;
-    let mut i = 0;
-    while i < piece.len() {
-        line = line::take(line, piece[i], header);
-        i += 1;
-    }
-    line
 }
