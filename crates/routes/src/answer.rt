@@ -1,7 +1,4 @@
-// The answer to a line of the script. Each gives the size of the current sheet, which is the first
-// bytes of the lent one.
-use libc::STDOUT_FILENO;
-use listing::LONGEST;
+// The answer to a line of the script, put into lent bytes from their start.
 use packet::Packet;
 use planning::Planning;
 use route::Routing;
@@ -9,6 +6,7 @@ use sheet::Lookup;
 use text::front;
 use text::put_byte;
 use text::put_named;
+use text::put_text;
 
 // What a line asks for.
 pub enum Verb {
@@ -17,97 +15,109 @@ pub enum Verb {
     Command,
     Lookup,
     Header,
+    // another word
+    Other,
 }
 
-pub fn answer(verb: Verb, bytes: &[u8], sheet: &mut [u8], size: usize) -> usize {
+// How many bytes the answer has, and how many of the lent sheet are the current one.
+pub struct Answer {
+    pub count: usize,
+    pub size: usize,
+}
+
+pub fn put_answer(
+    out: &mut [u8],
+    verb: Verb,
+    bytes: &[u8],
+    sheet: &mut [u8],
+    size: usize,
+) -> Answer {
     match verb {
-        Verb::Board => plan_board(bytes, sheet, size),
-        Verb::Sheet => take_over(bytes, sheet),
-        Verb::Command => rewrite_command(bytes, sheet, size),
-        Verb::Lookup => look_up(bytes, sheet, size),
-        Verb::Header => route_header(bytes, sheet, size),
+        Verb::Board => plan_board(out, bytes, sheet, size),
+        Verb::Sheet => take_over(out, bytes, sheet),
+        Verb::Command => rewrite_command(out, bytes, sheet, size),
+        Verb::Lookup => Answer {
+            count: put_lookup(out, bytes, front(sheet, size)),
+            size,
+        },
+        Verb::Header => Answer {
+            count: put_routing(out, bytes, front(sheet, size)),
+            size,
+        },
+        Verb::Other => Answer {
+            count: put_wrong(out),
+            size,
+        },
     }
 }
 
-pub fn wrong(size: usize) -> usize {
-    io::write_all(STDOUT_FILENO, b"not a line\n");
-    size
-}
-
-pub fn long(size: usize) -> usize {
-    io::write_all(STDOUT_FILENO, b"line too long\n");
-    size
+// What is put for a line that is none, or one that is too long. Another word is told first.
+pub fn put_refusal(out: &mut [u8], verb: Verb, long: bool) -> usize {
+    if let Verb::Other = verb {
+        return put_wrong(out);
+    }
+    if long {
+        return put_text(out, 0, b"line too long\n");
+    }
+    put_wrong(out)
 }
 
 // The plan becomes the current sheet. A refused board leaves it, since a refused call changes no
 // lent byte.
-fn plan_board(board: &[u8], sheet: &mut [u8], size: usize) -> usize {
-    let mut lines = [0u8; LONGEST];
+fn plan_board(out: &mut [u8], board: &[u8], sheet: &mut [u8], size: usize) -> Answer {
     let planning = planner::plan(board, sheet);
-    let n = listing::put_planning(&mut lines, 0, planning, sheet);
-    io::write_all(STDOUT_FILENO, front(&lines, n));
+    let count = listing::put_planning(out, 0, planning, sheet);
     match planning {
-        Planning::Planned(length) => length,
-        Planning::Refused(_) => size,
+        Planning::Planned(length) => Answer {
+            count,
+            size: length,
+        },
+        Planning::Refused(_) => Answer { count, size },
     }
 }
 
 // The bytes become the current sheet, whatever they are.
-fn take_over(bytes: &[u8], sheet: &mut [u8]) -> usize {
-    print_number(b"sheet ", sheet::check(bytes) as u64);
-    text::put_text(sheet, 0, bytes)
+fn take_over(out: &mut [u8], bytes: &[u8], sheet: &mut [u8]) -> Answer {
+    Answer {
+        count: put_number(out, b"sheet ", sheet::check(bytes) as u64),
+        size: put_text(sheet, 0, bytes),
+    }
 }
 
 // An ID and a command word.
-fn rewrite_command(bytes: &[u8], sheet: &mut [u8], size: usize) -> usize {
+fn rewrite_command(out: &mut [u8], bytes: &[u8], sheet: &mut [u8], size: usize) -> Answer {
     if bytes.len() != 4 {
-        return wrong(size);
+        return Answer {
+            count: put_wrong(out),
+            size,
+        };
     }
     let id = endian::read_be16(bytes, 0) as u16;
     let command = endian::read_be16(bytes, 2) as u16;
     let n = sheet::set_command(front_mut(sheet, size), id, command);
-    print_number(b"command ", n as u64);
-    size
+    Answer {
+        count: put_number(out, b"command ", n as u64),
+        size,
+    }
 }
 
 // An ID.
-fn look_up(bytes: &[u8], sheet: &[u8], size: usize) -> usize {
+fn put_lookup(out: &mut [u8], bytes: &[u8], sheet: &[u8]) -> usize {
     if bytes.len() != 2 {
-        return wrong(size);
+        return put_wrong(out);
     }
     let id = endian::read_be16(bytes, 0) as u16;
-    match sheet::find(front(sheet, size), id) {
-        Lookup::Registers(at) => print_number(b"lookup ", at as u64),
-        Lookup::Refused(n) => print_number(b"refused ", n as u64),
+    match sheet::find(sheet, id) {
+        Lookup::Registers(at) => put_number(out, b"lookup ", at as u64),
+        Lookup::Refused(n) => put_number(out, b"refused ", n as u64),
     }
-    size
 }
 
-fn route_header(header: &[u8], sheet: &[u8], size: usize) -> usize {
-    match route::route(header, front(sheet, size)) {
-        Routing::Delivered(record, bridges, p) => print_delivery(record, bridges, p),
-        Routing::Refused(n) => print_number(b"refused ", n as u64),
+fn put_routing(out: &mut [u8], header: &[u8], sheet: &[u8]) -> usize {
+    match route::route(header, sheet) {
+        Routing::Delivered(record, bridges, p) => put_delivery(out, record, bridges, p),
+        Routing::Refused(n) => put_number(out, b"refused ", n as u64),
     }
-    size
-}
-
-// A name with a number is at most 28 bytes long.
-fn print_number(name: &[u8], number: u64) {
-    let mut line = [0u8; 32];
-    let n = put_number(&mut line, name, number);
-    io::write_all(STDOUT_FILENO, front(&line, n));
-}
-
-fn put_number(out: &mut [u8], name: &[u8], number: u64) -> usize {
-    let at = put_named(out, 0, name, number);
-    put_byte(out, at, b'\n')
-}
-
-// A delivery is at most 149 bytes long.
-fn print_delivery(record: u16, bridges: u8, p: Packet) {
-    let mut line = [0u8; 256];
-    let n = put_delivery(&mut line, record, bridges, p);
-    io::write_all(STDOUT_FILENO, front(&line, n));
 }
 
 fn put_delivery(out: &mut [u8], record: u16, bridges: u8, p: Packet) -> usize {
@@ -116,6 +126,15 @@ fn put_delivery(out: &mut [u8], record: u16, bridges: u8, p: Packet) -> usize {
     at = put_byte(out, at, b' ');
     at = labels::put_packet(out, at, p);
     put_byte(out, at, b'\n')
+}
+
+fn put_number(out: &mut [u8], name: &[u8], number: u64) -> usize {
+    let at = put_named(out, 0, name, number);
+    put_byte(out, at, b'\n')
+}
+
+fn put_wrong(out: &mut [u8]) -> usize {
+    put_text(out, 0, b"not a line\n")
 }
 
 // The first `count` bytes, or all.

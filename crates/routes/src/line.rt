@@ -1,143 +1,122 @@
-// A line of the script as a state that each byte moves on. Its first word, and then its bytes, are
-// kept in lent room.
+// A line of the script. Its word and its bytes are kept in lent room.
 use crate::answer;
+use crate::answer::Answer;
 use crate::answer::Verb;
-use text::digits;
-use text::digits::Digit;
+use lines::Ended;
+use lines::Stage;
+use lines::WORD;
+use listing::LONGEST;
 use text::front;
 use text::put_byte;
 
-// What a line has shown so far.
-pub enum Line {
-    // nothing but spaces
-    Start,
-    Comment,
-    // that many letters of its first word
-    Word(usize),
-    // what it asks for, and that many bytes
-    Whole(Verb, usize),
-    // that many bytes, and the first digit of one more
-    Half(Verb, usize, u8),
-    // what no line has
-    Wrong,
-    // more bytes than the room has
-    Long,
-}
+// The longest sheet that passes its checks has 23,553 bytes.
+pub const ROOM: usize = 32768;
 
-// The line so far, and how many bytes of the lent sheet are the current one.
-pub struct Script {
-    pub line: Line,
+pub struct Line {
+    pub stage: Stage,
+    pub letters: usize,
+    pub count: usize,
+    // whether it has more bytes than the room
+    pub long: bool,
+    // how many bytes of the lent sheet are the current one
     pub size: usize,
+    // whether every answer so far could be written
+    pub written: bool,
 }
 
-pub fn take(script: Script, byte: u8, room: &mut [u8], sheet: &mut [u8]) -> Script {
+pub fn start(size: usize, written: bool) -> Line {
+    Line {
+        stage: Stage::Start,
+        letters: 0,
+        count: 0,
+        long: false,
+        size,
+        written,
+    }
+}
+
+pub fn take(
+    line: Line,
+    byte: u8,
+    word: &mut [u8; WORD],
+    room: &mut [u8; ROOM],
+    sheet: &mut [u8; ROOM],
+) -> Line {
     if byte == b'\n' {
-        return Script {
-            line: Line::Start,
-            size: end(script, room, sheet),
+        return end(line, word, room, sheet);
+    }
+    let before = line.stage;
+    let stage = lines::next(before, byte);
+    match stage {
+        Stage::Letter(letter) => Line {
+            stage,
+            letters: put_byte(word, line.letters, letter),
+            ..line
+        },
+        Stage::Byte(value) => with_byte(line, value, room),
+        _ => Line { stage, ..line },
+    }
+}
+
+// Of a line that is too long nothing more is looked at.
+fn with_byte(line: Line, value: u8, room: &mut [u8; ROOM]) -> Line {
+    if line.count < ROOM {
+        return Line {
+            stage: Stage::Byte(value),
+            count: put_byte(room, line.count, value),
+            ..line
         };
     }
-    let line = script.line;
-    Script {
-        line: next(line, byte, room),
-        size: script.size,
+    Line {
+        stage: Stage::Wrong,
+        long: true,
+        ..line
     }
 }
 
-// Answers the line, unless it is a comment or blank, and gives the current sheet's size.
-pub fn end(script: Script, room: &[u8], sheet: &mut [u8]) -> usize {
-    let size = script.size;
-    let line = script.line;
-    match closed(line, room) {
-        Line::Start => size,
-        Line::Comment => size,
-        Line::Word(_) => size,
-        Line::Whole(verb, count) => answer::answer(verb, front(room, count), sheet, size),
-        Line::Half(_, _, _) => answer::wrong(size),
-        Line::Wrong => answer::wrong(size),
-        Line::Long => answer::long(size),
-    }
+// Answers the line, unless it is a comment or blank, and begins the next.
+pub fn end(line: Line, word: &[u8; WORD], room: &[u8; ROOM], sheet: &mut [u8; ROOM]) -> Line {
+    let mut out = [0u8; LONGEST];
+    let answer = put_answer(&mut out, line, word, room, sheet);
+    start(answer.size, console::print(front(&out, answer.count)))
 }
 
-// At its end a line may be its first word only.
-fn closed(line: Line, room: &[u8]) -> Line {
-    match line {
-        Line::Word(count) => named(front(room, count)),
-        _ => line,
+fn put_answer(
+    out: &mut [u8],
+    line: Line,
+    word: &[u8; WORD],
+    room: &[u8; ROOM],
+    sheet: &mut [u8; ROOM],
+) -> Answer {
+    let size = line.size;
+    let stage = line.stage;
+    let verb = named(front(word, line.letters));
+    match lines::end(stage) {
+        Ended::Passed => Answer { count: 0, size },
+        Ended::Whole => answer::put_answer(out, verb, front(room, line.count), sheet, size),
+        Ended::Wrong => Answer {
+            count: answer::put_refusal(out, verb, line.long),
+            size,
+        },
     }
-}
-
-fn next(line: Line, byte: u8, room: &mut [u8]) -> Line {
-    match line {
-        Line::Start => first(byte, room),
-        Line::Comment => Line::Comment,
-        Line::Word(count) => letter(count, byte, room),
-        Line::Whole(verb, count) => between(verb, count, byte),
-        Line::Half(verb, count, high) => second(verb, count, high, byte, room),
-        Line::Wrong => Line::Wrong,
-        Line::Long => Line::Long,
-    }
-}
-
-fn first(byte: u8, room: &mut [u8]) -> Line {
-    if byte == b'#' {
-        return Line::Comment;
-    }
-    if byte == b' ' {
-        return Line::Start;
-    }
-    Line::Word(put_byte(room, 0, byte))
-}
-
-fn letter(count: usize, byte: u8, room: &mut [u8]) -> Line {
-    if byte == b' ' {
-        return named(front(room, count));
-    }
-    Line::Word(put_byte(room, count, byte))
 }
 
 // What the first word asks for.
-fn named(word: &[u8]) -> Line {
+fn named(word: &[u8]) -> Verb {
     if check::same(word, b"board") {
-        return Line::Whole(Verb::Board, 0);
+        return Verb::Board;
     }
     if check::same(word, b"sheet") {
-        return Line::Whole(Verb::Sheet, 0);
+        return Verb::Sheet;
     }
     if check::same(word, b"command") {
-        return Line::Whole(Verb::Command, 0);
+        return Verb::Command;
     }
     if check::same(word, b"lookup") {
-        return Line::Whole(Verb::Lookup, 0);
+        return Verb::Lookup;
     }
     if check::same(word, b"header") {
-        return Line::Whole(Verb::Header, 0);
+        return Verb::Header;
     }
-    Line::Wrong
-}
-
-// A space, or the first digit of a byte.
-fn between(verb: Verb, count: usize, byte: u8) -> Line {
-    if byte == b' ' {
-        return Line::Whole(verb, count);
-    }
-    match digits::value_of(byte) {
-        Digit::Value(high) => Line::Half(verb, count, high),
-        Digit::Nothing => Line::Wrong,
-    }
-}
-
-// The second digit of a byte.
-fn second(verb: Verb, count: usize, high: u8, byte: u8, room: &mut [u8]) -> Line {
-    match digits::value_of(byte) {
-        Digit::Value(low) => with_byte(verb, count, digits::joined(high, low), room),
-        Digit::Nothing => Line::Wrong,
-    }
-}
-
-fn with_byte(verb: Verb, count: usize, byte: u8, room: &mut [u8]) -> Line {
-    if count < room.len() {
-        return Line::Whole(verb, put_byte(room, count, byte));
-    }
-    Line::Long
+    Verb::Other
 }

@@ -12,52 +12,47 @@
 // case with spaces between bytes as one likes. Before the first sheet the current one is empty. A
 // line that starts with `#` and a blank one are passed over. Any other line is answered by
 // `not a line`, one of more than 32,768 bytes by `line too long`, and neither changes the current
-// sheet. The last line may lack its newline.
+// sheet. The last line may lack its newline. Where standard input cannot be read, what was read of
+// the last line has no answer; there, and where standard output cannot be written, a message goes to
+// standard error and the program ends.
 mod answer;
 mod line;
 
-use libc::STDIN_FILENO;
-use line::Line;
-use line::Script;
-
-// The longest sheet that passes its checks has 23,553 bytes.
-const ROOM: usize = 32768;
+use console::Next;
+use console::Reader;
+use line::ROOM;
+use lines::WORD;
 
 fn main() {
     let mut piece = io::large_buffer();
+    let mut word = [0u8; WORD];
     let mut room = [0u8; ROOM];
     let mut sheet = [0u8; ROOM];
-    let last = read_lines(&mut piece, &mut room, &mut sheet);
-    line::end(last, &room, &mut sheet);
+    answer_lines(&mut piece, &mut word, &mut room, &mut sheet);
 }
 
-// Takes the input in pieces to its end, or to a read that fails, and answers what stands after the
-// last newline. A proved loop has to end and nothing says that an input does, so the pieces are
-// counted down from a number that no input uses up.
-fn read_lines(piece: &mut [u8], room: &mut [u8], sheet: &mut [u8]) -> Script {
-    let mut script = Script {
-        line: Line::Start,
-        size: 0,
-    };
-    let mut left = u64::MAX;
-    while left > 0 {
-        let got = libc::read(STDIN_FILENO, piece);
-        let count = io::count(got, piece);
-        if count == 0 {
-            return script;
+// Answers each line, and what stands after the last newline.
+fn answer_lines(
+    piece: &mut [u8],
+    word: &mut [u8; WORD],
+    room: &mut [u8; ROOM],
+    sheet: &mut [u8; ROOM],
+) {
+    let mut reader = Reader::start();
+    let mut line = line::start(0, true);
+    while line.written {
+        match reader.byte(piece) {
+            Next::Byte(byte, after) => {
+                line = line::take(line, byte, word, room, sheet);
+                reader = after;
+            }
+            Next::End => {
+                line::end(line, word, room, sheet);
+                return;
+            }
+            Next::Failed => {
+                return;
+            }
         }
-        script = take_piece(script, &piece[..count], room, sheet);
-        left -= 1;
     }
-    script
-}
-
-fn take_piece(before: Script, piece: &[u8], room: &mut [u8], sheet: &mut [u8]) -> Script {
-    let mut script = before;
-    let mut i = 0;
-    while i < piece.len() {
-        script = line::take(script, piece[i], room, sheet);
-        i += 1;
-    }
-    script
 }
