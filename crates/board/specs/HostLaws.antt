@@ -6,14 +6,6 @@ use native.Mathlib.Nat.{mod-lt, mod-self, mod-eq-of-lt, mod-add-mod}
 use native.Mathlib.Omega.{arith}
 use lib.Dec.{eqb}
 use borrow.Author.Tests.{eqb-true, eq-eqb, ne-eqb, eqb-false}
-use Rattle.pools.specs.declared.Pool.{Pool}
-use Rattle.pools.specs.declared.Pool.the-variants.{Low, High, Io}
-use Rattle.pools.specs.Pools.{granule}
-
-pub granule-pos : (q : Pool) → 0 < granule q
-granule-pos Low = omega arith
-granule-pos High = omega arith
-granule-pos Io = omega arith
 
 pub edge-last : (edge x : ℕ) → 0 < edge → eqb ((x + 1) % edge) 0 ≡ eqb (x % edge) (edge - 1)
 edge-last edge x h = go (eqb (x % edge) (edge - 1)) refl

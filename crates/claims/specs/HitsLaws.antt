@@ -1,10 +1,11 @@
 -- What one record claims, slot by slot and window by window, in the words of the code: a slot or a window makes one claim if it holds the address.
 -- Assumes nothing.
 use mathlib.Core.Path.{_≡_, refl, sym, ap, _∙_}
-use mathlib.Core.Bool.{Bool, true, false, true≢false, false≢true, cond}
+use mathlib.Core.Bool.{Bool, true, false, true≢false, false≢true}
 use mathlib.Core.List.{List, [], _∷_, _++_}
 use Prim.Native.Nat.{ℕ, _+_, _<_, _≤_}
 use lib.ListN.{length, drop}
+use Rattle.lists.specs.Lists.{oneIf}
 use Rattle.pools.specs.declared.Pool.{Pool}
 use Rattle.pools.specs.declared.Pool.the-variants.{Low, High, Io}
 use Rattle.bar.specs.declared.Slot.{Slot}
@@ -27,9 +28,6 @@ use Rattle.claims.specs.declared.Tally.{Tally}
 use Rattle.claims.specs.declared.Tally.the-variants.{Nothing, One, Several}
 use Rattle.claims.specs.Claims.{tallyOf, isSeveral}
 use Rattle.claims.specs.Search.{windowClaims}
-
-abbrev oneIf : Bool → Claim → List Claim
-oneIf b c = cond b (c ∷ []) []
 
 pub join-nil : (t : tallies.Tally) → join t [] ≡ t
 unfolding join

@@ -1,4 +1,5 @@
--- What the definitions say of lists: all elements, some element, all pairs in order, the elements that pass a test, the longest front that does. Assumes nothing.
+-- What the definitions say of lists: all elements, some element, all pairs in order, one element on a condition, the elements that pass a
+-- test, the longest front that does. Assumes nothing.
 use mathlib.Core.Path.{_≡_}
 use mathlib.Core.Logic.{_⊎_}
 use mathlib.Core.Bool.{Bool, false, cond, _||_}
@@ -26,6 +27,10 @@ module _ {A : Type 0} where
 
   abbrev pub AtMostOne : List A → Type 0
   AtMostOne xs = (xs ≡ []) ⊎ ((x : A) × (xs ≡ x ∷ []))
+
+  -- One element, on a condition
+  abbrev pub oneIf : Bool → A → List A
+  oneIf b x = cond b (x ∷ []) []
 
   -- The elements that pass the test, in their order
   unfoldable pub keep : (A → Bool) → List A → List A

@@ -4,12 +4,13 @@ use mathlib.Core.Path.{_≡_, refl, sym, ap, _∙_}
 use Prim.Native.Nat.{ℕ, zero, suc, _+_, _-_, _*_, _≤_, _<_}
 use native.Mathlib.Numerals.{add-one}
 use native.Mathlib.Omega.{arith}
-use mathlib.Core.Bool.{Bool, true, false, _||_, true≢false}
+use mathlib.Core.Bool.{Bool, true, false, true≢false}
 use mathlib.Core.List.{List, [], _∷_}
 use lib.ListN.{length, getD, take, drop, length-drop, drop-of-length-le}
 use lib.Seq.{drop-cons, drop-drop, length-take-le}
 use lib.Dec.{ltb}
 use borrow.Author.Tests.{ltb-false, lt-ltb, le-ltb}
+pub use Rattle.lists.specs.BoolLaws.{false-of-or}
 use Rattle.endian.specs.Endian.{be}
 use Rattle.records.specs.declared.Next.{Next}
 use Rattle.records.specs.declared.Next.the-variants.{End, Record, Broken}
@@ -154,10 +155,6 @@ module _ {B : Type 0} (F : List (List ℕ) → B) (s : List ℕ) (at : ℕ) wher
 
   pub pass-broken : nextOf (drop at s) ≡ Broken → F (partsFrom s at) ≡ F []
   pass-broken e = ap (λ (r : Parts). F (r .parts)) (parts-broken s at e)
-
-pub false-of-or : (a b : Bool) → (a || b) ≡ false → (a ≡ false) × (b ≡ false)
-false-of-or true b e = absurd (true≢false e)
-false-of-or false b e = (refl, e)
 
 -- a pass that stops at the first part that passes a test
 module _ (test : List ℕ → Bool) (s : List ℕ) (at : ℕ) where

@@ -2,7 +2,7 @@
 -- Assumes nothing.
 use Prim.Native.Nat.{ℕ, suc, _+_, _*_, _-_, _/_, _%_, _^_, _≤_, _<_}
 use mathlib.Core.Path.{_≡_, refl, sym, ap, ap₂, _∙_}
-use mathlib.Core.Bool.{Bool, true, false, cond, not, _||_, true≢false}
+use mathlib.Core.Bool.{Bool, true, false, cond, not, _||_}
 use mathlib.Core.Logic.{_⊎_, inl, inr}
 use mathlib.Core.List.{List, [], _∷_, _++_}
 use native.Mathlib.Nat.{div-add-mod', div-one, div-div-eq-div-mul}
@@ -12,6 +12,7 @@ use borrow.Author.Tests.{eq-eqb, ne-eqb, eqb-true, eqb-false, not-false}
 use lib.Dec.{eqb}
 use lib.ListN.{length, getD, take, drop}
 use lib.Seq.{drop-cons, drop-drop, take-add}
+use Rattle.lists.specs.BoolLaws.{false-of-or}
 use Rattle.endian.specs.Endian.{Bytes, be, beBytes}
 use Rattle.endian.specs.EndianLaws.{be-lt, be-beBytes-at, beBytes-be}
 use Rattle.pairs.specs.declared.Row.{Row}
@@ -52,10 +53,6 @@ clear-of-zero = eqb-bit false
 
 zero-of-clear : (x : ℕ) → x < 2 → eqb x 1 ≡ false → x ≡ 0
 zero-of-clear x below e = let d = eqb-false x 1 e in omega arith
-
-pub or-elim : (a b : Bool) → a || b ≡ false → (a ≡ false) × (b ≡ false)
-or-elim true b e = absurd (true≢false e)
-or-elim false b e = (refl, e)
 
 -- ## Byte 2: TD, EP, Attr, AT and the high bits of Length
 
@@ -233,9 +230,9 @@ module _ (s : List ℕ) (bytes : Bytes s) where
   unfolding unnamed
   byte1-spelled clean =
       let x = getD s 1 0 in
-      let a = or-elim (isSet 7 x || isSet 3 x || isSet 1 x) (isSet 0 x) clean in
-      let b = or-elim (isSet 7 x || isSet 3 x) (isSet 1 x) (a .0) in
-      let c = or-elim (isSet 7 x) (isSet 3 x) (b .0) in
+      let a = false-of-or (isSet 7 x || isSet 3 x || isSet 1 x) (isSet 0 x) clean in
+      let b = false-of-or (isSet 7 x || isSet 3 x) (isSet 1 x) (a .0) in
+      let c = false-of-or (isSet 7 x) (isSet 3 x) (b .0) in
       let b7 = zero-of-clear (x / 128 % 2) (omega arith) (c .0) in
       let high : x / 16 % 8 ≡ x / 16 = omega (arith, bytes 1) in
       let b3 = zero-of-clear (x / 8 % 2) (omega arith) (c .1) in
@@ -281,7 +278,7 @@ module _ (s : List ℕ) (bytes : Bytes s) where
   targetBytes-targetAt fits clean =
       let x = getD s 10 0 in
       let y = getD s 11 0 in
-      let a = or-elim (not (eqb (x / 16) 0)) (not (eqb (y % 4) 0)) clean in
+      let a = false-of-or (not (eqb (x / 16) 0)) (not (eqb (y % 4) 0)) clean in
       let high = eqb-true (x / 16) 0 (not-false (eqb (x / 16) 0) (a .0)) in
       let low = eqb-true (y % 4) 0 (not-false (eqb (y % 4) 0) (a .1)) in
       append-take 2 2 s 8 (beBytes-be 2 s 8 bytes (omega arith)) (take-two s 10 fits (omega (arith, bytes 11)) (omega (arith, bytes 11)))

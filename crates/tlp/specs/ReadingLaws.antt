@@ -8,6 +8,7 @@ use native.Mathlib.Omega.{arith}
 use borrow.Author.Tests.{eqb-true, le-ltb, ltb-false, not-false}
 use lib.Dec.{eqb, ltb}
 use lib.ListN.{length, getD, take, drop, length-append}
+use Rattle.lists.specs.BoolLaws.{false-of-or}
 use Rattle.endian.specs.Endian.{Bytes, be}
 use Rattle.pairs.specs.declared.Row.{Row}
 use Rattle.pairs.specs.declared.Kind.{Kind}
@@ -34,7 +35,7 @@ use Rattle.tlp.specs.Layout.{frontBytes, requestBytes, addressBytes, tar
 use Rattle.tlp.specs.LayoutLaws.{form-of-lawful, size-of-lawful, layout-carried, length-layout}
 use Rattle.tlp.specs.Reading.{codeAt, lengthOf, completionLength, headAt, requestHeadAt, completionHeadAt, enablesAt, addressAt, targetAt, outcomeAt, unnamed, unnamedTarget, unnamedLower, judged, readAs, readPair, readOf}
 use Rattle.tlp.specs.Writing.{size}
-use Rattle.tlp.specs.FieldsLaws.{or-elim, unnamed-front, requestHeadAt-request, enablesAt-request, addressAt-address, targetAt-target, unnamed-target, outcomeAt-completion, unnamed-completion, completionHeadAt-completion}
+use Rattle.tlp.specs.FieldsLaws.{unnamed-front, requestHeadAt-request, enablesAt-request, addressAt-address, targetAt-target, unnamed-target, outcomeAt-completion, unnamed-completion, completionHeadAt-completion}
 use Rattle.tlp.specs.FieldsLaws.{append-take, frontBytes-headAt, requestBytes-requestHeadAt, addressBytes-addressAt, targetBytes-targetAt, completionBytes-completionHeadAt}
 use Rattle.tlp.specs.FieldsLaws.{requestHeadAt-fits, completionHeadAt-fits, enablesAt-fits, addressAt-fits, targetAt-fits, outcomeAt-fits, lengthOf-fits, code-of-length, code-of-completion}
 
@@ -241,7 +242,7 @@ module _ (s : List ℕ) (bytes : Bytes s) (row : Row) (c : CarriedRow row) (pair
       let fits : FieldsFit q = record { head = requestHeadAt-fits s bytes (row .form); length = lengthOf-fits s bytes; body = body-fits } in
       judged-back (unnamed s || unnamedTarget s) q p e
       (λ clean rules.
-      let each = or-elim (unnamed s) (unnamedTarget s) clean in
+      let each = false-of-or (unnamed s) (unnamedTarget s) clean in
       let body = append-take 4 4 s 4 (requestBytes-requestHeadAt s bytes (row .form) (omega arith)) (targetBytes-targetAt s bytes (omega arith) (each .1)) in
       written-back q kind refl fits rules (request-front (each .0)) (three-dwords form body))
   read-as-back p (CompletionKind k) kind e =
@@ -249,7 +250,7 @@ module _ (s : List ℕ) (bytes : Bytes s) (row : Row) (c : CarriedRow row) (pair
       let q = Completion k (completionHeadAt k (row .form) s) (outcomeAt s) in
       judged-back (unnamed s || unnamedLower s) q p e
       (λ clean rules.
-      let each = or-elim (unnamed s) (unnamedLower s) clean in
+      let each = false-of-or (unnamed s) (unnamedLower s) clean in
       let fits : FieldsFit q = record { head = completionHeadAt-fits s bytes k (row .form); length = completion-length-fits k rules; body = outcomeAt-fits s bytes } in
       let body = completionBytes-completionHeadAt s bytes k (row .form) (omega arith) (each .1) in
       written-back q kind refl fits rules (completion-front k (each .0)) (three-dwords form body))

@@ -9,7 +9,7 @@ use Prim.Native.Nat.{ℕ, _<_}
 use native.Mathlib.Omega.{arith}
 use lib.Dec.{eqb}
 use borrow.Author.Tests.{eqb-true, eqb-false, eq-eqb}
-use Rattle.lists.specs.Lists.{_∈_, All, AtMostOne, keep}
+use Rattle.lists.specs.Lists.{_∈_, All, AtMostOne, oneIf, keep}
 use Rattle.lists.specs.ListLaws.{all-elim, all-intro}
 use Rattle.lists.specs.KeepLaws.{keep-few}
 use Rattle.walk.specs.Ranges.{Range, holds, holds-iff}
@@ -25,15 +25,12 @@ pub by-id-nodes : (devfn : ℕ) (ns : List Node) → nodes (map (byId devfn) ns)
 by-id-nodes devfn [] = refl
 by-id-nodes devfn (n ∷ ns) = ap (n ∷_) (by-id-nodes devfn ns)
 
-abbrev oneIf : Bool → Claim → List Claim
-oneIf b c = cond b (c ∷ []) []
-
 -- a function on this bus whose own bus counts as its BAR, which holds the target's bus
 abbrev ownBusClaims : ℕ → ℕ → ℕ → Node → Bool
 ownBusClaims target devfn bus n = eqb (n .bus) bus && (eqb (n .devfn) devfn && holds (ownBus n) target)
 
 -- a range that is there on a condition: one claim if it is there and holds the address
-hits-if : (address : ℕ) (c : Claim) (r : Range) (b : Bool) → hitsOf address c (cond b (r ∷ []) []) ≡ oneIf (b && holds r address) c
+hits-if : (address : ℕ) (c : Claim) (r : Range) (b : Bool) → hitsOf address c (oneIf b r) ≡ oneIf (b && holds r address) c
 hits-if address c r false = hits-nil address c
 hits-if address c r true = go (holds r address) refl
   where

@@ -8,7 +8,7 @@ use Prim.Native.Nat.{ℕ}
 use mathlib.Core.Path.{sym, ap, ap₂, _∙_}
 use borrow.Author.Tests.{lt-leb, le-leb}
 use Rattle.board.specs.Host.{poolWrong, offEdges}
-use Rattle.board.specs.HostLaws.{granule-pos}
+use Rattle.pools.specs.PoolsLaws.{granule-pos}
 
 returns : tie.Need-returns
 unfolding poolWrong
