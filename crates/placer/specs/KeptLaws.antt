@@ -2,7 +2,7 @@
 use mathlib.Core.Path.{_≡_, refl, sym, ap, ap₂, _∙_}
 use mathlib.Core.Bool.{Bool, true, false, cond, true≢false}
 use mathlib.Core.List.{List, [], _∷_, _++_, map, map-append, append-assoc, append-nil}
-use Prim.Native.Nat.{ℕ, zero, suc, _+_, _-_, _/_, _%_, _^_, _≤_, _<_, max}
+use Prim.Native.Nat.{ℕ, zero, suc, _+_, _-_, _/_, _%_, _^_, _≤_, _<_}
 use native.Mathlib.Omega.{arith}
 use native.Mathlib.Nat.{add-zero}
 use native.Mathlib.Numerals.{add-one}
@@ -26,12 +26,13 @@ use Rattle.placing.specs.RecordLaws.{false-of-not}
 use Rattle.placing.specs.Align.{alignUp}
 use Rattle.placing.specs.declared.Extent.{Extent}
 use Rattle.placing.specs.Cap.{cap, cap-cap, cap-align}
+use Rattle.placing.specs.Pieces.{windowSize, windowAlign}
 use Rattle.placer.specs.declared.Cursors.{Cursors}
 use Rattle.placer.specs.declared.BarsPlaced.{BarsPlaced}
 use Rattle.placer.specs.declared.Extents.{Extents}
 use Rattle.placer.specs.declared.WindowPlaced.{WindowPlaced}
 use Rattle.placer.specs.declared.WindowsPlaced.{WindowsPlaced}
-use Rattle.placer.specs.Function.{Ends, startOf, afterBar, barStarts, afterBars, registersAt, valuesAt}
+use Rattle.placer.specs.Function.{Ends, startOf, afterBar, barStarts, afterBars, registersAt, valuesAt, windowStart, windowStop}
 use Rattle.placer.specs.Kept.{word, endsOf, keptCursors, withEnd, keptValues, barsPlaced, windowPlaced, windowsPlaced}
 use Rattle.placer.specs.CapLaws.{capEnds, cap-after-bars, cap-bar-starts}
 
@@ -401,21 +402,18 @@ pub window-none : (q : Pool) (inner : Extent) (e below : ℕ) → inner .align �
     → windowPlaced q inner e below ≡ record { window = closed q; cursor = cap e; below = cap below }
 window-none q inner e below h = rw (eq-eqb (inner .align) 0 h)
 
--- g the granule, a the alignment, z the size
-pub window-some : (q : Pool) (inner : Extent) (e below g a z start stop : ℕ) → (inner .align ≡ 0 → ⊥) → g ≡ granule q → a ≡ max g (inner .align)
-    → z ≡ alignUp g (cap (inner .end)) → start ≡ cap (alignUp a e) → stop ≡ cap (start + z)
+-- a the alignment, z the size
+pub window-some : (q : Pool) (inner : Extent) (e below a z start stop : ℕ) → (inner .align ≡ 0 → ⊥) → a ≡ windowAlign q (inner .align)
+    → z ≡ windowSize q (cap (inner .end)) → start ≡ cap (alignUp a e) → stop ≡ cap (start + z)
     → windowPlaced q inner e below ≡ record { window = opened q start stop; cursor = stop; below = start }
-window-some q inner e below g a z start stop n eg ea ez es et =
+window-some q inner e below a z start stop n ea ez es et =
     rw (ne-eqb (inner .align) 0 n, ← first, ← last)
   where
-    first : start ≡ cap (alignUp (max (granule q) (inner .align)) e)
-    first = es ∙ ap (λ (k : ℕ). cap (alignUp k e)) (ea ∙ ap (λ (k : ℕ). max k (inner .align)) eg)
+    first : start ≡ cap (windowStart q inner e)
+    first = es ∙ ap (λ (k : ℕ). cap (alignUp k e)) ea
 
-    size : z ≡ alignUp (granule q) (cap (inner .end))
-    size = ez ∙ ap (λ (k : ℕ). alignUp k (cap (inner .end))) eg
-
-    last : stop ≡ cap (alignUp (max (granule q) (inner .align)) e + alignUp (granule q) (inner .end))
-    last = omega (arith, et, first, size, cap-align (granule q) (granule-pos q) (inner .end))
+    last : stop ≡ cap (windowStop q inner e)
+    last = omega (arith, et, first, ez, cap-align (granule q) (granule-pos q) (inner .end))
 
 pub windows-of-three : (inner : Extents) (c below : Cursors) (l h i : WindowPlaced) → l ≡ windowPlaced Low (inner .low) (c .low) (below .low)
     → h ≡ windowPlaced High (inner .high) (c .high) (below .high) → i ≡ windowPlaced Io (inner .io) (c .io) (below .io)

@@ -1,16 +1,15 @@
 // Placing, for one function: from the cursors of its bus, its BARs in slot order and then a bridge's windows, for all three pools at once.
 ghost use mathlib.Core.Path.{_≡_};
 ghost use mathlib.Core.Bool.{false};
-ghost use Prim.Native.Nat.{_+_, _≤_, _<_, max};
+ghost use Prim.Native.Nat.{_+_, _≤_, _<_};
 ghost use lib.ListN.{length, take};
 ghost use lib.Seq.{sets};
 ghost use mathlib.Core.List.{map};
 ghost use Rattle.pools.specs.declared.Pool.{Pool as PoolName};
-ghost use Rattle.pools.specs.Pools.{granule as granuleOf};
-ghost use Rattle.bar.specs.Bar.{slots, anyBad, takesNext, span as spanOf};
-ghost use Rattle.bar.specs.Bar.{SizedSlot};
+ghost use Rattle.bar.specs.Bar.{slots, anyBad, takesNext, span as spanOf, SizedSlot};
 ghost use Rattle.bar.specs.Values.{registersOf};
-ghost use Rattle.placing.specs.Align.{alignUp, PowerOfTwo};
+ghost use Rattle.placing.specs.Align.{PowerOfTwo};
+ghost use Rattle.placing.specs.Pieces.{windowAlign};
 ghost use Rattle.placing.specs.Cap.{limit, cap as capOf};
 ghost use Rattle.placer.specs.Function.{startOf, afterBar};
 ghost use Rattle.placer.specs.Kept.{word, endsOf, keptCursors, withEnd, extentIn, barsPlaced, windowPlaced, windowsPlaced};
@@ -53,23 +52,6 @@ pub struct WindowsPlaced {
     pub io: Window,
     pub cursors: Cursors,
     pub below: Cursors,
-}
-
-// ---- numbers
-
-// Where an item starts, and where it ends.
-fn start_at(align: u64, end: u64) -> u64
-    requires { ⌜ PowerOfTwo align ⌝ }
-    ensures { λ r. ⌜ (r ≡ capOf (alignUp align end)) × (r ≤ limit) ⌝ }
-{
-    placing::cap(placing::align_up(align, placing::cap(end)))
-}
-
-fn end_of(start: u64, size: u64) -> u64
-    requires { ⌜ start ≤ limit ⌝ }
-    ensures { λ r. ⌜ r ≡ capOf (start + size) ⌝ }
-{
-    placing::cap(start + placing::cap(size))
 }
 
 // ---- cursors
@@ -124,7 +106,7 @@ fn bar_start(c: Cursors, x: Slot) -> u64
 {
     match x {
         Slot::Unused => 0,
-        Slot::Bar(q, _, size) => start_at(size, cursor(c, q)),
+        Slot::Bar(q, _, size) => placing::start_at(size, cursor(c, q)),
         Slot::Upper => 0,
         Slot::Bad => 0,
     }
@@ -137,7 +119,10 @@ fn after_bar(c: Cursors, x: Slot) -> Cursors
 {
     match x {
         Slot::Unused => c,
-        Slot::Bar(q, _, size) => with_cursor(c, q, end_of(start_at(size, cursor(c, q)), size)),
+        Slot::Bar(q, _, size) => {
+            let start = placing::start_at(size, cursor(c, q));
+            with_cursor(c, q, placing::end_of(start, size))
+        }
         Slot::Upper => c,
         Slot::Bad => c,
     }
@@ -190,7 +175,7 @@ pub fn place_bars(set: [u32; 6], n: usize, c: Cursors) -> BarsPlaced
 
 // A window over what is inside it, from the end before; none where there is nothing inside.
 pub fn place_window(q: Pool, inner: Extent, end: u64, below: u64) -> WindowPlaced
-    requires { ⌜ PowerOfTwo (max (granuleOf q) (inner .align)) ⌝ }
+    requires { ⌜ PowerOfTwo (windowAlign q (inner .align)) ⌝ }
     ensures { λ r. ⌜ r ≡ windowPlaced q inner end below ⌝ }
 {
     if inner.align == 0 {
@@ -200,9 +185,8 @@ pub fn place_window(q: Pool, inner: Extent, end: u64, below: u64) -> WindowPlace
             below: placing::cap(below),
         };
     }
-    let granule = pools::granule(q);
-    let start = start_at(placing::larger(granule, inner.align), end);
-    let stop = end_of(start, placing::align_up(granule, placing::cap(inner.end)));
+    let start = placing::start_at(placing::window_align(q, inner.align), end);
+    let stop = placing::end_of(start, placing::window_size(q, inner.end));
     WindowPlaced {
         window: Window::opened(q, start, stop),
         cursor: stop,
@@ -212,7 +196,7 @@ pub fn place_window(q: Pool, inner: Extent, end: u64, below: u64) -> WindowPlace
 
 // A bridge's windows, after its own BARs: `c` are the cursors of the bus it is on, `below` those of the bus below it.
 pub fn place_windows(inner: Extents, c: Cursors, below: Cursors) -> WindowsPlaced
-    requires { ⌜ ((q : PoolName) → PowerOfTwo (max (granuleOf q) (extentIn inner q .align))) ⌝ }
+    requires { ⌜ ((q : PoolName) → PowerOfTwo (windowAlign q (extentIn inner q .align))) ⌝ }
     ensures { λ r. ⌜ r ≡ windowsPlaced inner c below ⌝ }
 {
     let low_inner = inner.low;

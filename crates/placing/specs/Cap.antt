@@ -60,10 +60,12 @@ cap-align a pos e = ⊎-elim small large (le-or-lt e limit)
         let s : cap e ≡ limit = omega arith in
         ap (λ (x : ℕ). cap (alignUp a x)) s ∙ omega (arith, le-align-up a pos limit, le-align-up a pos e)
 
--- The one law, in the words of the code: one item more, where the end, its start and the size are each capped first
-pub cap-grow : (e : Extent) (z a : ℕ) → 0 < a
-    → _≡_ {A = Extent} (record { end = cap (cap (alignUp a (cap (e .end))) + cap z); align = max (e .align) a }) (capped (grow e z a))
-cap-grow e z a pos = ap (λ (n : ℕ). record { end = n; align = max (e .align) a }) (omega (arith, cap-align a pos (e .end)))
+-- In the words of the code: one item more, from a capped start to a capped end
+pub cap-grow : (e : Extent) (z a start end align : ℕ) → start ≡ cap (alignUp a (e .end)) → end ≡ cap (start + z) → align ≡ max (e .align) a
+    → _≡_ {A = Extent} (record { end = end; align = align }) (capped (grow e z a))
+cap-grow e z a start end align s f g =
+    let whole : end ≡ cap (alignUp a (e .end) + z) = omega (arith, s, f) in
+    λ i. record { end = whole i; align = g i }
 
 -- The same where only the end is
 cap-grow-whole : (e : Extent) (z a : ℕ) → 0 < a → capped (grow (capped e) z a) ≡ capped (grow e z a)

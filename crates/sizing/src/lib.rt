@@ -9,8 +9,8 @@ ghost use Rattle.pools.specs.declared.Pool.{Pool as PoolName};
 ghost use Rattle.bar.specs.Bar.{slots, anyBad, SizedSlot};
 ghost use Rattle.bar.specs.Bars.{barsFrom};
 ghost use Rattle.placing.specs.Align.{PowerOfTwo};
-ghost use Rattle.placing.specs.Cap.{cap as capOf, capped};
-ghost use Rattle.placing.specs.Pieces.{windowSize, windowAlign};
+ghost use Rattle.placing.specs.Cap.{capped};
+ghost use Rattle.placing.specs.Pieces.{windowAlign};
 ghost use Rattle.placing.specs.Sizing.{grow as growOf, withWindow, barsLaid, windowLaid, laidFrom, endsPast};
 ghost use Rattle.sizing.specs.Functions.{isBridge, functionIn, functionsIn, setAt};
 ghost use Rattle.sizing.specs.Cut.{extentIn, says, cut, Whole, addBar, addSlot, addBars};
@@ -83,21 +83,6 @@ pub fn ends_past(last: u64, e: Extent) -> bool
         return false;
     }
     1 < e.end - last
-}
-
-// A window's size: the end of what is inside, rounded up to the granule.
-pub fn window_size(q: Pool, end: u64) -> u64
-    ensures { λ r. ⌜ r ≡ windowSize q (capOf end) ⌝ }
-{
-    let granule = pools::granule(q);
-    placing::align_up(granule, placing::cap(end))
-}
-
-// A window's alignment: the granule, or the largest alignment inside if that is greater.
-pub fn window_align(q: Pool, largest: u64) -> u64
-    ensures { λ r. ⌜ r ≡ windowAlign q largest ⌝ }
-{
-    placing::larger(pools::granule(q), largest)
 }
 
 // ---- a bus from its functions, a bridge from its bus
@@ -245,16 +230,17 @@ fn with_window(q: Pool, e: Extent, inner: Extent) -> Extent
             align: e.align,
         };
     }
-    grow(e, window_size(q, inner.end), window_align(q, inner.align))
+    let size = placing::window_size(q, inner.end);
+    grow(e, size, placing::window_align(q, inner.align))
 }
 
 fn grow(e: Extent, size: u64, align: u64) -> Extent
     requires { ⌜ PowerOfTwo align ⌝ }
     ensures { λ r. ⌜ r ≡ capped (growOf e size align) ⌝ }
 {
-    let start = placing::cap(placing::align_up(align, placing::cap(e.end)));
+    let start = placing::start_at(align, e.end);
     Extent {
-        end: placing::cap(start + placing::cap(size)),
+        end: placing::end_of(start, size),
         align: placing::larger(e.align, align),
     }
 }

@@ -1,10 +1,10 @@
--- `sizing::window_size` meets its contract: a granule is a power of two. Assumes nothing.
+-- `placing::window_size` meets its contract: a granule is a power of two. Assumes nothing.
 use mathlib.Core.Path.{ap₂, _∙_}
 use borrow.Author.Needs.{needs}
-use Rattle.sizing.proofs.window_size.Statement.{statement}
-use Rattle.sizing.proofs.window_size.Tie as tie
+use Rattle.placing.proofs.window_size.Statement.{statement}
+use Rattle.placing.proofs.window_size.Tie as tie
 use Rattle.placing.specs.Align.{alignUp}
 use Rattle.placing.specs.PoolLaws.{granule-power}
 
 granule-requires : tie.Need-granule-requires
 granule-requires c κs = search needs
