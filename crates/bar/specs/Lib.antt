@@ -1,4 +1,5 @@
 -- Document 01, "Read-backs", and BAR values on a sheet (25).
+pub mod Header
 pub mod Bar
 pub mod Bars
 pub mod Values

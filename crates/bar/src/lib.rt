@@ -4,6 +4,7 @@ ghost use mathlib.Core.Path.{_≡_};
 ghost use mathlib.Core.Bool.{cond, not, _&&_};
 ghost use Prim.Native.Nat.{ℕ, _+_, _^_, _<_, _≤_, min};
 ghost use lib.ListN.{length, getD, take, drop};
+ghost use Rattle.bar.specs.Header.{isBridge, slotCount};
 ghost use Rattle.bar.specs.Bar.{sizeOf, sized as sizedOf, joined as joinedOf, isIoBar, ioWrong, typeOf, withoutType, ioSlot, isWide, narrowSlot, wideSlot, slotHere, slots, isBad, anyBad, takesNext, span as spanOf, SizedSlot};
 ghost use Rattle.pools.specs.Pools.{isIo};
 ghost use Rattle.placing.specs.Align.{PowerOfTwo};
@@ -16,6 +17,22 @@ pub enum Slot {
     Bar(Pool, bool, u64),
     Upper,
     Bad,
+}
+
+// ## The header type byte
+
+// Its low seven bits are the header type: type 1 is a bridge.
+pub fn is_bridge(header: u8) -> bool
+    ensures { λ r. ⌜ r ≡ isBridge header ⌝ }
+{
+    header % 128 == 1
+}
+
+// How many of the six read-backs count.
+pub fn slot_count(header: u8) -> usize
+    ensures { λ r. ⌜ (r ≡ slotCount header) × (r ≤ 6) ⌝ }
+{
+    if is_bridge(header) { 2 } else { 6 }
 }
 
 // ## One BAR
@@ -212,7 +229,7 @@ pub fn is_lawful(set: [u32; 6], n: usize) -> bool
 // ## Values
 
 // A 64-bit BAR takes the next place too.
-fn takes_next(x: Slot) -> bool
+pub fn takes_next(x: Slot) -> bool
     ensures { λ b. ⌜ b ≡ takesNext x ⌝ }
 {
     match x {

@@ -1,19 +1,13 @@
 -- Document 01, "The board": function records, their header types and lengths (24), and their read-backs (25). Assumes nothing.
-use Prim.Native.Nat.{ℕ, _%_}
+use Prim.Native.Nat.{ℕ}
 use mathlib.Core.Bool.{Bool, cond, not, _&&_, _||_}
 use mathlib.Core.List.{List, [], _∷_}
 use lib.ListN.{length, getD, take}
 use lib.Dec.{eqb}
 use Rattle.endian.specs.Endian.{be}
+use Rattle.bar.specs.Header.{headerType, isBridge as isBridgeHeader, slotCount as slotCountFor}
 use Rattle.bar.specs.Bar.{slots, anyBad}
 use Rattle.board.specs.declared.Function.{Function}
-
--- the header type is its byte's low seven bits: type 0 or, a bridge, type 1
-abbrev pub typeOf : ℕ → ℕ
-typeOf header = header % 128
-
-abbrev pub isBridgeHeader : ℕ → Bool
-isBridgeHeader header = eqb (typeOf header) 1
 
 -- "six of 4 bytes for type 0, two for type 1 (30 or 14 bytes)"
 abbrev pub lengthFor : ℕ → ℕ
@@ -39,7 +33,7 @@ functionOfPart p =
 
 -- 24: "header type's low seven bits not 0 or 1, or wrong length for it", of a record's length and header type
 abbrev pub wrongFor : ℕ → ℕ → Bool
-wrongFor n header = (not (eqb (typeOf header) 0) && not (isBridgeHeader header)) || not (eqb n (lengthFor header))
+wrongFor n header = (not (eqb (headerType header) 0) && not (isBridgeHeader header)) || not (eqb n (lengthFor header))
 
 unfoldable pub headerWrong : List ℕ → Bool
 headerWrong p = wrongFor (length p) (getD p 3 0)
@@ -49,7 +43,7 @@ isBridge f = isBridgeHeader (f .header)
 
 -- how many slots its read-backs have
 abbrev pub slotCount : Function → ℕ
-slotCount f = cond (isBridge f) 2 6
+slotCount f = slotCountFor (f .header)
 
 -- 25
 unfoldable pub readbacksWrong : Function → Bool

@@ -1,6 +1,6 @@
 -- What a function record whose header type passed its check keeps, and both checks of one function by what the code looks at. Assumes nothing.
 use mathlib.Core.Path.{_≡_, refl, sym, ap, ap₂, _∙_}
-use mathlib.Core.Bool.{Bool, true, false, cond, not, _&&_, _||_, and-true, and-eq-true-iff}
+use mathlib.Core.Bool.{Bool, true, false, cond, not, _&&_, _||_, and-true, and-false, and-eq-true-iff}
 use mathlib.Core.List.{List, [], _∷_}
 use Prim.Native.Nat.{ℕ, zero, suc, _+_, _*_, _≤_, _<_}
 use native.Mathlib.Omega.{arith}
@@ -10,12 +10,16 @@ use borrow.Author.Tests.{eqb-true, ne-eqb, not-false, leb-true, leb-false}
 use Rattle.endian.specs.Endian.{be}
 use Rattle.records.specs.RecordsLaws.{false-of-or}
 use Rattle.bar.specs.Bar.{slots, anyBad}
-use Rattle.board.specs.Function.{typeOf, isBridgeHeader, lengthFor, readbacksFor, functionOfPart, wrongFor, headerWrong, isBridge, slotCount, readbacksWrong}
+use Rattle.bar.specs.Header.{headerType, isBridge as isBridgeHeader}
+use Rattle.board.specs.Function.{lengthFor, readbacksFor, functionOfPart, wrongFor, headerWrong, isBridge, slotCount, readbacksWrong}
 
 pub length-of-header : (p : List ℕ) → headerWrong p ≡ false → length p ≡ lengthFor (getD p 3 0)
 unfolding headerWrong
 length-of-header p e =
-    eqb-true (length p) (lengthFor (getD p 3 0)) (not-false (eqb (length p) (lengthFor (getD p 3 0))) (false-of-or (not (eqb (typeOf (getD p 3 0)) 0) && not (isBridgeHeader (getD p 3 0))) (not (eqb (length p) (lengthFor (getD p 3 0)))) e .1))
+    let header = getD p 3 0 in
+    let right = eqb (length p) (lengthFor header) in
+    let tests = false-of-or (not (eqb (headerType header) 0) && not (isBridgeHeader header)) (not right) e in
+    eqb-true (length p) (lengthFor header) (not-false right (tests .1))
 
 pub length-of-end : (p : List ℕ) → headerWrong p ≡ false → isBridgeHeader (getD p 3 0) ≡ false → length p ≡ 30
 length-of-end p e b = rw b at (length-of-header p e)
@@ -53,11 +57,11 @@ header-wrong-short p h =
     rw (d, ne-eqb (length p) 30 (λ e. omega arith))
 
 module _ (n header : ℕ) where
-  pub wrong-bridge : typeOf header ≡ 1 → wrongFor n header ≡ not (eqb n 14)
-  wrong-bridge h = rw h
+  pub wrong-bridge : isBridgeHeader header ≡ true → wrongFor n header ≡ not (eqb n 14)
+  wrong-bridge h = rw (h, and-false (not (eqb (headerType header) 0)))
 
-  pub wrong-end : (typeOf header ≡ 1 → ⊥) → wrongFor n header ≡ (not (eqb (typeOf header) 0) || not (eqb n 30))
-  wrong-end h = rw (ne-eqb (typeOf header) 1 h, and-true (not (eqb (typeOf header) 0)))
+  pub wrong-end : isBridgeHeader header ≡ false → wrongFor n header ≡ (not (eqb (headerType header) 0) || not (eqb n 30))
+  wrong-end h = rw (h, and-true (not (eqb (headerType header) 0)))
 
 -- ---- 25 by the slots
 

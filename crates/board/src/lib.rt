@@ -154,14 +154,14 @@ fn is_bridge(part: &[u8]) -> bool
     requires { ⌜ headerWrong (now part) ≡ false ⌝ }
     ensures { λ r. ⌜ r ≡ isBridge (functionOfPart (now (part .entry))) ⌝ }
 {
-    header_of(part) % 128 == 1
+    bar::is_bridge(header_of(part))
 }
 
 fn readbacks_of(part: &[u8]) -> [u32; 6]
     requires { ⌜ headerWrong (now part) ≡ false ⌝ }
     ensures { λ r. ⌜ r ≡ readbacksFor (getD (now (part .entry)) 3 0) (now (part .entry)) ⌝ }
 {
-    if part[3] % 128 == 1 {
+    if bar::is_bridge(part[3]) {
         return [
             endian::read_be32(part, 6) as u32,
             endian::read_be32(part, 10) as u32,
@@ -283,7 +283,7 @@ pub fn header_wrong(part: &[u8]) -> bool
 fn wrong_for(n: usize, header: u8) -> bool
     ensures { λ r. ⌜ r ≡ wrongFor n header ⌝ }
 {
-    if header % 128 == 1 {
+    if bar::is_bridge(header) {
         return n != 14;
     }
     (header % 128 != 0) | (n != 30)
@@ -366,5 +366,5 @@ fn slot_count(part: &[u8]) -> usize
     requires { ⌜ headerWrong (now part) ≡ false ⌝ }
     ensures { λ r. ⌜ r ≡ slotCount (functionOfPart (now (part .entry))) ⌝ }
 {
-    if is_bridge(part) { 2 } else { 6 }
+    bar::slot_count(header_of(part))
 }

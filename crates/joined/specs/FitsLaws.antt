@@ -18,10 +18,11 @@ use Rattle.records.specs.declared.Next.the-variants.{End, Record, Broken}
 use Rattle.records.specs.Records.{nextOf, step, partsOver, partsOf, anyPart}
 use Rattle.records.specs.RecordsLaws.{false-of-or}
 use Rattle.lists.specs.Lists.{All, any}
+use Rattle.bar.specs.Header.{headerType, isBridge as isBridgeHeader}
 use Rattle.board.specs.declared.Span.{Span}
 use Rattle.board.specs.declared.Function.{Function}
 use Rattle.board.specs.Host.{hostOfPart, isOpen, outside, offEdges, poolWrong, hostWrong}
-use Rattle.board.specs.Function.{typeOf, isBridgeHeader, lengthFor, readbacksFor, functionOfPart, headerWrong, readbacksWrong}
+use Rattle.board.specs.Function.{lengthFor, readbacksFor, functionOfPart, headerWrong, readbacksWrong}
 use Rattle.board.specs.ToPlacing.{toHost}
 use Rattle.sheet.specs.Sheet.{allZero}
 use Rattle.planned.specs.Boards.{HostEdges}
@@ -90,8 +91,9 @@ type-of-header : (p : List ℕ) → headerWrong p ≡ false → getD p 3 0 % 128
 unfolding headerWrong
 type-of-header p e =
     let header = getD p 3 0 in
-    let tests = false-of-or (not (eqb (typeOf header) 0) && not (isBridgeHeader header)) (not (eqb (length p) (lengthFor header))) e .0 in
-    go (eqb (typeOf header) 0) refl (isBridgeHeader header) refl tests
+    let right = eqb (length p) (lengthFor header) in
+    let tests = false-of-or (not (eqb (headerType header) 0) && not (isBridgeHeader header)) (not right) e in
+    go (eqb (headerType header) 0) refl (isBridgeHeader header) refl (tests .0)
   where
     go : (a : Bool) → eqb (getD p 3 0 % 128) 0 ≡ a → (c : Bool) → eqb (getD p 3 0 % 128) 1 ≡ c → (not a && not c) ≡ false → getD p 3 0 % 128 ≤ 1
     go true h c k t = omega (arith, eqb-true (getD p 3 0 % 128) 0 h)

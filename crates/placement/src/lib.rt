@@ -1,14 +1,14 @@
 // The placing pass: where each function of a lawful board lies, record by record, and its registers.
 ghost use mathlib.Core.Path.{_≡_};
 ghost use mathlib.Core.Bool.{false, true};
-ghost use Prim.Native.Nat.{suc, _+_, _*_, _≤_, _<_, max};
+ghost use Prim.Native.Nat.{suc, _+_, _*_, _≤_, _<_};
 ghost use lib.ListN.{length, take, drop};
 ghost use lib.Seq.{sets};
 ghost use Rattle.pools.specs.declared.Pool.{Pool as PoolName};
-ghost use Rattle.pools.specs.Pools.{granule};
 ghost use Rattle.bar.specs.Bar.{slots, anyBad};
 ghost use Rattle.board.specs.Function.{isBridge as isBridgeOf, slotCount as slotCountOf};
 ghost use Rattle.placing.specs.Align.{PowerOfTwo};
+ghost use Rattle.placing.specs.Pieces.{windowAlign};
 ghost use Rattle.records.specs.declared.Next.the-variants.{Record};
 ghost use Rattle.records.specs.Records.{nextOf};
 ghost use Rattle.board.specs.Function.{functionOfPart, headerWrong};
@@ -88,18 +88,6 @@ fn id_of(bus: u8, devfn: u8) -> u16
     bus as u16 * 256 + devfn as u16
 }
 
-fn is_bridge(f: Function) -> bool
-    ensures { λ r. ⌜ r ≡ isBridgeOf f ⌝ }
-{
-    f.header % 128 == 1
-}
-
-fn slot_count(f: Function) -> usize
-    ensures { λ r. ⌜ (r ≡ slotCountOf f) × (r ≤ 6) ⌝ }
-{
-    if is_bridge(f) { 2 } else { 6 }
-}
-
 // Its BARs, from the cursors of the bus it is on.
 fn own_bars(f: Function, cursors: &[u64]) -> BarsPlaced
     requires { ⌜ (3 * f .parent + 3 ≤ length (now cursors)) × (anyBad (slots (take (slotCountOf f) (f .readbacks))) ≡ false) ⌝ }
@@ -108,7 +96,7 @@ fn own_bars(f: Function, cursors: &[u64]) -> BarsPlaced
     let readbacks = f.readbacks;
     placer::place_bars(
         readbacks,
-        slot_count(f),
+        bar::slot_count(f.header),
         cursors_at(cursors, f.parent as usize),
     )
 }
@@ -153,7 +141,7 @@ fn place_leaf(
 
 // A bridge's windows follow its BARs.
 fn own_windows(i: usize, memo: &[u64], cursors: &[u64], after: Cursors) -> WindowsPlaced
-    requires { ⌜ (8 * i + 8 ≤ length (now memo)) × (3 * suc i + 3 ≤ length (now cursors)) × ((q : PoolName) → PowerOfTwo (max (granule q) (extentIn (extentsIn (laidAt (now memo) i)) q .align))) ⌝ }
+    requires { ⌜ (8 * i + 8 ≤ length (now memo)) × (3 * suc i + 3 ≤ length (now cursors)) × ((q : PoolName) → PowerOfTwo (windowAlign q (extentIn (extentsIn (laidAt (now memo) i)) q .align))) ⌝ }
     ensures { λ r. ⌜ r ≡ windowsPlaced (extentsIn (laidAt (now (memo .entry)) i)) after (cursorsIn (now (cursors .entry)) (suc i)) ⌝ }
 {
     placer::place_windows(extents_at(memo, i), after, cursors_at(cursors, i + 1))
@@ -231,7 +219,7 @@ pub fn place_record(
     ensures { λ r. ⌜ (r ≡ registersOf first (now (counts .entry)) (now (memo .entry)) (now (cursors .entry)) i f) × (now (cursors .exit) ≡ cursorsNext (now (memo .entry)) (now (cursors .entry)) i f) ⌝ }
 {
     let bars = own_bars(f, cursors);
-    if is_bridge(f) {
+    if bar::is_bridge(f.header) {
         return place_bridge(f, bars, i, first, counts, memo, cursors);
     }
     place_leaf(f, bars, first, counts, cursors)

@@ -6,7 +6,7 @@ ghost use lib.ListN.{length, take};
 ghost use lib.Seq.{sets};
 ghost use mathlib.Core.List.{map};
 ghost use Rattle.pools.specs.declared.Pool.{Pool as PoolName};
-ghost use Rattle.bar.specs.Bar.{slots, anyBad, takesNext, span as spanOf, SizedSlot};
+ghost use Rattle.bar.specs.Bar.{slots, anyBad, span as spanOf, SizedSlot};
 ghost use Rattle.bar.specs.Values.{registersOf};
 ghost use Rattle.placing.specs.Align.{PowerOfTwo};
 ghost use Rattle.placing.specs.Pieces.{windowAlign};
@@ -128,24 +128,13 @@ fn after_bar(c: Cursors, x: Slot) -> Cursors
     }
 }
 
-fn takes_next(x: Slot) -> bool
-    ensures { λ b. ⌜ b ≡ takesNext x ⌝ }
-{
-    match x {
-        Slot::Unused => false,
-        Slot::Bar(_, wide, _) => wide,
-        Slot::Upper => false,
-        Slot::Bad => false,
-    }
-}
-
 // The slot's registers, from place i on: a 64-bit BAR has two.
 fn put_registers(values: &mut [u32], i: usize, x: Slot, v: u64)
     requires { ⌜ i + spanOf x ≤ length (now values) ⌝ }
     ensures { λ _. ⌜ now (values .exit) ≡ sets (now (values .entry)) i (map word (registersOf x v)) ⌝ }
 {
     values[i] = (v % 4294967296) as u32;
-    if takes_next(x) {
+    if bar::takes_next(x) {
         values[i + 1] = (v / 4294967296) as u32;
     }
 }

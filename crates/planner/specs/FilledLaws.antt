@@ -8,6 +8,7 @@ use lib.ListN.{length, getD, take, length-map}
 use lib.Seq.{length-sets, take-length}
 use Rattle.pools.specs.declared.Pool.{Pool}
 use Rattle.pools.specs.declared.Pool.the-variants.{Low, High, Io}
+use Rattle.bar.specs.Header.{isBridge as isBridgeHeader}
 use Rattle.placing.specs.Records as placing
 use Rattle.placing.specs.Numbering.{bridges}
 use Rattle.placing.specs.Sizing as laid
@@ -20,7 +21,7 @@ use Rattle.board.specs.Board.{mostFunctions, boardNumber, hostOf, functionsOf}
 use Rattle.board.specs.ToPlacing.{toHost, toPlacing}
 use Rattle.sizing.specs.declared.Laid.{Laid}
 use Rattle.sizing.specs.Cut.{cut}
-use Rattle.sizing.specs.Functions.{functionsIn, isBridge as isBridgeHeader}
+use Rattle.sizing.specs.Functions.{functionsIn}
 use Rattle.sizing.specs.Memo.{laidAt, below, memoFrom}
 use Rattle.sizing.specs.Board.{basesOf, rootFrom}
 use Rattle.sizing.specs.BoardLaws.{stored-below}

@@ -11,6 +11,7 @@ use lib.ListN.{length, getD}
 use lib.Seq.{sets}
 use borrow.Author.Tests.{lt-ltb, le-ltb}
 use Rattle.pools.specs.declared.Pool.{Pool}
+use Rattle.bar.specs.Header.{isBridge}
 use Rattle.placing.specs.Order.{le-or-lt}
 use Rattle.lists.specs.Lists.{front}
 use Rattle.placing.specs.Records.{Host, Function, Lawful, run}
@@ -22,7 +23,7 @@ use Rattle.placing.specs.SizingLaws.{laid-ext, ready-start}
 use Rattle.placing.specs.Cap.{cappedLaid, cap-bus-laid, out-of-pool-capped}
 use Rattle.placing.specs.Refusals.{outOfPool}
 use Rattle.sizing.specs.declared.Laid.{Laid}
-use Rattle.sizing.specs.Functions.{isBridge, functionsIn, functionAt}
+use Rattle.sizing.specs.Functions.{functionsIn, functionAt}
 use Rattle.sizing.specs.FunctionsLaws.{functions-sized, length-functions, functions-at}
 use Rattle.sizing.specs.Cut.{extentIn, cut}
 use Rattle.sizing.specs.CutLaws.{says-of-cut, cut-of-capped, whole-of-cut}

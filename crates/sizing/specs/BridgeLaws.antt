@@ -12,6 +12,7 @@ use Rattle.pools.specs.declared.Pool.the-variants.{Low, High, Io}
 use Rattle.pools.specs.Pools.{granule}
 use Rattle.lists.specs.ListLaws.{all-imp, all-drop}
 use Rattle.lists.specs.KeepLaws.{all-keep}
+use Rattle.bar.specs.Header.{isBridge}
 use Rattle.placing.specs.Align.{PowerOfTwo}
 use Rattle.placing.specs.PoolLaws.{granule-power}
 use Rattle.placing.specs.Records.{Function, Lawful, Sized}
@@ -28,7 +29,7 @@ use Rattle.placing.specs.ExtentLaws.{extend-align}
 use Rattle.placing.specs.SizingLaws.{ready-below, function-laid-leaf}
 use Rattle.placing.specs.Cap.{function-laid-turn}
 use Rattle.sizing.specs.declared.Laid.{Laid}
-use Rattle.sizing.specs.Functions.{isBridge, functionsIn, functionAt}
+use Rattle.sizing.specs.Functions.{functionsIn, functionAt}
 use Rattle.sizing.specs.FunctionsLaws.{functions-at}
 use Rattle.sizing.specs.Cut.{extentIn, says, cut}
 use Rattle.sizing.specs.CutLaws.{says-of-cut, cut-of-capped}

@@ -1,22 +1,13 @@
 -- A board's functions, as three arrays say them: the parent record and the header type byte of each, and its set of six read-backs.
 -- Assumes nothing.
-use Prim.Native.Nat.{ℕ, _*_, _%_}
-use mathlib.Core.Bool.{Bool, cond}
+use Prim.Native.Nat.{ℕ, _*_}
 use mathlib.Core.List.{List, [], _∷_}
 use lib.ListN.{getD, take, drop}
-use lib.Dec.{eqb}
 use Rattle.bar.specs.declared.Slot.{Slot}
+use Rattle.bar.specs.Header.{isBridge, slotCount}
 use Rattle.bar.specs.Bar.{slots}
 use Rattle.bar.specs.Bars.{barsFrom}
 use Rattle.placing.specs.Records.{Function}
-
--- the header type is its byte's low seven bits: type 1 is a bridge
-abbrev pub isBridge : ℕ → Bool
-isBridge header = eqb (header % 128) 1
-
--- how many of the six read-backs count
-abbrev pub slotCount : ℕ → ℕ
-slotCount header = cond (isBridge header) 2 6
 
 -- the slots that count
 abbrev pub slotsIn : ℕ → List ℕ → List Slot

@@ -1,7 +1,7 @@
 // Sizing: the first of the planner's two passes. A bus is sized from its functions, and a bridge from its bus, for all three pools at once;
 // what lies below each bridge is stored on the way, so that the placing pass sizes nothing again.
 ghost use mathlib.Core.Path.{_≡_};
-ghost use mathlib.Core.Bool.{cond, false};
+ghost use mathlib.Core.Bool.{false};
 ghost use Prim.Native.Nat.{_+_, _*_, _≤_, _<_};
 ghost use lib.ListN.{length, getD, take};
 ghost use lib.Seq.{sets};
@@ -12,7 +12,7 @@ ghost use Rattle.placing.specs.Align.{PowerOfTwo};
 ghost use Rattle.placing.specs.Cap.{capped};
 ghost use Rattle.placing.specs.Pieces.{windowAlign};
 ghost use Rattle.placing.specs.Sizing.{grow as growOf, withWindow, barsLaid, windowLaid, laidFrom, endsPast};
-ghost use Rattle.sizing.specs.Functions.{isBridge, functionIn, functionsIn, setAt};
+ghost use Rattle.sizing.specs.Functions.{functionIn, functionsIn, setAt};
 ghost use Rattle.sizing.specs.Cut.{extentIn, says, cut, Whole, addBar, addSlot, addBars};
 ghost use Rattle.sizing.specs.Memo.{numbersOf, laidAt};
 ghost use Rattle.sizing.specs.Board.{Board, OwnBars, isChild, Standing, BusSized, FunctionSized, basesOf, rootFrom, BoardSized};
@@ -120,7 +120,7 @@ fn function_size(
 {
     let i = l.next;
     let own = own_bars(headers, readbacks, l);
-    if is_bridge(headers, i) {
+    if bar::is_bridge(headers[i]) {
         let inside = laid_from(i + 1);
         let inner = bus_size(parents, headers, readbacks, memo, i + 1, depth - 1, inside);
         store(memo, i, inner);
@@ -138,7 +138,7 @@ fn own_bars(headers: &[u8], readbacks: &[u32], l: Laid) -> Laid
     ensures { λ r. ⌜ r ≡ cut (barsLaid (functionIn 0 (getD (now (headers .entry)) (l .next) 0) (setAt (now (readbacks .entry)) (l .next))) (says l)) ⌝ }
 {
     let i = l.next;
-    let count = slot_count(is_bridge(headers, i));
+    let count = bar::slot_count(headers[i]);
     let own = with_bars(l, set_at(readbacks, i), count);
     let low = own.low;
     let high = own.high;
@@ -255,20 +255,6 @@ fn is_child(parents: &[u16], i: usize, bus: usize) -> bool
         return parents[i] as usize == bus;
     }
     false
-}
-
-fn is_bridge(headers: &[u8], i: usize) -> bool
-    requires { ⌜ i < length (now headers) ⌝ }
-    ensures { λ r. ⌜ r ≡ isBridge (getD (now (headers .entry)) i 0) ⌝ }
-{
-    headers[i] % 128 == 1
-}
-
-// How many of the six read-backs count.
-fn slot_count(bridge: bool) -> usize
-    ensures { λ r. ⌜ (r ≡ cond bridge 2 6) × (r ≤ 6) ⌝ }
-{
-    if bridge { 2 } else { 6 }
 }
 
 fn set_at(readbacks: &[u32], i: usize) -> [u32; 6]

@@ -2,7 +2,7 @@
 use mathlib.Core.Bool.{cond}
 use mathlib.Core.List.{List, [], _∷_}
 use Prim.Native.Nat.{ℕ, _+_}
-use Rattle.sizing.specs.Functions.{isBridge}
+use Rattle.bar.specs.Header.{isBridge}
 
 abbrev pub weightOf : ℕ → ℕ
 weightOf header = cond (isBridge header) 1 0

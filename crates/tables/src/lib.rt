@@ -74,5 +74,5 @@ pub fn count_bridges(headers: &[u8], counts: &mut [u16])
 fn weight(header: u8) -> u16
     ensures { λ r. ⌜ (r ≡ weightOf header) × (r ≤ 1) ⌝ }
 {
-    if header % 128 == 1 { 1 } else { 0 }
+    if bar::is_bridge(header) { 1 } else { 0 }
 }

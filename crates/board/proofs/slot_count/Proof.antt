@@ -1,17 +1,18 @@
--- `board::slot_count` meets its contract: two slots for a bridge, six for another function. Assumes nothing.
+-- `board::slot_count` meets its contract. Assumes nothing.
 use borrow.Author.Needs.{needs}
+use mathlib.Core.Path.{ap, _∙_}
+use Rattle.bar.specs.Header.{slotCount}
 use Rattle.board.proofs.slot_count.Statement.{statement}
 use Rattle.board.proofs.slot_count.Tie as tie
-use mathlib.Core.Path.{sym, _∙_}
 
-is-bridge-requires : tie.Need-is-bridge-requires
-is-bridge-requires c κs = search needs
+header-of-requires : tie.Need-header-of-requires
+header-of-requires c κs = search needs
+
+slot-count-requires : tie.Need-slot-count-requires
+slot-count-requires c κs = search needs
 
 returns : tie.Need-returns
-returns c = rw (sym (c .before .is-bridge .ensures) ∙ c .if1 .taken)
-
-returns-2 : tie.Need-returns-2
-returns-2 c = rw (sym (c .before .is-bridge .ensures) ∙ c .if1 .left)
+returns c = c .slot-count .ensures .0 ∙ ap slotCount (c .before .header-of .ensures)
 
 pub slot-count-spec : {M : Type 1} → statement M
-slot-count-spec = tie.close (tie.spec is-bridge-requires returns returns-2)
+slot-count-spec = tie.close (tie.spec header-of-requires slot-count-requires returns)

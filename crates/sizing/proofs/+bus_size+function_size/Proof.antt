@@ -20,7 +20,7 @@ use Rattle.sizing.proofs.+bus_size+function_size.Lts-bus_size as bus-si
 use Rattle.sizing.proofs.function_size.Reads as function-size
 use Rattle.sizing.proofs.function_size.Kinds as function-size-kinds
 use Rattle.sizing.proofs.+bus_size+function_size.Lts-function_size as function-size-lts
-use Rattle.sizing.proofs.is_bridge.Reads as is-bridge-reads
+use Rattle.bar.proofs.is_bridge.Reads as is-bridge-reads
 use Rattle.sizing.proofs.is_child.Reads as is-child-reads
 use Rattle.sizing.proofs.laid_from.Reads as laid-from-reads
 use Rattle.sizing.proofs.own_bars.Reads as own-bars-reads
@@ -117,49 +117,60 @@ bus-size-returns t c = on-bus-end (c .before .before .loop .inv) (sym (c .before
 function-size-own-bars-requires : (t : ℕ) → function-size-lts.Need-own-bars-requires (function-size-claims t) (function-size-at t) function-size.Post
 function-size-own-bars-requires t c κs = let pre = c .before .before .before .before .pre .1 in own-bars-of-standing (pre .0) (pre .1)
 
+function-size-shared-slice-read-is-bridge : (t : ℕ) → function-size-lts.Need-shared-slice-read-is-bridge (function-size-claims t) (function-size-at t) function-size.Post
+function-size-shared-slice-read-is-bridge t c =
+    let pre = c .before .before .before .before .before .before .pre .1 in
+    omega (arith, pre .1, pre .0 .board .headers)
+
 function-size-is-bridge-requires : (t : ℕ) → function-size-lts.Need-is-bridge-requires (function-size-claims t) (function-size-at t) function-size.Post
-function-size-is-bridge-requires t c κs = let pre = c .before .before .before .before .before .pre .1 in omega (arith, pre .1, pre .0 .board .headers)
+function-size-is-bridge-requires t c κs = search needs
 
 function-size-add-laid-from : (t : ℕ) → function-size-lts.Need-add-laid-from (function-size-claims t) (function-size-at t) function-size.Post
-function-size-add-laid-from t c = omega (arith, c .before .before .before .before .before .before .before .pre .1 .1)
+function-size-add-laid-from t c = omega (arith, c .before .before .before .before .before .before .before .before .pre .1 .1)
 
 function-size-laid-from-requires : (t : ℕ) → function-size-lts.Need-laid-from-requires (function-size-claims t) (function-size-at t) function-size.Post
 function-size-laid-from-requires t c κs = search needs
 
 function-size-add-bus-size : (t : ℕ) → function-size-lts.Need-add-bus-size (function-size-claims t) (function-size-at t) function-size.Post
-function-size-add-bus-size t c = omega (arith, c .before .before .before .before .before .before .before .before .before .pre .1 .1)
+function-size-add-bus-size t c = omega (arith, c .before .before .before .before .before .before .before .before .before .before .pre .1 .1)
 
 function-size-sub-bus-size : (t : ℕ) → function-size-lts.Need-sub-bus-size (function-size-claims t) (function-size-at t) function-size.Post
 function-size-sub-bus-size t c =
-    let pre = c .before .before .before .before .before .before .before .before .before .pre .1 in
+    let pre = c .before .before .before .before .before .before .before .before .before .before .pre .1 in
     depth-left (pre .0) (pre .1)
 
 function-size-bus-size-requires : (t : ℕ) → function-size-lts.Need-bus-size-requires (function-size-claims t) (function-size-at t) function-size.Post
 function-size-bus-size-requires t c κs =
-    let pre = c .before .before .before .before .before .before .before .before .before .pre in
+    let pre = c .before .before .before .before .before .before .before .before .before .before .pre in
     let fresh = c .before .laid-from .ensures in
     let left = depth-left (pre .1 .0) (pre .1 .1) in
     (omega (arith, pre .0, pre .1 .1, left, ap (λ (x : Laid). x .next) fresh), inside-standing (pre .1 .0) (pre .1 .1) fresh)
 
 function-size-store-requires : (t : ℕ) → function-size-lts.Need-store-requires (function-size-claims t) (function-size-at t) function-size.Post
 function-size-store-requires t c κs =
-    let pre = c .before .before .before .before .before .before .before .before .before .before .before .before .before .pre .1 in
+    let pre = c .before .before .before .before .before .before .before .before .before .before .before .before .before .before .pre .1 in
     omega (arith, pre .0 .room, pre .1, c .before .before .before .bus-size .kept .1 .1 .1 .0)
 
 function-size-with-windows-requires : (t : ℕ) → function-size-lts.Need-with-windows-requires (function-size-claims t) (function-size-at t) function-size.Post
 function-size-with-windows-requires t c κs =
-    let pre = c .before .before .before .before .before .before .before .before .before .before .before .before .before .before .before .before .pre .1 in
-    inner-align-power (pre .0) (pre .1) (c .before .before .before .before .before .before .before .before .laid-from .ensures) (c .before .before .before .before .before .before .bus-size .ensures)
+    let call = c .before .before .before .before .before .before in
+    let fresh = call .before .before in
+    let pre = fresh .before .before .before .before .before .before .before .before .before .pre .1 in
+    inner-align-power (pre .0) (pre .1) (fresh .laid-from .ensures) (call .bus-size .ensures)
 
 function-size-same-length : (t : ℕ) → function-size-lts.Need-same-length (function-size-claims t) (function-size-at t) function-size.Post
 function-size-same-length t c = search needs
 
 function-size-returns : (t : ℕ) → function-size-lts.Need-returns (function-size-claims t) (function-size-at t) function-size.Post
 function-size-returns t c =
-    let pre = c .before .before .before .before .before .before .before .before .before .before .before .before .before .before .before .before .before .pre .1 in
-    bridge-walked (pre .0) (pre .1) (c .before .before .before .before .before .before .before .before .before .laid-from .ensures) (c .before .before .before .before .before .before .before .bus-size .ensures)
-    (sym (c .before .before .before .before .before .before .before .before .before .before .before .is-bridge .ensures) ∙ c .before .before .before .before .before .before .before .before .before .before .if1 .taken)
-    (c .before .before .before .before .before .before .before .before .before .before .before .before .own-bars .ensures)
+    let call = c .before .before .before .before .before .before .before in
+    let fresh = call .before .before in
+    let yes = fresh .before in
+    let own = yes .before .before .before in
+    let pre = own .before .before .before .before .before .pre .1 in
+    bridge-walked (pre .0) (pre .1) (fresh .laid-from .ensures) (call .bus-size .ensures)
+    (sym (yes .before .is-bridge .ensures) ∙ yes .if1 .taken)
+    (own .own-bars .ensures)
     (c .before .before .before .store .ensures)
     (c .with-windows .ensures)
 
@@ -167,18 +178,20 @@ function-size-laid-from-requires-2 : (t : ℕ) → function-size-lts.Need-laid-f
 function-size-laid-from-requires-2 t c κs = search needs
 
 function-size-store-requires-2 : (t : ℕ) → function-size-lts.Need-store-requires-2 (function-size-claims t) (function-size-at t) function-size.Post
-function-size-store-requires-2 t c κs = let pre = c .before .before .before .before .before .before .before .before .before .pre .1 in omega (arith, pre .0 .room, pre .1)
+function-size-store-requires-2 t c κs =
+    let pre = c .before .before .before .before .before .before .before .before .before .before .pre .1 in
+    omega (arith, pre .0 .room, pre .1)
 
 function-size-same-length-2 : (t : ℕ) → function-size-lts.Need-same-length-2 (function-size-claims t) (function-size-at t) function-size.Post
 function-size-same-length-2 t c = search needs
 
 function-size-returns-2 : (t : ℕ) → function-size-lts.Need-returns-2 (function-size-claims t) (function-size-at t) function-size.Post
 function-size-returns-2 t c =
-    let start = c .before .before .before .before .before .before .before .before .before .before .before .before in
+    let start = c .before .before .before .before .before .before .before .before .before .before .before .before .before in
     let none = ap (λ (x : Laid). sets (start .args .memo .now) (8 * start .args .l .next) (numbersOf x)) (c .before .before .before .laid-from2 .ensures) in
     leaf-walked (start .pre .1 .0) (start .pre .1 .1)
     (sym (c .before .before .before .before .before .before .is-bridge .ensures) ∙ c .before .before .before .before .before .if1 .left)
-    (c .before .before .before .before .before .before .before .own-bars .ensures)
+    (c .before .before .before .before .before .before .before .before .own-bars .ensures)
     (c .before .before .store2 .ensures ∙ none)
 
 pub +bus-size+function-size-spec : {M : Type 1} → statement M
@@ -198,6 +211,7 @@ pub +bus-size+function-size-spec : {M : Type 1} → statement M
     (function-size-at t)
     function-size.Post
     (function-size-own-bars-requires t)
+    (function-size-shared-slice-read-is-bridge t)
     (function-size-is-bridge-requires t)
     (function-size-add-laid-from t)
     (function-size-laid-from-requires t)

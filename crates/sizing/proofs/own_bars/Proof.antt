@@ -4,8 +4,8 @@ use Rattle.sizing.proofs.own_bars.Statement.{statement}
 use Rattle.sizing.proofs.own_bars.Tie as tie
 use native.Mathlib.Numerals.{add-one}
 
-is-bridge-requires : tie.Need-is-bridge-requires
-is-bridge-requires c κs = search needs
+shared-slice-read-slot-count : tie.Need-shared-slice-read-slot-count
+shared-slice-read-slot-count c = search needs
 
 slot-count-requires : tie.Need-slot-count-requires
 slot-count-requires c κs = search needs
@@ -14,21 +14,27 @@ set-at-requires : tie.Need-set-at-requires
 set-at-requires c κs = search needs
 
 with-bars-requires : tie.Need-with-bars-requires
-with-bars-requires c κs = (c .before .before .before .before .before .pre .whole, (c .before .slot-count .ensures .1, rw (c .set-at .ensures, c .before .slot-count .ensures .0, c .before .before .is-bridge .ensures) (c .before .before .before .before .before .pre .readable)))
+with-bars-requires c κs =
+    let pre = c .before .before .before .before .before .pre in
+    let count = c .before .slot-count .ensures in
+    (pre .whole, (count .1, rw (c .set-at .ensures, count .0) (pre .readable)))
 
-add-t12 : tie.Need-add-t12
-add-t12 c = search needs
+add-t13 : tie.Need-add-t13
+add-t13 c = search needs
 
 returns : tie.Need-returns
-returns c = rw (add-one (c .before .before .before .before .before .before .before .before .before .args .l .next), c .before .before .before .with-bars .ensures, c .before .before .before .before .set-at .ensures, c .before .before .before .before .before .slot-count .ensures .0, c .before .before .before .before .before .before .is-bridge .ensures)
+returns c =
+    let laid = c .before .before .before in
+    let l = laid .before .before .before .before .before .before .args .l in
+    rw (add-one (l .next), laid .with-bars .ensures, laid .before .set-at .ensures, laid .before .before .slot-count .ensures .0)
 
 pub own-bars-spec : {M : Type 1} → statement M
 own-bars-spec =
     tie.close
     (tie.spec
-    is-bridge-requires
+    shared-slice-read-slot-count
     slot-count-requires
     set-at-requires
     with-bars-requires
-    add-t12
+    add-t13
     returns)
