@@ -1,5 +1,5 @@
--- Document 01: "Then records; each has a two-byte length first; numbers are big-endian; each record is read as the part after its own length."
--- Assumes nothing.
+-- Document 01: "Then records; each has a two-byte length first; numbers are big-endian; each record is read as the part after its own
+-- length." Assumes nothing.
 use Prim.Native.Nat.{ℕ, zero, suc, _+_, _*_}
 use mathlib.Core.Bool.{Bool, true, false, cond, _||_}
 use mathlib.Core.List.{List, [], _∷_}

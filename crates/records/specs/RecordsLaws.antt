@@ -1,35 +1,64 @@
--- The laws of length-first records: a record found fits, the bound on their number does not matter, and what a loop with a cursor `at` has
--- left, `partsOf (drop at s)`, by what stands at the cursor. Assumes nothing.
-use mathlib.Core.Path.{_≡_, refl, sym, ap, _∙_}
+-- The laws of length-first records: a record found fits, the bound on their number does not matter, what holds record by record, and what a
+-- loop with a cursor `at` has left, `partsOf (drop at s)`, by what stands at the cursor. Assumes nothing.
+use mathlib.Core.Path.{_≡_, refl, sym, ap, _∙_, subst}
 use Prim.Native.Nat.{ℕ, zero, suc, _+_, _-_, _*_, _≤_, _<_}
 use native.Mathlib.Numerals.{add-one}
 use native.Mathlib.Omega.{arith}
-use mathlib.Core.Bool.{Bool, true, false, true≢false}
+use mathlib.Core.Bool.{Bool, true, false, cond, true≢false}
 use mathlib.Core.List.{List, [], _∷_}
 use lib.ListN.{length, getD, take, drop, length-drop, drop-of-length-le}
 use lib.Seq.{drop-cons, drop-drop, length-take-le}
 use lib.Dec.{ltb}
-use borrow.Author.Tests.{ltb-false, lt-ltb, le-ltb}
+use borrow.Author.Tests.{ltb-true, ltb-false, lt-ltb, le-ltb}
 pub use Rattle.lists.specs.BoolLaws.{false-of-or}
 use Rattle.endian.specs.Endian.{be}
 use Rattle.records.specs.declared.Next.{Next}
 use Rattle.records.specs.declared.Next.the-variants.{End, Record, Broken}
 use Rattle.records.specs.Records.{nextOf, Parts, after, step, partsOver, partsOf, partsFrom, anyPart, total}
 
--- ---- a record that is found lies inside
+-- ---- what bytes start with, taken apart
 
-pub fits-of-record : (s : List ℕ) (n : ℕ) → nextOf s ≡ Record n → 2 + n ≤ length s
+-- a record that is found
+module _ (P : List ℕ → ℕ → Type 0) (here : (a b : ℕ) (s : List ℕ) → a * 256 + b ≤ length s → P (a ∷ b ∷ s) (a * 256 + b)) where
+  pub record-elim : (s : List ℕ) (n : ℕ) → nextOf s ≡ Record n → P s n
+  unfolding nextOf
+  record-elim [] n e = let z : _≡_ {A = ℕ} 0 1 = cc in absurd (omega arith)
+  record-elim (a ∷ []) n e = let z : _≡_ {A = ℕ} 0 1 = cc in absurd (omega arith)
+  record-elim (a ∷ b ∷ s) n e = go (ltb (length s) (a * 256 + b)) refl e
+    where
+      go : (t : Bool) → ltb (length s) (a * 256 + b) ≡ t → cond t Broken (Record (a * 256 + b)) ≡ Record n → P (a ∷ b ∷ s) n
+      go true h e = let z : _≡_ {A = ℕ} 0 1 = cc in absurd (omega arith)
+      go false h e = let q : a * 256 + b ≡ n = cc in subst (P (a ∷ b ∷ s)) q (here a b s (ltb-false (length s) (a * 256 + b) h))
+
+-- and bytes that break off
+module _ (P : List ℕ → Type 0) (stray : (a : ℕ) → P (a ∷ []))
+    (short : (a b : ℕ) (s : List ℕ) → length s < a * 256 + b → P (a ∷ b ∷ s)) where
+  pub broken-elim : (s : List ℕ) → nextOf s ≡ Broken → P s
+  unfolding nextOf
+  broken-elim [] e = let z : _≡_ {A = ℕ} 0 1 = cc in absurd (omega arith)
+  broken-elim (a ∷ []) e = stray a
+  broken-elim (a ∷ b ∷ s) e = go (ltb (length s) (a * 256 + b)) refl e
+    where
+      go : (t : Bool) → ltb (length s) (a * 256 + b) ≡ t → cond t Broken (Record (a * 256 + b)) ≡ Broken → P (a ∷ b ∷ s)
+      go true h e = short a b s (ltb-true (length s) (a * 256 + b) h)
+      go false h e = let z : _≡_ {A = ℕ} 0 1 = cc in absurd (omega arith)
+
+pub nil-of-end : (s : List ℕ) → nextOf s ≡ End → s ≡ []
 unfolding nextOf
-fits-of-record [] n e = let z : _≡_ {A = ℕ} 0 1 = cc in absurd (omega arith)
-fits-of-record (a ∷ []) n e = let z : _≡_ {A = ℕ} 0 1 = cc in absurd (omega arith)
-fits-of-record (a ∷ b ∷ s) n e = go (ltb (length s) (a * 256 + b)) refl
+nil-of-end [] e = refl
+nil-of-end (a ∷ []) e = let z : _≡_ {A = ℕ} 0 1 = cc in absurd (omega arith)
+nil-of-end (a ∷ b ∷ s) e = go (ltb (length s) (a * 256 + b)) e
   where
-    go : (t : Bool) → ltb (length s) (a * 256 + b) ≡ t → 2 + n ≤ suc (suc (length s))
-    go true h = let p : Broken ≡ Record n = rw h at e in let z : _≡_ {A = ℕ} 0 1 = cc in absurd (omega arith)
-    go false h =
-        let p : Record (a * 256 + b) ≡ Record n = rw h at e in
-        let q : a * 256 + b ≡ n = cc in
-        omega (arith, ltb-false (length s) (a * 256 + b) h)
+    go : (t : Bool) → cond t Broken (Record (a * 256 + b)) ≡ End → a ∷ b ∷ s ≡ []
+    go true e = let z : _≡_ {A = ℕ} 0 1 = cc in absurd (omega arith)
+    go false e = let z : _≡_ {A = ℕ} 0 1 = cc in absurd (omega arith)
+
+pub empty-of-end : (s : List ℕ) → nextOf s ≡ End → length s ≡ 0
+empty-of-end s e = ap length (nil-of-end s e)
+
+-- a record that is found lies inside
+pub fits-of-record : (s : List ℕ) (n : ℕ) → nextOf s ≡ Record n → 2 + n ≤ length s
+fits-of-record = record-elim (λ (s : List ℕ) (n : ℕ). 2 + n ≤ length s) (λ a b s h. omega arith)
 
 -- ---- the bound does not matter
 
@@ -56,41 +85,42 @@ partsOf-step s (Record n) e =
     (partsOver-agree (length s) (suc (length (drop (2 + n) s))) (drop (2 + n) s)
     (omega (arith, fits-of-record s n e, length-drop (2 + n) s)) (omega arith)))
 
+-- what holds of bytes and their parts, record by record
+module _ (P : List ℕ → Parts → Type 0) (ends : P [] (record { parts = []; whole = true }))
+    (breaks : (s : List ℕ) → nextOf s ≡ Broken → P s (record { parts = []; whole = false }))
+    (more : (s : List ℕ) (n : ℕ) → nextOf s ≡ Record n → (rest : Parts)
+    → P (drop (2 + n) s) rest → P s (after (take n (drop 2 s)) rest)) where
+  at-end : P [] (partsOf [])
+  unfolding partsOf partsOver nextOf
+  at-end = ends
+
+  elim-over : (k : ℕ) (s : List ℕ) → length s < k → P s (partsOf s)
+  elim-over zero s h = absurd (omega arith)
+  elim-over (suc k) s h = go (nextOf s) refl (elim-over k)
+    where
+      go : (q : Next) → nextOf s ≡ q → ((t : List ℕ) → length t < k → P t (partsOf t)) → P s (partsOf s)
+      go End e on = subst (λ (t : List ℕ). P t (partsOf t)) (sym (nil-of-end s e)) at-end
+      go Broken e on = subst (P s) (sym (partsOf-step s Broken e)) (breaks s e)
+      go (Record n) e on =
+          let l : length (drop (2 + n) s) < k = omega (arith, fits-of-record s n e, length-drop (2 + n) s) in
+          subst (P s) (sym (partsOf-step s (Record n) e)) (more s n e (partsOf (drop (2 + n) s)) (on (drop (2 + n) s) l))
+
+  pub parts-elim : (s : List ℕ) → P s (partsOf s)
+  parts-elim s = elim-over (suc (length s)) s (omega arith)
+
 -- ---- lengths that end at the end
 
-pub empty-of-end : (s : List ℕ) → nextOf s ≡ End → length s ≡ 0
-unfolding nextOf
-empty-of-end [] e = refl
-empty-of-end (a ∷ []) e = cc
-empty-of-end (a ∷ b ∷ s) e = go (ltb (length s) (a * 256 + b)) refl
-  where
-    go : (t : Bool) → ltb (length s) (a * 256 + b) ≡ t → suc (suc (length s)) ≡ 0
-    go true h = let p : Broken ≡ End = rw h at e in cc
-    go false h = let p : Record (a * 256 + b) ≡ End = rw h at e in cc
-
-length-over : (k : ℕ) (s : List ℕ) → length s < k → partsOf s .whole ≡ true → length s ≡ total (partsOf s .parts)
-unfolding total
-length-over zero s h w = absurd (omega arith)
-length-over (suc k) s h w = go (nextOf s) refl (length-over k)
-  where
-    sum : Parts → ℕ
-    sum r = total (r .parts)
-
-    go : (q : Next) → nextOf s ≡ q → ((t : List ℕ) → length t < k → partsOf t .whole ≡ true → length t ≡ total (partsOf t .parts))
-        → length s ≡ total (partsOf s .parts)
-    go End e on = empty-of-end s e ∙ sym (ap (λ (r : Parts). total (r .parts)) (partsOf-step s End e))
-    go Broken e on = absurd (true≢false (sym w ∙ ap (λ (r : Parts). r .whole) (partsOf-step s Broken e)))
-    go (Record n) e on =
-        let p = partsOf-step s (Record n) e in
-        let f = fits-of-record s n e in
-        let d = length-drop (2 + n) s in
-        let l : length (drop (2 + n) s) ≡ total (partsOf (drop (2 + n) s) .parts) =
-        on (drop (2 + n) s) (omega arith) (sym (ap (λ (r : Parts). r .whole) p) ∙ w) in
-        let m : length (take n (drop 2 s)) ≡ n = length-take-le n (drop 2 s) (omega (arith, length-drop 2 s)) in
-        omega (arith, ap (λ (r : Parts). total (r .parts)) p)
-
 pub length-of-whole : (s : List ℕ) → partsOf s .whole ≡ true → length s ≡ total (partsOf s .parts)
-length-of-whole s w = length-over (suc (length s)) s (omega arith) w
+unfolding total
+length-of-whole =
+    parts-elim
+    (λ (s : List ℕ) (r : Parts). r .whole ≡ true → length s ≡ total (r .parts))
+    (λ w. refl)
+    (λ s e w. absurd (true≢false (sym w)))
+    (λ s n e rest on w.
+    let f = fits-of-record s n e in
+    let l : length (take n (drop 2 s)) ≡ n = length-take-le n (drop 2 s) (omega (arith, length-drop 2 s)) in
+    omega (arith, length-drop (2 + n) s, on w))
 
 -- ---- at a cursor
 
@@ -180,6 +210,7 @@ module _ (test : List ℕ → Bool) (s : List ℕ) (at : ℕ) where
   unfolding anyPart
   none-here n e h = (false-of-or (test (take n (drop (at + 2) s))) _ (sym (pass-record (anyPart test) s at n e) ∙ h)) .0
 
-  pub none-later : (n : ℕ) → nextOf (drop at s) ≡ Record n → anyPart test (partsFrom s at) ≡ false → anyPart test (partsFrom s (at + 2 + n)) ≡ false
+  pub none-later : (n : ℕ) → nextOf (drop at s) ≡ Record n → anyPart test (partsFrom s at) ≡ false
+      → anyPart test (partsFrom s (at + 2 + n)) ≡ false
   unfolding anyPart
   none-later n e h = (false-of-or (test (take n (drop (at + 2) s))) _ (sym (pass-record (anyPart test) s at n e) ∙ h)) .1

@@ -1,11 +1,14 @@
-// Length-first records, the frame of boards and sheets: two bytes of length, then as many bytes. A record is read as the part after its own length.
+// Length-first records, the frame of boards and sheets: two bytes of length, then as many bytes. A record is read as the part after its
+// own length. Here all the bytes are at hand; `frame` takes them one by one.
+pub mod frame;
+
 ghost use mathlib.Core.Path.{_≡_};
 ghost use Prim.Native.Nat.{_+_, _≤_};
 ghost use lib.ListN.{length, take, drop};
 ghost use Rattle.records.specs.Records.{nextOf};
 
-// What stands at a place of the bytes after the version byte: the end, a record whose part has this many bytes, or a length that does not end at or
-// before the end.
+// What stands at a place of the bytes after the version byte: the end, a record whose part has this many bytes, or a length that does
+// not end at or before the end.
 pub enum Next {
     End,
     Record(usize),

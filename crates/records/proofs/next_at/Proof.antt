@@ -20,7 +20,9 @@ read-be16-requires : tie.Need-read-be16-requires
 read-be16-requires c κs = search needs
 
 returns-3 : tie.Need-returns-3
-returns-3 c = let start = c .before .before .before .before .before in sym (next-broken (start .args .s .now) (start .args .at) (omega arith) (omega arith))
+returns-3 c =
+    let start = c .before .before .before .before .before in
+    sym (next-broken (start .args .s .now) (start .args .at) (omega arith) (omega arith))
 
 returns-4 : tie.Need-returns-4
 returns-4 c =
