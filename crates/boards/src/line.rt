@@ -1,7 +1,7 @@
 // A line of input. The letters of its word are kept in lent room. The bytes of its board are fed to
 // the planner's input, which keeps the first of them in lent room too.
-use input::Input;
-use input::KEPT;
+use board_feed::Feed;
+use board_feed::KEPT;
 use lines::Ended;
 use lines::Stage;
 use lines::WORD;
@@ -11,7 +11,7 @@ use text::put_byte;
 pub struct Line {
     pub stage: Stage,
     pub letters: usize,
-    pub input: Input,
+    pub input: Feed,
     // whether every answer so far could be written
     pub written: bool,
 }
@@ -20,7 +20,7 @@ pub fn start(written: bool) -> Line {
     Line {
         stage: Stage::Start,
         letters: 0,
-        input: Input::start(),
+        input: Feed::start(),
         written,
     }
 }
@@ -67,7 +67,7 @@ fn print_wrong() -> bool {
     console::print(b"not a line\n")
 }
 
-fn fed(input: Input, byte: u8, kept: &mut [u8; KEPT]) -> Input {
+fn fed(input: Feed, byte: u8, kept: &mut [u8; KEPT]) -> Feed {
     let piece = [byte];
     input.feed(&piece, kept)
 }

@@ -9,9 +9,9 @@
 // error and the program ends.
 mod line;
 
+use board_feed::KEPT;
 use console::Next;
 use console::Reader;
-use input::KEPT;
 use lines::WORD;
 
 fn main() {

@@ -2,9 +2,9 @@
 // `refused N`. An input of any length is answered, from fixed room. Where standard input cannot be
 // read there is no answer; there, and where standard output cannot be written, a message goes to
 // standard error.
+use board_feed::Feed;
+use board_feed::KEPT;
 use console::Piece;
-use input::Input;
-use input::KEPT;
 
 fn main() {
     let mut piece = io::buffer();
@@ -14,7 +14,7 @@ fn main() {
 
 // Takes the input in pieces to its end, and prints its plan.
 fn plan(piece: &mut [u8], kept: &mut [u8; KEPT]) {
-    let mut input = Input::start();
+    let mut input = Feed::start();
     let mut left = console::PIECES;
     loop {
         match console::read_piece(left, piece) {

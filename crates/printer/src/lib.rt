@@ -1,13 +1,13 @@
 // The plan of a board that was fed, on standard output: what the two programs that plan share.
-use input::Input;
-use input::KEPT;
+use board_feed::Feed;
+use board_feed::KEPT;
 use listing::LONGEST;
 
 // The longest sheet has 256 functions.
 const SHEET: usize = 23553;
 
 // The plan, or `refused N`, and whether all of it was written.
-pub fn print(input: Input, kept: &[u8; KEPT]) -> bool {
+pub fn print(input: Feed, kept: &[u8; KEPT]) -> bool {
     let mut sheet = [0u8; SHEET];
     let mut answer = [0u8; LONGEST];
     let n = input.print(kept, &mut sheet, &mut answer);

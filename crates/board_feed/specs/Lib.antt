@@ -1,0 +1,5 @@
+-- A board of any length, fed in pieces: what is kept of it, what its frame tells, and that it comes to document 01's plan.
+pub mod Tally
+pub mod Feed
+pub mod LongBoards
+pub mod FeedLaws

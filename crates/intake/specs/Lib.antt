@@ -1,4 +1,0 @@
--- A board fed in pieces.
-pub mod Intake
-pub mod IntakeLaws
-pub mod LongBoards
