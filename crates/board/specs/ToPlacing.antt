@@ -1,6 +1,8 @@
--- A board's host and functions as numbering and placing see them: the pools' bases and lasts, and each function's BARs by their slots. Assumes nothing.
+-- A board's host and functions as numbering and placing see them: the pools' bases and lasts, each function's BARs by their slots, and device/function
+-- bytes by record number. Assumes nothing.
 use mathlib.Core.List.{List, map}
-use lib.ListN.{take}
+use Prim.Native.Nat.{ℕ, pred}
+use lib.ListN.{getD, take}
 use Rattle.bar.specs.Bar.{slots}
 use Rattle.placing.specs.Pools.{Pool as PlacingPool, low, high, io}
 use Rattle.placing.specs.Records.{Host as PlacingHost, Function as PlacingFunction}
@@ -34,3 +36,7 @@ toFunction f =
 
 abbrev pub toPlacing : List Function → List PlacingFunction
 toPlacing = map toFunction
+
+-- the device/function byte of each record, by its number
+abbrev pub devfnOf : List Function → ℕ → ℕ
+devfnOf fs k = getD (map (λ (f : Function). f .devfn) fs) (pred k) 0

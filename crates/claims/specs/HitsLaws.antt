@@ -8,6 +8,8 @@ use lib.ListN.{length, drop}
 use Rattle.lists.specs.Lists.{oneIf}
 use Rattle.pools.specs.declared.Pool.{Pool}
 use Rattle.pools.specs.declared.Pool.the-variants.{Low, High, Io}
+use Rattle.pools.specs.declared.Space.{Space}
+use Rattle.pools.specs.declared.Space.the-variants.{Memory, Io as Ports}
 use Rattle.bar.specs.declared.Slot.{Slot}
 use Rattle.bar.specs.Bar.{slotHere, slots, isBad, anyBad, span}
 use Rattle.bar.specs.BarLaws.{any-bad-of-bad, any-bad-step}
@@ -19,8 +21,6 @@ use Rattle.walk.specs.Tally as tallies
 use Rattle.walk.specs.Tally.{join, hitsOf}
 use Rattle.walk.specs.TallyLaws.{join-append, join-several}
 use Rattle.walk.specs.SearchLaws.{hits-nil, hits-append}
-use Rattle.sheet.specs.declared.Space.{Space}
-use Rattle.sheet.specs.declared.Space.the-variants.{Memory, Io as Ports}
 use Rattle.sheet.specs.Entry.{headerOf, isBridge, secondaryOf, windowOf, entryOf}
 use Rattle.sheet.specs.Spaces.{barHere, barHolds, openRange}
 use Rattle.sheet.specs.SpacesLaws.{barsAt, bars-step, bars-end, bar-hits, window-hits}

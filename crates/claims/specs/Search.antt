@@ -3,9 +3,9 @@ use mathlib.Core.Bool.{Bool, _&&_}
 use mathlib.Core.List.{List}
 use Prim.Native.Nat.{ℕ}
 use lib.Dec.{eqb}
+use Rattle.pools.specs.declared.Space.{Space}
 use Rattle.walk.specs.Registers.{Claim, window, openWindows}
 use Rattle.walk.specs.Tally.{hitsOf}
-use Rattle.sheet.specs.declared.Space.{Space}
 use Rattle.sheet.specs.Entry.{busOf, commandOf, entryOf}
 use Rattle.sheet.specs.Spaces.{functionOf, enables}
 

@@ -8,12 +8,12 @@ use native.Mathlib.Omega.{arith}
 use lib.ListN.{length, take}
 use lib.Dec.{eqb}
 use Rattle.endian.specs.Endian.{be, le}
+use Rattle.pools.specs.declared.Space.{Space}
 use Rattle.bar.specs.BarLaws.{length-first}
 use Rattle.walk.specs.Ranges.{Range}
 use Rattle.walk.specs.Registers.{Registers, Claim, bar}
 use Rattle.walk.specs.Tally.{Tally, none, join, hitsOf, claimsOf, claimsOn, tallyOn}
 use Rattle.walk.specs.SearchLaws.{claims-nil, claims-cons, claims-of-here, claims-of-other}
-use Rattle.sheet.specs.declared.Space.{Space}
 use Rattle.sheet.specs.Entry.{recordSize, dwords, headerOf, isBridge, slotCount, entryOf}
 use Rattle.sheet.specs.Sheet.{entriesFrom, entriesOf, partAt}
 use Rattle.sheet.specs.IndexLaws.{length-part, record-fits, functions-index, functions-end, enabled-index}

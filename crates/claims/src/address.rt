@@ -11,7 +11,7 @@ ghost use Rattle.claims.specs.Search.{isLive, windowClaims};
 use super::Claim;
 use super::Tally;
 use pools::Pool;
-use sheet::Space;
+use pools::Space;
 use sheet::record;
 
 // A function of this bus whose space is enabled. The others are passed over.

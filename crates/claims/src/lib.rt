@@ -7,7 +7,7 @@ ghost use mathlib.Core.List.{[], _∷_};
 ghost use Rattle.walk.specs.Tally.{join};
 ghost use Rattle.claims.specs.Claims.{claimOf, tallyOf, isSeveral, tallyFor};
 ghost use Rattle.sheet.specs.SheetLaws.{Checked};
-use sheet::Space;
+use pools::Space;
 
 // What a packet is looked for by: the start address of a request, or an ID.
 pub enum Aim {

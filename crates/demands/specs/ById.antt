@@ -11,7 +11,7 @@ use Rattle.packet.specs.declared.Packet.{Packet}
 use Rattle.packet.specs.declared.Packet.the-variants.{Memory, Io, Config, Completion}
 use Rattle.board.specs.Board.{functionsOf}
 use Rattle.planned.specs.ById.{HasIdAsNumbered}
-use Rattle.joined.specs.Fits.{devfnOf}
+use Rattle.board.specs.ToPlacing.{devfnOf}
 use Rattle.route.specs.declared.Routing.the-variants.{Delivered}
 use Rattle.route.specs.Route.{routeOf}
 use Rattle.demands.specs.Demand3.{host, functions, bridgesAbove, routeNumber, DeliveredTo, Crosses}

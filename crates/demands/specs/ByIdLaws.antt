@@ -24,11 +24,12 @@ use Rattle.walk.specs.WalkLaws.{trail-unique}
 use Rattle.walk.specs.Ids.{tallyById}
 use Rattle.sheet.specs.Spaces.{nodesOf}
 use Rattle.sheet.specs.Commands.{SameButCommands}
-use Rattle.planned.specs.Spaces.{Space, memorySpace, ioSpace}
+use Rattle.pools.specs.declared.Space.{Space}
+use Rattle.pools.specs.declared.Space.the-variants.{Memory as memorySpace, Io as ioSpace}
 use Rattle.planned.specs.ById.{DeliversAsNumbered}
 use Rattle.planning.specs.declared.Planning.the-variants.{Planned}
 use Rattle.planning.specs.Plan.{planning, sheetAfter}
-use Rattle.joined.specs.Fits.{devfnOf}
+use Rattle.board.specs.ToPlacing.{devfnOf}
 use Rattle.joined.specs.Delivery.{PlannedSheet}
 use Rattle.joined.specs.Answer.{planned-sheet-of-answer}
 use Rattle.claims.specs.declared.Aim.{Aim}

@@ -11,28 +11,27 @@ use Rattle.packet.specs.declared.Packet.the-variants.{Memory, Io, Config, Compl
 use Rattle.tlp.specs.declared.Reading.the-variants.{Accepted}
 use Rattle.tlp.specs.Reading.{readOf}
 use Rattle.lists.specs.Lists.{Some}
+use Rattle.pools.specs.declared.Space.{Space}
+use Rattle.pools.specs.declared.Space.the-variants.{Memory as memorySpace, Io as ioSpace}
 use Rattle.placing.specs.Pools.{Pool, low, high, io}
 use Rattle.placing.specs.Records.{Host, Function}
 use Rattle.placing.specs.Placing.{placed}
 use Rattle.placing.specs.Placed.{WellPlaced}
 use Rattle.placing.specs.Above.{aboveByParents}
 use Rattle.board.specs.Board.{boardNumber, hostOf, functionsOf}
-use Rattle.board.specs.ToPlacing.{toHost, toPlacing}
+use Rattle.board.specs.ToPlacing.{toHost, toPlacing, devfnOf}
 use Rattle.walk.specs.Good.{Good}
 use Rattle.walk.specs.Walk.{Trail}
 use Rattle.sheet.specs.Sheet.{sheetNumber}
 use Rattle.sheet.specs.Spaces.{registersOf, enabledOf}
 use Rattle.sheet.specs.Commands.{SameButCommands}
 use Rattle.layout.specs.Layout.{sheetLength}
-use Rattle.planned.specs.Spaces.{Space, memorySpace, ioSpace}
 use Rattle.planned.specs.Registers.{planRegisters, planHost}
 use Rattle.planned.specs.RefusedExactly.{BusesRunOut, PoolRunsOut}
 use Rattle.planned.specs.NestedAndApart.{NestedAndApart}
 use Rattle.planned.specs.Delivery.{BarHolds, OwnsAsPlaced}
 use Rattle.planning.specs.declared.Planning.the-variants.{Planned, Refused}
 use Rattle.planning.specs.Plan.{numberOf as planningNumber, planning, sheetAfter}
-use Rattle.joined.specs.Fits.{devfnOf}
-use Rattle.joined.specs.BarRanges.{spaceOf}
 use Rattle.claims.specs.Claims.{tallyFor}
 use Rattle.route.specs.declared.Routing.the-variants.{Delivered}
 use Rattle.route.specs.Route.{numberOf as routingNumber, aimOf, root, routeOf}
@@ -83,8 +82,8 @@ pub record AnswersByNumber (b room : List ℕ) : Type 0 where
 -- they lie within their parent's and siblings are apart
 pub record SheetSays (b t : List ℕ) : Type 0 where
   pub passes : sheetNumber t ≡ 0
-  pub registers-are : (sp : Space) → registersOf (spaceOf sp) t ≡ planRegisters sp (host b) (functions b) (devfnOf (functionsOf b))
-  pub nested-and-apart : (sp : Space) → Good (planHost sp (host b)) (registersOf (spaceOf sp) t)
+  pub registers-are : (sp : Space) → registersOf sp t ≡ planRegisters sp (host b) (functions b) (devfnOf (functionsOf b))
+  pub nested-and-apart : (sp : Space) → Good (planHost sp (host b)) (registersOf sp t)
 
 -- ## A request
 
@@ -105,7 +104,7 @@ bridgesAbove b k = aboveByParents (functions b) k
 
 -- function k has such a BAR, and k and each bridge above it have the space enabled: "the space's bit in the sheet's command word"
 abbrev pub Owns : List ℕ → List ℕ → Space → ℕ → ℕ → Type 0
-Owns b t sp address k = OwnsAsPlaced sp (host b) (functions b) (enabledOf (spaceOf sp) t) address k
+Owns b t sp address k = OwnsAsPlaced sp (host b) (functions b) (enabledOf sp t) address k
 
 -- document 01's number of what the router answers for a packet from the host, 0 where it is delivered
 abbrev pub routeNumber : List ℕ → List ℕ → ℕ

@@ -14,12 +14,14 @@ use Rattle.packet.specs.declared.Packet.{Packet}
 use Rattle.packet.specs.declared.Packet.the-variants.{Memory, Io, Config, Completion}
 use Rattle.tlp.specs.declared.Reading.the-variants.{Accepted}
 use Rattle.tlp.specs.Reading.{readOf}
+use Rattle.pools.specs.declared.Space.{Space}
 use Rattle.placing.specs.Pools.{low, high, io}
 use Rattle.lists.specs.ListLaws.{all-of}
 use Rattle.placing.specs.Order.{eq-or-ne, le-or-lt}
 use Rattle.placing.specs.Placed.{well-placed}
 use Rattle.placing.specs.Refusals.{refusalOf}
 use Rattle.board.specs.Board.{boardNumber, hostOf, functionsOf}
+use Rattle.board.specs.ToPlacing.{devfnOf}
 use Rattle.board.specs.ToPlacingLaws.{lawful-of-accepted}
 use Rattle.walk.specs.Registers.{Node, Registers, nodes, rootOf}
 use Rattle.walk.specs.Tally.{tallyOn}
@@ -32,7 +34,6 @@ use Rattle.sheet.specs.SheetLaws.{nodes-functions}
 use Rattle.sheet.specs.Spaces.{registersOf, enabledOf}
 use Rattle.sheet.specs.Commands.{SameButCommands}
 use Rattle.layout.specs.Layout.{sheetBytes}
-use Rattle.planned.specs.Spaces.{Space}
 use Rattle.planned.specs.RefusedExactly.{RefusedExactly, refused-exactly}
 use Rattle.planned.specs.NestedAndApart.{NestedAndApart, planned-nested-and-apart}
 use Rattle.planned.specs.Delivery.{OwnsAsPlaced, DeliversAsPlaced}
@@ -40,9 +41,8 @@ use Rattle.planned.specs.DeliveryLaws.{crosses-above, planned-delivers}
 use Rattle.planning.specs.declared.Planning.{Planning}
 use Rattle.planning.specs.declared.Planning.the-variants.{Planned, Refused}
 use Rattle.planning.specs.Plan.{planOf, onRoom, onBoard, planning, numberOf as planningNumber, sheetAs, sheetAfter}
-use Rattle.joined.specs.Fits.{devfnOf, BoardFits}
+use Rattle.joined.specs.Fits.{BoardFits}
 use Rattle.joined.specs.Accepted.{fits-of-accepted}
-use Rattle.joined.specs.BarRanges.{spaceOf}
 use Rattle.joined.specs.Delivery.{PlannedSheet}
 use Rattle.joined.specs.Answer.{AnswersPlanned, planned-of-answer, planned-sheet-of-answer}
 use Rattle.claims.specs.declared.Aim.the-variants.{Address}
@@ -173,7 +173,7 @@ module _ (b room : List ℕ) (n : ℕ) where
 -- ## Requests
 
 -- the router's aim of a request is its space and start address
-aim-of-request : (p : Packet) (sp : Space) (address : ℕ) → IsRequest p sp address → aimOf p ≡ Address (spaceOf sp) address
+aim-of-request : (p : Packet) (sp : Space) (address : ℕ) → IsRequest p sp address → aimOf p ≡ Address sp address
 aim-of-request (Memory k h e a) sp address (in-memory, starts) = rw (in-memory, starts)
 aim-of-request (Io k h e a) sp address (in-io, starts) = rw (in-io, starts)
 aim-of-request (Config k h e t) sp address is = absurd is
@@ -214,41 +214,41 @@ module _ (b room : List ℕ) (n : ℕ) (bytes : Bytes b) (planned : planning b (
 
     -- by address the walk crosses the bridges above an owner
     crosses-above-owner : (sp : Space) (address k : ℕ) → Owns b t sp address k
-        → Trail (tallyFor (Address (spaceOf sp) address) t) (root t) (reverse (bridgesAbove b k)) k
+        → Trail (tallyFor (Address sp address) t) (root t) (reverse (bridgesAbove b k)) k
     crosses-above-owner sp address k o =
-        let enabled = enabledOf (spaceOf sp) t in
-        let registers = registersOf (spaceOf sp) t in
+        let enabled = enabledOf sp t in
+        let registers = registersOf sp t in
         let way = reverse (bridgesAbove b k) in
         let by-plan = crosses-above (fits .board) (answers .not-refused) sp (devfnOf (functionsOf b)) enabled address k o in
         let by-sheet =
         subst (λ (rs : List Registers). Trail (tallyOn enabled rs address) (host b .firstBus) way k) (sym (sheet .registers-are sp)) by-plan in
-        subst (λ (ns : List Node). Trail (tallyOn enabled registers address) (rootOf ns) way k) (nodes-functions (spaceOf sp) 1 (entriesOf t))
+        subst (λ (ns : List Node). Trail (tallyOn enabled registers address) (rootOf ns) way k) (nodes-functions sp 1 (entriesOf t))
         (trail-from-root enabled address (host b .firstBus) registers (sheet .good sp .tree .first-on-root) way k by-sheet)
 
     module _ (header : List ℕ) (p : Packet) (read : readOf header ≡ Accepted p) (sp : Space) (address : ℕ) (is : IsRequest p sp address) where
-      aim : aimOf p ≡ Address (spaceOf sp) address
+      aim : aimOf p ≡ Address sp address
       aim = aim-of-request p sp address is
 
       -- what the walk comes to
       abbrev outcome : Outcome
-      outcome = walked (Address (spaceOf sp) address) t (root t) 0
+      outcome = walked (Address sp address) t (root t) 0
 
-      delivers : DeliversAsPlaced sp (host b) (functions b) (enabledOf (spaceOf sp) t) address outcome
+      delivers : DeliversAsPlaced sp (host b) (functions b) (enabledOf sp t) address outcome
       delivers = sheet .delivers sp address
 
       -- and so what the router answers
       route-is : routeOf header t ≡ answer p outcome
-      route-is = route-request (spaceOf sp) address header t p read aim (sheet .passes)
+      route-is = route-request sp address header t p read aim (sheet .passes)
 
       delivered-elim : (k count : ℕ) (q : Packet) → routeOf header t ≡ Delivered k count q → (outcome ≡ delivered k count) × (q ≡ p)
       delivered-elim k count q e = go outcome (sym route-is ∙ e)
         where
           go : (o : Outcome) → answer p o ≡ Delivered k count q → (o ≡ delivered k count) × (q ≡ p)
-          go (delivered j c) e = let arrives : arrived p ≡ q = cc in (cc, sym arrives ∙ arrives-unchanged (spaceOf sp) address p aim)
+          go (delivered j c) e = let arrives : arrived p ≡ q = cc in (cc, sym arrives ∙ arrives-unchanged sp address p aim)
           go (refused m) e = absurd (suc-ne-zero 0 (cc))
 
       delivered-intro : (k count : ℕ) → outcome ≡ delivered k count → DeliveredTo header t k
-      delivered-intro k count e = (count, p, route-is ∙ ap (answer p) e ∙ ap (Delivered k count) (arrives-unchanged (spaceOf sp) address p aim))
+      delivered-intro k count e = (count, p, route-is ∙ ap (answer p) e ∙ ap (Delivered k count) (arrives-unchanged sp address p aim))
 
       -- a number that is not 0 is the walk's
       number-iff-refused : (m : ℕ) → 0 < m → (routeNumber header t ≡ m) ↔ (outcome ≡ refused m)

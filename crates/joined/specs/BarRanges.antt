@@ -8,33 +8,17 @@ use native.Mathlib.Omega.{arith}
 use lib.ListN.{getD, drop}
 use lib.Seq.{drop-drop}
 use Rattle.pools.specs.declared.Pool.{Pool}
-use Rattle.pools.specs.declared.Pool.the-variants.{Low, High, Io}
+use Rattle.pools.specs.declared.Space.{Space}
+use Rattle.pools.specs.Pools.{inSpace}
 use Rattle.bar.specs.declared.Slot.{Slot}
 use Rattle.bar.specs.declared.Slot.the-variants.{Unused, Bar, Upper, Bad}
 use Rattle.bar.specs.Bars.{barsFrom}
 use Rattle.bar.specs.Values.{valueHere, baseOf}
 use Rattle.lists.specs.Lists.{keep}
 use Rattle.walk.specs.Ranges.{Pool as RangePool}
-use Rattle.sheet.specs.declared.Space.{Space as SheetSpace}
-use Rattle.sheet.specs.declared.Space.the-variants.{Memory, Io as Ports}
 use Rattle.sheet.specs.Spaces.{poolOf, barsFrom as rangesFrom}
-use Rattle.sheet.specs.Spaces.{inSpace as inSheetSpace}
-use Rattle.planned.specs.Spaces.{Space, memorySpace, ioSpace, inSpace}
 use Rattle.planned.specs.RecordPieces.{barRange}
 use Rattle.joined.specs.WindowRanges.{pool-agree}
-
--- the sheet's name of a space
-abbrev pub spaceOf : Space → SheetSpace
-spaceOf memorySpace = Memory
-spaceOf ioSpace = Ports
-
-pub in-space-agree : (sp : Space) (q : Pool) → inSheetSpace (spaceOf sp) q ≡ inSpace sp q
-in-space-agree memorySpace Low = refl
-in-space-agree memorySpace High = refl
-in-space-agree memorySpace Io = refl
-in-space-agree ioSpace Low = refl
-in-space-agree ioSpace High = refl
-in-space-agree ioSpace Io = refl
 
 -- every BAR's value, where its registers start, says its base
 abbrev pub SaysBases : List Slot → List ℕ → (ℕ → ℕ) → Type 0
@@ -43,7 +27,7 @@ SaysBases ss vs base =
 
 module _ (sp : Space) (start : ℕ → ℕ) where
   ranges-from : (ss : List Slot) (s : ℕ) (vs : List ℕ) → SaysBases ss vs (λ j. start (s + j))
-      → rangesFrom (spaceOf sp) ss vs ≡ map (barRange start) (keep (λ c. inSpace sp (c .pool)) (barsFrom s ss))
+      → rangesFrom sp ss vs ≡ map (barRange start) (keep (λ c. inSpace sp (c .pool)) (barsFrom s ss))
   unfolding rangesFrom barsFrom keep
   ranges-from [] s vs says = refl
   ranges-from (x ∷ ss) s vs says = go x says (ranges-from ss (suc s) (drop 1 vs) later)
@@ -55,12 +39,12 @@ module _ (sp : Space) (start : ℕ → ℕ) where
           rw (drop-drop j 1 vs, next, ← place) (says (suc j) q wide z e)
 
       go : (y : Slot) → SaysBases (y ∷ ss) vs (λ j. start (s + j))
-          → rangesFrom (spaceOf sp) ss (drop 1 vs) ≡ map (barRange start) (keep (λ c. inSpace sp (c .pool)) (barsFrom (suc s) ss))
-          → rangesFrom (spaceOf sp) (y ∷ ss) vs ≡ map (barRange start) (keep (λ c. inSpace sp (c .pool)) (barsFrom s (y ∷ ss)))
+          → rangesFrom sp ss (drop 1 vs) ≡ map (barRange start) (keep (λ c. inSpace sp (c .pool)) (barsFrom (suc s) ss))
+          → rangesFrom sp (y ∷ ss) vs ≡ map (barRange start) (keep (λ c. inSpace sp (c .pool)) (barsFrom s (y ∷ ss)))
       go Unused said on = on
       go Upper said on = on
       go Bad said on = on
-      go (Bar q wide z) said on = rw (in-space-agree sp q) (by (inSpace sp q))
+      go (Bar q wide z) said on = by (inSpace sp q)
         where
           base-is : baseOf (Bar q wide z) (valueHere (Bar q wide z) vs) ≡ start s
           base-is = said 0 q wide z refl ∙ ap start (add-zero s)
@@ -69,7 +53,7 @@ module _ (sp : Space) (start : ℕ → ℕ) where
               → cond t
               (record { pool = poolOf q; start = baseOf (Bar q wide z) (valueHere (Bar q wide z) vs); stop = baseOf (Bar q wide z) (valueHere (Bar q wide z) vs) + z } ∷ [])
               []
-              ++ rangesFrom (spaceOf sp) ss (drop 1 vs)
+              ++ rangesFrom sp ss (drop 1 vs)
               ≡ map (barRange start)
               (cond t (record { slot = s; pool = q; size = z } ∷ keep (λ c. inSpace sp (c .pool)) (barsFrom (suc s) ss))
               (keep (λ c. inSpace sp (c .pool)) (barsFrom (suc s) ss)))
@@ -77,6 +61,6 @@ module _ (sp : Space) (start : ℕ → ℕ) where
           by false = on
 
   pub ranges-of-bars : (ss : List Slot) (vs : List ℕ) → SaysBases ss vs start
-      → rangesFrom (spaceOf sp) ss vs ≡ map (barRange start) (keep (λ c. inSpace sp (c .pool)) (barsFrom 0 ss))
+      → rangesFrom sp ss vs ≡ map (barRange start) (keep (λ c. inSpace sp (c .pool)) (barsFrom 0 ss))
   ranges-of-bars ss vs says =
       ranges-from ss 0 vs (λ j q wide z e. let none : 0 + j ≡ j = omega arith in rw none (says j q wide z e))

@@ -7,18 +7,19 @@ use native.Mathlib.Omega.{arith}
 use lib.ListN.{length, length-map}
 use Rattle.endian.specs.Endian.{Bytes}
 use Rattle.placing.specs.Above.{aboveByParents}
+use Rattle.pools.specs.declared.Space.{Space}
+use Rattle.pools.specs.declared.Space.the-variants.{Memory as memorySpace}
 use Rattle.placing.specs.Refusals.{refusalOf}
 use Rattle.board.specs.declared.Host.{Host}
 use Rattle.board.specs.declared.Function.{Function}
 use Rattle.board.specs.Board.{boardNumber, hostOf, functionsOf}
-use Rattle.board.specs.ToPlacing.{toHost, toPlacing}
+use Rattle.board.specs.ToPlacing.{toHost, toPlacing, devfnOf}
 use Rattle.walk.specs.Registers.{Node, Registers, nodes, rootOf}
 use Rattle.walk.specs.Tally.{tallyOn}
 use Rattle.walk.specs.Walk.{Outcome, walkFrom}
 use Rattle.walk.specs.Good.{FirstOn, Good}
 use Rattle.walk.specs.Delivery.{outcomeOf, root-is-first, outcome-from-first}
 use Rattle.walk.specs.Ids.{tallyById}
-use Rattle.sheet.specs.declared.Space.{Space as SheetSpace}
 use Rattle.sheet.specs.Sheet.{entriesOf, sheetNumber}
 use Rattle.sheet.specs.SheetLaws.{nodes-functions}
 use Rattle.sheet.specs.Spaces.{registersOf, nodesOf, enabledOf}
@@ -26,7 +27,6 @@ use Rattle.sheet.specs.Commands.{SameButCommands}
 use Rattle.sheet.specs.CommandsLaws.{registers-same, nodes-same}
 use Rattle.layout.specs.Layout.{sheetBytes}
 use Rattle.layout.specs.ReadBack.{framed-sheetBytes}
-use Rattle.planned.specs.Spaces.{Space, memorySpace}
 use Rattle.planned.specs.Registers.{planNode, planRows, planNodes, planRegisters, planHost}
 use Rattle.planned.specs.Rows.{length-rows}
 use Rattle.planned.specs.Items.{nodes-plan}
@@ -36,24 +36,23 @@ use Rattle.planned.specs.ByIdLaws.{planned-delivers-by-id}
 use Rattle.planned.specs.DeliveryLaws.{planned-delivers}
 use Rattle.planned.specs.PlannedGood.{planned-good}
 use Rattle.planning.specs.Plan.{planOf}
-use Rattle.joined.specs.Fits.{devfnOf, BoardFits}
+use Rattle.joined.specs.Fits.{BoardFits}
 use Rattle.joined.specs.FitsLaws.{devfn-lt}
 use Rattle.joined.specs.Accepted.{fits-of-accepted}
-use Rattle.joined.specs.BarRanges.{spaceOf}
 use Rattle.joined.specs.Registers.{registers-agree, nodes-agree}
 use Rattle.joined.specs.Passes.{rewritten-sheet-passes}
 
 -- what a request with this start address comes to on a sheet: the walk starts on the bus of the first record
-abbrev pub sheetOutcome : SheetSpace → List ℕ → ℕ → Outcome
+abbrev pub sheetOutcome : Space → List ℕ → ℕ → Outcome
 sheetOutcome space s address = walkFrom (tallyOn (enabledOf space s) (registersOf space s) address) (rootOf (nodesOf s)) 0
 
 -- what holds of a sheet that is the planned one but for command words
 pub record PlannedSheet (h : Host) (fs : List Function) (t : List ℕ) : Type 0 where
   pub passes : sheetNumber t ≡ 0
-  pub registers-are : (sp : Space) → registersOf (spaceOf sp) t ≡ planRegisters sp (toHost h) (toPlacing fs) (devfnOf fs)
-  pub good : (sp : Space) → Good (planHost sp (toHost h)) (registersOf (spaceOf sp) t)
+  pub registers-are : (sp : Space) → registersOf sp t ≡ planRegisters sp (toHost h) (toPlacing fs) (devfnOf fs)
+  pub good : (sp : Space) → Good (planHost sp (toHost h)) (registersOf sp t)
   pub delivers : (sp : Space) (address : ℕ)
-      → DeliversAsPlaced sp (toHost h) (toPlacing fs) (enabledOf (spaceOf sp) t) address (sheetOutcome (spaceOf sp) t address)
+      → DeliversAsPlaced sp (toHost h) (toPlacing fs) (enabledOf sp t) address (sheetOutcome sp t address)
   pub nodes-are : nodesOf t ≡ planNodes (toHost h) (toPlacing fs) (devfnOf fs)
   pub as-many : length (nodesOf t) ≡ length (toPlacing fs)
   pub root-is : 0 < length (toPlacing fs) → rootOf (nodesOf t) ≡ toHost h .firstBus
@@ -62,20 +61,20 @@ pub record PlannedSheet (h : Host) (fs : List Function) (t : List ℕ) : Type 0 
 
 module _ (h : Host) (fs : List Function) (fits : BoardFits h fs) (planned : refusalOf (toHost h) (toPlacing fs) ≡ 0) (t : List ℕ)
     (same : SameButCommands (sheetBytes (planOf h fs)) t) where
-  registers-are : (sp : Space) → registersOf (spaceOf sp) t ≡ planRegisters sp (toHost h) (toPlacing fs) (devfnOf fs)
-  registers-are sp = registers-same same (framed-sheetBytes (planOf h fs)) (spaceOf sp) ∙ registers-agree h fs fits planned sp
+  registers-are : (sp : Space) → registersOf sp t ≡ planRegisters sp (toHost h) (toPlacing fs) (devfnOf fs)
+  registers-are sp = registers-same same (framed-sheetBytes (planOf h fs)) sp ∙ registers-agree h fs fits planned sp
 
   plan-good : (sp : Space) → Good (planHost sp (toHost h)) (planRegisters sp (toHost h) (toPlacing fs) (devfnOf fs))
   plan-good sp = planned-good (fits .board) planned sp (devfnOf fs)
 
   -- the walk over the sheet's registers is that over the plan's, from the host's first bus
   outcome-is : (sp : Space) (address : ℕ)
-      → sheetOutcome (spaceOf sp) t address
-      ≡ outcomeOf (planHost sp (toHost h)) (enabledOf (spaceOf sp) t) (planRegisters sp (toHost h) (toPlacing fs) (devfnOf fs)) address
+      → sheetOutcome sp t address
+      ≡ outcomeOf (planHost sp (toHost h)) (enabledOf sp t) (planRegisters sp (toHost h) (toPlacing fs) (devfnOf fs)) address
   outcome-is sp address =
-      let enabled = enabledOf (spaceOf sp) t in
-      ap (λ (ns : List Node). walkFrom (tallyOn enabled (registersOf (spaceOf sp) t) address) (rootOf ns) 0)
-      (sym (nodes-functions (spaceOf sp) 1 (entriesOf t)))
+      let enabled = enabledOf sp t in
+      ap (λ (ns : List Node). walkFrom (tallyOn enabled (registersOf sp t) address) (rootOf ns) 0)
+      (sym (nodes-functions sp 1 (entriesOf t)))
       ∙ ap (λ (rs : List Registers). walkFrom (tallyOn enabled rs address) (rootOf (nodes rs)) 0) (registers-are sp)
       ∙ outcome-from-first (planRegisters sp (toHost h) (toPlacing fs) (devfnOf fs)) (plan-good sp .tree) enabled address
 
@@ -108,7 +107,7 @@ module _ (h : Host) (fs : List Function) (fits : BoardFits h fs) (planned : refu
         good = λ sp. subst (Good (planHost sp (toHost h))) (sym (registers-are sp)) (plan-good sp);
         delivers =
             λ sp address.
-            let enabled = enabledOf (spaceOf sp) t in
+            let enabled = enabledOf sp t in
             subst (DeliversAsPlaced sp (toHost h) (toPlacing fs) enabled address) (sym (outcome-is sp address))
             (planned-delivers (fits .board) planned sp (devfnOf fs) enabled address);
         nodes-are = nodes-are;

@@ -1,8 +1,8 @@
 -- What a board's bytes and checks give the planned sheet: every number has its width, and numbering, placing and order are lawful. Assumes nothing.
 use mathlib.Core.Path.{_≡_}
 use mathlib.Core.Bool.{true, false}
-use mathlib.Core.List.{List, map}
-use Prim.Native.Nat.{ℕ, pred, _%_, _^_, _≤_, _<_}
+use mathlib.Core.List.{List}
+use Prim.Native.Nat.{ℕ, _%_, _^_, _≤_, _<_}
 use lib.ListN.{length, getD, take, drop}
 use Rattle.bar.specs.Bar.{slots, anyBad}
 use Rattle.lists.specs.Lists.{All}
@@ -10,14 +10,10 @@ use Rattle.placing.specs.Above.{aboveByParents, mostAbove}
 use Rattle.board.specs.declared.Host.{Host}
 use Rattle.board.specs.declared.Function.{Function}
 use Rattle.board.specs.Function.{slotCount}
-use Rattle.board.specs.ToPlacing.{toHost, toPlacing}
+use Rattle.board.specs.ToPlacing.{toHost, toPlacing, devfnOf}
 use Rattle.sheet.specs.Sheet.{allZero}
 use Rattle.planned.specs.Boards.{Board}
 use Rattle.planned.specs.Ids.{SiblingsRise}
-
--- the device/function byte of each record, by its number
-abbrev pub devfnOf : List Function → ℕ → ℕ
-devfnOf fs k = getD (map (λ (f : Function). f .devfn) fs) (pred k) 0
 
 -- one function: its numbers' widths, header type (24), and read-backs (25)
 pub record FunctionFits (f : Function) : Type 0 where

@@ -26,7 +26,8 @@ use Rattle.board.specs.Function.{lengthFor, readbacksFor, functionOfPart, heade
 use Rattle.board.specs.ToPlacing.{toHost}
 use Rattle.sheet.specs.Sheet.{allZero}
 use Rattle.planned.specs.Boards.{HostEdges}
-use Rattle.joined.specs.Fits.{devfnOf, FunctionFits}
+use Rattle.board.specs.ToPlacing.{devfnOf}
+use Rattle.joined.specs.Fits.{FunctionFits}
 
 -- ## Parts are bytes
 

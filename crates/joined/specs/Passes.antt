@@ -20,7 +20,7 @@ use Rattle.placer.specs.Registers.{barStart}
 use Rattle.board.specs.declared.Host.{Host}
 use Rattle.board.specs.declared.Function.{Function}
 use Rattle.board.specs.Function.{isBridge}
-use Rattle.board.specs.ToPlacing.{toHost, toPlacing}
+use Rattle.board.specs.ToPlacing.{toHost, toPlacing, devfnOf}
 use Rattle.walk.specs.Ids.{DistinctIds}
 use Rattle.sheet.specs.declared.Rule.{Rule}
 use Rattle.sheet.specs.declared.Rule.the-variants.{HeaderType, Buses, ReadBacks, Nibbles}
@@ -35,7 +35,7 @@ use Rattle.layout.specs.AllBytes.{bytes-sheetBytes}
 use Rattle.layout.specs.ReadBack.{framed-sheetBytes}
 use Rattle.planned.specs.Ids.{planned-ids}
 use Rattle.planning.specs.Plan.{entryFor, plannedFrom, planOf}
-use Rattle.joined.specs.Fits.{devfnOf, FunctionFits, BoardFits}
+use Rattle.joined.specs.Fits.{FunctionFits, BoardFits}
 use Rattle.joined.specs.Windows.{window-nibbled}
 use Rattle.joined.specs.Values.{slotReadbacks, values-of-record}
 use Rattle.joined.specs.Shaped.{StandsAt, range-at, bars-placed-at, shaped}

@@ -8,6 +8,9 @@ use native.Mathlib.Omega.{arith}
 use lib.ListN.{drop}
 use Rattle.pools.specs.declared.Pool.{Pool}
 use Rattle.pools.specs.declared.Pool.the-variants.{Low, High, Io}
+use Rattle.pools.specs.declared.Space.{Space}
+use Rattle.pools.specs.declared.Space.the-variants.{Memory as memorySpace, Io as ioSpace}
+use Rattle.pools.specs.Pools.{inSpace}
 use Rattle.bar.specs.Bar.{slots}
 use Rattle.bar.specs.PlacedLaws.{base-placed}
 use Rattle.window.specs.WindowLaws.{Edges}
@@ -26,9 +29,8 @@ use Rattle.placer.specs.Registers.{barStart}
 use Rattle.board.specs.declared.Host.{Host}
 use Rattle.board.specs.declared.Function.{Function}
 use Rattle.board.specs.Function.{isBridge}
-use Rattle.board.specs.ToPlacing.{toHost, toFunction, toPlacing}
+use Rattle.board.specs.ToPlacing.{toHost, toFunction, toPlacing, devfnOf}
 use Rattle.walk.specs.Registers.{Registers}
-use Rattle.sheet.specs.declared.Space.the-variants.{Memory, Io as Ports}
 use Rattle.sheet.specs.Entry.{Entry}
 use Rattle.sheet.specs.Sheet.{entriesOf}
 use Rattle.sheet.specs.Spaces.{barsFrom as rangesFrom, nodeOf, functionOf, functionsFrom, registersOf, nodesOf}
@@ -38,15 +40,14 @@ use Rattle.layout.specs.Layout.{Planned, sheetBytes}
 use Rattle.layout.specs.ReadBack.{entriesOf-sheetBytes}
 use Rattle.planned.specs.Kept.{AllKept, kept-of-planned}
 use Rattle.planned.specs.Items.{nodes-plan}
-use Rattle.planned.specs.Spaces.{Space, memorySpace, ioSpace, inSpace}
 use Rattle.planned.specs.Registers.{rangeOf, isWindowOf, barsOf, windowsOf, planNode, planNodes, planRegister, planRegisters}
 use Rattle.planned.specs.RecordPieces.{windows-of-record, bars-at}
 use Rattle.planning.specs.Plan.{entryFor, plannedFrom, planOf}
-use Rattle.joined.specs.Fits.{devfnOf, FunctionFits, BoardFits}
+use Rattle.joined.specs.Fits.{FunctionFits, BoardFits}
 use Rattle.joined.specs.Starts.{bar-start-is}
 use Rattle.joined.specs.Windows.{WindowAt, window-edges}
 use Rattle.joined.specs.WindowRanges.{range-of-closed, window-for-keep, over-kept, over-dropped, ranges-of-two, ranges-of-one}
-use Rattle.joined.specs.BarRanges.{spaceOf, ranges-of-bars}
+use Rattle.joined.specs.BarRanges.{ranges-of-bars}
 use Rattle.joined.specs.Values.{slotReadbacks, values-of-record}
 use Rattle.joined.specs.Shaped.{StandsAt, at-placing, bars-placed-at, shaped}
 
@@ -117,12 +118,12 @@ module _ (h : Host) (fs : List Function) (fits : BoardFits h fs) (planned : refu
           subordinate = entry .subordinate;
         }
 
-    bars-agree : (sp : Space) → sheetBars (spaceOf sp) entry ≡ barsOf sp xs (suc i)
+    bars-agree : (sp : Space) → sheetBars sp entry ≡ barsOf sp xs (suc i)
     bars-agree sp =
         let rs = slotReadbacks f in
         let base : ℕ → ℕ = λ j. barStart (suc i) j xs in
         let is-at = at-placing i fs f gs at in
-        ap (rangesFrom (spaceOf sp) (slots rs)) (values-of-record (suc i) xs f fit)
+        ap (rangesFrom sp (slots rs)) (values-of-record (suc i) xs f fit)
         ∙ ranges-of-bars sp base (slots rs) _ (base-placed base rs (fit .lawful) (bars-placed-at h fs fits planned i f gs at fit))
         ∙ sym (bars-at sp (toHost h) ps (fits .board .lawful) i (toFunction f) is-at base
         (bar-start-is (toHost h) ps (fits .board .lawful) i (toFunction f) is-at (slots rs) refl))
@@ -142,13 +143,13 @@ module _ (h : Host) (fs : List Function) (fits : BoardFits h fs) (planned : refu
         let none = rw e at (windows-are sp) in
         ap (map rangeOf) (none-of-map (keep (isWindowOf sp (suc i)) xs) (none ∙ keep-nil (λ p. inSpace sp (p .pool))))
 
-    windows-agree : (sp : Space) → sheetWindows (spaceOf sp) entry ≡ windowsOf sp xs (suc i)
+    windows-agree : (sp : Space) → sheetWindows sp entry ≡ windowsOf sp xs (suc i)
     windows-agree memorySpace = go (isBridge f) refl
       where
         rest : List Piece
         rest = pieces (suc (suc i)) (drop (suc i) ps)
 
-        go : (t : Bool) → isBridge f ≡ t → sheetWindows Memory entry ≡ windowsOf memorySpace xs (suc i)
+        go : (t : Bool) → isBridge f ≡ t → sheetWindows memorySpace entry ≡ windowsOf memorySpace xs (suc i)
         go true e =
             rw (e, window-for-keep memorySpace (suc i) Low refl xs, window-for-keep memorySpace (suc i) High refl xs)
             (ranges-of-two (suc i) (f .parent) (select (suc i) low rest) (select (suc i) high rest) (keep (isWindowOf memorySpace (suc i)) xs)
@@ -159,7 +160,7 @@ module _ (h : Host) (fs : List Function) (fits : BoardFits h fs) (planned : refu
         rest : List Piece
         rest = pieces (suc (suc i)) (drop (suc i) ps)
 
-        go : (t : Bool) → isBridge f ≡ t → sheetWindows Ports entry ≡ windowsOf ioSpace xs (suc i)
+        go : (t : Bool) → isBridge f ≡ t → sheetWindows ioSpace entry ≡ windowsOf ioSpace xs (suc i)
         go true e =
             rw (e, window-for-keep ioSpace (suc i) Io refl xs)
             (ranges-of-one (suc i) (f .parent) (select (suc i) io rest) (keep (isWindowOf ioSpace (suc i)) xs)
@@ -167,7 +168,7 @@ module _ (h : Host) (fs : List Function) (fits : BoardFits h fs) (planned : refu
         go false e = rw (e, range-of-closed Io) (sym (no-windows ioSpace e))
 
     -- one record's
-    register-agree : (sp : Space) → functionOf (spaceOf sp) (suc i) entry ≡ planRegister sp xs (devfnOf fs) (rowOf first ps (suc i) (toFunction f))
+    register-agree : (sp : Space) → functionOf sp (suc i) entry ≡ planRegister sp xs (devfnOf fs) (rowOf first ps (suc i) (toFunction f))
     register-agree sp =
         let node = node-agree in
         let bars = bars-agree sp in
@@ -175,7 +176,7 @@ module _ (h : Host) (fs : List Function) (fits : BoardFits h fs) (planned : refu
         λ j. record { node = node j; bars = bars j; windows = windows j }
 
   registers-from : (sp : Space) (i : ℕ) (gs : List Function) → drop i fs ≡ gs → All FunctionFits gs
-      → functionsFrom (spaceOf sp) (suc i) (map (λ (p : Planned). p .entry) (plannedFrom first ps xs (suc i) gs))
+      → functionsFrom sp (suc i) (map (λ (p : Planned). p .entry) (plannedFrom first ps xs (suc i) gs))
       ≡ map (planRegister sp xs (devfnOf fs)) (numberedFrom first ps (suc i) (toPlacing gs))
   unfolding functionsFrom plannedFrom numberedFrom
   registers-from sp i [] e fit = refl
@@ -186,13 +187,13 @@ module _ (h : Host) (fs : List Function) (fits : BoardFits h fs) (planned : refu
   entries-planned = entriesOf-sheetBytes (planOf h fs) (shaped h fs fits planned)
 
   -- the sheet's registers, read from its bytes, are the plan's
-  pub registers-agree : (sp : Space) → registersOf (spaceOf sp) (sheetBytes (planOf h fs)) ≡ planRegisters sp (toHost h) ps (devfnOf fs)
+  pub registers-agree : (sp : Space) → registersOf sp (sheetBytes (planOf h fs)) ≡ planRegisters sp (toHost h) ps (devfnOf fs)
   unfolding planOf planRegisters
-  registers-agree sp = ap (functionsFrom (spaceOf sp) 1) entries-planned ∙ registers-from sp 0 fs refl (fits .functions)
+  registers-agree sp = ap (functionsFrom sp 1) entries-planned ∙ registers-from sp 0 fs refl (fits .functions)
 
   -- so are its functions' places on the buses
   pub nodes-agree : nodesOf (sheetBytes (planOf h fs)) ≡ planNodes (toHost h) ps (devfnOf fs)
   nodes-agree =
-      sym (nodes-functions (spaceOf memorySpace) 1 (entriesOf (sheetBytes (planOf h fs))))
+      sym (nodes-functions memorySpace 1 (entriesOf (sheetBytes (planOf h fs))))
       ∙ ap (map (λ (r : Registers). r .node)) (registers-agree memorySpace)
       ∙ nodes-plan memorySpace (toHost h) ps (devfnOf fs)

@@ -14,9 +14,8 @@ use Rattle.placing.specs.Preorder.{parentOf}
 use Rattle.board.specs.declared.Function.{Function}
 use Rattle.board.specs.Order.{lastSibling, misplaced, anyMisplaced}
 use Rattle.board.specs.OrderLaws.{placed-of-not-misplaced}
-use Rattle.board.specs.ToPlacing.{toFunction, toPlacing}
+use Rattle.board.specs.ToPlacing.{toFunction, toPlacing, devfnOf}
 use Rattle.planned.specs.Ids.{SiblingsRise}
-use Rattle.joined.specs.Fits.{devfnOf}
 
 -- where they share a parent, f has the smaller device/function
 abbrev RisesTo : Function → Function → Type 0

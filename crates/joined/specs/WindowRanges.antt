@@ -8,6 +8,8 @@ use borrow.Author.Tests.{eqb-true, eq-eqb}
 use Rattle.pools.specs.declared.Pool.{Pool}
 use Rattle.pools.specs.declared.Pool.the-variants.{Low, High, Io}
 use Rattle.pools.specs.Pools.{samePool}
+use Rattle.pools.specs.declared.Space.{Space}
+use Rattle.pools.specs.Pools.{inSpace}
 use Rattle.window.specs.Window.{closed, opened}
 use Rattle.window.specs.WindowLaws.{Edges, closed-shut, opened-start, opened-stop, opened-open}
 use Rattle.placing.specs.Order.{both-of-and}
@@ -20,7 +22,7 @@ use Rattle.placer.specs.Registers.{isWindowIn, windowFor}
 use Rattle.lists.specs.Lists.{_∈_, keep}
 use Rattle.walk.specs.Ranges.{Pool as RangePool}
 use Rattle.sheet.specs.Spaces.{poolOf, openRange}
-use Rattle.planned.specs.Spaces.{Space, inSpace, rangePool}
+use Rattle.planned.specs.Spaces.{rangePool}
 use Rattle.planned.specs.Registers.{rangeOf, isWindowOf}
 use Rattle.joined.specs.Windows.{WindowAt}
 

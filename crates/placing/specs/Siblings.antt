@@ -8,7 +8,7 @@ use Prim.Native.Nat.{ℕ, suc, _≤_, _<_}
 use native.Mathlib.Omega.{arith}
 use Rattle.lists.specs.Lists.{All, Pairwise}
 use Rattle.lists.specs.ListLaws.{all-imp₂, all-and, pairwise-imp, pairwise-all}
-use Rattle.placing.specs.Pools.{Pool, low, high, io}
+use Rattle.placing.specs.Pools.{Pool, low, high, io, isMemory}
 use Rattle.placing.specs.Records.{Host, Function, Lawful}
 use Rattle.placing.specs.Layout.{Placed, endOf}
 use Rattle.placing.specs.LayoutLaws.{Within, Before}
@@ -20,12 +20,6 @@ use Rattle.placing.specs.Placed.{Apart, well-placed, in-pool}
 use Rattle.placing.specs.Numbering.{busNumber}
 use Rattle.placing.specs.Numbered.{Rises, rises-unique, every-bus-rises}
 use Rattle.placing.specs.Refusals.{Kept}
-
--- Low and high are both memory
-abbrev pub isMemory : Pool → Bool
-isMemory low = true
-isMemory high = true
-isMemory io = false
 
 abbrev pub Disjoint : Placed → Placed → Type 0
 Disjoint x y = (endOf x ≤ y .start) ⊎ (endOf y ≤ x .start)

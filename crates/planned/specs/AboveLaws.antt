@@ -6,6 +6,8 @@ use Prim.Native.Nat.{ℕ, zero, suc, _≤_, _<_}
 use native.Mathlib.Omega.{arith}
 use lib.ListN.{length, length-map}
 use Rattle.placing.specs.Records.{Host, Function}
+use Rattle.pools.specs.declared.Space.{Space}
+use Rattle.pools.specs.declared.Space.the-variants.{Memory as memorySpace}
 use Rattle.placing.specs.Preorder.{parentOf}
 use Rattle.placing.specs.Above.{aboveByParents}
 use Rattle.placing.specs.AboveLaws.{above-host, above-parent}
@@ -19,7 +21,6 @@ use Rattle.walk.specs.AboveLaws.{above-root, above-bridge}
 use Rattle.walk.specs.Good.{BridgesRise, Tree}
 use Rattle.walk.specs.Reach.{numbersOf}
 use Rattle.walk.specs.Delivery.{bridgesAbove}
-use Rattle.planned.specs.Spaces.{Space, memorySpace}
 use Rattle.planned.specs.Boards.{Board}
 use Rattle.planned.specs.Registers.{planNode, planRows, planNodes, planRegister, planRegisters, planHost}
 use Rattle.planned.specs.Rows.{Row}

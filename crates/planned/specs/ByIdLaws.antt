@@ -19,7 +19,7 @@ use Rattle.walk.specs.Above.{above}
 use Rattle.walk.specs.Good.{BridgesRise, Tree}
 use Rattle.walk.specs.Ids.{tallyById, DistinctIds, HasId}
 use Rattle.walk.specs.IdsDelivery.{delivered-by-id, crosses-by-id, has-id-of-delivered, nobody-by-id}
-use Rattle.planned.specs.Spaces.{memorySpace}
+use Rattle.pools.specs.declared.Space.the-variants.{Memory as memorySpace}
 use Rattle.planned.specs.Boards.{Board}
 use Rattle.placing.specs.Above.{aboveByParents}
 use Rattle.planned.specs.Registers.{planNode, planRows, planNodes, planHost}

@@ -7,12 +7,13 @@ use mathlib.Core.List.{List}
 use Prim.Native.Nat.{ℕ, _+_, _≤_, _<_}
 use lib.ListN.{length}
 use Rattle.lists.specs.Lists.{All, Some}
+use Rattle.pools.specs.declared.Space.{Space}
+use Rattle.pools.specs.Pools.{inSpace}
 use Rattle.placing.specs.Records.{Host, Function}
 use Rattle.placing.specs.Layout.{Placed, isWindow}
 use Rattle.placing.specs.Placing.{placed}
 use Rattle.placing.specs.Above.{aboveByParents}
 use Rattle.walk.specs.Walk.{Outcome, delivered, refused}
-use Rattle.planned.specs.Spaces.{Space, inSpace}
 
 -- x is a BAR of record k in the space, and holds the address: its size in addresses from where it is placed
 pub record BarHolds (sp : Space) (k address : ℕ) (x : Placed) : Type 0 where

@@ -9,6 +9,7 @@ use native.Mathlib.Omega.{arith}
 use lib.ListN.{length}
 use Rattle.lists.specs.Lists.{_∈_, All, Some}
 use Rattle.lists.specs.ListLaws.{all-elim, all-intro, all-map-intro, member-of-some, some-of-member}
+use Rattle.pools.specs.declared.Space.{Space}
 use Rattle.placing.specs.Records.{Host, Function}
 use Rattle.placing.specs.Placing.{placed}
 use Rattle.placing.specs.Numbering.{Numbered}
@@ -21,7 +22,6 @@ use Rattle.walk.specs.Walk.{delivered, refused, Trail}
 use Rattle.walk.specs.Good.{Host as WalkHost, Good, sound-of-good}
 use Rattle.walk.specs.Reach.{numbersOf}
 use Rattle.walk.specs.Delivery.{Owns, Delivers, bridgesAbove, outcomeOf, owner-of-delivered, good-delivers}
-use Rattle.planned.specs.Spaces.{Space}
 use Rattle.planned.specs.Boards.{Board}
 use Rattle.planned.specs.Delivery.{BarHolds, OwnsAsPlaced, DeliversAsPlaced}
 use Rattle.planned.specs.Registers.{rangeOf, barsOf, planRows, planRegister, planRegisters, planHost}

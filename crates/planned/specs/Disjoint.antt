@@ -5,6 +5,8 @@ use mathlib.Core.Bool.{Bool, true, false, cond, false≢true}
 use mathlib.Core.List.{List, [], map}
 use Prim.Native.Nat.{ℕ, _<_}
 use native.Mathlib.Omega.{arith}
+use Rattle.pools.specs.declared.Space.{Space}
+use Rattle.pools.specs.Pools.{inSpace}
 use Rattle.placing.specs.Pools.{low, high}
 use Rattle.placing.specs.Records.{Host, Function}
 use Rattle.placing.specs.Preorder.{parentOf}
@@ -19,7 +21,7 @@ use Rattle.walk.specs.Ranges.{Range, Apart}
 use Rattle.walk.specs.Registers.{Registers, Item, itemsOf, items, barItem, windowItem, openWindows}
 use Rattle.walk.specs.Good.{ApartOnBus}
 use Rattle.walk.specs.Good.{Disjoint as DisjointItems}
-use Rattle.planned.specs.Spaces.{Space, inSpace, same-space}
+use Rattle.planned.specs.Spaces.{same-space}
 use Rattle.planned.specs.Boards.{Board, memory-apart}
 use Rattle.planned.specs.Registers.{rangeOf, isBarOf, isWindowOf, planRows, planRegister, planRegisters}
 use Rattle.planned.specs.Rows.{placed-bus, numbers-rise}

@@ -6,6 +6,8 @@ use mathlib.Core.List.{List, [], _∷_, flatMap}
 use Prim.Native.Nat.{ℕ}
 use lib.Dec.{lit<, lit≤, eqb}
 use Rattle.lists.specs.Lists.{All, keep, any}
+use Rattle.pools.specs.declared.Space.{Space}
+use Rattle.pools.specs.declared.Space.the-variants.{Memory as memorySpace, Io as ioSpace}
 use Rattle.placing.specs.Align.{alignUp}
 use Rattle.placing.specs.Layout.{layoutEnd, largestAlign}
 use Rattle.placing.specs.Pieces.{barPieces, windowPieces, ownPieces, pieces}
@@ -18,7 +20,6 @@ use Rattle.walk.specs.Registers.{itemsOf, items}
 use Rattle.walk.specs.Tally.{join, tallyOn}
 use Rattle.walk.specs.Walk.{Outcome, delivered, refused, walkOver, walkFrom}
 use Rattle.walk.specs.Delivery.{outcomeOf}
-use Rattle.planned.specs.Spaces.{Space, memorySpace, ioSpace}
 use Rattle.planned.specs.Boards.{HostEdges, Board}
 use Rattle.planned.specs.Registers.{planRegisters, planHost}
 

@@ -8,6 +8,8 @@ use Prim.Native.Nat.{ℕ, suc}
 use native.Mathlib.Numerals.{add-one}
 use lib.Dec.{eqb}
 use borrow.Author.Tests.{eqb-true, eq-eqb}
+use Rattle.pools.specs.declared.Space.{Space}
+use Rattle.pools.specs.Pools.{inSpace}
 use Rattle.placing.specs.Order.{both-of-and}
 use Rattle.placing.specs.Records.{Host, Function, Lawful}
 use Rattle.placing.specs.Preorder.{parentOf}
@@ -20,7 +22,6 @@ use Rattle.lists.specs.ListLaws.{mem-cond-elim, flat-elim, all-elim}
 use Rattle.lists.specs.KeepLaws.{keep-elim, keep-intro}
 use Rattle.walk.specs.Ranges.{Range}
 use Rattle.walk.specs.Registers.{Registers, nodes, Item, itemsOf, items, barItem, windowItem, openWindows, NumberedFrom}
-use Rattle.planned.specs.Spaces.{Space, inSpace}
 use Rattle.planned.specs.Registers.{rangeOf, isBarOf, isWindowOf, barsOf, windowsOf, planNode, planRows, planNodes, planRegister, planRegisters}
 use Rattle.planned.specs.Rows.{placed-bus}
 use Rattle.planned.specs.BusRanges.{row-of}

@@ -9,6 +9,7 @@ use borrow.Author.Tests.{le-leb}
 use Rattle.lists.specs.Lists.{_∈_, Some}
 use Rattle.lists.specs.ListLaws.{all-intro, all-map-intro, some-of-member, all-elim, member-of-some}
 use Rattle.lists.specs.KeepLaws.{keep-intro}
+use Rattle.pools.specs.declared.Space.{Space}
 use Rattle.placing.specs.Records.{Host, Function, Lawful}
 use Rattle.placing.specs.Layout.{Placed}
 use Rattle.placing.specs.Placing.{placed}
@@ -18,7 +19,7 @@ use Rattle.placing.specs.Numbered.{rises-unique}
 use Rattle.walk.specs.Ranges.{Range, Inside}
 use Rattle.walk.specs.Registers.{Item, items}
 use Rattle.walk.specs.Good.{Nested as NestedItems}
-use Rattle.planned.specs.Spaces.{Space, poolsOf, pool-of-space}
+use Rattle.planned.specs.Spaces.{poolsOf, pool-of-space}
 use Rattle.planned.specs.Registers.{rangeOf, planRows, windowsOf, planRegister, planRegisters, planHost, poolRange, isOpen}
 use Rattle.planned.specs.Rows.{placed-bus-rises}
 use Rattle.planned.specs.BusRanges.{row-of}

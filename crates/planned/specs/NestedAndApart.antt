@@ -7,6 +7,8 @@ use mathlib.Core.List.{List}
 use Prim.Native.Nat.{suc}
 use Rattle.lists.specs.Lists.{_∈_, All, Some, Pairwise}
 use Rattle.lists.specs.ListLaws.{pairwise-imp, all-elim, all-intro, some-of-member}
+use Rattle.pools.specs.declared.Space.{Space}
+use Rattle.pools.specs.Pools.{inSpace}
 use Rattle.placing.specs.Pools.{low, high}
 use Rattle.placing.specs.Records.{Host, Function}
 use Rattle.placing.specs.Layout.{Placed}
@@ -16,7 +18,7 @@ use Rattle.placing.specs.Placed.{Holds, well-placed}
 use Rattle.placing.specs.Numbering.{Numbered}
 use Rattle.placing.specs.Siblings.{busOf, Disjoint, disjoint-by-number}
 use Rattle.placing.specs.Refusals.{refusalOf}
-use Rattle.planned.specs.Spaces.{Space, inSpace, same-space}
+use Rattle.planned.specs.Spaces.{same-space}
 use Rattle.planned.specs.Boards.{Board, memory-apart}
 use Rattle.planned.specs.Registers.{planRows}
 use Rattle.planned.specs.BusRanges.{BusesWithin, BusesBefore, parent-row, buses-in-host, buses-in-parent, siblings-before}

@@ -3,10 +3,10 @@
 use mathlib.Core.Path.{_≡_}
 use mathlib.Core.List.{List}
 use Prim.Native.Nat.{ℕ}
+use Rattle.pools.specs.declared.Space.{Space}
 use Rattle.placing.specs.Records.{Host, Function}
 use Rattle.placing.specs.Refusals.{refusalOf}
 use Rattle.walk.specs.Good.{Good}
-use Rattle.planned.specs.Spaces.{Space}
 use Rattle.planned.specs.Boards.{Board}
 use Rattle.planned.specs.Registers.{planRegisters, planHost}
 use Rattle.planned.specs.Tree.{bridges-rise, planned-tree}

@@ -11,6 +11,8 @@ use borrow.Author.Tests.{eq-eqb, ne-eqb}
 use Rattle.lists.specs.Lists.{_∈_, All, keep}
 use Rattle.lists.specs.ListLaws.{all-imp, all-append, all-elim, all-intro}
 use Rattle.lists.specs.KeepLaws.{keep-append, keep-agree, keep-elim, keep-all, keep-none, keep-and, map-keep}
+use Rattle.pools.specs.declared.Space.{Space}
+use Rattle.pools.specs.Pools.{inSpace}
 use Rattle.placing.specs.Pools.{Pool, low, high, io}
 use Rattle.placing.specs.Records.{Bar, Host, Function, Lawful, Sized}
 use Rattle.placing.specs.RecordLaws.{IsAt}
@@ -20,7 +22,7 @@ use Rattle.placing.specs.Pieces.{barPiece, barPieces, windowOver, windowPieces,
 use Rattle.placing.specs.PieceLaws.{own-pieces, pieces-owner}
 use Rattle.placing.specs.Placing.{Cursors, place, placed, fromBases}
 use Rattle.walk.specs.Ranges.{Range}
-use Rattle.planned.specs.Spaces.{Space, inSpace, rangePool}
+use Rattle.planned.specs.Spaces.{rangePool}
 use Rattle.planned.specs.Registers.{rangeOf, isBarOf, isWindowOf, barsOf}
 use Rattle.planned.specs.Items.{bar-of-is}
 

@@ -4,6 +4,8 @@ use mathlib.Core.Bool.{Bool, cond, not, _&&_}
 use mathlib.Core.List.{List, map}
 use Prim.Native.Nat.{ℕ, suc}
 use lib.Dec.{eqb, leb}
+use Rattle.pools.specs.declared.Space.{Space}
+use Rattle.pools.specs.Pools.{inSpace}
 use Rattle.placing.specs.Pools.{Pool}
 use Rattle.placing.specs.Records.{Host, Function}
 use Rattle.placing.specs.Layout.{Placed, endOf, isWindow}
@@ -13,7 +15,7 @@ use Rattle.lists.specs.Lists.{keep}
 use Rattle.walk.specs.Ranges.{Range}
 use Rattle.walk.specs.Registers.{Node, Registers}
 use Rattle.walk.specs.Good.{Host as WalkHost}
-use Rattle.planned.specs.Spaces.{Space, inSpace, poolsOf, rangePool}
+use Rattle.planned.specs.Spaces.{poolsOf, rangePool}
 
 -- From its start up to the first address past it
 abbrev pub rangeOf : Placed → Range

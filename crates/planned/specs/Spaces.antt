@@ -1,20 +1,13 @@
--- The two address spaces and their pools: memory has the low and the high one, I/O its own. Assumes nothing.
+-- The pools of each address space, and how the walk names them. Assumes nothing.
 use mathlib.Core.Path.{_≡_, refl, sym, _∙_}
-use mathlib.Core.Bool.{Bool, true, false, false≢true}
+use mathlib.Core.Bool.{true, false, false≢true}
 use mathlib.Core.List.{List, [], _∷_, List·Memᴰ·head, List·Memᴰ·tail}
-use Rattle.pools.specs.Pools.{isIo}
+use Rattle.pools.specs.declared.Space.{Space}
+use Rattle.pools.specs.declared.Space.the-variants.{Memory as memorySpace, Io as ioSpace}
+use Rattle.pools.specs.Pools.{isMemory, isIo, inSpace}
 use Rattle.placing.specs.Pools.{Pool, low, high, io}
-use Rattle.placing.specs.Siblings.{isMemory}
 use Rattle.lists.specs.Lists.{_∈_}
 use Rattle.walk.specs.Ranges.{Pool as RangePool, low as lowRange, high as highRange, io as ioRange}
-
-pub data Space : Type 0 where
-  memorySpace ioSpace : Space
-
--- Does the pool belong to the space?
-abbrev pub inSpace : Space → Pool → Bool
-inSpace memorySpace q = isMemory q
-inSpace ioSpace q = isIo q
 
 abbrev pub poolsOf : Space → List Pool
 poolsOf memorySpace = low ∷ high ∷ []

@@ -7,6 +7,7 @@ use Prim.Native.Nat.{ℕ, suc, _<_}
 use native.Mathlib.Omega.{arith}
 use lib.Dec.{eqb}
 use borrow.Author.Tests.{eqb-true, eq-eqb}
+use Rattle.pools.specs.declared.Space.{Space}
 use Rattle.placing.specs.Records.{Host, Function, Lawful}
 use Rattle.placing.specs.Numbering.{busNumber, Numbered, numberedFrom, numbered}
 use Rattle.placing.specs.Numbered.{well-numbered, bus-number-host}
@@ -19,7 +20,6 @@ use Rattle.walk.specs.Registers.{Node}
 use Rattle.walk.specs.Above.{bridgesTo}
 use Rattle.walk.specs.Good.{BridgesRise, OneWayUp, FirstOn, SiblingsApart, busRange, Tree}
 use Rattle.walk.specs.Good.{Rises as NodeRises}
-use Rattle.planned.specs.Spaces.{Space}
 use Rattle.planned.specs.Boards.{HostEdges}
 use Rattle.planned.specs.Registers.{planNode, planRows, planNodes, planHost}
 use Rattle.planned.specs.BusRanges.{BusesWithin, parent-row, parent-of-bus, buses-in-parent, buses-in-host, siblings-before}

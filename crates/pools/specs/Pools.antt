@@ -1,8 +1,11 @@
--- The three address pools, each a value with its granule and its refusal number, so that nothing is said three times. Assumes nothing.
+-- The three address pools, each a value with its granule and its refusal number, so that nothing is said three times; and the two address spaces that
+-- they lie in. Assumes nothing.
 use mathlib.Core.Bool.{Bool, true, false}
 use Prim.Native.Nat.{ℕ}
 use Rattle.pools.specs.declared.Pool.{Pool}
 use Rattle.pools.specs.declared.Pool.the-variants.{Low, High, Io}
+use Rattle.pools.specs.declared.Space.{Space}
+use Rattle.pools.specs.declared.Space.the-variants.{Memory, Io as Ports}
 
 -- a window's edges are multiples of it: 1 MiB of memory, 4 KiB of I/O
 abbrev pub granule : Pool → ℕ
@@ -16,11 +19,20 @@ refusal Low = 31
 refusal High = 32
 refusal Io = 33
 
--- the address spaces: memory has two pools
+abbrev pub isMemory : Pool → Bool
+isMemory Low = true
+isMemory High = true
+isMemory Io = false
+
 abbrev pub isIo : Pool → Bool
 isIo Low = false
 isIo High = false
 isIo Io = true
+
+-- the pool lies in the address space: memory has the low and the high one, I/O its own
+abbrev pub inSpace : Space → Pool → Bool
+inSpace Memory q = isMemory q
+inSpace Ports q = isIo q
 
 abbrev pub samePool : Pool → Pool → Bool
 samePool Low Low = true

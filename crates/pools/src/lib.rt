@@ -1,11 +1,17 @@
-// The three address pools of a board, each a value with its granule and its refusal number.
+// The three address pools of a board, each a value with its granule, and the two address spaces that they lie in.
 ghost use mathlib.Core.Path.{_≡_};
-ghost use Rattle.pools.specs.Pools.{granule as granuleOf, refusal as refusalOf};
+ghost use Rattle.pools.specs.Pools.{granule as granuleOf, inSpace};
 
 // Low memory, high memory (prefetchable, above 4 GiB) and I/O.
 pub enum Pool {
     Low,
     High,
+    Io,
+}
+
+// The address spaces. Memory has two pools, low and high.
+pub enum Space {
+    Memory,
     Io,
 }
 
@@ -20,13 +26,19 @@ pub fn granule(q: Pool) -> u64
     }
 }
 
-// The number given back where an item ends past the pool.
-pub fn refusal(q: Pool) -> u8
-    ensures { λ r. ⌜ r ≡ refusalOf q ⌝ }
+pub fn in_space(space: Space, q: Pool) -> bool
+    ensures { λ r. ⌜ r ≡ inSpace space q ⌝ }
 {
-    match q {
-        Pool::Low => 31,
-        Pool::High => 32,
-        Pool::Io => 33,
+    match space {
+        Space::Memory => match q {
+            Pool::Low => true,
+            Pool::High => true,
+            Pool::Io => false,
+        },
+        Space::Io => match q {
+            Pool::Low => false,
+            Pool::High => false,
+            Pool::Io => true,
+        },
     }
 }

@@ -12,11 +12,11 @@ use Rattle.packet.specs.declared.Packet.{Packet}
 use Rattle.packet.specs.declared.Packet.the-variants.{Memory, Io, Config, Completion}
 use Rattle.tlp.specs.declared.Reading.the-variants.{Accepted}
 use Rattle.tlp.specs.Reading.{readOf}
+use Rattle.pools.specs.declared.Space.{Space}
 use Rattle.walk.specs.Walk.{Outcome, delivered, refused, noOwner}
 use Rattle.walk.specs.WalkLaws.{walk-none}
 use Rattle.walk.specs.TallyLaws.{tally-nil}
 use Rattle.walk.specs.Tally.{tallyOn}
-use Rattle.sheet.specs.declared.Space.{Space}
 use Rattle.sheet.specs.Entry.{Entry}
 use Rattle.sheet.specs.Sheet.{entriesOf, sheetNumber}
 use Rattle.sheet.specs.Spaces.{functionsFrom, nodesFrom, nodesOf, enabledOf}

@@ -4,7 +4,7 @@ ghost use Rattle.route.specs.Route.{aimOf, kindWrong, typeWrong, lastKin
 use claims::Aim;
 use packet::Packet;
 use pairs::ConfigKind;
-use sheet::Space;
+use pools::Space;
 
 // Memory and I/O go by their start address, the others by ID. A completion's is its requester.
 pub fn aim_of(p: Packet) -> Aim

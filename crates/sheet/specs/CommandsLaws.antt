@@ -16,7 +16,6 @@ use Rattle.records.specs.declared.Next.{Next}
 use Rattle.records.specs.declared.Next.the-variants.{End, Record, Broken}
 use Rattle.records.specs.Records.{nextOf}
 use Rattle.records.specs.RecordsLaws.{fits-at, next-end, next-stray, next-record, next-broken}
-use Rattle.sheet.specs.declared.Space.{Space}
 use Rattle.sheet.specs.declared.Lookup.{Lookup}
 use Rattle.sheet.specs.declared.Lookup.the-variants.{Registers, Refused}
 use Rattle.sheet.specs.Entry.{recordSize, dwords, headerOf, slotCount, windowOf, Entry, entryOf}
@@ -30,6 +29,7 @@ use Rattle.sheet.specs.IndexLaws.{length-commands, command-index}
 use Rattle.sheet.specs.LookupLaws.{LookedUp, looked-up}
 use Rattle.pools.specs.declared.Pool.{Pool}
 use Rattle.pools.specs.declared.Pool.the-variants.{Low, High, Io}
+use Rattle.pools.specs.declared.Space.{Space}
 
 -- ## One record: bytes 6 and 7 of its part are the command word
 

@@ -9,13 +9,13 @@ use borrow.Author.Tests.{not-false}
 use Rattle.endian.specs.Endian.{be, le}
 use Rattle.pools.specs.declared.Pool.{Pool}
 use Rattle.pools.specs.declared.Pool.the-variants.{Low, High, Io}
+use Rattle.pools.specs.declared.Space.{Space}
 use Rattle.records.specs.RecordsLaws.{false-of-or}
 use Rattle.bar.specs.Bar.{slots, anyBad}
 use Rattle.bar.specs.Values.{valuesLawful}
 use Rattle.bar.specs.ValuesLaws.{lawful-of-values}
 use Rattle.sheet.specs.declared.Rule.{Rule}
 use Rattle.sheet.specs.declared.Rule.the-variants.{ReadBacks}
-use Rattle.sheet.specs.declared.Space.{Space}
 use Rattle.sheet.specs.Entry.{dwords, headerOf, isBridge, slotCount, secondaryOf, subordinateOf, windowOf, Entry, entryOf, bus, busOf, bridges, window}
 use Rattle.sheet.specs.Sheet.{Framed, partAt, entriesFrom, entriesOf, allZero, readBacksWrong, breaks, anyBreaks}
 use Rattle.sheet.specs.Spaces.{slotsOf, barsOf}

@@ -5,6 +5,8 @@ use mathlib.Core.List.{List, [], _∷_, _++_}
 use Prim.Native.Nat.{ℕ, zero, suc}
 use lib.ListN.{set, take, replicate}
 use Rattle.endian.specs.Endian.{be, le, leBytes}
+use Rattle.pools.specs.declared.Space.{Space}
+use Rattle.pools.specs.declared.Space.the-variants.{Memory, Io}
 use Rattle.bar.specs.Bar.{sizeFrom, sized, ioSlot, narrowSlot, wideSlot, slotHere, slots}
 use Rattle.bar.specs.Values.{isBarValue, valuesFit}
 use Rattle.window.specs.Window.{closed, start, stop, isNibbled}
@@ -12,8 +14,6 @@ use Rattle.records.specs.Records.{nextOf, partsOver, partsOf}
 use Rattle.lists.specs.Lists.{All}
 use Rattle.walk.specs.Registers.{Registers}
 use Rattle.walk.specs.Examples.{p10-memory, p10-io}
-use Rattle.sheet.specs.declared.Space.{Space}
-use Rattle.sheet.specs.declared.Space.the-variants.{Memory, Io}
 use Rattle.sheet.specs.declared.Lookup.{Lookup}
 use Rattle.sheet.specs.declared.Lookup.the-variants.{Registers as Found, Refused}
 use Rattle.sheet.specs.Entry.{dwords, windowOf, entryOf}

@@ -8,9 +8,9 @@ use lib.Seq.{length-take-le}
 use lib.ListN.{length, getD, drop, length-drop, length-map, List·getD-map}
 use Rattle.endian.specs.Endian.{le}
 use Rattle.endian.specs.EndianLaws.{le-take, le-drop}
+use Rattle.pools.specs.declared.Space.{Space}
+use Rattle.pools.specs.declared.Space.the-variants.{Memory, Io}
 use Rattle.walk.specs.Registers.{enabledIn}
-use Rattle.sheet.specs.declared.Space.{Space}
-use Rattle.sheet.specs.declared.Space.the-variants.{Memory, Io}
 use Rattle.sheet.specs.Entry.{recordSize, commandOf, entryOf}
 use Rattle.sheet.specs.Sheet.{Framed, entriesFrom, entriesOf, commandsOf, partsIn, partAt}
 use Rattle.sheet.specs.Spaces.{functionOf, functionsFrom, enables, enabledOf}

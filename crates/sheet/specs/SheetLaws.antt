@@ -9,13 +9,13 @@ use lib.Dec.{eqb, leb, ltb}
 use borrow.Author.Tests.{ltb-true, ltb-false, leb-true, eqb-true, eqb-false, eq-eqb, ne-eqb, le-ltb, not-false}
 use Rattle.endian.specs.Endian.{Bytes}
 use Rattle.endian.specs.BytesLaws.{bytes-take, bytes-drop}
+use Rattle.pools.specs.declared.Space.{Space}
 use Rattle.records.specs.RecordsLaws.{false-of-or}
 use Rattle.lists.specs.Lists.{All}
 use Rattle.walk.specs.Registers.{nodes, NumberedFrom}
 use Rattle.walk.specs.Good.{Rises, BridgesRise}
 use Rattle.walk.specs.Ids.{DistinctIds}
 use Rattle.sheet.specs.declared.Rule.the-variants.{HeaderType, Buses, ReadBacks, Nibbles}
-use Rattle.sheet.specs.declared.Space.{Space}
 use Rattle.sheet.specs.Entry.{Entry, headerOf, isBridge, subordinateOf, entryOf, bus, devfn, bridges}
 use Rattle.sheet.specs.Sheet.{isFramed, Framed, partAt, entriesFrom, entriesOf, busesWrong, breaks, anyBreaks, hasId, idTwice, from20, from21, from22, from24, from25, from27, from28, from29, sheetNumber}
 use Rattle.sheet.specs.EntryLaws.{breaks-index, lawful-entry}

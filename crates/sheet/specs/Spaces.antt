@@ -7,6 +7,9 @@ use lib.ListN.{take, drop}
 use lib.Dec.{eqb}
 use Rattle.pools.specs.declared.Pool.{Pool}
 use Rattle.pools.specs.declared.Pool.the-variants.{Low, High, Io}
+use Rattle.pools.specs.declared.Space.{Space}
+use Rattle.pools.specs.declared.Space.the-variants.{Memory, Io as Ports}
+use Rattle.pools.specs.Pools.{inSpace}
 use Rattle.bar.specs.declared.Slot.{Slot}
 use Rattle.bar.specs.declared.Slot.the-variants.{Unused, Bar, Upper, Bad}
 use Rattle.bar.specs.Bar.{slots}
@@ -16,18 +19,8 @@ use Rattle.window.specs.Window.{start, stop, isOpen}
 use Rattle.walk.specs.Ranges.{Range, holds}
 use Rattle.walk.specs.Ranges as ranges
 use Rattle.walk.specs.Registers.{Node, Registers, enabledIn}
-use Rattle.sheet.specs.declared.Space.{Space}
-use Rattle.sheet.specs.declared.Space.the-variants.{Memory, Io as Ports}
 use Rattle.sheet.specs.Entry.{Entry, slotCount, bus, devfn, bridges}
 use Rattle.sheet.specs.Sheet.{entriesOf, commandsOf}
-
-abbrev pub inSpace : Space → Pool → Bool
-inSpace Memory Low = true
-inSpace Memory High = true
-inSpace Memory Io = false
-inSpace Ports Low = false
-inSpace Ports High = false
-inSpace Ports Io = true
 
 -- the pool's name on the walk, where bus numbers are a pool too
 abbrev pub poolOf : Pool → ranges.Pool

@@ -9,6 +9,8 @@ use lib.Seq.{drop-drop}
 use lib.Dec.{leb, ltb}
 use borrow.Author.Tests.{ltb-true, ltb-false, lt-ltb, le-ltb, leb-true, le-leb, lt-leb}
 use Rattle.pools.specs.declared.Pool.{Pool}
+use Rattle.pools.specs.declared.Space.{Space}
+use Rattle.pools.specs.Pools.{inSpace}
 use Rattle.bar.specs.declared.Slot.{Slot}
 use Rattle.bar.specs.declared.Slot.the-variants.{Unused, Bar, Upper, Bad}
 use Rattle.bar.specs.Bar.{slotHere, slots, isBad, takesNext, span}
@@ -20,8 +22,7 @@ use Rattle.walk.specs.Ranges.{Range, holds}
 use Rattle.walk.specs.Registers.{Claim}
 use Rattle.lists.specs.Lists.{keep}
 use Rattle.walk.specs.Tally.{hitsOf}
-use Rattle.sheet.specs.declared.Space.{Space}
-use Rattle.sheet.specs.Spaces.{inSpace, barRange, barHere, barsFrom, barHolds, poolOf, openRange}
+use Rattle.sheet.specs.Spaces.{barRange, barHere, barsFrom, barHolds, poolOf, openRange}
 
 -- ## BARs
 

@@ -1,9 +1,8 @@
-// The address spaces: which pools are in them, what enables them, and whether a BAR holds an address.
+// A record in an address space: what enables it there, and whether a BAR holds an address.
 ghost use mathlib.Core.Path.{_≡_};
-ghost use Rattle.sheet.specs.Spaces.{inSpace, enables as enablesOf, barHolds};
-use super::Space;
+ghost use Rattle.sheet.specs.Spaces.{enables as enablesOf, barHolds};
 use bar::Slot;
-use pools::Pool;
+use pools::Space;
 
 // Command bit 0 enables I/O, bit 1 memory.
 pub fn enables(space: Space, command: u16) -> bool
@@ -15,23 +14,6 @@ pub fn enables(space: Space, command: u16) -> bool
     }
 }
 
-pub fn in_space(space: Space, q: Pool) -> bool
-    ensures { λ r. ⌜ r ≡ inSpace space q ⌝ }
-{
-    match space {
-        Space::Memory => match q {
-            Pool::Low => true,
-            Pool::High => true,
-            Pool::Io => false,
-        },
-        Space::Io => match q {
-            Pool::Low => false,
-            Pool::High => false,
-            Pool::Io => true,
-        },
-    }
-}
-
 // The slot is a BAR of the space, and with this value it holds the address. No sum: a BAR may end at 2^64.
 pub fn bar_holds(space: Space, x: Slot, value: u64, address: u64) -> bool
     ensures { λ r. ⌜ r ≡ barHolds space x value address ⌝ }
@@ -40,7 +22,7 @@ pub fn bar_holds(space: Space, x: Slot, value: u64, address: u64) -> bool
         Slot::Unused => false,
         Slot::Bar(q, _, size) => {
             let base = bar::base_of(x, value);
-            if !in_space(space, q) {
+            if !pools::in_space(space, q) {
                 return false;
             }
             if address < base {

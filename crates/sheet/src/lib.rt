@@ -11,12 +11,6 @@ ghost use Rattle.sheet.specs.Lookup.{lookupOf, lookupNumber, registerByt
 ghost use Rattle.sheet.specs.Sheet.{isFramed, Framed, partAt, entriesOf, entriesFrom, anyBreaks, findFrom, idTwice, from24, sheetNumber};
 use records::Next;
 
-// The address spaces. Memory has two pools, low and high.
-pub enum Space {
-    Memory,
-    Io,
-}
-
 // The checks of each record by itself: 24, 27, 25 and 29.
 pub enum Rule {
     HeaderType,

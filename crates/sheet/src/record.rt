@@ -7,9 +7,9 @@ ghost use Rattle.sheet.specs.Entry.{recordSize, idOf, busOf, commandOf, 
 ghost use Rattle.sheet.specs.Spaces.{enables};
 ghost use Rattle.sheet.specs.Sheet.{allZero, typeWrong, busesWrong, readBacksWrong, nibblesWrong, breaks as breaksOf};
 use super::Rule;
-use super::Space;
 use super::claims;
 use pools::Pool;
+use pools::Space;
 use window::Window;
 
 pub fn id_of(part: &[u8]) -> u16
