@@ -9,7 +9,7 @@ use Rattle.pools.specs.declared.Pool.{Pool}
 use Rattle.pools.specs.Pools.{isIo}
 use Rattle.bar.specs.declared.Slot.{Slot}
 use Rattle.bar.specs.declared.Slot.the-variants.{Unused, Bar, Upper, Bad}
-use Rattle.bar.specs.Bar.{typeOf, withoutType, joined, takesNext, slotHere, slots}
+use Rattle.bar.specs.Bar.{typeOf, withoutType, joined, takesNext, slots}
 
 -- the number in a slot's registers, which start where these values do: a 64-bit BAR has two
 abbrev pub valueHere : Slot → List ℕ → ℕ
@@ -52,13 +52,6 @@ valueOf Unused r base = 0
 valueOf (Bar pool wide size) r base = withoutType pool base + typeOf pool r
 valueOf Upper r base = 0
 valueOf Bad r base = 0
-
--- the same where a set of read-backs and its values start
-abbrev pub baseHere : List ℕ → List ℕ → ℕ
-baseHere rs vs = baseOf (slotHere rs) (valueHere (slotHere rs) vs)
-
-abbrev pub placedHere : List ℕ → ℕ → ℕ
-placedHere rs base = valueOf (slotHere rs) (getD rs 0 0) base
 
 -- the number as registers of 32 bits
 abbrev pub registersOf : Slot → ℕ → List ℕ

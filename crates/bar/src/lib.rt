@@ -8,7 +8,7 @@ ghost use Rattle.bar.specs.Header.{isBridge, slotCount};
 ghost use Rattle.bar.specs.Bar.{sizeOf, sized as sizedOf, joined as joinedOf, isIoBar, ioWrong, typeOf, withoutType, ioSlot, isWide, narrowSlot, wideSlot, slotHere, slots, isBad, anyBad, takesNext, span as spanOf, SizedSlot};
 ghost use Rattle.pools.specs.Pools.{isIo};
 ghost use Rattle.placing.specs.Align.{PowerOfTwo};
-ghost use Rattle.bar.specs.Values.{valueHere, isBarValue, isValue, valuesLawful, baseOf, valueOf, baseHere, placedHere};
+ghost use Rattle.bar.specs.Values.{valueHere, isBarValue, isValue, valuesLawful, baseOf, valueOf};
 use pools::Pool;
 
 // One slot of a set. A 64-bit BAR takes its own slot and the next one, its upper half.
@@ -350,22 +350,4 @@ pub fn value_of(x: Slot, r: u32, base: u64) -> u64
         Slot::Upper => 0,
         Slot::Bad => 0,
     }
-}
-
-// The base address that the registers say of the BAR that starts at place i.
-pub fn base_at(set: [u32; 6], values: [u32; 6], n: usize, i: usize) -> u64
-    ensures { λ r. ⌜ r ≡ baseHere (drop i (take n set)) (drop i (take n values)) ⌝ }
-{
-    if 6 <= i {
-        return 0;
-    }
-    let slot = slot_in(&set, n, i);
-    base_of(slot, value_in(slot, &values, n, i))
-}
-
-// What the registers of the BAR that starts at place i hold once it is placed at the base.
-pub fn value_at(set: [u32; 6], n: usize, i: usize, base: u64) -> u64
-    ensures { λ v. ⌜ v ≡ placedHere (drop i (take n set)) base ⌝ }
-{
-    value_of(slot_in(&set, n, i), entry(&set, n, i), base)
 }
