@@ -75,7 +75,7 @@ pub fn claims_on(sheet: &[u8], space: Space, bus: u8, address: u64) -> Tally
                 let slot = bar::slot_at(set, slots, i);
                 let value = bar::value_here(slot, values, slots, i);
                 i += bar::span(slot);
-                if sheet::claims::bar_holds(space, slot, value, address) {
+                if sheet::spaces::bar_holds(space, slot, value, address) {
                     tally = tally.with_claim(Claim::Bar(number));
                     if tally.is_several() {
                         break 'records;

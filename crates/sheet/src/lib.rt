@@ -1,8 +1,8 @@
 // The register sheet: its checks, by number, and what its records say. A sheet is the version byte 1 and then a record of 90 bytes for each function,
 // each after its own two-byte length.
-pub mod claims;
 pub mod marks;
 pub mod record;
+pub mod spaces;
 
 ghost use mathlib.Core.Path.{_≡_};
 ghost use Prim.Native.Nat.{_+_, _*_, _≤_};

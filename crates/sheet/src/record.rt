@@ -7,7 +7,7 @@ ghost use Rattle.sheet.specs.Entry.{recordSize, idOf, busOf, commandOf, 
 ghost use Rattle.sheet.specs.Spaces.{enables};
 ghost use Rattle.sheet.specs.Sheet.{allZero, typeWrong, busesWrong, readBacksWrong, nibblesWrong, breaks as breaksOf};
 use super::Rule;
-use super::claims;
+use super::spaces;
 use pools::Pool;
 use pools::Space;
 use window::Window;
@@ -54,7 +54,7 @@ pub fn is_enabled(part: &[u8], space: Space) -> bool
     requires { ⌜ length (now part) ≡ recordSize ⌝ }
     ensures { λ r. ⌜ r ≡ enables space (commandOf (now (part .entry))) ⌝ }
 {
-    claims::enables(space, command_of(part))
+    spaces::enables(space, command_of(part))
 }
 
 pub fn secondary_of(part: &[u8]) -> u8

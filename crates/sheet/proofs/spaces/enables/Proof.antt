@@ -1,7 +1,7 @@
--- `sheet::claims::enables` meets its contract: one command bit for each space. Assumes nothing.
+-- `sheet::spaces::enables` meets its contract: one command bit for each space. Assumes nothing.
 use borrow.Author.Needs.{needs}
-use Rattle.sheet.proofs.claims.enables.Statement.{statement}
-use Rattle.sheet.proofs.claims.enables.Tie as tie
+use Rattle.sheet.proofs.spaces.enables.Statement.{statement}
+use Rattle.sheet.proofs.spaces.enables.Tie as tie
 
 enum-told : tie.Need-enum-told
 enum-told c = search needs

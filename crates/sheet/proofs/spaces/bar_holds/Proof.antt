@@ -1,10 +1,10 @@
--- `sheet::claims::bar_holds` meets its contract: each way out is one law of a slot that is told to be a BAR. Assumes nothing.
+-- `sheet::spaces::bar_holds` meets its contract: each way out is one law of a slot that is told to be a BAR. Assumes nothing.
 use borrow.Author.Needs.{needs}
 use mathlib.Core.Path.{sym, _∙_}
 use borrow.Author.Tests.{not-true, not-false}
 use Rattle.sheet.specs.SpacesLaws.{bar-of-other-space, bar-above, bar-by-size}
-use Rattle.sheet.proofs.claims.bar_holds.Statement.{statement}
-use Rattle.sheet.proofs.claims.bar_holds.Tie as tie
+use Rattle.sheet.proofs.spaces.bar_holds.Statement.{statement}
+use Rattle.sheet.proofs.spaces.bar_holds.Tie as tie
 
 enum-told : tie.Need-enum-told
 enum-told c = search needs
