@@ -23,10 +23,9 @@ use Rattle.board.specs.declared.Span.{Span}
 use Rattle.board.specs.declared.Function.{Function}
 use Rattle.board.specs.Host.{hostOfPart, isOpen, outside, offEdges, poolWrong, hostWrong}
 use Rattle.board.specs.Function.{lengthFor, readbacksFor, functionOfPart, headerWrong, readbacksWrong}
-use Rattle.board.specs.ToPlacing.{toHost}
+use Rattle.board.specs.ToPlacing.{toHost, devfnOf}
 use Rattle.sheet.specs.Sheet.{allZero}
 use Rattle.planned.specs.Boards.{HostEdges}
-use Rattle.board.specs.ToPlacing.{devfnOf}
 use Rattle.joined.specs.Fits.{FunctionFits}
 
 -- ## Parts are bytes
