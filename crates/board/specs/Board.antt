@@ -1,11 +1,12 @@
 -- Document 01, "The board" and "Numbers given back": the number of the first check that a board's bytes fail, 0 where they are lawful, and what a
 -- lawful board says. Each check covers all records before the next starts. Assumes nothing.
-use Prim.Native.Nat.{ℕ}
+use Prim.Native.Nat.{ℕ, _+_, _*_}
 use mathlib.Core.Bool.{Bool, true, cond, not, _||_}
 use mathlib.Core.List.{List, [], _∷_, map}
 use lib.ListN.{length, getD, drop}
 use lib.Dec.{eqb, ltb}
 use Rattle.lists.specs.Lists.{any}
+use Rattle.records.specs.Limits.{mostFunctions}
 use Rattle.records.specs.Records.{Parts, partsOf, anyPart}
 use Rattle.board.specs.declared.Host.{Host}
 use Rattle.board.specs.declared.Function.{Function}
@@ -13,9 +14,9 @@ use Rattle.board.specs.Host.{hostLength, hostOfPart, hostWrong}
 use Rattle.board.specs.Function.{functionOfPart, headerWrong, readbacksWrong}
 use Rattle.board.specs.Order.{anyMisplaced}
 
--- "At most 256 functions"
-abbrev pub mostFunctions : ℕ
-mostFunctions = 256
+-- the most bytes of a lawful board: its version, its host and functions of 30 bytes, each after its own length
+abbrev pub mostBytes : ℕ
+mostBytes = 1 + 32 * (1 + mostFunctions)
 
 -- "function under 6"
 abbrev pub isShort : List ℕ → Bool

@@ -12,12 +12,13 @@ use Rattle.records.specs.declared.Next.{Next}
 use Rattle.records.specs.declared.Next.the-variants.{End, Record, Broken}
 use Rattle.records.specs.Records.{nextOf, Parts, partsOf, partsFrom, anyPart}
 use Rattle.records.specs.RecordsLaws.{length-part, parts-record, parts-end, parts-broken, pass-record, false-of-or}
+use Rattle.records.specs.Limits.{mostFunctions}
 use Rattle.board.specs.declared.Host.{Host}
 use Rattle.board.specs.declared.Function.{Function}
 use Rattle.board.specs.Host.{hostOfPart, hostWrong}
 use Rattle.board.specs.Function.{functionOfPart, headerWrong, readbacksWrong}
 use Rattle.board.specs.Order.{anyMisplaced}
-use Rattle.board.specs.Board.{isShort, tailMisframed, misframed, mostFunctions, fromReadbacks, fromOrder, fromEdges, fromHeaders, fromCount, fromFrame, fromVersion, boardNumber, hostOf, functionsOf}
+use Rattle.board.specs.Board.{isShort, tailMisframed, misframed, fromReadbacks, fromOrder, fromEdges, fromHeaders, fromCount, fromFrame, fromVersion, boardNumber, hostOf, functionsOf}
 
 pub any-map : {A : Type 0} (test : A → Bool) (f : List ℕ → A) (ps : List (List ℕ)) → any test (map f ps) ≡ anyPart (λ p. test (f p)) ps
 unfolding any anyPart

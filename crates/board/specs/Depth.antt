@@ -1,4 +1,4 @@
--- Check 23's depth by parent records: at most 16 bridges stand above any function. Assumes nothing.
+-- Check 23's depth by parent records: how many bridges stand above any function at the most. Assumes nothing.
 use mathlib.Core.Path.{_≡_, refl, sym, ap, _∙_}
 use mathlib.Core.Logic.{⊎-elim}
 use mathlib.Core.Bool.{Bool, true, false}
@@ -9,12 +9,13 @@ use native.Mathlib.Omega.{arith}
 use lib.ListN.{length, getD, length-map, List·getD-eq-default}
 use lib.Dec.{eqb}
 use borrow.Author.Tests.{eqb-true, eqb-false}
+use Rattle.records.specs.Limits.{mostAbove}
 use Rattle.records.specs.RecordsLaws.{false-of-or}
 use Rattle.placing.specs.Order.{le-or-lt}
 use Rattle.placing.specs.Records.{Lawful}
 use Rattle.placing.specs.Records as placing
 use Rattle.placing.specs.Preorder.{noFunction, parentOf}
-use Rattle.placing.specs.Above.{aboveWithin, aboveByParents, aboveBus, mostAbove}
+use Rattle.placing.specs.Above.{aboveWithin, aboveByParents, aboveBus}
 use Rattle.placing.specs.AboveLaws.{parent-before, above-host, above-on-bus}
 use Rattle.board.specs.declared.Function.{Function}
 use Rattle.board.specs.Order.{above, misplaced, anyMisplaced}

@@ -13,7 +13,7 @@ use borrow.Author.Tests.{eq-eqb, ne-eqb, ltb-false}
 use Rattle.records.specs.declared.Next.the-variants.{Record}
 use Rattle.records.specs.Records.{nextOf, partsFrom}
 use Rattle.records.specs.RecordsLaws.{pass-record, false-of-or}
-use Rattle.placing.specs.Above.{mostAbove}
+use Rattle.records.specs.Limits.{mostAbove}
 use Rattle.board.specs.declared.Function.{Function}
 use Rattle.board.specs.declared.order.Found.the-variants.{At, Nowhere}
 use Rattle.board.specs.Function.{isBridge, functionOfPart}

@@ -9,7 +9,7 @@ use lib.Dec.{eqb, ltb, eqb·zero-suc}
 use borrow.Author.Tests.{eqb-true, eq-eqb, ne-eqb, eqb-false, ltb-false}
 use Rattle.lists.specs.Lists.{All, any}
 use Rattle.lists.specs.ListLaws.{all-imp, all-append}
-use Rattle.placing.specs.Above.{mostAbove}
+use Rattle.records.specs.Limits.{mostAbove}
 use Rattle.board.specs.declared.Function.{Function}
 use Rattle.board.specs.Function.{isBridge}
 use Rattle.board.specs.Order.{above, parents, lastSibling, hasFunctionZero, misplaced}

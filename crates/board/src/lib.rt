@@ -9,9 +9,10 @@ ghost use lib.ListN.{length, getD, drop};
 ghost use lib.Dec.{ltb};
 ghost use Rattle.lists.specs.Lists.{any};
 ghost use Rattle.records.specs.Records.{partsOf, partsFrom, anyPart};
+ghost use Rattle.records.specs.Limits.{mostFunctions};
 ghost use Rattle.board.specs.Host.{hostLength, hostOfPart, offEdges, outside as isOutside, poolWrong, hostWrong};
 ghost use Rattle.board.specs.Function.{readbacksFor, functionOfPart, wrongFor, headerWrong, isBridge, slotCount, readbacksWrong};
-ghost use Rattle.board.specs.Board.{mostFunctions, misframed as isMisframed, tailMisframed, boardNumber};
+ghost use Rattle.board.specs.Board.{misframed as isMisframed, tailMisframed, boardNumber};
 use pools::Pool;
 use records::Next;
 
@@ -43,6 +44,9 @@ pub struct Function {
 pub const HOST: usize = 1;
 
 pub const FUNCTIONS: usize = 33;
+
+// The most bytes of a lawful board: each function has at most 30, after its length.
+pub const MOST_BYTES: usize = FUNCTIONS + 32 * records::MOST_FUNCTIONS;
 
 // Document 01's number of any bytes as a board: 0 is accepted.
 pub fn check(board: &[u8]) -> u8
@@ -236,7 +240,7 @@ fn too_many(board: &[u8]) -> bool
                 return false;
             }
             Next::Record(n) => {
-                if count == 256 {
+                if count == records::MOST_FUNCTIONS {
                     return true;
                 }
                 count += 1;

@@ -1,15 +1,20 @@
 // 23: depth-first order, by one pass over the functions with the buses that are open. Level 0 is the host's bus; a bridge opens the level after its
-// own, and a function closes the levels below its parent's. At most 16 bridges stand above a function, so 18 levels are enough.
+// own, and a function closes the levels below its parent's.
 ghost use mathlib.Core.Path.{_≡_};
 ghost use mathlib.Core.Bool.{false};
 ghost use mathlib.Core.List.{[], map};
 ghost use Prim.Native.Nat.{_+_, _≤_};
+ghost use Rattle.records.specs.Limits.{mostAbove};
 ghost use Rattle.records.specs.Records.{partsFrom, anyPart};
 ghost use Rattle.board.specs.Function.{functionOfPart, headerWrong};
 ghost use Rattle.board.specs.Order.{anyMisplaced};
 ghost use Rattle.board.specs.Stack.{unplacedAt, sharedAfter};
 ghost use Rattle.board.specs.Levels.{foundIn, openAfter};
+use records::MOST_ABOVE;
 use records::Next;
+
+// Below the host's bus as many buses as a function may have bridges above it, and one more that the last of them opens.
+const LEVELS: usize = MOST_ABOVE + 2;
 
 // The level of a bus that is open.
 pub enum Found {
@@ -23,9 +28,9 @@ pub(crate) fn misplaced(board: &[u8]) -> bool
 {
     // of each level: the record that it is the bus of, one more than the device/function of its last function, and than the device of its last
     // function 0 that is not alone
-    let mut buses = [0usize; 18];
-    let mut nexts = [0usize; 18];
-    let mut shared = [0usize; 18];
+    let mut buses = [0usize; LEVELS];
+    let mut nexts = [0usize; LEVELS];
+    let mut shared = [0usize; LEVELS];
     let mut levels: usize = 1;
     let mut number: usize = 0;
     let mut at = crate::FUNCTIONS;
@@ -59,8 +64,8 @@ pub(crate) fn misplaced(board: &[u8]) -> bool
 }
 
 // The deepest of the open levels that is the parent's bus.
-fn level_of(buses: &[usize; 18], levels: usize, parent: usize) -> Found
-    requires { ⌜ levels ≤ 18 ⌝ }
+fn level_of(buses: &[usize; LEVELS], levels: usize, parent: usize) -> Found
+    requires { ⌜ levels ≤ mostAbove + 2 ⌝ }
     ensures { λ r. ⌜ r ≡ foundIn parent (now (buses .entry)) levels ⌝ }
 {
     let mut left = levels;
@@ -80,7 +85,7 @@ fn unplaced(part: &[u8], depth: usize, next: usize, shared: usize) -> bool
 {
     let devfn = crate::devfn_of(part);
     ((devfn as usize) < next)
-        | (placing::MOST_ABOVE < depth)
+        | (records::MOST_ABOVE < depth)
         | !((devfn % 8 == 0) | (shared == (devfn / 8) as usize + 1))
 }
 
@@ -98,7 +103,7 @@ fn shared_after(shared: usize, part: &[u8]) -> usize
 
 // A bridge at level i opens the level after it.
 fn open_after(i: usize, part: &[u8]) -> usize
-    requires { ⌜ (i ≤ 16) × (headerWrong (now part) ≡ false) ⌝ }
+    requires { ⌜ (i ≤ mostAbove) × (headerWrong (now part) ≡ false) ⌝ }
     ensures { λ r. ⌜ r ≡ openAfter i (functionOfPart (now (part .entry))) ⌝ }
 {
     if crate::is_bridge(part) { i + 2 } else { i + 1 }

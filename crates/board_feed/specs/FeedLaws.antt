@@ -17,7 +17,8 @@ use Rattle.records.specs.declared.frame.Ending.{Ending}
 use Rattle.records.specs.declared.frame.Ending.the-variants.{Empty, Unread, Whole, Cut}
 use Rattle.records.specs.Frame.{stageOf, heardOf, endingOf}
 use Rattle.records.specs.FrameLaws.{stage-append, heard-append}
-use Rattle.board.specs.Board.{mostFunctions, boardNumber}
+use Rattle.records.specs.Limits.{mostFunctions}
+use Rattle.board.specs.Board.{boardNumber}
 use Rattle.planning.specs.declared.Planning.{Planning}
 use Rattle.planning.specs.declared.Planning.the-variants.{Refused}
 use Rattle.planning.specs.Plan.{planning, sheetAs, sheetAfter}

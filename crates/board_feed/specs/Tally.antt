@@ -8,7 +8,7 @@ use Rattle.records.specs.declared.frame.Event.the-variants.{Version, Foreign, P
 use Rattle.records.specs.declared.frame.Ending.{Ending}
 use Rattle.records.specs.declared.frame.Ending.the-variants.{Empty, Unread, Whole, Cut}
 use Rattle.board.specs.Host.{hostLength}
-use Rattle.board.specs.Board.{mostFunctions}
+use Rattle.records.specs.Limits.{mostFunctions}
 use Rattle.board_feed.specs.declared.Tally.{Tally}
 
 -- "30 or 14 bytes", and "function under 6"

@@ -14,10 +14,8 @@ use records::frame::Ending;
 use records::frame::Event;
 use records::frame::Stage;
 
-// "At most 256 functions", and the host before them.
-const MOST_FUNCTIONS: usize = 256;
-
-const MOST_RECORDS: usize = 1 + MOST_FUNCTIONS;
+// The functions, and the host before them.
+const MOST_RECORDS: usize = 1 + records::MOST_FUNCTIONS;
 
 // Lengths of records: the host's, and what a function's lies between.
 const HOST_LENGTH: u32 = 30;
@@ -27,7 +25,7 @@ const SHORTEST_FUNCTION: u32 = 6;
 const LONGEST_FUNCTION: usize = 30;
 
 // What a lawful board can have at the most: the version and the host, then functions, each after its length.
-const LONGEST_BOARD: usize = board::FUNCTIONS + MOST_FUNCTIONS * (2 + LONGEST_FUNCTION);
+const LONGEST_BOARD: usize = board::FUNCTIONS + records::MOST_FUNCTIONS * (2 + LONGEST_FUNCTION);
 
 // One byte more tells that an input is longer.
 pub const KEPT: usize = LONGEST_BOARD + 1;

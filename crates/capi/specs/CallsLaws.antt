@@ -31,7 +31,8 @@ use Rattle.tlp.specs.Writing.{size, writeOf, roomAfter}
 use Rattle.sheet.specs.declared.Found.{Found}
 use Rattle.sheet.specs.declared.Found.the-variants.{At, Nothing}
 use Rattle.sheet.specs.declared.Lookup.the-variants.{Refused as NotFound}
-use Rattle.sheet.specs.Sheet.{Framed, entriesOf, findFrom, sheetNumber}
+use Rattle.sheet.specs.Places.{stride}
+use Rattle.sheet.specs.Sheet.{Framed, entriesOf, findFrom, sheetNumber, sheetLength}
 use Rattle.sheet.specs.SheetLaws.{checked-of-zero}
 use Rattle.sheet.specs.Lookup.{placed, lookupOf, lookupNumber, withCommand}
 use Rattle.sheet.specs.LookupLaws.{found-at}
@@ -39,7 +40,6 @@ use Rattle.sheet.specs.CheckLaws.{partFrom}
 use Rattle.placing.specs.Refusals.{refusalOf}
 use Rattle.board.specs.Board.{boardNumber, hostOf, functionsOf}
 use Rattle.board.specs.ToPlacing.{toHost, toPlacing}
-use Rattle.layout.specs.Layout.{sheetLength}
 use Rattle.planning.specs.declared.Planning.{Planning}
 use Rattle.planning.specs.declared.Planning.the-variants.{Planned, Refused as NotPlanned}
 use Rattle.planning.specs.Plan.{onRoom, onBoard, planning, numberOf as planningNumber, sheetAfter}
@@ -150,7 +150,7 @@ lookup-wide s id bytes wide = go (eqb (sheetNumber s) 0) refl
     found : Framed 1 s → (x : Found) → findFrom id 1 (entriesOf s) ≡ x → NotFound 40 ≡ placed x
     found f Nothing e = refl
     found f (At at) e =
-        let part = bytes-take (at + 92 - (at + 2)) (drop (at + 2) s) (bytes-drop (at + 2) s bytes) in
+        let part = bytes-take (at + stride - (at + 2)) (drop (at + 2) s) (bytes-drop (at + 2) s bytes) in
         absurd (omega (arith, found-at s 1 id at f e .id-is, be-lt 2 (partFrom s at) 0 part))
 
     go : (b : Bool) → eqb (sheetNumber s) 0 ≡ b → NotFound (cond b 40 (sheetNumber s)) ≡ cond b (placed (findFrom id 1 (entriesOf s))) (NotFound (sheetNumber s))

@@ -34,7 +34,7 @@ use Rattle.walk.specs.Walk.{settle, walkOver, walkFrom}
 use Rattle.sheet.specs.declared.Found.{Found}
 use Rattle.sheet.specs.declared.Found.the-variants.{At, Nothing}
 use Rattle.sheet.specs.declared.Lookup.{Lookup}
-use Rattle.sheet.specs.Sheet.{entriesOf, findFrom, sheetNumber}
+use Rattle.sheet.specs.Sheet.{entriesOf, findFrom, sheetNumber, sheetLength}
 use Rattle.sheet.specs.Lookup.{placed, lookupOf}
 use Rattle.sheet.specs.Spaces.{nodesOf}
 use Rattle.claims.specs.Claims.{tallyFor}
@@ -44,7 +44,6 @@ use Rattle.route.specs.Route.{aimOf, typeWrong, answer, walked, root, from42, f
 use Rattle.placing.specs.Refusals.{refusalOf}
 use Rattle.board.specs.Board.{boardNumber, hostOf, functionsOf}
 use Rattle.board.specs.ToPlacing.{toHost, toPlacing}
-use Rattle.layout.specs.Layout.{sheetLength}
 use Rattle.planning.specs.declared.Planning.{Planning}
 use Rattle.planning.specs.declared.Planning.the-variants.{Planned, Refused as NotPlanned}
 use Rattle.planning.specs.Plan.{onRoom, onBoard, planning}

@@ -9,13 +9,15 @@ use lib.ListN.{length, take}
 use lib.Dec.{eqb}
 use Rattle.endian.specs.Endian.{be, le}
 use Rattle.pools.specs.declared.Space.{Space}
+use Rattle.records.specs.Limits.{mostFunctions}
 use Rattle.bar.specs.BarLaws.{length-first}
 use Rattle.walk.specs.Ranges.{Range}
 use Rattle.walk.specs.Registers.{Registers, Claim, bar}
 use Rattle.walk.specs.Tally.{Tally, none, join, hitsOf, claimsOf, claimsOn, tallyOn}
 use Rattle.walk.specs.SearchLaws.{claims-nil, claims-cons, claims-of-here, claims-of-other}
-use Rattle.sheet.specs.Entry.{recordSize, dwords, headerOf, isBridge, slotCount, entryOf}
-use Rattle.sheet.specs.Sheet.{entriesFrom, entriesOf, partAt}
+use Rattle.sheet.specs.Places.{valuesAt, readbacksAt, recordSize, stride}
+use Rattle.sheet.specs.Entry.{dwords, headerOf, isBridge, slotCount, entryOf}
+use Rattle.sheet.specs.Sheet.{entriesFrom, entriesOf, partAt, sheetLength}
 use Rattle.sheet.specs.IndexLaws.{length-part, record-fits, functions-index, functions-end, enabled-index}
 use Rattle.sheet.specs.EntryLaws.{bars-entry}
 use Rattle.sheet.specs.SheetLaws.{Checked, lawful-index}
@@ -26,7 +28,7 @@ use Rattle.claims.specs.HitsLaws.{join-nil, LawfulFrom}
 
 -- ## The slots of a set, in the words of the code
 
-module _ (set p : List ℕ) (count i : ℕ) (r : set ≡ dwords (be 4) 6 p 66) (n : count ≡ slotCount (headerOf p)) where
+module _ (set p : List ℕ) (count i : ℕ) (r : set ≡ dwords (be 4) 6 p readbacksAt) (n : count ≡ slotCount (headerOf p)) where
   length-six : length set ≡ 6
   unfolding dwords
   length-six = ap length r
@@ -48,7 +50,7 @@ module _ (set p : List ℕ) (count i : ℕ) (r : set ≡ dwords (be 4) 6 p 66) (
 
 -- the claims of record k and of those after it
 unfoldable pub claimsFrom : Space → List ℕ → ℕ → ℕ → ℕ → List Claim
-claimsFrom space s address bus k = claimsOn (enabledOf space s) (functionsFrom space (k + 1) (entriesFrom s (92 * k + 1))) address bus
+claimsFrom space s address bus k = claimsOn (enabledOf space s) (functionsFrom space (k + 1) (entriesFrom s (stride * k + 1))) address bus
 
 pub claims-start : (space : Space) (s : List ℕ) (address bus : ℕ)
     → join none (claimsFrom space s address bus 0) ≡ tallyOn (enabledOf space s) (registersOf space s) address bus
@@ -68,11 +70,11 @@ module _ (s : List ℕ) (c : Checked s) (n k : ℕ) (count : n ≡ length (entri
     inside : k < length (entriesOf s)
     inside = omega arith
 
-    pub part-fits : 92 * k + 93 ≤ length s
+    pub part-fits : sheetLength (k + 1) ≤ length s
     part-fits = record-fits s (c .framed) k inside
 
-    -- record numbers fit: there are at most 256
-    pub number-le : k + 1 ≤ 256
+    -- record numbers fit
+    pub number-le : k + 1 ≤ mostFunctions
     number-le = omega (arith, inside, c .count)
 
     -- p is the record's part
@@ -80,7 +82,7 @@ module _ (s : List ℕ) (c : Checked s) (n k : ℕ) (count : n ≡ length (entri
       pub sized : length p ≡ recordSize
       sized = ap length e ∙ length-part s k part-fits
 
-      pub lawful-here : (set : List ℕ) (m : ℕ) → set ≡ dwords (be 4) 6 p 66 → m ≡ slotCount (headerOf p) → LawfulFrom (take m set) 0
+      pub lawful-here : (set : List ℕ) (m : ℕ) → set ≡ dwords (be 4) 6 p readbacksAt → m ≡ slotCount (headerOf p) → LawfulFrom (take m set) 0
       unfolding entryOf
       lawful-here set m r q = rw (r, q, e) (lawful-index s c k inside)
 
@@ -96,14 +98,14 @@ module _ (s : List ℕ) (c : Checked s) (n k : ℕ) (count : n ≡ length (entri
         unfolding function claimsFrom
         claims-step =
             ap (λ (fs : List Registers). claimsOn (enabledOf space s) fs address bus) (functions-index s (c .framed) space k inside)
-            ∙ rw (← e) (claims-cons (enabledOf space s) address bus function (functionsFrom space (k + 1 + 1) (entriesFrom s (92 * (k + 1) + 1))))
+            ∙ rw (← e) (claims-cons (enabledOf space s) address bus function (functionsFrom space (k + 1 + 1) (entriesFrom s (stride * (k + 1) + 1))))
 
         pub claims-other : b ≡ false → join t (claimsFrom space s address bus (k + 1)) ≡ join t (claimsFrom space s address bus k)
         claims-other off =
             sym (ap (join t) (claims-step
             ∙ ap (λ (cs : List Claim). cs ++ claimsFrom space s address bus (k + 1)) (claims-of-other (enabledOf space s) address bus function (live-is ∙ off))))
 
-        pub claims-here : (set values : List ℕ) (m : ℕ) → set ≡ dwords (be 4) 6 p 66 → values ≡ dwords (le 4) 6 p 18 → m ≡ slotCount (headerOf p) → b ≡ true
+        pub claims-here : (set values : List ℕ) (m : ℕ) → set ≡ dwords (be 4) 6 p readbacksAt → values ≡ dwords (le 4) 6 p valuesAt → m ≡ slotCount (headerOf p) → b ≡ true
             → join t (hitsOf address (bar (k + 1)) (barsAt space (take m set) (take m values) 0) ++ (windowClaims space address (k + 1) p ++ claimsFrom space s address bus (k + 1)))
             ≡ join t (claimsFrom space s address bus k)
         unfolding function

@@ -13,6 +13,7 @@ use Rattle.tlp.specs.Reading.{readOf}
 use Rattle.lists.specs.Lists.{Some}
 use Rattle.pools.specs.declared.Space.{Space}
 use Rattle.pools.specs.declared.Space.the-variants.{Memory as memorySpace, Io as ioSpace}
+use Rattle.records.specs.Limits.{mostAbove}
 use Rattle.placing.specs.Pools.{Pool, low, high, io}
 use Rattle.placing.specs.Records.{Host, Function}
 use Rattle.placing.specs.Placing.{placed}
@@ -22,10 +23,9 @@ use Rattle.board.specs.Board.{boardNumber, hostOf, functionsOf}
 use Rattle.board.specs.ToPlacing.{toHost, toPlacing, devfnOf}
 use Rattle.walk.specs.Good.{Good}
 use Rattle.walk.specs.Walk.{Trail}
-use Rattle.sheet.specs.Sheet.{sheetNumber}
+use Rattle.sheet.specs.Sheet.{sheetNumber, sheetLength}
 use Rattle.sheet.specs.Spaces.{registersOf, enabledOf}
 use Rattle.sheet.specs.Commands.{SameButCommands}
-use Rattle.layout.specs.Layout.{sheetLength}
 use Rattle.planned.specs.Registers.{planRegisters, planHost}
 use Rattle.planned.specs.RefusedExactly.{BusesRunOut, PoolRunsOut}
 use Rattle.planned.specs.NestedAndApart.{NestedAndApart}
@@ -133,7 +133,7 @@ pub record Routed (b t header : List ℕ) (p : Packet) (sp : Space) (address : �
   pub crosses-exactly : (k count : ℕ) (q : Packet) → routeOf header t ≡ Delivered k count q
       → (bridges : List ℕ) → Crosses p t bridges k ↔ (bridges ≡ reverse (bridgesAbove b k))
   -- ".. and their number, at most 16, is the one reported."
-  pub count-reported : (k count : ℕ) (q : Packet) → routeOf header t ≡ Delivered k count q → (count ≡ length (bridgesAbove b k)) × (count ≤ 16)
+  pub count-reported : (k count : ℕ) (q : Packet) → routeOf header t ≡ Delivered k count q → (count ≡ length (bridgesAbove b k)) × (count ≤ mostAbove)
 
 -- ## The demand
 

@@ -290,7 +290,7 @@ module _ (b room : List ℕ) (n : ℕ) (bytes : Bytes b) (planned : planning b (
               λ trail. trail-unique _ _ _ _ _ _ trail (crosses k count q e) .0,
               λ those. rw those (crosses k count q e),
             );
-            count-reported = λ k count q e. let c = owner-of k count q e .1 in (c, omega (arith, sheet .at-most-16-above k));
+            count-reported = λ k count q e. let c = owner-of k count q e .1 in (c, omega (arith, sheet .not-too-deep k));
           }
 
 -- ## The demand

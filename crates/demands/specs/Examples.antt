@@ -30,7 +30,7 @@ use Rattle.board.specs.Order.{above, parents, lastSibling, misplaced, anyMispla
 use Rattle.board.specs.Board.{misframed, fromReadbacks, fromOrder, fromEdges, fromHeaders, fromCount, fromFrame, fromVersion, boardNumber, hostOf, functionsOf}
 use Rattle.board.specs.Examples.{host, hostWith, row, card, p10}
 use Rattle.sheet.specs.Entry.{dwords, windowOf, entryOf}
-use Rattle.sheet.specs.Sheet.{allSized, isFramed, entriesFrom, commandsOf, allZero, readBacksWrong, breaks, anyBreaks, hasId, idTwice}
+use Rattle.sheet.specs.Sheet.{allSized, isFramed, entriesFrom, commandsOf, allZero, readBacksWrong, breaks, anyBreaks, hasId, idTwice, fullSheet}
 use Rattle.sheet.specs.Sheet.{from29, from25, from28, from27, from24, from22, from20, from21, sheetNumber}
 use Rattle.sheet.specs.Spaces.{barsFrom as rangesFrom, functionsFrom, nodesFrom}
 use Rattle.sheet.specs.Examples.{p10 as p10-sheet}
@@ -60,10 +60,6 @@ abbrev pub crossed : Routing → ℕ
 crossed (Delivered k count p) = count
 crossed (NotDelivered n) = 0
 
--- room for the sheet of any board
-abbrev pub fullRoom : ℕ
-fullRoom = 23553
-
 pub data Claim : Type 0 where
   -- reading a header answers this number (0: accepted), or reports this Length
   reads : List ℕ → ℕ → Claim
@@ -80,9 +76,9 @@ pub data Claim : Type 0 where
 abbrev pub Holds : Claim → Type 0
 Holds (reads s n) = readingNumber (readOf s) ≡ n
 Holds (reads-length s n) = lengthRead (readOf s) ≡ n
-Holds (plans b n) = planningNumber (planning b fullRoom) ≡ n
+Holds (plans b n) = planningNumber (planning b fullSheet) ≡ n
 Holds (leaves b s) = (planning b (length s) ≡ Planned (length s)) × (sheetAfter b (replicate (length s) 0) ≡ s)
-Holds (prints b text) = boardText b fullRoom ≡ ascii text
+Holds (prints b text) = boardText b fullSheet ≡ ascii text
 Holds (goes header s k count) = (recordOf (routeOf header s) ≡ k) × (crossed (routeOf header s) ≡ count)
 Holds (refuses header s n) = routingNumber (routeOf header s) ≡ n
 

@@ -7,6 +7,7 @@ use native.Mathlib.Omega.{arith}
 use lib.ListN.{length, take, drop, length-map}
 use Rattle.endian.specs.Endian.{Bytes}
 use Rattle.endian.specs.BytesLaws.{bytes-take, bytes-drop}
+use Rattle.records.specs.Limits.{mostFunctions}
 use Rattle.records.specs.Records.{partsFrom}
 use Rattle.lists.specs.Lists.{All, any}
 use Rattle.board.specs.declared.Host.{Host}
@@ -42,7 +43,7 @@ module _ (b : List ℕ) (bytes : Bytes b) (accepted : boardNumber b ≡ 0) where
       let right : any readbacksWrong (map functionOfPart parts) ≡ false = ap (any readbacksWrong) (sym (a .functions-read)) ∙ a .readbacks in
       subst (All FunctionFits) (sym (a .functions-read)) (functions-fit parts (bytes-parts (drop 33 b) (bytes-drop 33 b bytes)) (a .headers) right)
 
-  few : length (functionsOf b) ≤ 256
+  few : length (functionsOf b) ≤ mostFunctions
   unfolding a
   few = omega (arith, ap length (a .functions-read), length-map (partsFrom b 33) functionOfPart, a .few)
 

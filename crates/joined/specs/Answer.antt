@@ -14,7 +14,8 @@ use Rattle.placing.specs.Refusals.{refusalOf}
 use Rattle.board.specs.Board.{boardNumber, hostOf, functionsOf}
 use Rattle.board.specs.ToPlacing.{toHost, toPlacing}
 use Rattle.sheet.specs.Commands.{SameButCommands}
-use Rattle.layout.specs.Layout.{sheetBytes, sheetLength}
+use Rattle.sheet.specs.Sheet.{sheetLength}
+use Rattle.layout.specs.Layout.{sheetBytes}
 use Rattle.layout.specs.LayoutLaws.{length-sheetBytes}
 use Rattle.planning.specs.declared.Planning.{Planning}
 use Rattle.planning.specs.declared.Planning.the-variants.{Planned as PlannedAt, Refused}

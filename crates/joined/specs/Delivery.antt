@@ -9,6 +9,7 @@ use Rattle.endian.specs.Endian.{Bytes}
 use Rattle.placing.specs.Above.{aboveByParents}
 use Rattle.pools.specs.declared.Space.{Space}
 use Rattle.pools.specs.declared.Space.the-variants.{Memory as memorySpace}
+use Rattle.records.specs.Limits.{mostAbove}
 use Rattle.placing.specs.Refusals.{refusalOf}
 use Rattle.board.specs.declared.Host.{Host}
 use Rattle.board.specs.declared.Function.{Function}
@@ -57,7 +58,7 @@ pub record PlannedSheet (h : Host) (fs : List Function) (t : List ℕ) : Type 0 
   pub as-many : length (nodesOf t) ≡ length (toPlacing fs)
   pub root-is : 0 < length (toPlacing fs) → rootOf (nodesOf t) ≡ toHost h .firstBus
   pub delivers-by-id : (id : ℕ) → DeliversAsNumbered (toHost h) (toPlacing fs) (devfnOf fs) id (tallyById (nodesOf t) (id / 256) (id % 256))
-  pub at-most-16-above : (k : ℕ) → length (aboveByParents (toPlacing fs) k) ≤ 16
+  pub not-too-deep : (k : ℕ) → length (aboveByParents (toPlacing fs) k) ≤ mostAbove
 
 module _ (h : Host) (fs : List Function) (fits : BoardFits h fs) (planned : refusalOf (toHost h) (toPlacing fs) ≡ 0) (t : List ℕ)
     (same : SameButCommands (sheetBytes (planOf h fs)) t) where
@@ -114,7 +115,7 @@ module _ (h : Host) (fs : List Function) (fits : BoardFits h fs) (planned : refu
         as-many = as-many;
         root-is = root-is;
         delivers-by-id = delivers-by-id;
-        at-most-16-above = fits .shallow;
+        not-too-deep = fits .shallow;
       }
 
 -- of a board's bytes that are accepted and not refused by 30 to 33

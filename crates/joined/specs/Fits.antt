@@ -4,9 +4,10 @@ use mathlib.Core.Bool.{true, false}
 use mathlib.Core.List.{List}
 use Prim.Native.Nat.{ℕ, _%_, _^_, _≤_, _<_}
 use lib.ListN.{length, getD, take, drop}
+use Rattle.records.specs.Limits.{mostFunctions, mostAbove}
 use Rattle.bar.specs.Bar.{slots, anyBad}
 use Rattle.lists.specs.Lists.{All}
-use Rattle.placing.specs.Above.{aboveByParents, mostAbove}
+use Rattle.placing.specs.Above.{aboveByParents}
 use Rattle.board.specs.declared.Host.{Host}
 use Rattle.board.specs.declared.Function.{Function}
 use Rattle.board.specs.Function.{slotCount}
@@ -29,6 +30,6 @@ pub record FunctionFits (f : Function) : Type 0 where
 pub record BoardFits (h : Host) (fs : List Function) : Type 0 where
   pub board : Board (toHost h) (toPlacing fs)
   pub functions : All FunctionFits fs
-  pub few : length fs ≤ 256
+  pub few : length fs ≤ mostFunctions
   pub siblings-rise : SiblingsRise (toPlacing fs) (devfnOf fs)
   pub shallow : (k : ℕ) → length (aboveByParents (toPlacing fs) k) ≤ mostAbove

@@ -8,6 +8,7 @@ use lib.ListN.{length, getD, drop, length-map}
 use borrow.Author.Tests.{eq-eqb, ne-eqb, lt-ltb, le-ltb, le-leb}
 use Rattle.endian.specs.Endian.{Bytes}
 use Rattle.pools.specs.declared.Pool.the-variants.{Low, High, Io}
+use Rattle.records.specs.Limits.{mostFunctions}
 use Rattle.bar.specs.PlacedLaws.{placed-values-lawful}
 use Rattle.lists.specs.Lists.{All}
 use Rattle.lists.specs.ListLaws.{drop-suc}
@@ -140,7 +141,7 @@ module _ (h : Host) (fs : List Function) (fits : BoardFits h fs) (planned : refu
 
   -- ## The count (22)
 
-  count : length (entriesOf (sheetBytes (planOf h fs))) ≤ 256
+  count : length (entriesOf (sheetBytes (planOf h fs))) ≤ mostFunctions
   count =
       omega (
         arith,

@@ -1,7 +1,7 @@
--- Document 01, "The sheet", as bytes: version byte 1, then for each function a length-first record of 90 bytes: ID, the 64-byte configuration header
--- (little-endian), six read-backs (big-endian). A record has its 92 bytes whatever is planned. Assumes nothing.
+-- Document 01, "The sheet", as bytes: version byte 1, then for each function a length-first record: ID, the 64-byte configuration header (little-endian),
+-- six read-backs (big-endian). A record has all its bytes whatever is planned. Assumes nothing.
 use mathlib.Core.Path.{_≡_}
-use Prim.Native.Nat.{ℕ, zero, suc, _+_, _*_, _^_, _<_}
+use Prim.Native.Nat.{ℕ, zero, suc, _+_, _-_, _*_, _^_, _<_}
 use mathlib.Core.Bool.{false, cond}
 use mathlib.Core.List.{List, [], _∷_, _++_, flatMap}
 use lib.ListN.{length, getD, take, replicate}
@@ -9,7 +9,8 @@ use Rattle.endian.specs.Endian.{beBytes, leBytes}
 use Rattle.pools.specs.declared.Pool.the-variants.{Low, High, Io}
 use Rattle.window.specs.declared.Window.{Window}
 use Rattle.window.specs.Window.{closed, Fits}
-use Rattle.sheet.specs.Entry.{Entry, recordSize, isBridge, slotCount}
+use Rattle.sheet.specs.Places.{registersAt, commandAt, headerTypeAt, valuesAt, upperLimitAt, readbacksAt, recordSize}
+use Rattle.sheet.specs.Entry.{Entry, isBridge, slotCount}
 use Rattle.layout.specs.declared.Registers.{Registers}
 
 -- what the planner writes of one function: its record and its command word
@@ -17,9 +18,12 @@ pub record Planned : Type 0 where
   pub entry : Entry
   pub command : ℕ
 
--- "the rest 0"
 abbrev pub zeros : ℕ → List ℕ
 zeros n = replicate n 0
+
+-- "the rest 0": from one place up to another
+abbrev pub gap : ℕ → ℕ → List ℕ
+gap from to = zeros (to - from)
 
 -- n numbers of a list from index i on, each as the bytes that `write` gives: what `dwords` reads back
 unfoldable pub dwordBytes : (ℕ → List ℕ) → ℕ → List ℕ → ℕ → List ℕ
@@ -30,9 +34,9 @@ dwordBytes write (suc n) vs i = write (getD vs i 0) ++ dwordBytes write n vs (i 
 
 -- six BARs
 unfoldable pub endBytes : Entry → List ℕ
-endBytes e = dwordBytes (leBytes 4) 6 (e .values) 0 ++ zeros 24
+endBytes e = dwordBytes (leBytes 4) 6 (e .values) 0 ++ gap (valuesAt + 6 * 4) readbacksAt
 
--- buses 18h, I/O 1Ch
+-- buses, each a byte, and I/O, base and limit a byte each
 abbrev pub numberBytes : ℕ → ℕ → ℕ → Window → List ℕ
 numberBytes primary secondary subordinate io =
     (primary ∷ secondary ∷ subordinate ∷ 0 ∷ []) ++ (io .base ∷ io .limit ∷ 0 ∷ 0 ∷ [])
@@ -41,7 +45,7 @@ numberBytes primary secondary subordinate io =
 abbrev pub windowBytes : Window → List ℕ
 windowBytes w = leBytes 2 (w .base) ++ leBytes 2 (w .limit)
 
--- memory 20h, high 24h, and the high window's upper words 28h
+-- memory, high, and the high window's upper words
 abbrev pub memoryBytes : Window → Window → List ℕ
 memoryBytes low high =
     windowBytes low ++ windowBytes high ++ (leBytes 4 (high .«upper_base») ++ leBytes 4 (high .«upper_limit»))
@@ -52,16 +56,16 @@ bridgeBytes e =
     dwordBytes (leBytes 4) 2 (e .values) 0
     ++ numberBytes (e .primary) (e .secondary) (e .subordinate) (e .io)
     ++ memoryBytes (e .low) (e .high)
-    ++ zeros 16
+    ++ gap (upperLimitAt + 4) readbacksAt
 
 unfoldable pub bodyBytes : Entry → List ℕ
 bodyBytes e = cond (isBridge (e .header)) (bridgeBytes e) (endBytes e)
 
 -- ## Whole
 
--- the configuration header's first 16 bytes: command 04h, header type 0Eh
+-- the configuration header's first 16 bytes: command and header type
 unfoldable pub commonBytes : ℕ → ℕ → List ℕ
-commonBytes command header = zeros 4 ++ leBytes 2 command ++ zeros 8 ++ (header ∷ 0 ∷ [])
+commonBytes command header = gap registersAt commandAt ++ leBytes 2 command ++ gap (commandAt + 2) headerTypeAt ++ (header ∷ 0 ∷ [])
 
 -- the 64-byte configuration header
 unfoldable pub configBytes : Planned → List ℕ
@@ -76,10 +80,6 @@ recordBytes p = beBytes 2 recordSize ++ partBytes p
 
 unfoldable pub sheetBytes : List Planned → List ℕ
 sheetBytes ps = 1 ∷ flatMap recordBytes ps
-
--- "At most 23,553 bytes"
-abbrev pub sheetLength : ℕ → ℕ
-sheetLength n = 1 + 92 * n
 
 -- ## What the writer is handed: room for six values, and a bridge's own, which count for a bridge only
 

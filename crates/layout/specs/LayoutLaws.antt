@@ -10,9 +10,11 @@ use lib.Seq.{sets, sets-eq, getD-take}
 use Rattle.endian.specs.Endian.{beBytes, leBytes}
 use Rattle.endian.specs.SetsLaws.{sets-append}
 use Rattle.endian.specs.EndianLaws.{length-beBytes}
-use Rattle.sheet.specs.Entry.{Entry, recordSize, isBridge}
+use Rattle.sheet.specs.Places.{recordSize, stride}
+use Rattle.sheet.specs.Entry.{Entry, isBridge}
+use Rattle.sheet.specs.Sheet.{sheetLength}
 use Rattle.layout.specs.declared.Registers.{Registers}
-use Rattle.layout.specs.Layout.{Planned, zeros, dwordBytes, endBytes, numberBytes, memoryBytes, bridgeBytes, bodyBytes, commonBytes, configBytes, partBytes, recordBytes, sheetBytes, sheetLength, plannedOf}
+use Rattle.layout.specs.Layout.{Planned, zeros, dwordBytes, endBytes, numberBytes, memoryBytes, bridgeBytes, bodyBytes, commonBytes, configBytes, partBytes, recordBytes, sheetBytes, plannedOf}
 
 -- ## Numbers in rows
 
@@ -117,10 +119,10 @@ module _ (p : Planned) where
   pub length-readbacks : length readbacks ≡ 24
   length-readbacks = length-dwordBytes 4 (beBytes 4) (length-beBytes 4) 6 (p .entry .readbacks) 0
 
-  pub length-recordBytes : length (recordBytes p) ≡ 92
+  pub length-recordBytes : length (recordBytes p) ≡ stride
   length-recordBytes = ap length (sym recordBytes-parts) ∙ length-append (marks ++ common ++ body) readbacks ∙ ap₂ _+_ length-marks-body length-readbacks
 
-  pub length-partBytes : length (partBytes p) ≡ 90
+  pub length-partBytes : length (partBytes p) ≡ recordSize
   unfolding recordBytes
   length-partBytes = omega (arith, length-recordBytes, length-append (beBytes 2 recordSize) (partBytes p), length-beBytes 2 recordSize)
 

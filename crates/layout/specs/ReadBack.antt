@@ -19,7 +19,8 @@ use Rattle.records.specs.declared.Next.the-variants.{End, Record}
 use Rattle.records.specs.Records.{nextOf, Parts, partsOf}
 use Rattle.records.specs.RecordsLaws.{partsOf-step}
 use Rattle.lists.specs.Lists.{All}
-use Rattle.sheet.specs.Entry.{Entry, recordSize, dwords, isBridge, slotCount, idOf, commandOf, headerOf, primaryOf, secondaryOf, subordinateOf, windowOf, entryOf}
+use Rattle.sheet.specs.Places.{valuesAt, readbacksAt, recordSize, stride}
+use Rattle.sheet.specs.Entry.{Entry, dwords, isBridge, slotCount, idOf, commandOf, headerOf, primaryOf, secondaryOf, subordinateOf, windowOf, entryOf}
 use Rattle.sheet.specs.Sheet.{allSized, isFramed, Framed, partsIn, entriesFrom, entriesOf, commandsOf}
 use Rattle.layout.specs.Layout.{Planned, Dwords, NoBridge, Shaped, WellShaped, zeros, dwordBytes, endBytes, numberBytes, memoryBytes, bridgeBytes, bodyBytes, commonBytes, configBytes, partBytes, recordBytes, sheetBytes}
 use Rattle.layout.specs.LayoutLaws.{length-common, length-body, length-partBytes, length-recordBytes, length-sheetBytes}
@@ -82,19 +83,19 @@ module _ (p : Planned) where
   unfolding partBytes configBytes commonBytes le beBytes leBytes
   commandOf-partBytes h = le-leBytes 2 (p .command) ∙ mod-eq-of-lt h
 
-  readbacks-partBytes : length (e .readbacks) ≡ 6 → Dwords (e .readbacks) → dwords (be 4) 6 (partBytes p) 66 ≡ e .readbacks
+  readbacks-partBytes : length (e .readbacks) ≡ 6 → Dwords (e .readbacks) → dwords (be 4) 6 (partBytes p) readbacksAt ≡ e .readbacks
   unfolding partBytes configBytes
   readbacks-partBytes c d =
       let before = beBytes 2 (e .id) ++ configBytes p in
-      ap (λ (s : List ℕ). dwords (be 4) 6 s 66) (sym (append-nil (partBytes p)))
-      ∙ dwords-dwordBytes big-endian 6 0 66 before [] (e .readbacks)
+      ap (λ (s : List ℕ). dwords (be 4) 6 s readbacksAt) (sym (append-nil (partBytes p)))
+      ∙ dwords-dwordBytes big-endian 6 0 readbacksAt before [] (e .readbacks)
       (simp (length-append, length-beBytes, length-common, length-body)) (omega arith) d
 
   values-partBytes : length (e .values) ≡ slotCount (e .header) → Dwords (e .values)
-      → dwords (le 4) (slotCount (e .header)) (partBytes p) 18 ≡ e .values
+      → dwords (le 4) (slotCount (e .header)) (partBytes p) valuesAt ≡ e .values
   values-partBytes c d =
-      ap (λ (s : List ℕ). dwords (le 4) (slotCount (e .header)) s 18) (partBytes-of (isBridge (e .header)) refl)
-      ∙ dwords-dwordBytes little-endian (slotCount (e .header)) 0 18 (beforeValues p) (afterValues (isBridge (e .header)) p) (e .values)
+      ap (λ (s : List ℕ). dwords (le 4) (slotCount (e .header)) s valuesAt) (partBytes-of (isBridge (e .header)) refl)
+      ∙ dwords-dwordBytes little-endian (slotCount (e .header)) 0 valuesAt (beforeValues p) (afterValues (isBridge (e .header)) p) (e .values)
       (simp (length-append, length-beBytes, length-common)) (omega arith) d
 
 -- a bridge's own
@@ -207,15 +208,15 @@ entryOf-partBytes p w = go (isBridge (p .entry .header)) refl
 nextOf-recordBytes : (p : Planned) (rest : List ℕ) → nextOf (recordBytes p ++ rest) ≡ Record recordSize
 unfolding nextOf recordBytes beBytes
 nextOf-recordBytes p rest =
-    let l : length (partBytes p ++ rest) ≡ 90 + length rest = length-append (partBytes p) rest ∙ rw (length-partBytes p) in
-    rw (le-ltb (length (partBytes p ++ rest)) 90 (omega arith))
+    let l : length (partBytes p ++ rest) ≡ recordSize + length rest = length-append (partBytes p) rest ∙ rw (length-partBytes p) in
+    rw (le-ltb (length (partBytes p ++ rest)) recordSize (omega arith))
 
 take-recordBytes : (p : Planned) (rest : List ℕ) → take recordSize (drop 2 (recordBytes p ++ rest)) ≡ partBytes p
 unfolding recordBytes beBytes
 take-recordBytes p rest = take-at (partBytes p) rest recordSize (length-partBytes p)
 
 drop-recordBytes : (p : Planned) (rest : List ℕ) → drop (2 + recordSize) (recordBytes p ++ rest) ≡ rest
-drop-recordBytes p rest = drop-at (recordBytes p) rest 92 (length-recordBytes p)
+drop-recordBytes p rest = drop-at (recordBytes p) rest stride (length-recordBytes p)
 
 -- the parts of a sheet are those of its functions in order, and their lengths end at the end
 pub partsOf-records : (ps : List Planned) → partsOf (flatMap recordBytes ps) ≡ record { parts = map partBytes ps; whole = true }

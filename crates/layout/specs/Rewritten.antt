@@ -13,8 +13,10 @@ use Rattle.endian.specs.Endian.{beBytes, leBytes}
 use Rattle.endian.specs.SetsLaws.{getD-sets-before, getD-sets-after}
 use Rattle.endian.specs.EndianLaws.{length-leBytes}
 use Rattle.lists.specs.Lists.{All}
-use Rattle.sheet.specs.Commands.{placeIn, SameButCommands}
-use Rattle.layout.specs.Layout.{Planned, WellShaped, commonBytes, configBytes, partBytes, recordBytes, sheetBytes, sheetLength}
+use Rattle.sheet.specs.Places.{commandAt, stride}
+use Rattle.sheet.specs.Sheet.{sheetLength}
+use Rattle.sheet.specs.Commands.{InCommand, SameButCommands}
+use Rattle.layout.specs.Layout.{Planned, WellShaped, commonBytes, configBytes, partBytes, recordBytes, sheetBytes}
 use Rattle.layout.specs.LayoutLaws.{length-recordBytes}
 
 -- the same function with another command word
@@ -27,9 +29,9 @@ commanded [] k command = []
 commanded (p ∷ ps) zero command = withCommand p command ∷ ps
 commanded (p ∷ ps) (suc k) command = p ∷ commanded ps k command
 
--- where the command word of the function of index k stands: after the records before it, its length, its ID and 04h
+-- where the command word of the function of index k stands: after the records before it and its own length, at its place
 abbrev pub commandPlace : ℕ → ℕ
-commandPlace k = sheetLength k + 8
+commandPlace k = sheetLength k + (2 + commandAt)
 
 -- ## Stores in a part of a list
 
@@ -52,32 +54,32 @@ module _ {ℓ} {A : Type ℓ} where
 
 -- ## One record, then a sheet
 
-recordBytes-withCommand : (p : Planned) (command : ℕ) → recordBytes (withCommand p command) ≡ sets (recordBytes p) 8 (leBytes 2 command)
+recordBytes-withCommand : (p : Planned) (command : ℕ) → recordBytes (withCommand p command) ≡ sets (recordBytes p) (2 + commandAt) (leBytes 2 command)
 unfolding recordBytes partBytes configBytes commonBytes beBytes leBytes
 recordBytes-withCommand p command = refl
 
 records-commanded : (ps : List Planned) (k command : ℕ) → k < length ps
-    → flatMap recordBytes (commanded ps k command) ≡ sets (flatMap recordBytes ps) (92 * k + 8) (leBytes 2 command)
+    → flatMap recordBytes (commanded ps k command) ≡ sets (flatMap recordBytes ps) (stride * k + (2 + commandAt)) (leBytes 2 command)
 unfolding commanded flatMap
 records-commanded [] k command h = absurd (omega arith)
 records-commanded (p ∷ ps) zero command h =
     let rest = flatMap recordBytes ps in
     ap (λ (r : List ℕ). r ++ rest) (recordBytes-withCommand p command)
-    ∙ sym (sets-append-left (recordBytes p) rest 8 (leBytes 2 command) (omega (arith, length-recordBytes p, length-leBytes 2 command)))
+    ∙ sym (sets-append-left (recordBytes p) rest (2 + commandAt) (leBytes 2 command) (omega (arith, length-recordBytes p, length-leBytes 2 command)))
 records-commanded (p ∷ ps) (suc k) command h =
     let rest = flatMap recordBytes ps in
-    let place : length (recordBytes p) + (92 * k + 8) ≡ 92 * suc k + 8 = omega (arith, length-recordBytes p) in
+    let place : length (recordBytes p) + (stride * k + (2 + commandAt)) ≡ stride * suc k + (2 + commandAt) = omega (arith, length-recordBytes p) in
     ap (λ (r : List ℕ). recordBytes p ++ r) (records-commanded ps k command (omega arith))
-    ∙ sym (sets-append-add (recordBytes p) rest (92 * k + 8) (leBytes 2 command))
+    ∙ sym (sets-append-add (recordBytes p) rest (stride * k + (2 + commandAt)) (leBytes 2 command))
     ∙ ap (λ (i : ℕ). sets (recordBytes p ++ rest) i (leBytes 2 command)) place
 
 pub sheetBytes-commanded : (ps : List Planned) (k command : ℕ) → k < length ps
     → sheetBytes (commanded ps k command) ≡ sets (sheetBytes ps) (commandPlace k) (leBytes 2 command)
 unfolding sheetBytes
 sheetBytes-commanded ps k command h =
-    let place : 1 + (92 * k + 8) ≡ commandPlace k = omega arith in
+    let place : 1 + (stride * k + (2 + commandAt)) ≡ commandPlace k = omega arith in
     ap (λ (r : List ℕ). 1 ∷ r) (records-commanded ps k command h)
-    ∙ sym (sets-append-add (1 ∷ []) (flatMap recordBytes ps) (92 * k + 8) (leBytes 2 command))
+    ∙ sym (sets-append-add (1 ∷ []) (flatMap recordBytes ps) (stride * k + (2 + commandAt)) (leBytes 2 command))
     ∙ ap (λ (i : ℕ). sets (1 ∷ flatMap recordBytes ps) i (leBytes 2 command)) place
 
 -- ## Nothing else changes
@@ -113,7 +115,7 @@ same-commanded ps k command h =
     word : List ℕ
     word = leBytes 2 command
 
-    go : (i : ℕ) → (placeIn i / 2 ≡ 4 → ⊥) → (x : Bool) → ltb i (commandPlace k) ≡ x → (y : Bool) → ltb i (commandPlace k + 2) ≡ y
+    go : (i : ℕ) → (InCommand i → ⊥) → (x : Bool) → ltb i (commandPlace k) ≡ x → (y : Bool) → ltb i (commandPlace k + 2) ≡ y
         → getD (sets (sheetBytes ps) (commandPlace k) word) i 0 ≡ getD (sheetBytes ps) i 0
     go i n true e y d = getD-sets-before (sheetBytes ps) (commandPlace k) word i 0 (ltb-true i (commandPlace k) e)
     go i n false e false d = getD-sets-after (sheetBytes ps) (commandPlace k) word i 0 (omega (arith, ltb-false i (commandPlace k + 2) d, length-leBytes 2 command))

@@ -22,7 +22,7 @@ use Rattle.board.specs.Order.{above, parents, lastSibling, misplaced, anyMispla
 use Rattle.board.specs.Board.{misframed, fromReadbacks, fromOrder, fromEdges, fromHeaders, fromCount, fromFrame, fromVersion, boardNumber, hostOf, functionsOf}
 use Rattle.board.specs.Examples.{p10 as p10-board}
 use Rattle.sheet.specs.Entry.{dwords, windowOf, entryOf}
-use Rattle.sheet.specs.Sheet.{allSized, isFramed, entriesFrom, allZero, readBacksWrong, breaks, anyBreaks, hasId, idTwice}
+use Rattle.sheet.specs.Sheet.{fullSheet, allSized, isFramed, entriesFrom, allZero, readBacksWrong, breaks, anyBreaks, hasId, idTwice}
 use Rattle.sheet.specs.Sheet.{from29, from25, from28, from27, from24, from22, from20, from21, sheetNumber}
 use Rattle.sheet.specs.Examples.{p8, p10, nibbled}
 use Rattle.planning.specs.Plan.{barStart, windowFor, valuesFrom, plannedFrom, planOf, onRoom, onBoard, planning}
@@ -34,7 +34,7 @@ unfoldable pub p10-text : List ℕ
 p10-text = ascii "plan 2\n0000 bridge 00000000 00000000 00 01 01 40 40 F900 F900 4001 43F1 00000002 00000002\n0100 end F9000000 4000000C 00000002 00004001 00000000 00000000\n"
 
 pub record Printed : Type 0 where
-  pub p10-planned : boardText p10-board 23553 ≡ p10-text
+  pub p10-planned : boardText p10-board fullSheet ≡ p10-text
   pub p10-short-room : boardText p10-board 184 ≡ ascii "refused 11\n"
   pub p10-sheet : sheetText p10 ≡ p10-text
   pub p8-sheet : sheetText p8 ≡ ascii "plan 0\n"

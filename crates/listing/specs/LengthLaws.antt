@@ -1,5 +1,4 @@
--- An answer has at most 21,257 bytes: a count or a number has three digits at the most, and each of 256 lines 83 bytes. In that room it is put whole.
--- Assumes nothing.
+-- How long an answer is: a count or a number has three digits at the most, and each line 83 bytes. In that room it is put whole. Assumes nothing.
 use mathlib.Core.Path.{_≡_, refl, sym, ap, _∙_}
 use mathlib.Core.Bool.{Bool, true, false, cond}
 use mathlib.Core.List.{List, [], _∷_, _++_, map, flatMap}
@@ -13,7 +12,9 @@ use borrow.Author.Tests.{ltb-true, ltb-false, eqb-true, eqb-false}
 use Rattle.endian.specs.Endian.{le}
 use Rattle.text.specs.Text.{ascii, Put, digit, hexadecimal, decimal}
 use Rattle.text.specs.TextLaws.{decimal-one, decimal-more}
+use Rattle.records.specs.Limits.{mostFunctions}
 use Rattle.sheet.specs.declared.Rule.the-variants.{HeaderType, Buses, ReadBacks, Nibbles}
+use Rattle.sheet.specs.Places.{valuesAt}
 use Rattle.sheet.specs.Entry.{Entry, dwords, idOf, headerOf, isBridge, slotCount, entryOf}
 use Rattle.sheet.specs.Sheet.{isFramed, partsIn, entriesFrom, entriesOf, anyBreaks, idTwice, from29, from25, from28, from27, from24, from22, from20, from21, sheetNumber}
 use Rattle.sheet.specs.IndexLaws.{length-entries}
@@ -108,7 +109,7 @@ length-dwords read (suc n) p at = ap suc (length-dwords read n p (at + 4))
 
 length-values : (p : List ℕ) → length (entryOf p .values) ≡ slotCount (headerOf p)
 unfolding entryOf
-length-values p = length-dwords (le 4) (slotCount (headerOf p)) p 18
+length-values p = length-dwords (le 4) (slotCount (headerOf p)) p valuesAt
 
 line-le : (p : List ℕ) → length (lineOf (entryOf p)) ≤ 83
 line-le p = go (isBridge (headerOf p)) refl
@@ -148,7 +149,7 @@ module _ (n : ℕ) (few : n < 1000) where
       let word : List ℕ = ascii "refused " in
       omega (arith, length-append (word ++ decimal n) newline, length-append word (decimal n), three-digits n few)
 
-plan-le : (s : List ℕ) → length (entriesOf s) ≤ 256 → length (planText (entriesOf s)) ≤ longest
+plan-le : (s : List ℕ) → length (entriesOf s) ≤ mostFunctions → length (planText (entriesOf s)) ≤ longest
 unfolding planText entriesFrom
 plan-le s few =
     let n = length (entriesOf s) in
@@ -178,7 +179,7 @@ number-lt s =
     let es = entriesOf s in
     chosen-lt (eqb (length s) 0) 20 (from21 s) (omega arith)
     (chosen-lt (eqb (getD s 0 0) 1) (from20 s) 21
-    (chosen-lt (isFramed (drop 1 s)) (from22 es) 20 (chosen-lt (ltb 256 (length es)) 22 (from24 es) (omega arith) (from24-lt es)) (omega arith))
+    (chosen-lt (isFramed (drop 1 s)) (from22 es) 20 (chosen-lt (ltb mostFunctions (length es)) 22 (from24 es) (omega arith) (from24-lt es)) (omega arith))
     (omega arith))
 
 pub sheet-le : (s : List ℕ) → length (sheetText s) ≤ longest

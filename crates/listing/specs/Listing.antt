@@ -1,11 +1,12 @@
 -- Document 01, "Examples": a plan is "printed whole (functions, then BARs, buses, I/O, memory, high, uppers; a refusal prints `refused N`)". Registers
 -- are in hexadecimal, counts and N in decimal, and every line ends with a newline. Assumes nothing.
-use Prim.Native.Nat.{ℕ}
+use Prim.Native.Nat.{ℕ, _+_, _*_}
 use mathlib.Core.Bool.{cond}
 use mathlib.Core.List.{List, [], _∷_, _++_, flatMap}
 use lib.ListN.{length, take}
 use lib.Dec.{eqb}
 use Rattle.text.specs.Text.{ascii, hexadecimal, decimal}
+use Rattle.records.specs.Limits.{mostFunctions}
 use Rattle.window.specs.declared.Window.{Window}
 use Rattle.sheet.specs.Entry.{Entry, bridges}
 use Rattle.sheet.specs.Sheet.{entriesOf, sheetNumber}
@@ -65,6 +66,6 @@ abbrev pub planningText : Planning → List ℕ → List ℕ
 planningText (Planned n) room = sheetText (take n room)
 planningText (Refused n) room = refusalText n
 
--- the most bytes that an answer has: `answer-le` of LengthLaws
+-- the most bytes that an answer has: a count, and a bridge's line for each function (`answer-le` of LengthLaws)
 abbrev pub longest : ℕ
-longest = 21257
+longest = 9 + 83 * mostFunctions

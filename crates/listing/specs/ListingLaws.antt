@@ -13,6 +13,7 @@ use Rattle.text.specs.Text.{ascii, Put, hexadecimal}
 use Rattle.text.specs.TextLaws.{put-length}
 use Rattle.pools.specs.declared.Pool.the-variants.{Low, High, Io}
 use Rattle.window.specs.declared.Window.{Window}
+use Rattle.sheet.specs.Places.{valuesAt}
 use Rattle.sheet.specs.Entry.{Entry, dwords, idOf, headerOf, isBridge, primaryOf, secondaryOf, subordinateOf, windowOf, entryOf}
 use Rattle.sheet.specs.Sheet.{Framed, partsIn, partAt, entriesFrom, entriesOf, sheetNumber}
 use Rattle.sheet.specs.FrameLaws.{part-index}
@@ -57,21 +58,21 @@ put-nothing {o} {o₁} {vs} {at} {r} p =
 -- ## A line, in the words of the code: what was read of the record's part
 
 module _ (p : List ℕ) (b : isBridge (headerOf p) ≡ true) where
-  pub buses-of-bridge : (secondary subordinate : ℕ) → secondary ≡ secondaryOf p → subordinate ≡ subordinateOf p
-      → buses (entryOf p) ≡ primaryOf p ∷ secondary ∷ subordinate ∷ []
+  pub buses-of-bridge : (primary secondary subordinate : ℕ) → primary ≡ primaryOf p → secondary ≡ secondaryOf p → subordinate ≡ subordinateOf p
+      → buses (entryOf p) ≡ primary ∷ secondary ∷ subordinate ∷ []
   unfolding entryOf
-  buses-of-bridge secondary subordinate e f = rw (b, e, f)
+  buses-of-bridge primary secondary subordinate d e f = rw (b, d, e, f)
 
   pub windowText-of-bridge : (io low high : Window) → io ≡ windowOf Io p → low ≡ windowOf Low p → high ≡ windowOf High p
       → windowText (entryOf p) ≡ words 2 (edges io) ++ words 4 (edges low) ++ words 4 (edges high) ++ words 8 (uppers high)
   unfolding windowText entryOf
   windowText-of-bridge io low high e f g = rw (b, e, f, g)
 
-  values-of-bridge : take 2 (dwords (le 4) 6 p 18) ≡ entryOf p .values
+  values-of-bridge : take 2 (dwords (le 4) 6 p valuesAt) ≡ entryOf p .values
   unfolding entryOf dwords
   values-of-bridge = rw b
 
-  pub bridgeText-of-bridge : (vs : List ℕ) → vs ≡ dwords (le 4) 6 p 18
+  pub bridgeText-of-bridge : (vs : List ℕ) → vs ≡ dwords (le 4) 6 p valuesAt
       → bridgeText (entryOf p) ≡ ascii " bridge" ++ words 8 (take 2 vs) ++ words 2 (buses (entryOf p)) ++ windowText (entryOf p) ++ newline
   unfolding bridgeText
   bridgeText-of-bridge vs e = rw (ap (take 2) e ∙ values-of-bridge)
@@ -81,7 +82,7 @@ module _ (p : List ℕ) (b : isBridge (headerOf p) ≡ true) where
   lineOf-bridge id e = rw (b, e)
 
 module _ (p : List ℕ) (b : isBridge (headerOf p) ≡ false) where
-  pub endText-of-end : (vs : List ℕ) → vs ≡ dwords (le 4) 6 p 18 → endText (entryOf p) ≡ ascii " end" ++ words 8 vs ++ newline
+  pub endText-of-end : (vs : List ℕ) → vs ≡ dwords (le 4) 6 p valuesAt → endText (entryOf p) ≡ ascii " end" ++ words 8 vs ++ newline
   unfolding endText entryOf
   endText-of-end vs e = rw (b, e)
 

@@ -6,7 +6,8 @@ ghost use mathlib.Core.List.{[], _∷_, _++_};
 ghost use Prim.Native.Nat.{_≤_};
 ghost use lib.ListN.{length};
 ghost use Rattle.text.specs.Text.{Put, hexadecimal};
-ghost use Rattle.sheet.specs.Entry.{recordSize, headerOf, isBridge, entryOf};
+ghost use Rattle.sheet.specs.Places.{recordSize};
+ghost use Rattle.sheet.specs.Entry.{headerOf, isBridge, entryOf};
 ghost use Rattle.sheet.specs.Sheet.{Framed, entriesOf};
 ghost use Rattle.listing.specs.Listing.{buses, words, windowText, bridgeText, endText, lineOf, countText, planText, refusalText, sheetText, planningText, longest};
 use planning::Planning;
@@ -16,8 +17,8 @@ use text::put_byte;
 use text::put_hexadecimal;
 use text::put_text;
 
-// The longest answer: a count, and a line of 83 bytes for each of 256 bridges.
-pub const LONGEST: usize = 21257;
+// The longest answer: a count, and a line of 83 bytes for each function, all bridges.
+pub const LONGEST: usize = 9 + 83 * records::MOST_FUNCTIONS;
 
 // The planner's answer: the sheet that it left in the room, or its number.
 pub fn put_planning(out: &mut [u8], at: usize, planning: Planning, room: &[u8]) -> usize
@@ -107,9 +108,8 @@ fn put_buses(out: &mut [u8], at: usize, part: &[u8]) -> usize
     requires { ⌜ isBridge (headerOf (now part)) ≡ true ⌝ }
     ensures { λ r. ⌜ Put (now (out .entry)) at (words 2 (buses (entryOf (now (part .entry))))) (now (out .exit)) r ⌝ }
 {
-    let primary = part[26];
     let numbers = [
-        primary as u32,
+        record::primary_of(part) as u32,
         record::secondary_of(part) as u32,
         record::subordinate_of(part) as u32,
     ];

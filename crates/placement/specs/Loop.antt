@@ -2,12 +2,13 @@
 use mathlib.Core.Path.{_≡_}
 use mathlib.Core.Bool.{false}
 use mathlib.Core.List.{List, [], map}
-use Prim.Native.Nat.{ℕ, suc, _*_, _≤_, _<_}
+use Prim.Native.Nat.{ℕ, suc, _+_, _*_, _≤_, _<_}
 use lib.ListN.{length, take, drop}
 use lib.Seq.{sets}
 use Rattle.pools.specs.declared.Pool.{Pool}
 use Rattle.placing.specs.Cap.{cap}
 use Rattle.placing.specs.Records.{Host as PlacingHost}
+use Rattle.records.specs.Limits.{mostFunctions}
 use Rattle.records.specs.Records.{partsFrom, anyPart}
 use Rattle.board.specs.declared.Host.{Host}
 use Rattle.board.specs.Function.{functionOfPart, headerWrong}
@@ -17,9 +18,14 @@ use Rattle.placer.specs.declared.Cursors.{Cursors}
 use Rattle.placer.specs.Kept.{endsOf}
 use Rattle.placer.specs.JoinLaws.{Room}
 use Rattle.placer.specs.LoopLaws.{Agrees}
-use Rattle.layout.specs.Layout.{Planned, sheetBytes, sheetLength}
+use Rattle.sheet.specs.Sheet.{sheetLength}
+use Rattle.layout.specs.Layout.{Planned, sheetBytes}
 use Rattle.planning.specs.Plan.{planOf}
 use Rattle.placement.specs.StepLaws.{endsIn, Prepared}
+
+-- the root bus, and a bus below each record
+abbrev pub mostBuses : ℕ
+mostBuses = 1 + mostFunctions
 
 abbrev pub planOn : List ℕ → List Planned
 planOn b = planOf (hostOf b) (functionsOf b)

@@ -16,6 +16,7 @@ use Rattle.pools.specs.declared.Pool.the-variants.{Low, High, Io}
 use Rattle.placing.specs.Order.{eq-or-ne}
 use Rattle.window.specs.Window.{closed, opened}
 use Rattle.records.specs.declared.Next.the-variants.{End, Record, Broken}
+use Rattle.records.specs.Limits.{mostFunctions}
 use Rattle.records.specs.Records.{nextOf, partsFrom}
 use Rattle.records.specs.RecordsLaws.{pass-record, pass-end, pass-broken, none-here, none-later}
 use Rattle.placing.specs.Records as placing
@@ -34,13 +35,14 @@ use Rattle.placer.specs.Function.{windowAt, isEmpty, windowStart, windowStop}
 use Rattle.placer.specs.declared.Cursors.{Cursors}
 use Rattle.placer.specs.Kept.{endsOf, keptWindow}
 use Rattle.placer.specs.LoopLaws.{agrees-start}
+use Rattle.sheet.specs.Sheet.{sheetLength}
 use Rattle.layout.specs.declared.Registers.{Registers}
-use Rattle.layout.specs.Layout.{Planned, plannedOf, recordBytes, sheetBytes, sheetLength}
+use Rattle.layout.specs.Layout.{Planned, plannedOf, recordBytes, sheetBytes}
 use Rattle.layout.specs.LayoutLaws.{sets-sheetBytes-snoc}
 use Rattle.planning.specs.Plan.{entryFor, plannedFrom, planOf}
 use Rattle.placement.specs.Step.{endsList, extentsIn, barsIn, leafRegisters, bridgeRegisters, registersOf, cursorsNext, Placeable, Bridged}
 use Rattle.placement.specs.StepLaws.{endsIn, ends-stored, ends-other, RecordAt, record-planned, record-agrees, record-placeable, record-bridged}
-use Rattle.placement.specs.Loop.{planOn, withLast, Holding, Ready, Standing, basesFor, Filled, Placing}
+use Rattle.placement.specs.Loop.{mostBuses, planOn, withLast, Holding, Ready, Standing, basesFor, Filled, Placing}
 
 -- ## The plan, record by record
 
@@ -152,7 +154,7 @@ module _ {b : List ℕ} {first : ℕ} {counts memo c₀ sheet₀ c sheet : List 
     pub turn-bridged : isBridge here ≡ true → Bridged first counts memo c i
     turn-bridged = record-bridged (r .prepared) (toHost (hostOf b)) c i here record-here inside (s .holding) room-here
 
-    pub turn-room : 93 + 92 * i ≤ length sheet
+    pub turn-room : sheetLength (suc i) ≤ length sheet
     turn-room = omega (arith, inside, r .sheet-room, s .sheet-length)
 
     planned-here : plannedOf (registersOf first counts memo c i here)
@@ -164,7 +166,7 @@ module _ {b : List ℕ} {first : ℕ} {counts memo c₀ sheet₀ c sheet : List 
     planned-here = record-planned (r .prepared) (withLast (toHost (hostOf b)) (r .last)) c i here record-here inside (s .holding) (r .room)
 
     pub standing-turn : {c' sheet' : List ℕ} → c' ≡ cursorsNext memo c i here
-        → sheet' ≡ sets sheet (1 + 92 * i) (recordBytes (plannedOf (registersOf first counts memo c i here))) → length c' ≡ length c
+        → sheet' ≡ sets sheet (sheetLength i) (recordBytes (plannedOf (registersOf first counts memo c i here))) → length c' ≡ length c
         → Standing b c₀ sheet₀ c' sheet' (at + 2 + n) (suc i)
     standing-turn {c'} {sheet'} next wrote same =
         record {
@@ -175,7 +177,7 @@ module _ {b : List ℕ} {first : ℕ} {counts memo c₀ sheet₀ c sheet : List 
           holding =
               subst (λ (l : List ℕ). Holding b (suc i) l) (sym next)
               (record-agrees (r .prepared) (toHost (hostOf b)) c i here record-here inside (s .holding) room-here);
-          sheet-length = ap length wrote ∙ length-sets sheet (1 + 92 * i) (recordBytes (plannedOf (registersOf first counts memo c i here))) ∙ s .sheet-length;
+          sheet-length = ap length wrote ∙ length-sets sheet (sheetLength i) (recordBytes (plannedOf (registersOf first counts memo c i here))) ∙ s .sheet-length;
           written =
               sets-sheetBytes-snoc sheet₀ (take i (planOn b)) (plannedOf (registersOf first counts memo c i here)) (s .written)
               (wrote ∙ ap (λ (k : ℕ). sets sheet (sheetLength k) (recordBytes (plannedOf (registersOf first counts memo c i here)))) (sym so-far))
@@ -224,7 +226,7 @@ length-functions [] = refl
 length-functions (p ∷ ls) = ap suc (length-functions ls)
 
 pub ready-of-placing : {b : List ℕ} {h : Host} {counts memo sheet : List ℕ} (c : List ℕ) (base : Cursors) → Placing b h counts memo sheet → base ≡ basesFor h
-    → Filled base 257 c → length c ≡ 771 → Ready b (h .«first_bus») counts memo c (set sheet 0 1)
+    → Filled base mostBuses c → length c ≡ 3 * mostBuses → Ready b (h .«first_bus») counts memo c (set sheet 0 1)
 ready-of-placing {b} {h} {counts} {memo} {sheet} c base p base-is filled long =
     record {
       accepted = p .accepted;
@@ -238,7 +240,7 @@ ready-of-placing {b} {h} {counts} {memo} {sheet} c base p base-is filled long =
       version = version-again sheet;
     }
   where
-    few : length (functionsOf b) ≤ 256
+    few : length (functionsOf b) ≤ mostFunctions
     few = let a = accepted-of-zero b (p .accepted) in omega (arith, ap length (a .functions-read), length-functions (partsFrom b 33), a .few)
 
     same : base ≡ basesFor (hostOf b)

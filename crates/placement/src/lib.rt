@@ -12,8 +12,9 @@ ghost use Rattle.placing.specs.Pieces.{windowAlign};
 ghost use Rattle.records.specs.declared.Next.the-variants.{Record};
 ghost use Rattle.records.specs.Records.{nextOf};
 ghost use Rattle.board.specs.Function.{functionOfPart, headerWrong};
+ghost use Rattle.sheet.specs.Sheet.{sheetLength};
 ghost use Rattle.layout.specs.Layout.{plannedOf, recordBytes, sheetBytes};
-ghost use Rattle.placement.specs.Loop.{planOn, Ready, basesFor, Filled, Placing};
+ghost use Rattle.placement.specs.Loop.{mostBuses, planOn, Ready, basesFor, Filled, Placing};
 ghost use Rattle.sizing.specs.Memo.{laidAt};
 ghost use Rattle.placer.specs.Kept.{extentIn, windowsPlaced};
 ghost use Rattle.placement.specs.Step.{cursorsIn, endsList, extentsIn, busIn, barsIn, leafWith, leafRegisters, bridgeWith, bridgeRegisters, registersOf, leafNext, bridgeNext, cursorsNext, Placeable, Bridged};
@@ -26,7 +27,11 @@ use placer::Extents;
 use placer::WindowsPlaced;
 use pools::Pool;
 use records::Next;
+use sheet::places::STRIDE;
 use window::Window;
+
+// The root bus, and a bus below each record.
+const BUSES: usize = 1 + records::MOST_FUNCTIONS;
 
 // The cursors of bus b: three numbers at 3 * b.
 fn cursors_at(cursors: &[u64], b: usize) -> Cursors
@@ -245,10 +250,10 @@ fn write_next(
     cursors: &mut [u64],
     sheet: &mut [u8],
 )
-    requires { ⌜ Placeable first (now counts) (now cursors) f × (isBridgeOf f ≡ true → Bridged first (now counts) (now memo) (now cursors) i) × (93 + 92 * i ≤ length (now sheet)) ⌝ }
-    ensures { λ _. ⌜ (now (cursors .exit) ≡ cursorsNext (now (memo .entry)) (now (cursors .entry)) i f) × (now (sheet .exit) ≡ sets (now (sheet .entry)) (1 + 92 * i) (recordBytes (plannedOf (registersOf first (now (counts .entry)) (now (memo .entry)) (now (cursors .entry)) i f)))) ⌝ }
+    requires { ⌜ Placeable first (now counts) (now cursors) f × (isBridgeOf f ≡ true → Bridged first (now counts) (now memo) (now cursors) i) × (sheetLength (suc i) ≤ length (now sheet)) ⌝ }
+    ensures { λ _. ⌜ (now (cursors .exit) ≡ cursorsNext (now (memo .entry)) (now (cursors .entry)) i f) × (now (sheet .exit) ≡ sets (now (sheet .entry)) (sheetLength i) (recordBytes (plannedOf (registersOf first (now (counts .entry)) (now (memo .entry)) (now (cursors .entry)) i f)))) ⌝ }
 {
-    let at = 1 + 92 * i;
+    let at = 1 + STRIDE * i;
     let r = place_record(f, i, first, counts, memo, cursors);
     layout::write_record(sheet, at, r);
 }
@@ -300,13 +305,13 @@ fn bases_of(host: Host) -> Cursors
     }
 }
 
-// The same cursors for every bus: the root bus and those below 256 records.
+// The same cursors for every bus.
 fn fill_cursors(cursors: &mut [u64], base: Cursors)
-    requires { ⌜ 771 ≤ length (now cursors) ⌝ }
-    ensures { λ _. ⌜ Filled base 257 (now (cursors .exit)) ⌝ }
+    requires { ⌜ 3 * mostBuses ≤ length (now cursors) ⌝ }
+    ensures { λ _. ⌜ Filled base mostBuses (now (cursors .exit)) ⌝ }
 {
     let mut b: usize = 0;
-    while b < 257 {
+    while b < BUSES {
         store_cursors(cursors, b, base);
         b += 1;
     }
@@ -317,7 +322,7 @@ pub fn place_all(board: &[u8], host: Host, counts: &[u16], memo: &[u64], sheet: 
     requires { ⌜ Placing (now board) host (now counts) (now memo) (now sheet) ⌝ }
     ensures { λ _. ⌜ now (sheet .exit) ≡ sets (now (sheet .entry)) 0 (sheetBytes (planOn (now (board .entry)))) ⌝ }
 {
-    let mut cursors = [0u64; 771];
+    let mut cursors = [0u64; 3 * BUSES];
     fill_cursors(&mut cursors, bases_of(host));
     sheet[0] = 1;
     place_records(board, host.first_bus, counts, memo, &mut cursors, sheet);

@@ -1,5 +1,4 @@
--- Document 01, "Bridges above a function: its parent record, that one's parent and so on, stopping short of the host", and how many may
--- be. Assumes nothing.
+-- Document 01, "Bridges above a function: its parent record, that one's parent and so on, stopping short of the host". Assumes nothing.
 use mathlib.Core.List.{List, [], _∷_}
 use Prim.Native.Nat.{ℕ, zero, suc}
 use Rattle.placing.specs.Records.{Function}
@@ -21,7 +20,3 @@ aboveByParents fs k = aboveWithin k fs k
 -- Those above whatever stands on bus b, the bus of the host or of bridge b: the bridge itself, and those above it (`above-on-bus`)
 abbrev pub aboveBus : List Function → ℕ → List ℕ
 aboveBus fs b = stepUp b (aboveByParents fs)
-
--- Document 01, "at most 16 bridges above any"
-abbrev pub mostAbove : ℕ
-mostAbove = 16

@@ -13,9 +13,6 @@ pub struct Extent {
     pub align: u64,
 }
 
-// "at most 16 bridges above any"
-pub const MOST_ABOVE: usize = 16;
-
 const LIMIT: u64 = 4611686018427387904;
 
 // Ends are kept up to 2^62: no pool reaches 2^52, so no answer changes, and no sum wraps.

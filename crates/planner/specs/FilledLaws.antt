@@ -9,6 +9,7 @@ use lib.Seq.{length-sets, take-length}
 use Rattle.pools.specs.declared.Pool.{Pool}
 use Rattle.pools.specs.declared.Pool.the-variants.{Low, High, Io}
 use Rattle.bar.specs.Header.{isBridge as isBridgeHeader}
+use Rattle.records.specs.Limits.{mostFunctions}
 use Rattle.placing.specs.Records as placing
 use Rattle.placing.specs.Numbering.{bridges}
 use Rattle.placing.specs.Sizing as laid
@@ -17,7 +18,7 @@ use Rattle.placing.specs.SizingLaws.{laid-ext}
 use Rattle.board.specs.declared.Host.{Host}
 use Rattle.board.specs.declared.Function.{Function}
 use Rattle.board.specs.Function.{isBridge}
-use Rattle.board.specs.Board.{mostFunctions, boardNumber, hostOf, functionsOf}
+use Rattle.board.specs.Board.{boardNumber, hostOf, functionsOf}
 use Rattle.board.specs.ToPlacing.{toHost, toPlacing}
 use Rattle.sizing.specs.declared.Laid.{Laid}
 use Rattle.sizing.specs.Cut.{cut}
@@ -52,7 +53,7 @@ root-from-bases h = laid-ext _ _ refl each
 
 module _ {ps hs ss ps' hs' ss' : List ℕ} {n : ℕ} (b : List ℕ) (e : boardNumber b ≡ 0) (room : Room mostFunctions ps hs ss)
     (filled : Filled (functionsOf b) ps hs ss ps' hs' ss' n) (counts memo : List ℕ) (counts-room : mostFunctions < length counts)
-    (memo-room : 2048 ≤ length memo) where
+    (memo-room : 8 * mostFunctions ≤ length memo) where
   pub measurable : Measurable ps' hs' ss' n counts memo
   measurable =
       let few = filled-few b e room filled in

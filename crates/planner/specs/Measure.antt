@@ -6,6 +6,7 @@ use Prim.Native.Nat.{ℕ, _+_, _*_, _≤_, _<_}
 use lib.Dec.{ltb}
 use lib.ListN.{length, getD, take}
 use lib.Seq.{sets}
+use Rattle.records.specs.Limits.{mostFunctions}
 use Rattle.placing.specs.Numbering.{bridges}
 use Rattle.placing.specs.declared.Extent.{Extent}
 use Rattle.placing.specs.Sizing.{busLaid, rootLaid, endsPast}
@@ -13,7 +14,7 @@ use Rattle.board.specs.declared.Span.{Span}
 use Rattle.board.specs.declared.Host.{Host}
 use Rattle.board.specs.declared.Function.{Function}
 use Rattle.board.specs.Function.{isBridge}
-use Rattle.board.specs.Board.{mostFunctions, hostOf, functionsOf}
+use Rattle.board.specs.Board.{hostOf, functionsOf}
 use Rattle.board.specs.ToPlacing.{toHost, toPlacing}
 use Rattle.sizing.specs.Cut.{cut}
 use Rattle.sizing.specs.Functions.{functionsIn}

@@ -10,6 +10,7 @@ use lib.Seq.{sets, sets-eq}
 use borrow.Author.Tests.{lt-ltb, le-ltb, eq-eqb, ne-eqb}
 use Rattle.endian.specs.Endian.{Bytes}
 use Rattle.records.specs.Records.{partsFrom}
+use Rattle.records.specs.Limits.{mostFunctions}
 use Rattle.placing.specs.Records as placing
 use Rattle.placing.specs.Numbering.{bridges}
 use Rattle.placing.specs.Refusals.{refusalOf}
@@ -17,10 +18,11 @@ use Rattle.board.specs.declared.Host.{Host}
 use Rattle.board.specs.declared.Function.{Function}
 use Rattle.board.specs.Host.{hostOfPart}
 use Rattle.board.specs.Function.{functionOfPart}
-use Rattle.board.specs.Board.{mostFunctions, boardNumber, hostOf, functionsOf}
+use Rattle.board.specs.Board.{boardNumber, hostOf, functionsOf}
 use Rattle.board.specs.BoardLaws.{accepted-of-zero}
 use Rattle.board.specs.ToPlacing.{toHost, toFunction, toPlacing}
-use Rattle.layout.specs.Layout.{sheetBytes, sheetLength}
+use Rattle.sheet.specs.Sheet.{sheetLength}
+use Rattle.layout.specs.Layout.{sheetBytes}
 use Rattle.layout.specs.LayoutLaws.{length-sheetBytes}
 use Rattle.planning.specs.declared.Planning.{Planning}
 use Rattle.planning.specs.declared.Planning.the-variants.{Planned, Refused}
@@ -96,14 +98,14 @@ module _ {h : Host} {counts memo : List ℕ} {m : Measured} {n : ℕ} (b : List 
   number-is : n ≡ refusalOf (toHost (hostOf b)) (toPlacing (functionsOf b))
   number-is = number ∙ ap (λ (x : Host). refusalBy x m) host-is ∙ refusal-by-is b bytes accepted is
 
-  size-is : {size : ℕ} → size ≡ 1 + 92 * m .functions → size ≡ sheetLength (length (functionsOf b))
-  size-is e = e ∙ ap (λ (k : ℕ). 1 + 92 * k) (is .functions)
+  size-is : {size : ℕ} → size ≡ sheetLength (m .functions) → size ≡ sheetLength (length (functionsOf b))
+  size-is e = e ∙ ap sheetLength (is .functions)
 
   pub lawful-refused : (room : ℕ) → (n ≡ 0 → ⊥) → Refused n ≡ onBoard (hostOf b) (functionsOf b) room
   lawful-refused room some =
       ap Refused number-is ∙ sym (on-board-refused (hostOf b) (functionsOf b) room (λ z. some (number-is ∙ z)))
 
-  module _ (none : n ≡ 0) (size : ℕ) (e : size ≡ 1 + 92 * m .functions) where
+  module _ (none : n ≡ 0) (size : ℕ) (e : size ≡ sheetLength (m .functions)) where
     pub lawful-short : (room : ℕ) → room < size → Refused 11 ≡ onBoard (hostOf b) (functionsOf b) room
     lawful-short room l = sym (on-board-short (hostOf b) (functionsOf b) room (sym number-is ∙ none) (omega (arith, l, size-is e)))
 

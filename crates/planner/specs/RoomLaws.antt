@@ -19,8 +19,8 @@ use Rattle.board.specs.declared.Host.{Host}
 use Rattle.board.specs.Board.{boardNumber, hostOf, functionsOf}
 use Rattle.board.specs.ToPlacing.{toHost, toPlacing}
 use Rattle.placer.specs.JoinLaws.{Room}
-use Rattle.layout.specs.Layout.{sheetLength}
 use Rattle.lists.specs.ListLaws.{all-intro}
+use Rattle.sheet.specs.Sheet.{sheetLength}
 use Rattle.planned.specs.Boards.{Board, IsOpen}
 use Rattle.planned.specs.Kept.{AllKept, kept-of-planned, placed-in-pool, pool-open}
 use Rattle.placement.specs.Loop.{withLast, Placing}

@@ -1,14 +1,17 @@
 // The planner: a board's bytes to its register sheet, or the number of the first check that the board fails. Any bytes may be given, and any room.
 ghost use mathlib.Core.Path.{_≡_};
-ghost use Prim.Native.Nat.{_≤_, _<_};
+ghost use Prim.Native.Nat.{_*_, _≤_, _<_};
 ghost use lib.ListN.{length};
-ghost use Rattle.board.specs.Board.{mostFunctions, boardNumber, hostOf, functionsOf};
+ghost use Rattle.records.specs.Limits.{mostFunctions};
+ghost use Rattle.board.specs.Board.{boardNumber, hostOf, functionsOf};
 ghost use Rattle.planning.specs.Plan.{onBoard, planning, sheetAs, sheetAfter};
 ghost use Rattle.planner.specs.Measure.{runsOut, refusalBy, Measurable, CountedAndSized, IsMeasured};
 use board::Host;
 use board::Span;
 use placing::Extent;
 use planning::Planning;
+use records::MOST_FUNCTIONS;
+use sheet::places::STRIDE;
 use sizing::Laid;
 
 // The sheet's length, or the number. The sheet is written up to its length and nothing past it; a refused board leaves it as it was.
@@ -35,15 +38,15 @@ fn plan_lawful(board: &[u8], sheet: &mut [u8]) -> Planning
     requires { ⌜ boardNumber (now board) ≡ 0 ⌝ }
     ensures { λ r. ⌜ (r ≡ onBoard (hostOf (now (board .entry))) (functionsOf (now (board .entry))) (length (now (sheet .entry)))) × (now (sheet .exit) ≡ sheetAs r (now (board .entry)) (now (sheet .entry))) ⌝ }
 {
-    let mut counts = [0u16; 257];
-    let mut memo = [0u64; 2048];
+    let mut counts = [0u16; 1 + MOST_FUNCTIONS];
+    let mut memo = [0u64; 8 * MOST_FUNCTIONS];
     let host = board::host_of(records::part_at(board, 1, 30));
     let m = measure(board, host, &mut counts, &mut memo);
     let n = refusal(host, m);
     if n != 0 {
         return Planning::Refused(n);
     }
-    let size = 1 + 92 * m.functions;
+    let size = 1 + STRIDE * m.functions;
     if sheet.len() < size {
         return Planning::Refused(11);
     }
@@ -53,12 +56,12 @@ fn plan_lawful(board: &[u8], sheet: &mut [u8]) -> Planning
 
 // One pass fills the arrays, one counts the bridges before each function, one sizes every bus.
 fn measure(board: &[u8], host: Host, counts: &mut [u16], memo: &mut [u64]) -> Measured
-    requires { ⌜ (boardNumber (now board) ≡ 0) × (host ≡ hostOf (now board)) × (mostFunctions < length (now counts)) × (2048 ≤ length (now memo)) ⌝ }
+    requires { ⌜ (boardNumber (now board) ≡ 0) × (host ≡ hostOf (now board)) × (mostFunctions < length (now counts)) × (8 * mostFunctions ≤ length (now memo)) ⌝ }
     ensures { λ r. ⌜ IsMeasured (now (board .entry)) (now (counts .exit)) (now (memo .exit)) r ⌝ }
 {
-    let mut parents = [0u16; 256];
-    let mut headers = [0u8; 256];
-    let mut readbacks = [0u32; 1536];
+    let mut parents = [0u16; MOST_FUNCTIONS];
+    let mut headers = [0u8; MOST_FUNCTIONS];
+    let mut readbacks = [0u32; 6 * MOST_FUNCTIONS];
     let n = tables::fill(board, &mut parents, &mut headers, &mut readbacks);
     count_and_size(&parents, &headers, &readbacks, n, host, counts, memo)
 }

@@ -20,9 +20,10 @@ use Rattle.board.specs.Function.{isBridge, slotCount}
 use Rattle.board.specs.Board.{boardNumber, hostOf, functionsOf}
 use Rattle.board.specs.ToPlacing.{toHost, toPlacing}
 use Rattle.sheet.specs.Entry.{Entry}
+use Rattle.sheet.specs.Sheet.{sheetLength}
 use Rattle.planning.specs.declared.Planning.{Planning}
 use Rattle.planning.specs.declared.Planning.the-variants.{Planned as PlannedAt, Refused}
-use Rattle.layout.specs.Layout.{Planned, sheetBytes, sheetLength}
+use Rattle.layout.specs.Layout.{Planned, sheetBytes}
 -- the registers of a record, from where everything lies
 unfoldable pub use Rattle.placer.specs.Registers.{barStart, windowFor, valuesFrom}
 pub use Rattle.placer.specs.Registers.{isPart, isWindowIn}

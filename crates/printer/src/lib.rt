@@ -3,12 +3,9 @@ use board_feed::Feed;
 use board_feed::KEPT;
 use listing::LONGEST;
 
-// The longest sheet has 256 functions.
-const SHEET: usize = 23553;
-
 // The plan, or `refused N`, and whether all of it was written.
 pub fn print(input: Feed, kept: &[u8; KEPT]) -> bool {
-    let mut sheet = [0u8; SHEET];
+    let mut sheet = [0u8; sheet::FULL];
     let mut answer = [0u8; LONGEST];
     let n = input.print(kept, &mut sheet, &mut answer);
     print_front(&answer, n)

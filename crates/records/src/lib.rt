@@ -1,11 +1,16 @@
 // Length-first records, the frame of boards and sheets: two bytes of length, then as many bytes. A record is read as the part after its
-// own length. Here all the bytes are at hand; `frame` takes them one by one.
+// own length. Here all the bytes are at hand; `frame` takes them one by one. And how many records there may be.
 pub mod frame;
 
 ghost use mathlib.Core.Path.{_≡_};
 ghost use Prim.Native.Nat.{_+_, _≤_};
 ghost use lib.ListN.{length, take, drop};
 ghost use Rattle.records.specs.Records.{nextOf};
+
+// The most functions that a board or a sheet has, and the most bridges that stand above one of them.
+pub const MOST_FUNCTIONS: usize = 256;
+
+pub const MOST_ABOVE: usize = 16;
 
 // What stands at a place of the bytes after the version byte: the end, a record whose part has this many bytes, or a length that does
 // not end at or before the end.

@@ -9,8 +9,8 @@ use listing::LONGEST;
 use text::front;
 use text::put_byte;
 
-// The longest sheet that passes its checks has 23,553 bytes.
-pub const ROOM: usize = 32768;
+// Enough for the longest board and the longest sheet that pass their checks.
+pub const ROOM: usize = 128 * records::MOST_FUNCTIONS;
 
 pub struct Line {
     pub stage: Stage,

@@ -12,22 +12,23 @@ use Rattle.sheet.specs.declared.Found.the-variants.{At, Nothing}
 use Rattle.sheet.specs.declared.Rule.{Rule}
 use Rattle.endian.specs.Endian.{be, le}
 use Rattle.bar.specs.Values.{valuesLawful}
-use Rattle.sheet.specs.Entry.{recordSize, Entry, dwords, idOf, headerOf, isBridge, slotCount, entryOf}
-use Rattle.sheet.specs.Sheet.{Framed, partsIn, entriesFrom, breaks, anyBreaks, findFrom, allZero, readBacksWrong}
+use Rattle.sheet.specs.Places.{valuesAt, readbacksAt, recordSize, stride}
+use Rattle.sheet.specs.Entry.{Entry, dwords, idOf, headerOf, isBridge, slotCount, entryOf}
+use Rattle.sheet.specs.Sheet.{Framed, partsIn, entriesFrom, breaks, anyBreaks, findFrom, allZero, readBacksWrong, sheetLength}
 use Rattle.sheet.specs.FrameLaws.{FramedAt, framed-at, parts-past, length-framed}
 
 -- the record's part, by its two ends
 abbrev pub partFrom : List ℕ → ℕ → List ℕ
-partFrom s at = take (at + 92 - (at + 2)) (drop (at + 2) s)
+partFrom s at = take (at + stride - (at + 2)) (drop (at + 2) s)
 
 module _ (s : List ℕ) (at : ℕ) (a : FramedAt s at) where
-  part-size : at + 92 - (at + 2) ≡ recordSize
+  part-size : at + stride - (at + 2) ≡ recordSize
   part-size = omega arith
 
   pub part-sized : length (partFrom s at) ≡ recordSize
   part-sized = rw part-size (length-take-le recordSize (drop (at + 2) s) (omega (arith, a .fits, length-drop (at + 2) s)))
 
-  pub entries-on : entriesFrom s at ≡ entryOf (partFrom s at) ∷ entriesFrom s (at + 92)
+  pub entries-on : entriesFrom s at ≡ entryOf (partFrom s at) ∷ entriesFrom s (at + stride)
   unfolding entriesFrom
   entries-on = rw (part-size, a .parts)
 
@@ -36,7 +37,7 @@ module _ (s : List ℕ) (at : ℕ) (a : FramedAt s at) where
   breaks-hit rule e = ap (anyBreaks rule) entries-on ∙ rw e
 
   pub breaks-miss : (rule : Rule) → breaks rule (entryOf (partFrom s at)) ≡ false
-      → anyBreaks rule (entriesFrom s at) ≡ anyBreaks rule (entriesFrom s (at + 92))
+      → anyBreaks rule (entriesFrom s at) ≡ anyBreaks rule (entriesFrom s (at + stride))
   unfolding anyBreaks
   breaks-miss rule e = ap (anyBreaks rule) entries-on ∙ rw e
 
@@ -44,7 +45,7 @@ module _ (s : List ℕ) (at : ℕ) (a : FramedAt s at) where
   unfolding findFrom entryOf
   find-hit id e = ap (findFrom id at) entries-on ∙ rw (eq-eqb (idOf (partFrom s at)) id e)
 
-  pub find-miss : (id : ℕ) → (idOf (partFrom s at) ≡ id → ⊥) → findFrom id at (entriesFrom s at) ≡ findFrom id (at + 92) (entriesFrom s (at + 92))
+  pub find-miss : (id : ℕ) → (idOf (partFrom s at) ≡ id → ⊥) → findFrom id at (entriesFrom s at) ≡ findFrom id (at + stride) (entriesFrom s (at + stride))
   unfolding findFrom entryOf
   find-miss id e = ap (findFrom id at) entries-on ∙ rw (ne-eqb (idOf (partFrom s at)) id e)
 
@@ -66,8 +67,8 @@ module _ (s : List ℕ) (at : ℕ) (h : length s ≤ at) where
 pub record FirstAt (s : List ℕ) (at : ℕ) (x : Entry) (es : List Entry) : Type 0 where
   pub here : FramedAt s at
   pub head : entryOf (partFrom s at) ≡ x
-  pub rest : Framed (at + 92) s
-  pub tail : entriesFrom s (at + 92) ≡ es
+  pub rest : Framed (at + stride) s
+  pub tail : entriesFrom s (at + stride) ≡ es
 
 pub first-at : (s : List ℕ) (at : ℕ) (x : Entry) (es : List Entry) → Framed at s → entriesFrom s at ≡ x ∷ es → FirstAt s at x es
 first-at s at x es f e = go (ltb at (length s)) refl
@@ -92,16 +93,16 @@ past-of-nil s at f e = go (ltb at (length s)) refl
         absurd (let z : _≡_ {A = ℕ} 0 1 = cc (entries-on s at h, e) in omega arith)
     go false l = ltb-false at (length s) l
 
--- over 256 records, by the sheet's length
-pub count-entries : (s : List ℕ) → Framed 1 s → length s ≡ 1 + 92 * length (entriesFrom s 1)
+-- the number of records, by the sheet's length
+pub count-entries : (s : List ℕ) → Framed 1 s → length s ≡ sheetLength (length (entriesFrom s 1))
 unfolding entriesFrom
 count-entries s f = rw (length-map (partsIn s) entryOf) (length-framed s f)
 
 -- ## Check 25, in the words of the code
 
-module _ (p rs vs : List ℕ) (n : ℕ) (lawful : Bool) (r : rs ≡ dwords (be 4) 6 p 66) (v : vs ≡ dwords (le 4) 6 p 18)
+module _ (p rs vs : List ℕ) (n : ℕ) (lawful : Bool) (r : rs ≡ dwords (be 4) 6 p readbacksAt) (v : vs ≡ dwords (le 4) 6 p valuesAt)
     (c : n ≡ slotCount (headerOf p)) (l : lawful ≡ valuesLawful (take n rs) (take n vs)) where
-  pub read-backs-of-bridge : (rest : Bool) → isBridge (headerOf p) ≡ true → rest ≡ allZero (dwords (be 4) 4 p 74)
+  pub read-backs-of-bridge : (rest : Bool) → isBridge (headerOf p) ≡ true → rest ≡ allZero (dwords (be 4) 4 p (readbacksAt + 8))
       → not (lawful && rest) ≡ readBacksWrong (entryOf p)
   unfolding entryOf dwords readBacksWrong
   read-backs-of-bridge rest b z = rw (l, z, c, r, v, b)
@@ -109,4 +110,4 @@ module _ (p rs vs : List ℕ) (n : ℕ) (lawful : Bool) (r : rs ≡ dwords (be 4
   pub read-backs-of-end : isBridge (headerOf p) ≡ false → not lawful ≡ readBacksWrong (entryOf p)
   unfolding entryOf dwords readBacksWrong allZero
   read-backs-of-end b = rw (l, c, r, v, b)
-      (ap not (sym (and-true (valuesLawful (take 6 (dwords (be 4) 6 p 66)) (take 6 (dwords (le 4) 6 p 18))))))
+      (ap not (sym (and-true (valuesLawful (take 6 (dwords (be 4) 6 p readbacksAt)) (take 6 (dwords (le 4) 6 p valuesAt))))))

@@ -18,11 +18,12 @@ use Rattle.records.specs.Records.{nextOf}
 use Rattle.records.specs.RecordsLaws.{fits-at, next-end, next-stray, next-record, next-broken}
 use Rattle.sheet.specs.declared.Lookup.{Lookup}
 use Rattle.sheet.specs.declared.Lookup.the-variants.{Registers, Refused}
-use Rattle.sheet.specs.Entry.{recordSize, dwords, headerOf, slotCount, windowOf, Entry, entryOf}
+use Rattle.sheet.specs.Places.{idAt, registersAt, commandAt, headerTypeAt, valuesAt, primaryAt, secondaryAt, subordinateAt, ioBaseAt, ioLimitAt, lowBaseAt, lowLimitAt, highBaseAt, highLimitAt, upperBaseAt, upperLimitAt, readbacksAt, recordSize, stride}
+use Rattle.sheet.specs.Entry.{dwords, headerOf, slotCount, windowOf, Entry, entryOf}
 use Rattle.sheet.specs.Sheet.{isFramed, Framed, entriesFrom, entriesOf, commandsOf, from20, from21, from22, sheetNumber}
-use Rattle.sheet.specs.Lookup.{lookupOf, withCommand}
+use Rattle.sheet.specs.Lookup.{lookupOf, commandFrom, withCommand}
 use Rattle.sheet.specs.Spaces.{functionsFrom, nodesFrom, registersOf, nodesOf}
-use Rattle.sheet.specs.Commands.{placeIn, SameButCommands}
+use Rattle.sheet.specs.Commands.{InCommand, SameButCommands}
 use Rattle.sheet.specs.FrameLaws.{framed-end, framed-broken, framed-other, framed-on, framed-at, length-framed}
 use Rattle.sheet.specs.CheckLaws.{partFrom, entries-on, entries-past, first-at, past-of-nil}
 use Rattle.sheet.specs.IndexLaws.{length-commands, command-index}
@@ -31,43 +32,43 @@ use Rattle.pools.specs.declared.Pool.{Pool}
 use Rattle.pools.specs.declared.Pool.the-variants.{Low, High, Io}
 use Rattle.pools.specs.declared.Space.{Space}
 
--- ## One record: bytes 6 and 7 of its part are the command word
+-- ## One record: all of its part but the command word
 
-module _ (p q : List ℕ) (h : (i : ℕ) → (i / 2 ≡ 3 → ⊥) → getD p i 0 ≡ getD q i 0) where
-  be-same : (n i : ℕ) → i + n ≤ 6 → be n p i ≡ be n q i
+module _ (p q : List ℕ) (h : (i : ℕ) → (i / 2 ≡ commandAt / 2 → ⊥) → getD p i 0 ≡ getD q i 0) where
+  be-same : (n i : ℕ) → i + n ≤ commandAt → be n p i ≡ be n q i
   be-same n i l = be-agree n p q i i (λ k m. h (i + k) (λ e. omega arith))
 
-  be-past : (n i : ℕ) → 8 ≤ i → be n p i ≡ be n q i
+  be-past : (n i : ℕ) → commandAt + 2 ≤ i → be n p i ≡ be n q i
   be-past n i l = be-agree n p q i i (λ k m. h (i + k) (λ e. omega arith))
 
-  le-past : (n i : ℕ) → 8 ≤ i → le n p i ≡ le n q i
+  le-past : (n i : ℕ) → commandAt + 2 ≤ i → le n p i ≡ le n q i
   le-past n i l = le-agree n p q i i (λ k m. h (i + k) (λ e. omega arith))
 
-  dwords-past : (read : List ℕ → ℕ → ℕ) → ((i : ℕ) → 8 ≤ i → read p i ≡ read q i) → (n i : ℕ) → 8 ≤ i → dwords read n p i ≡ dwords read n q i
+  dwords-past : (read : List ℕ → ℕ → ℕ) → ((i : ℕ) → commandAt + 2 ≤ i → read p i ≡ read q i) → (n i : ℕ) → commandAt + 2 ≤ i → dwords read n p i ≡ dwords read n q i
   unfolding dwords
   dwords-past read same zero i l = refl
   dwords-past read same (suc n) i l = ap₂ _∷_ (same i l) (dwords-past read same n (i + 4) (omega arith))
 
-  byte-past : (i : ℕ) → 8 ≤ i → getD p i 0 ≡ getD q i 0
+  byte-past : (i : ℕ) → commandAt + 2 ≤ i → getD p i 0 ≡ getD q i 0
   byte-past i l = h i (λ e. omega arith)
 
   window-same : (w : Pool) → windowOf w p ≡ windowOf w q
   unfolding windowOf
-  window-same Low = cc (le-past 2 34 (omega arith), le-past 2 36 (omega arith))
-  window-same High = cc (le-past 2 38 (omega arith), le-past 2 40 (omega arith), le-past 4 42 (omega arith), le-past 4 46 (omega arith))
-  window-same Io = cc (byte-past 30 (omega arith), byte-past 31 (omega arith))
+  window-same Low = cc (le-past 2 lowBaseAt (omega arith), le-past 2 lowLimitAt (omega arith))
+  window-same High = cc (le-past 2 highBaseAt (omega arith), le-past 2 highLimitAt (omega arith), le-past 4 upperBaseAt (omega arith), le-past 4 upperLimitAt (omega arith))
+  window-same Io = cc (byte-past ioBaseAt (omega arith), byte-past ioLimitAt (omega arith))
 
   pub entry-same : entryOf p ≡ entryOf q
   unfolding entryOf
   entry-same =
       cc (
-        be-same 2 0 (omega arith),
-        byte-past 16 (omega arith),
-        dwords-past (le 4) (le-past 4) (slotCount (headerOf p)) 18 (omega arith),
-        dwords-past (be 4) (be-past 4) 6 66 (omega arith),
-        byte-past 26 (omega arith),
-        byte-past 27 (omega arith),
-        byte-past 28 (omega arith),
+        be-same 2 idAt (omega arith),
+        byte-past headerTypeAt (omega arith),
+        dwords-past (le 4) (le-past 4) (slotCount (headerOf p)) valuesAt (omega arith),
+        dwords-past (be 4) (be-past 4) 6 readbacksAt (omega arith),
+        byte-past primaryAt (omega arith),
+        byte-past secondaryAt (omega arith),
+        byte-past subordinateAt (omega arith),
         window-same Low,
         window-same High,
         window-same Io,
@@ -97,27 +98,27 @@ next-same s t at l n = go (leb (length s) at) refl (eqb (length s) (at + 1)) ref
 
 module _ {s t : List ℕ} (same : SameButCommands s t) where
   -- what stands at the place of record k
-  next-at-record : (k at : ℕ) → at ≡ 1 + 92 * k → nextOf (drop at t) ≡ nextOf (drop at s)
+  next-at-record : (k at : ℕ) → at ≡ 1 + stride * k → nextOf (drop at t) ≡ nextOf (drop at s)
   next-at-record k at e =
       next-same s t at (same .same-length) (be-agree 2 t s at at (λ j l. same .same-bytes (at + j) (λ c. omega arith)))
 
-  framed-from : (n k at : ℕ) → length s ≤ at + n → at ≡ 1 + 92 * k → at ≤ length s → isFramed (drop at t) ≡ isFramed (drop at s)
+  framed-from : (n k at : ℕ) → length s ≤ at + n → at ≡ 1 + stride * k → at ≤ length s → isFramed (drop at t) ≡ isFramed (drop at s)
   framed-from zero k at m e h =
       framed-end t at (next-end t at (omega (arith, same .same-length))) ∙ sym (framed-end s at (next-end s at (omega arith)))
-  framed-from (suc n) k at m e h = go (nextOf (drop at s)) refl (λ d. framed-from n (suc k) (at + 92) (omega arith) (omega arith) d)
+  framed-from (suc n) k at m e h = go (nextOf (drop at s)) refl (λ d. framed-from n (suc k) (at + stride) (omega arith) (omega arith) d)
     where
       ht : at ≤ length t
       ht = omega (arith, same .same-length)
 
       by-size : (j : ℕ) (b : Bool) → eqb j recordSize ≡ b → nextOf (drop at s) ≡ Record j → nextOf (drop at t) ≡ Record j
-          → (at + 92 ≤ length s → isFramed (drop (at + 92) t) ≡ isFramed (drop (at + 92) s)) → isFramed (drop at t) ≡ isFramed (drop at s)
+          → (at + stride ≤ length s → isFramed (drop (at + stride) t) ≡ isFramed (drop (at + stride) s)) → isFramed (drop at t) ≡ isFramed (drop at s)
       by-size j true q x y on =
           let n90 = eqb-true j recordSize q in
           framed-on t at j ht y n90 ∙ on (omega (arith, n90, fits-at s at j x)) ∙ sym (framed-on s at j h x n90)
       by-size j false q x y on =
           let other = eqb-false j recordSize q in framed-other t at j ht y other ∙ sym (framed-other s at j h x other)
 
-      go : (x : Next) → nextOf (drop at s) ≡ x → (at + 92 ≤ length s → isFramed (drop (at + 92) t) ≡ isFramed (drop (at + 92) s))
+      go : (x : Next) → nextOf (drop at s) ≡ x → (at + stride ≤ length s → isFramed (drop (at + stride) t) ≡ isFramed (drop (at + stride) s))
           → isFramed (drop at t) ≡ isFramed (drop at s)
       go End x on = framed-end t at (next-at-record k at e ∙ x) ∙ sym (framed-end s at x)
       go Broken x on = framed-broken t at (next-at-record k at e ∙ x) ∙ sym (framed-broken s at x)
@@ -125,28 +126,28 @@ module _ {s t : List ℕ} (same : SameButCommands s t) where
 
   -- ## The records
 
-  part-same : (k at : ℕ) → at ≡ 1 + 92 * k → (i : ℕ) → (i / 2 ≡ 3 → ⊥) → getD (partFrom t at) i 0 ≡ getD (partFrom s at) i 0
-  part-same k at e i c = go (ltb i 90) refl
+  part-same : (k at : ℕ) → at ≡ 1 + stride * k → (i : ℕ) → (i / 2 ≡ commandAt / 2 → ⊥) → getD (partFrom t at) i 0 ≡ getD (partFrom s at) i 0
+  part-same k at e i c = go (ltb i recordSize) refl
     where
-      size : at + 92 - (at + 2) ≡ 90
+      size : at + stride - (at + 2) ≡ recordSize
       size = omega arith
 
-      go : (b : Bool) → ltb i 90 ≡ b → getD (partFrom t at) i 0 ≡ getD (partFrom s at) i 0
+      go : (b : Bool) → ltb i recordSize ≡ b → getD (partFrom t at) i 0 ≡ getD (partFrom s at) i 0
       go true l =
-          let below : i < 90 = ltb-true i 90 l in
-          rw (size, getD-take 90 (drop (at + 2) t) i 0 below, getD-take 90 (drop (at + 2) s) i 0 below, getD-drop (at + 2) t i 0, getD-drop (at + 2) s i 0)
+          let below : i < recordSize = ltb-true i recordSize l in
+          rw (size, getD-take recordSize (drop (at + 2) t) i 0 below, getD-take recordSize (drop (at + 2) s) i 0 below, getD-drop (at + 2) t i 0, getD-drop (at + 2) s i 0)
           (same .same-bytes (at + 2 + i) (λ d. c (omega arith)))
       go false l =
-          let past : 90 ≤ i = ltb-false i 90 l in
-          rw size (List·getD-eq-default (take 90 (drop (at + 2) t)) 0 (omega (arith, length-take 90 (drop (at + 2) t)))
-          ∙ sym (List·getD-eq-default (take 90 (drop (at + 2) s)) 0 (omega (arith, length-take 90 (drop (at + 2) s)))))
+          let past : recordSize ≤ i = ltb-false i recordSize l in
+          rw size (List·getD-eq-default (take recordSize (drop (at + 2) t)) 0 (omega (arith, length-take recordSize (drop (at + 2) t)))
+          ∙ sym (List·getD-eq-default (take recordSize (drop (at + 2) s)) 0 (omega (arith, length-take recordSize (drop (at + 2) s)))))
 
-  entries-from : (k at : ℕ) (es : List Entry) → at ≡ 1 + 92 * k → Framed at s → Framed at t → entriesFrom s at ≡ es → entriesFrom t at ≡ es
+  entries-from : (k at : ℕ) (es : List Entry) → at ≡ 1 + stride * k → Framed at s → Framed at t → entriesFrom s at ≡ es → entriesFrom t at ≡ es
   entries-from k at [] e f g q = entries-past t at (omega (arith, same .same-length, past-of-nil s at f q))
   entries-from k at (x ∷ es) e f g q =
       let r = first-at s at x es f q in
       let h = framed-at t at (g .sized) (omega (arith, same .same-length, r .here .fits)) in
-      let rest = entries-from (suc k) (at + 92) es (omega arith) (r .rest) (record { inside = h .fits; sized = h .rest }) (r .tail) in
+      let rest = entries-from (suc k) (at + stride) es (omega arith) (r .rest) (record { inside = h .fits; sized = h .rest }) (r .tail) in
       entries-on t at h ∙ ap₂ _∷_ (entry-same (partFrom t at) (partFrom s at) (part-same k at e) ∙ r .head) rest
 
   -- ## The sheet
@@ -189,20 +190,20 @@ module _ {s t : List ℕ} (same : SameButCommands s t) where
 pub same-of-command : (s : List ℕ) (id command : ℕ) → SameButCommands s (withCommand (lookupOf s id) s command)
 same-of-command s id command = go (lookupOf s id) refl
   where
-    stored : (a : ℕ) → LookedUp s id a → (i : ℕ) → (placeIn i / 2 ≡ 4 → ⊥) → getD (sets s (a + 4) (leBytes 2 command)) i 0 ≡ getD s i 0
-    stored a l i c = by (ltb i (a + 4)) refl (ltb i (a + 6)) refl
+    stored : (a : ℕ) → LookedUp s id a → (i : ℕ) → (InCommand i → ⊥) → getD (sets s (commandFrom a) (leBytes 2 command)) i 0 ≡ getD s i 0
+    stored a l i c = by (ltb i (commandFrom a)) refl (ltb i (commandFrom a + 2)) refl
       where
-        by : (b : Bool) → ltb i (a + 4) ≡ b → (d : Bool) → ltb i (a + 6) ≡ d → getD (sets s (a + 4) (leBytes 2 command)) i 0 ≡ getD s i 0
-        by true q d r = getD-sets-before s (a + 4) (leBytes 2 command) i 0 (ltb-true i (a + 4) q)
+        by : (b : Bool) → ltb i (commandFrom a) ≡ b → (d : Bool) → ltb i (commandFrom a + 2) ≡ d → getD (sets s (commandFrom a) (leBytes 2 command)) i 0 ≡ getD s i 0
+        by true q d r = getD-sets-before s (commandFrom a) (leBytes 2 command) i 0 (ltb-true i (commandFrom a) q)
         by false q true r =
-            absurd (c (omega (arith, ltb-false i (a + 4) q, ltb-true i (a + 6) r, l .place, l .found .place)))
+            absurd (c (omega (arith, ltb-false i (commandFrom a) q, ltb-true i (commandFrom a + 2) r, l .place, l .found .place)))
         by false q false r =
-            getD-sets-after s (a + 4) (leBytes 2 command) i 0 (omega (arith, length-leBytes 2 command, ltb-false i (a + 6) r))
+            getD-sets-after s (commandFrom a) (leBytes 2 command) i 0 (omega (arith, length-leBytes 2 command, ltb-false i (commandFrom a + 2) r))
 
     go : (l : Lookup) → lookupOf s id ≡ l → SameButCommands s (withCommand l s command)
     go (Refused n) e = record { same-length = refl; same-bytes = λ i c. refl }
     go (Registers a) e =
-        record { same-length = length-sets s (a + 4) (leBytes 2 command); same-bytes = stored a (looked-up s id a e) }
+        record { same-length = length-sets s (commandFrom a) (leBytes 2 command); same-bytes = stored a (looked-up s id a e) }
 
 -- ## The command words themselves
 
@@ -224,11 +225,11 @@ commands-rewritten s id command a small l =
     framed′ : Framed 1 t
     framed′ = framed-keeps (same-of-command s id command) framed
 
-    place : a ≡ 92 * k + 5
+    place : a ≡ stride * k + (3 + registersAt)
     place = omega (arith, looked-up s id a l .place, looked-up s id a l .found .place)
 
-    t-is : t ≡ sets s (92 * k + 9) (leBytes 2 command)
-    t-is = let e : a + 4 ≡ 92 * k + 9 = omega (arith, place) in ap (λ (x : Lookup). withCommand x s command) l ∙ ap (λ (i : ℕ). sets s i (leBytes 2 command)) e
+    t-is : t ≡ sets s (stride * k + (3 + commandAt)) (leBytes 2 command)
+    t-is = let e : commandFrom a ≡ stride * k + (3 + commandAt) = omega (arith, place) in ap (λ (x : Lookup). withCommand x s command) l ∙ ap (λ (i : ℕ). sets s i (leBytes 2 command)) e
 
     count : length (commandsOf t) ≡ length (commandsOf s)
     count =
@@ -244,24 +245,24 @@ commands-rewritten s id command a small l =
     same-count : length (commandsOf t) ≡ length (set (commandsOf s) k command)
     same-count = count ∙ sym (length-set (commandsOf s) k command)
 
-    word : (j : ℕ) → j < length (commandsOf t) → getD (commandsOf t) j 0 ≡ le 2 (sets s (92 * k + 9) (leBytes 2 command)) (92 * j + 9)
-    word j h = command-index t j framed′ h ∙ ap (λ (x : List ℕ). le 2 x (92 * j + 9)) t-is
+    word : (j : ℕ) → j < length (commandsOf t) → getD (commandsOf t) j 0 ≡ le 2 (sets s (stride * k + (3 + commandAt)) (leBytes 2 command)) (stride * j + (3 + commandAt))
+    word j h = command-index t j framed′ h ∙ ap (λ (x : List ℕ). le 2 x (stride * j + (3 + commandAt))) t-is
 
     by : (j : ℕ) → j < length (commandsOf t) → (b : Bool) → eqb j k ≡ b → getD (commandsOf t) j 0 ≡ getD (set (commandsOf s) k command) j 0
     by j h true q =
         let e : j ≡ k = eqb-true j k q in
-        let fits : 92 * k + 9 + 2 ≤ length s = omega (arith, looked-up s id a l .found .fits, looked-up s id a l .found .place) in
+        let fits : stride * k + (3 + commandAt) + 2 ≤ length s = omega (arith, looked-up s id a l .found .fits, looked-up s id a l .found .place) in
         word j h
-        ∙ ap (λ (i : ℕ). le 2 (sets s (92 * k + 9) (leBytes 2 command)) (92 * i + 9)) e
-        ∙ le-sets 2 s (92 * k + 9) command fits small
+        ∙ ap (λ (i : ℕ). le 2 (sets s (stride * k + (3 + commandAt)) (leBytes 2 command)) (stride * i + (3 + commandAt))) e
+        ∙ le-sets 2 s (stride * k + (3 + commandAt)) command fits small
         ∙ sym (getD-set-same (commandsOf s) k command 0 (omega (arith, count)))
         ∙ ap (λ (i : ℕ). getD (set (commandsOf s) k command) i 0) (sym e)
     by j h false q =
         let other : j ≡ k → ⊥ = eqb-false j k q in
         word j h ∙ kept (ltb j k) refl ∙ sym (command-index s j framed (omega (arith, count))) ∙ sym (getD-set-other (commandsOf s) k j command 0 other)
       where
-        kept : (c : Bool) → ltb j k ≡ c → le 2 (sets s (92 * k + 9) (leBytes 2 command)) (92 * j + 9) ≡ le 2 s (92 * j + 9)
-        kept true c = le-sets-before 2 s (92 * k + 9) (leBytes 2 command) (92 * j + 9) (omega (arith, ltb-true j k c))
+        kept : (c : Bool) → ltb j k ≡ c → le 2 (sets s (stride * k + (3 + commandAt)) (leBytes 2 command)) (stride * j + (3 + commandAt)) ≡ le 2 s (stride * j + (3 + commandAt))
+        kept true c = le-sets-before 2 s (stride * k + (3 + commandAt)) (leBytes 2 command) (stride * j + (3 + commandAt)) (omega (arith, ltb-true j k c))
         kept false c =
-            le-sets-after 2 s (92 * k + 9) (leBytes 2 command) (92 * j + 9)
+            le-sets-after 2 s (stride * k + (3 + commandAt)) (leBytes 2 command) (stride * j + (3 + commandAt))
             (omega (arith, length-leBytes 2 command, ltb-false j k c, eqb-false j k q))

@@ -1,4 +1,4 @@
--- Document 01, "The sheet": one function's record of 90 bytes: ID, the 64-byte configuration header (little-endian, as PCI has it), six read-backs.
+-- Document 01, "The sheet": what one function's record says: its ID, its registers and its read-backs.
 -- The command word is kept apart from the rest of a record, since no check and no range looks at it. Assumes nothing.
 use Prim.Native.Nat.{ℕ, zero, suc, _+_, _/_, _%_}
 use mathlib.Core.Bool.{Bool, cond}
@@ -10,14 +10,8 @@ use Rattle.pools.specs.declared.Pool.{Pool}
 use Rattle.pools.specs.declared.Pool.the-variants.{Low, High, Io}
 use Rattle.window.specs.declared.Window.{Window}
 use Rattle.window.specs.Window.{closed}
-
--- the length of a record's part; with its own length before it a record takes 92 bytes of the sheet
-abbrev pub recordSize : ℕ
-recordSize = 90
-
--- where the configuration header's byte r stands in a record: after the ID
-abbrev pub register : ℕ → ℕ
-register r = 2 + r
+use Rattle.sheet.specs.Places.{idAt, commandAt, headerTypeAt, valuesAt, primaryAt, secondaryAt, subordinateAt}
+use Rattle.sheet.specs.Places.{ioBaseAt, ioLimitAt, lowBaseAt, lowLimitAt, highBaseAt, highLimitAt, upperBaseAt, upperLimitAt, readbacksAt}
 
 -- n numbers of four bytes, in the order of bytes that `read` has
 unfoldable pub dwords : (List ℕ → ℕ → ℕ) → ℕ → List ℕ → ℕ → List ℕ
@@ -27,17 +21,17 @@ dwords read (suc n) p at = read p at ∷ dwords read n p (at + 4)
 -- ## As the bytes have it
 
 abbrev pub idOf : List ℕ → ℕ
-idOf p = be 2 p 0
+idOf p = be 2 p idAt
 
 -- an ID is bus 8, device/function 8
 abbrev pub busOf : List ℕ → ℕ
 busOf p = idOf p / 256
 
 abbrev pub commandOf : List ℕ → ℕ
-commandOf p = le 2 p (register 0x04)
+commandOf p = le 2 p commandAt
 
 abbrev pub headerOf : List ℕ → ℕ
-headerOf p = getD p (register 0x0e) 0
+headerOf p = getD p headerTypeAt 0
 
 -- header type 1; bit 7 says that the device has several functions
 abbrev pub isBridge : ℕ → Bool
@@ -48,24 +42,24 @@ abbrev pub slotCount : ℕ → ℕ
 slotCount header = cond (isBridge header) 2 6
 
 abbrev pub primaryOf : List ℕ → ℕ
-primaryOf p = getD p (register 0x18) 0
+primaryOf p = getD p primaryAt 0
 
 abbrev pub secondaryOf : List ℕ → ℕ
-secondaryOf p = getD p (register 0x19) 0
+secondaryOf p = getD p secondaryAt 0
 
 abbrev pub subordinateOf : List ℕ → ℕ
-subordinateOf p = getD p (register 0x1a) 0
+subordinateOf p = getD p subordinateAt 0
 
 unfoldable pub windowOf : Pool → List ℕ → Window
-windowOf Low p = record { base = le 2 p (register 0x20); limit = le 2 p (register 0x22); «upper_base» = 0; «upper_limit» = 0 }
+windowOf Low p = record { base = le 2 p lowBaseAt; limit = le 2 p lowLimitAt; «upper_base» = 0; «upper_limit» = 0 }
 windowOf High p =
     record {
-      base = le 2 p (register 0x24);
-      limit = le 2 p (register 0x26);
-      «upper_base» = le 4 p (register 0x28);
-      «upper_limit» = le 4 p (register 0x2c);
+      base = le 2 p highBaseAt;
+      limit = le 2 p highLimitAt;
+      «upper_base» = le 4 p upperBaseAt;
+      «upper_limit» = le 4 p upperLimitAt;
     }
-windowOf Io p = record { base = getD p (register 0x1c) 0; limit = getD p (register 0x1d) 0; «upper_base» = 0; «upper_limit» = 0 }
+windowOf Io p = record { base = getD p ioBaseAt 0; limit = getD p ioLimitAt 0; «upper_base» = 0; «upper_limit» = 0 }
 
 -- ## One record, without its command word. A function that is no bridge has six BAR values, no buses and closed windows.
 
@@ -87,8 +81,8 @@ entryOf p =
     record {
       id = idOf p;
       header = headerOf p;
-      values = dwords (le 4) (slotCount (headerOf p)) p (register 0x10);
-      readbacks = dwords (be 4) 6 p 66;
+      values = dwords (le 4) (slotCount (headerOf p)) p valuesAt;
+      readbacks = dwords (be 4) 6 p readbacksAt;
       primary = cond bridge (primaryOf p) 0;
       secondary = cond bridge (secondaryOf p) 0;
       subordinate = cond bridge (subordinateOf p) 0;

@@ -16,6 +16,7 @@ use Rattle.bar.specs.Values.{valuesLawful}
 use Rattle.bar.specs.ValuesLaws.{lawful-of-values}
 use Rattle.sheet.specs.declared.Rule.{Rule}
 use Rattle.sheet.specs.declared.Rule.the-variants.{ReadBacks}
+use Rattle.sheet.specs.Places.{valuesAt, readbacksAt, stride}
 use Rattle.sheet.specs.Entry.{dwords, headerOf, isBridge, slotCount, secondaryOf, subordinateOf, windowOf, Entry, entryOf, bus, busOf, bridges, window}
 use Rattle.sheet.specs.Sheet.{Framed, partAt, entriesFrom, entriesOf, allZero, readBacksWrong, breaks, anyBreaks}
 use Rattle.sheet.specs.Spaces.{slotsOf, barsOf}
@@ -51,27 +52,27 @@ module _ (p : List ℕ) where
   abbrev firstOf : List ℕ → List ℕ
   firstOf xs = take (slotCount (headerOf p)) xs
 
-  values-entry : entryOf p .values ≡ firstOf (dwords (le 4) 6 p 18)
+  values-entry : entryOf p .values ≡ firstOf (dwords (le 4) 6 p valuesAt)
   unfolding entryOf dwords
   values-entry = go (isBridge (headerOf p))
     where
-      go : (b : Bool) → dwords (le 4) (cond b 2 6) p 18 ≡ take (cond b 2 6) (dwords (le 4) 6 p 18)
+      go : (b : Bool) → dwords (le 4) (cond b 2 6) p valuesAt ≡ take (cond b 2 6) (dwords (le 4) 6 p valuesAt)
       go true = refl
       go false = refl
 
-  slots-entry : slotsOf (entryOf p) ≡ slots (firstOf (dwords (be 4) 6 p 66))
+  slots-entry : slotsOf (entryOf p) ≡ slots (firstOf (dwords (be 4) 6 p readbacksAt))
   unfolding entryOf
   slots-entry = refl
 
   pub bars-entry : (space : Space)
       → barsOf space (entryOf p)
-      ≡ barsAt space (take (slotCount (headerOf p)) (dwords (be 4) 6 p 66)) (take (slotCount (headerOf p)) (dwords (le 4) 6 p 18)) 0
+      ≡ barsAt space (take (slotCount (headerOf p)) (dwords (be 4) 6 p readbacksAt)) (take (slotCount (headerOf p)) (dwords (le 4) 6 p valuesAt)) 0
   bars-entry space = rw (slots-entry, values-entry)
 
 -- ## What a check says of each record
 
-breaks-from : (rule : Rule) (s : List ℕ) (f : Framed 1 s) (k : ℕ) → k < length (entriesOf s) → anyBreaks rule (entriesFrom s (92 * k + 1)) ≡ false
-    → (breaks rule (entryOf (partAt s k)) ≡ false) × (anyBreaks rule (entriesFrom s (92 * (k + 1) + 1)) ≡ false)
+breaks-from : (rule : Rule) (s : List ℕ) (f : Framed 1 s) (k : ℕ) → k < length (entriesOf s) → anyBreaks rule (entriesFrom s (stride * k + 1)) ≡ false
+    → (breaks rule (entryOf (partAt s k)) ≡ false) × (anyBreaks rule (entriesFrom s (stride * (k + 1) + 1)) ≡ false)
 unfolding anyBreaks
 breaks-from rule s f k h e = false-of-or _ _ (sym (ap (anyBreaks rule) (entries-index s f k h)) ∙ e)
 
@@ -79,7 +80,7 @@ pub breaks-index : (rule : Rule) (s : List ℕ) (f : Framed 1 s) → anyBreaks r
     → breaks rule (entryOf (partAt s k)) ≡ false
 breaks-index rule s f e k h = breaks-from rule s f k h (left k (omega arith)) .0
   where
-    left : (j : ℕ) → j ≤ k → anyBreaks rule (entriesFrom s (92 * j + 1)) ≡ false
+    left : (j : ℕ) → j ≤ k → anyBreaks rule (entriesFrom s (stride * j + 1)) ≡ false
     left zero l = e
     left (suc j) l = let i : suc j ≡ j + 1 = omega arith in rw i (breaks-from rule s f j (omega arith) (left j (omega arith)) .1)
 

@@ -13,8 +13,8 @@ use Rattle.records.specs.declared.Next.{Next}
 use Rattle.records.specs.declared.Next.the-variants.{End, Record, Broken}
 use Rattle.records.specs.Records.{nextOf, Parts, partsOf, partsFrom}
 use Rattle.records.specs.RecordsLaws.{empty-of-end, fits-at, length-part, next-end, next-broken, next-record, parts-record, parts-end, parts-broken}
-use Rattle.sheet.specs.Entry.{recordSize}
-use Rattle.sheet.specs.Sheet.{allSized, isFramed, Framed, partsIn, partAt}
+use Rattle.sheet.specs.Places.{recordSize, stride}
+use Rattle.sheet.specs.Sheet.{allSized, isFramed, Framed, partsIn, partAt, sheetLength}
 
 -- ## One turn of the pass that checks the frame
 
@@ -35,17 +35,17 @@ module _ (s : List ℕ) (at : ℕ) where
   pub framed-other : (n : ℕ) → at ≤ length s → nextOf (drop at s) ≡ Record n → (n ≡ recordSize → ⊥) → isFramed (drop at s) ≡ false
   framed-other n h e k = framed-record n h e ∙ rw (ne-eqb n recordSize k) (and-false (partsOf (drop (at + 2 + n) s) .whole))
 
-  pub framed-on : (n : ℕ) → at ≤ length s → nextOf (drop at s) ≡ Record n → n ≡ recordSize → isFramed (drop at s) ≡ isFramed (drop (at + 92) s)
+  pub framed-on : (n : ℕ) → at ≤ length s → nextOf (drop at s) ≡ Record n → n ≡ recordSize → isFramed (drop at s) ≡ isFramed (drop (at + stride) s)
   unfolding isFramed
-  framed-on n h e k = let q : at + 2 + n ≡ at + 92 = omega arith in framed-record n h e ∙ rw (eq-eqb n recordSize k, q)
+  framed-on n h e k = let q : at + 2 + n ≡ at + stride = omega arith in framed-record n h e ∙ rw (eq-eqb n recordSize k, q)
 
 -- ## A record of a framed sheet
 
 pub record FramedAt (s : List ℕ) (at : ℕ) : Type 0 where
-  pub fits : at + 92 ≤ length s
+  pub fits : at + stride ≤ length s
   pub size : be 2 s at ≡ recordSize
-  pub rest : isFramed (drop (at + 92) s) ≡ true
-  pub parts : partsFrom s at ≡ take recordSize (drop (at + 2) s) ∷ partsFrom s (at + 92)
+  pub rest : isFramed (drop (at + stride) s) ≡ true
+  pub parts : partsFrom s at ≡ take recordSize (drop (at + 2) s) ∷ partsFrom s (at + stride)
 
 size-of-record : (s : List ℕ) (at n : ℕ) → at ≤ length s → nextOf (drop at s) ≡ Record n → be 2 s at ≡ n
 size-of-record s at n h e = go (leb (be 2 s at) (length s - (at + 2))) refl
@@ -62,7 +62,7 @@ framed-at s at f h = go (nextOf (drop at s)) refl
   where
     ninety : (n : ℕ) → nextOf (drop at s) ≡ Record n → n ≡ recordSize → FramedAt s at
     ninety n e k =
-        let q : at + 2 + n ≡ at + 92 = omega arith in
+        let q : at + 2 + n ≡ at + stride = omega arith in
         record {
           fits = omega (arith, fits-at s at n e);
           size = size-of-record s at n (omega arith) e ∙ k;
@@ -81,7 +81,7 @@ framed-at s at f h = go (nextOf (drop at s)) refl
 pub parts-past : (s : List ℕ) (at : ℕ) → length s ≤ at → partsFrom s at ≡ []
 parts-past s at h = ap (λ (r : Parts). r .parts) (parts-end s at (next-end s at h))
 
--- ## By index: record k, from 0, starts at 92 * k + 1, and its part two bytes later
+-- ## By index: where record k, from 0, starts, and its part two bytes later
 
 lt-of-parts : (s : List ℕ) (at : ℕ) → 0 < length (partsFrom s at) → at < length s
 lt-of-parts s at h = go (ltb at (length s)) refl
@@ -91,30 +91,30 @@ lt-of-parts s at h = go (ltb at (length s)) refl
     go false e = absurd (omega (arith, ap length (parts-past s at (ltb-false at (length s) e))))
 
 count-from : (s : List ℕ) (at : ℕ) (ps : List (List ℕ)) → partsFrom s at ≡ ps → isFramed (drop at s) ≡ true → at ≤ length s
-    → length s ≡ at + 92 * length ps
+    → length s ≡ at + stride * length ps
 count-from s at [] e f h = go (ltb at (length s)) refl
   where
-    go : (b : Bool) → ltb at (length s) ≡ b → length s ≡ at + 92 * 0
+    go : (b : Bool) → ltb at (length s) ≡ b → length s ≡ at + stride * 0
     go true q = absurd (omega (arith, ap length (framed-at s at f (ltb-true at (length s) q) .parts), ap length e))
     go false q = omega (arith, ltb-false at (length s) q)
 count-from s at (p ∷ ps) e f h =
     let a = framed-at s at f (lt-of-parts s at (omega (arith, ap length e))) in
-    let tail : partsFrom s (at + 92) ≡ ps = cc (a .parts, e) in
-    omega (arith, count-from s (at + 92) ps tail (a .rest) (a .fits))
+    let tail : partsFrom s (at + stride) ≡ ps = cc (a .parts, e) in
+    omega (arith, count-from s (at + stride) ps tail (a .rest) (a .fits))
 
 part-from : (s : List ℕ) (at k : ℕ) → isFramed (drop at s) ≡ true → k < length (partsFrom s at)
-    → getD (partsFrom s at) k [] ≡ take recordSize (drop (92 * k + at + 2) s)
+    → getD (partsFrom s at) k [] ≡ take recordSize (drop (stride * k + at + 2) s)
 part-from s at zero f h =
     let a = framed-at s at f (lt-of-parts s at (omega arith)) in
-    let n : 92 * 0 + at + 2 ≡ at + 2 = omega arith in
+    let n : stride * 0 + at + 2 ≡ at + 2 = omega arith in
     rw (a .parts, n)
 part-from s at (suc k) f h =
     let a = framed-at s at f (lt-of-parts s at (omega arith)) in
-    let n : 92 * suc k + at + 2 ≡ 92 * k + (at + 92) + 2 = omega arith in
-    rw (a .parts, n) (part-from s (at + 92) k (a .rest) (omega (arith, ap length (a .parts))))
+    let n : stride * suc k + at + 2 ≡ stride * k + (at + stride) + 2 = omega arith in
+    rw (a .parts, n) (part-from s (at + stride) k (a .rest) (omega (arith, ap length (a .parts))))
 
-pub length-framed : (s : List ℕ) → Framed 1 s → length s ≡ 1 + 92 * length (partsIn s)
+pub length-framed : (s : List ℕ) → Framed 1 s → length s ≡ sheetLength (length (partsIn s))
 length-framed s f = count-from s 1 (partsIn s) refl (f .sized) (f .inside)
 
 pub part-index : (s : List ℕ) (k : ℕ) → Framed 1 s → k < length (partsIn s) → getD (partsIn s) k [] ≡ partAt s k
-part-index s k f h = let n : 92 * k + 1 + 2 ≡ 92 * k + 3 = omega arith in part-from s 1 k (f .sized) h ∙ rw n
+part-index s k f h = let n : stride * k + 1 + 2 ≡ stride * k + 3 = omega arith in part-from s 1 k (f .sized) h ∙ rw n

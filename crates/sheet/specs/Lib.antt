@@ -1,4 +1,5 @@
--- Document 01: the register sheet, in its order: a record, the checks, the lookup, the registers that the walk reads; then their laws.
+-- Document 01: the register sheet, in its order: a record's places, a record, the checks, the lookup, the registers that the walk reads; then their laws.
+pub mod Places
 pub mod Entry
 pub mod Sheet
 pub mod Lookup

@@ -1,6 +1,6 @@
 -- Document 01, "The sheet": "Asked for an ID, the caller gets that function's 64 register bytes themselves, inside the lent sheet, or 40 (a bad sheet:
 -- its number) and an empty part." And the sheet after one function's command word is rewritten. Assumes nothing.
-use Prim.Native.Nat.{ℕ, _+_}
+use Prim.Native.Nat.{ℕ, _+_, _-_}
 use mathlib.Core.Bool.{cond}
 use mathlib.Core.List.{List, []}
 use lib.ListN.{take, drop}
@@ -11,11 +11,12 @@ use Rattle.sheet.specs.declared.Found.{Found}
 use Rattle.sheet.specs.declared.Found.the-variants.{At, Nothing}
 use Rattle.sheet.specs.declared.Lookup.{Lookup}
 use Rattle.sheet.specs.declared.Lookup.the-variants.{Registers, Refused}
+use Rattle.sheet.specs.Places.{registersAt, registersSize, commandAt}
 use Rattle.sheet.specs.Sheet.{entriesOf, findFrom, sheetNumber}
 
 -- the registers stand after the record's length and ID
 abbrev pub placed : Found → Lookup
-placed (At at) = Registers (at + 4)
+placed (At at) = Registers (at + (2 + registersAt))
 placed Nothing = Refused 40
 
 -- the sheet's number first, then 40
@@ -27,10 +28,13 @@ lookupNumber (Registers at) = 0
 lookupNumber (Refused n) = n
 
 abbrev pub registerBytes : Lookup → List ℕ → List ℕ
-registerBytes (Registers at) s = take 64 (drop at s)
+registerBytes (Registers at) s = take registersSize (drop at s)
 registerBytes (Refused n) s = []
 
--- the command word stands at 04h
+-- where the command word stands, of registers that start here
+abbrev pub commandFrom : ℕ → ℕ
+commandFrom at = at + (commandAt - registersAt)
+
 abbrev pub withCommand : Lookup → List ℕ → ℕ → List ℕ
-withCommand (Registers at) s command = sets s (at + 4) (leBytes 2 command)
+withCommand (Registers at) s command = sets s (commandFrom at) (leBytes 2 command)
 withCommand (Refused n) s command = s

@@ -10,6 +10,7 @@ use borrow.Author.Tests.{eqb-true, eq-eqb, ne-eqb}
 use Rattle.sheet.specs.declared.Found.{Found}
 use Rattle.sheet.specs.declared.Found.the-variants.{At, Nothing}
 use Rattle.sheet.specs.declared.Lookup.the-variants.{Registers, Refused}
+use Rattle.sheet.specs.Places.{registersAt, registersSize, stride}
 use Rattle.sheet.specs.Entry.{Entry, entryOf, idOf}
 use Rattle.sheet.specs.Sheet.{Framed, entriesFrom, entriesOf, findFrom, sheetNumber}
 use Rattle.sheet.specs.Lookup.{placed, lookupOf, registerBytes}
@@ -19,8 +20,8 @@ use Rattle.sheet.specs.SheetLaws.{Checked, checked-of-zero}
 -- record k after a place starts at a, and has the ID
 pub record FoundAt (s : List ℕ) (from id a : ℕ) : Type 0 where
   pub index : ℕ
-  pub place : a ≡ from + 92 * index
-  pub fits : a + 92 ≤ length s
+  pub place : a ≡ from + stride * index
+  pub fits : a + stride ≤ length s
   pub id-is : idOf (partFrom s a) ≡ id
 
 id-of-entry : (p : List ℕ) → idOf p ≡ entryOf p .id
@@ -31,10 +32,10 @@ found-from : (s : List ℕ) (id a at : ℕ) (es : List Entry) → entriesFrom s 
 unfolding findFrom
 found-from s id a at [] e f q = absurd (let z : _≡_ {A = ℕ} 0 1 = cc in omega arith)
 found-from s id a at (x ∷ es) e f q =
-    let r = first-at s at x es f e in here r (eqb (x .id) id) refl q (λ q. found-from s id a (at + 92) es (r .tail) (r .rest) q)
+    let r = first-at s at x es f e in here r (eqb (x .id) id) refl q (λ q. found-from s id a (at + stride) es (r .tail) (r .rest) q)
   where
-    here : FirstAt s at x es → (b : Bool) → eqb (x .id) id ≡ b → cond b (At at) (findFrom id (at + 92) es) ≡ At a
-        → (findFrom id (at + 92) es ≡ At a → FoundAt s (at + 92) id a) → FoundAt s at id a
+    here : FirstAt s at x es → (b : Bool) → eqb (x .id) id ≡ b → cond b (At at) (findFrom id (at + stride) es) ≡ At a
+        → (findFrom id (at + stride) es ≡ At a → FoundAt s (at + stride) id a) → FoundAt s at id a
     here r true t q on =
         let same : at ≡ a = cc in
         record {
@@ -55,7 +56,7 @@ found-at s from id a f q = found-from s id a from (entriesFrom s from) refl f q
 pub record LookedUp (s : List ℕ) (id a : ℕ) : Type 0 where
   pub checked : Checked s
   pub record-at : ℕ
-  pub place : a ≡ record-at + 4
+  pub place : a ≡ record-at + (2 + registersAt)
   pub found : FoundAt s 1 id record-at
 
 pub looked-up : (s : List ℕ) (id a : ℕ) → lookupOf s id ≡ Registers a → LookedUp s id a
@@ -64,7 +65,7 @@ looked-up s id a q = go (eqb (sheetNumber s) 0) refl q
   where
     found : Checked s → (x : Found) → findFrom id 1 (entriesOf s) ≡ x → placed x ≡ Registers a → LookedUp s id a
     found c (At at) e q =
-        let same : at + 4 ≡ a = cc in
+        let same : at + (2 + registersAt) ≡ a = cc in
         record { checked = c; record-at = at; place = sym same; found = found-at s 1 id at (c .framed) e }
     found c Nothing e q = absurd (let z : _≡_ {A = ℕ} 0 1 = cc in omega arith)
 
@@ -73,12 +74,12 @@ looked-up s id a q = go (eqb (sheetNumber s) 0) refl q
     go false z q = absurd (let z : _≡_ {A = ℕ} 0 1 = cc in omega arith)
 
 -- the registers lie inside the sheet
-pub registers-fit : (s : List ℕ) (id a : ℕ) → lookupOf s id ≡ Registers a → a + 64 ≤ length s
+pub registers-fit : (s : List ℕ) (id a : ℕ) → lookupOf s id ≡ Registers a → a + registersSize ≤ length s
 registers-fit s id a q = let l = looked-up s id a q in omega (arith, l .place, l .found .fits)
 
 -- in the words of the code
-pub registers-part : (s : List ℕ) (id a : ℕ) → lookupOf s id ≡ Registers a → take (a + 64 - a) (drop a s) ≡ registerBytes (lookupOf s id) s
-registers-part s id a q = let n : a + 64 - a ≡ 64 = omega arith in rw (n, q)
+pub registers-part : (s : List ℕ) (id a : ℕ) → lookupOf s id ≡ Registers a → take (a + registersSize - a) (drop a s) ≡ registerBytes (lookupOf s id) s
+registers-part s id a q = let n : a + registersSize - a ≡ registersSize = omega arith in rw (n, q)
 
 module _ (s : List ℕ) (id n : ℕ) where
   pub lookup-bad : n ≡ sheetNumber s → (n ≡ 0 → ⊥) → Refused n ≡ lookupOf s id

@@ -12,6 +12,7 @@ use lib.Dec.{eqb, ltb}
 use lib.Bits.{bitOr, or-shr, or-step, shifted-even}
 use lib.Pow.{pow-lt, pow-add, shl-shr, shl-exact}
 use borrow.Author.Tests.{eq-eqb, ne-eqb, eqb-true, eqb-false, ltb-true, ltb-false}
+use Rattle.sheet.specs.Places.{stride}
 use Rattle.sheet.specs.Entry.{Entry, idOf, entryOf}
 use Rattle.sheet.specs.Sheet.{entriesFrom, hasId, idTwice}
 use Rattle.sheet.specs.FrameLaws.{FramedAt}
@@ -140,10 +141,10 @@ module _ (s : List ℕ) (at : ℕ) (a : FramedAt s at) (ws : List ℕ) (id : ℕ
   repeats-hit e = ap (repeats ws) (entries-on s at a) ∙ rw (sym own, e)
 
   pub repeats-miss : (vs : List ℕ) → isMarked ws id ≡ false → id / 64 < length ws → vs ≡ marked ws id
-      → repeats ws (entriesFrom s at) ≡ repeats vs (entriesFrom s (at + 92))
+      → repeats ws (entriesFrom s at) ≡ repeats vs (entriesFrom s (at + stride))
   unfolding anyMarked idTwice entryOf
   repeats-miss vs e h v =
-      let es = entriesFrom s (at + 92) in
+      let es = entriesFrom s (at + stride) in
       ap (repeats ws) (entries-on s at a)
       ∙ rw (sym own, e, v, any-marked-marked ws id es h) (sym (or-assoc (anyMarked ws es) (hasId id es) (idTwice es)) ∙ ap (λ (b : Bool). b || idTwice es) (or-comm (anyMarked ws es) (hasId id es)))
 

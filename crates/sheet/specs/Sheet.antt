@@ -9,14 +9,24 @@ use lib.Dec.{eqb, leb, ltb}
 use Rattle.pools.specs.declared.Pool.the-variants.{Low, High, Io}
 use Rattle.bar.specs.Values.{valuesLawful}
 use Rattle.window.specs.Window.{isNibbled}
+use Rattle.records.specs.Limits.{mostFunctions}
 use Rattle.records.specs.Records.{partsOf, partsFrom}
 use Rattle.sheet.specs.declared.Found.{Found}
 use Rattle.sheet.specs.declared.Found.the-variants.{At, Nothing}
 use Rattle.sheet.specs.declared.Rule.{Rule}
 use Rattle.sheet.specs.declared.Rule.the-variants.{HeaderType, Buses, ReadBacks, Nibbles}
-use Rattle.sheet.specs.Entry.{Entry, recordSize, entryOf, commandOf, bus, bridges, slotCount}
+use Rattle.sheet.specs.Places.{recordSize, stride}
+use Rattle.sheet.specs.Entry.{Entry, entryOf, commandOf, bus, bridges, slotCount}
 
 -- ## The frame: version byte 1, then records of 90 bytes
+
+-- the bytes of a sheet with so many records, which are also those before the next record
+abbrev pub sheetLength : ℕ → ℕ
+sheetLength n = 1 + stride * n
+
+-- "At most 23,553 bytes"
+abbrev pub fullSheet : ℕ
+fullSheet = sheetLength mostFunctions
 
 unfoldable pub allSized : List (List ℕ) → Bool
 allSized [] = true
@@ -42,7 +52,7 @@ partsIn s = partsFrom s 1
 
 -- the part of record k, from 0, of a sheet whose records have 90 bytes: after the version, k records and its own length
 abbrev pub partAt : List ℕ → ℕ → List ℕ
-partAt s k = take recordSize (drop (92 * k + 3) s)
+partAt s k = take recordSize (drop (stride * k + 3) s)
 
 abbrev pub entriesOf : List ℕ → List Entry
 entriesOf s = entriesFrom s 1
@@ -93,7 +103,7 @@ hasId id (e ∷ es) = eqb (e .id) id || hasId id es
 -- where the first record with the ID starts, of records from a place on
 unfoldable pub findFrom : ℕ → ℕ → List Entry → Found
 findFrom id at [] = Nothing
-findFrom id at (e ∷ es) = let later = findFrom id (at + 92) es in cond (eqb (e .id) id) (At at) later
+findFrom id at (e ∷ es) = let later = findFrom id (at + stride) es in cond (eqb (e .id) id) (At at) later
 
 unfoldable pub idTwice : List Entry → Bool
 idTwice [] = false
@@ -117,7 +127,7 @@ unfoldable pub from24 : List Entry → ℕ
 from24 es = cond (anyBreaks HeaderType es) 24 (from27 es)
 
 unfoldable pub from22 : List Entry → ℕ
-from22 es = cond (ltb 256 (length es)) 22 (from24 es)
+from22 es = cond (ltb mostFunctions (length es)) 22 (from24 es)
 
 unfoldable pub from20 : List ℕ → ℕ
 from20 s = cond (isFramed (drop 1 s)) (from22 (entriesOf s)) 20

@@ -10,12 +10,14 @@ use borrow.Author.Tests.{ltb-true, ltb-false, leb-true, eqb-true, eqb-false, eq-
 use Rattle.endian.specs.Endian.{Bytes}
 use Rattle.endian.specs.BytesLaws.{bytes-take, bytes-drop}
 use Rattle.pools.specs.declared.Space.{Space}
+use Rattle.records.specs.Limits.{mostFunctions}
 use Rattle.records.specs.RecordsLaws.{false-of-or}
 use Rattle.lists.specs.Lists.{All}
 use Rattle.walk.specs.Registers.{nodes, NumberedFrom}
 use Rattle.walk.specs.Good.{Rises, BridgesRise}
 use Rattle.walk.specs.Ids.{DistinctIds}
 use Rattle.sheet.specs.declared.Rule.the-variants.{HeaderType, Buses, ReadBacks, Nibbles}
+use Rattle.sheet.specs.Places.{subordinateAt, stride}
 use Rattle.sheet.specs.Entry.{Entry, headerOf, isBridge, subordinateOf, entryOf, bus, devfn, bridges}
 use Rattle.sheet.specs.Sheet.{isFramed, Framed, partAt, entriesFrom, entriesOf, busesWrong, breaks, anyBreaks, hasId, idTwice, from20, from21, from22, from24, from25, from27, from28, from29, sheetNumber}
 use Rattle.sheet.specs.EntryLaws.{breaks-index, lawful-entry}
@@ -28,7 +30,7 @@ use Rattle.sheet.specs.Spaces.{slotsOf, nodeOf, functionsFrom, nodesFrom
 pub record Checked (s : List ℕ) : Type 0 where
   pub version : getD s 0 0 ≡ 1
   pub framed : Framed 1 s
-  pub count : length (entriesOf s) ≤ 256
+  pub count : length (entriesOf s) ≤ mostFunctions
   pub types : anyBreaks HeaderType (entriesOf s) ≡ false
   pub buses : anyBreaks Buses (entriesOf s) ≡ false
   pub ids : idTwice (entriesOf s) ≡ false
@@ -51,7 +53,7 @@ checked-of-zero s e =
     let a = past-test (eqb (length s) 0) 19 (from21 s) e in
     let v = past-else (eqb (getD s 0 0) 1) 20 (from20 s) (a .1) in
     let f = past-else (isFramed (drop 1 s)) 19 (from22 es) (v .1) in
-    let c = past-test (ltb 256 (length es)) 21 (from24 es) (f .1) in
+    let c = past-test (ltb mostFunctions (length es)) 21 (from24 es) (f .1) in
     let t = past-test (anyBreaks HeaderType es) 23 (from27 es) (c .1) in
     let b = past-test (anyBreaks Buses es) 26 (from28 es) (t .1) in
     let i = past-test (idTwice es) 27 (from25 es) (b .1) in
@@ -60,7 +62,7 @@ checked-of-zero s e =
     record {
       version = eqb-true (getD s 0 0) 1 (v .0);
       framed = record { inside = omega (arith, eqb-false (length s) 0 (a .0)); sized = f .0 };
-      count = ltb-false 256 (length es) (c .0);
+      count = ltb-false mostFunctions (length es) (c .0);
       types = t .0;
       buses = b .0;
       ids = i .0;
@@ -75,7 +77,7 @@ zero-of-checked s c =
       ne-eqb (length s) 0 (λ z. omega (arith, c .framed .inside)),
       eq-eqb (getD s 0 0) 1 (c .version),
       c .framed .sized,
-      le-ltb 256 (length (entriesOf s)) (c .count),
+      le-ltb mostFunctions (length (entriesOf s)) (c .count),
       c .types,
       c .buses,
       c .ids,
@@ -146,15 +148,15 @@ unfolding entryOf
 bytes-of-entry p b = go (isBridge (headerOf p))
   where
     go : (t : Bool) → cond t (subordinateOf p) 0 < 256
-    go true = b 28
+    go true = b subordinateAt
     go false = omega arith
 
 bytes-from : (s : List ℕ) (at : ℕ) (es : List Entry) → Bytes s → entriesFrom s at ≡ es → Framed at s → All BusBytes es
 bytes-from s at [] b e f = tt
 bytes-from s at (x ∷ es) b e f =
     let r = first-at s at x es f e in (
-      rw (r .head) at (bytes-of-entry (partFrom s at) (bytes-take (at + 92 - (at + 2)) (drop (at + 2) s) (bytes-drop (at + 2) s b))),
-      bytes-from s (at + 92) es b (r .tail) (r .rest),
+      rw (r .head) at (bytes-of-entry (partFrom s at) (bytes-take (at + stride - (at + 2)) (drop (at + 2) s) (bytes-drop (at + 2) s b))),
+      bytes-from s (at + stride) es b (r .tail) (r .rest),
     )
 
 pub record Passes (s : List ℕ) : Type 0 where

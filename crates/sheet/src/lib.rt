@@ -1,15 +1,26 @@
-// The register sheet: its checks, by number, and what its records say. A sheet is the version byte 1 and then a record of 90 bytes for each function,
-// each after its own two-byte length.
+// The register sheet: its checks, by number, and what its records say. A sheet is the version byte 1 and then a record for each function, each after its
+// own two-byte length.
 pub mod marks;
+pub mod places;
 pub mod record;
 pub mod spaces;
 
 ghost use mathlib.Core.Path.{_≡_};
-ghost use Prim.Native.Nat.{_+_, _*_, _≤_};
+ghost use Prim.Native.Nat.{_+_, _≤_};
 ghost use lib.ListN.{length, drop};
 ghost use Rattle.sheet.specs.Lookup.{lookupOf, lookupNumber, registerBytes, withCommand};
-ghost use Rattle.sheet.specs.Sheet.{isFramed, Framed, partAt, entriesOf, entriesFrom, anyBreaks, findFrom, idTwice, from24, sheetNumber};
+ghost use Rattle.sheet.specs.Sheet.{isFramed, Framed, sheetLength, partAt, entriesOf, entriesFrom, anyBreaks, findFrom, idTwice, from24, sheetNumber};
+use places::SIZE;
+use places::STRIDE;
 use records::Next;
+
+// The length of the longest sheet.
+pub const FULL: usize = 1 + STRIDE * records::MOST_FUNCTIONS;
+
+// Where a record's registers start, and their command word.
+const REGISTERS: usize = 2 + places::REGISTERS;
+
+const COMMAND: usize = places::COMMAND - places::REGISTERS;
 
 // The checks of each record by itself: 24, 27, 25 and 29.
 pub enum Rule {
@@ -31,7 +42,101 @@ pub enum Lookup {
     Refused(u8),
 }
 
-// 20: every record has 90 bytes, and the last ends at the end.
+// Any bytes: 0 for a sheet that passes, or the number of the first check that it fails.
+pub fn check(sheet: &[u8]) -> u8
+    ensures { λ r. ⌜ r ≡ sheetNumber (now (sheet .entry)) ⌝ }
+{
+    if sheet.len() == 0 {
+        return 20;
+    }
+    if sheet[0] != 1 {
+        return 21;
+    }
+    if !is_framed(sheet) {
+        return 20;
+    }
+    if FULL < sheet.len() {
+        return 22;
+    }
+    check_records(sheet)
+}
+
+// The lookup's number or place: the sheet's number first, then 40 where no function has the ID.
+pub fn find(sheet: &[u8], id: u16) -> Lookup
+    ensures { λ r. ⌜ r ≡ lookupOf (now (sheet .entry)) id ⌝ }
+{
+    let n = check(sheet);
+    if n != 0 {
+        return Lookup::Refused(n);
+    }
+    match find_from(sheet, 1, id) {
+        Found::At(at) => Lookup::Registers(at + REGISTERS),
+        Found::Nothing => Lookup::Refused(40),
+    }
+}
+
+// The lookup's part: the function's 64 register bytes themselves, or an empty part.
+pub fn registers(sheet: &[u8], id: u16) -> &[u8]
+    ensures { λ r. ⌜ now r ≡ registerBytes (lookupOf (now (sheet .entry)) id) (now (sheet .entry)) ⌝ }
+{
+    match find(sheet, id) {
+        Lookup::Registers(at) => &sheet[at..at + places::REGISTERS_SIZE],
+        Lookup::Refused(_) => &sheet[0..0],
+    }
+}
+
+// The same, with the number: 0 where the part is not empty.
+pub fn registers_and_number<'a>(sheet: &'a [u8], id: u16, number: &mut u8) -> &'a [u8]
+    ensures part { λ r. ⌜ now r ≡ registerBytes (lookupOf (now (sheet .entry)) id) (now (sheet .entry)) ⌝ }
+    ensures number { λ _. ⌜ now (number .exit) ≡ lookupNumber (lookupOf (now (sheet .entry)) id) ⌝ }
+{
+    match find(sheet, id) {
+        Lookup::Registers(at) => {
+            *number = 0;
+            &sheet[at..at + places::REGISTERS_SIZE]
+        }
+        Lookup::Refused(n) => {
+            *number = n;
+            &sheet[0..0]
+        }
+    }
+}
+
+// Rewrites the command word of the function with this ID, and no other byte. Refused, by the same numbers, it changes nothing.
+pub fn set_command(sheet: &mut [u8], id: u16, command: u16) -> u8
+    ensures number { λ r. ⌜ r ≡ lookupNumber (lookupOf (now (sheet .entry)) id) ⌝ }
+    ensures content { λ _. ⌜ now (sheet .exit) ≡ withCommand (lookupOf (now (sheet .entry)) id) (now (sheet .entry)) command ⌝ }
+{
+    match find(sheet, id) {
+        Lookup::Registers(at) => {
+            endian::write_le16(sheet, at + COMMAND, command as u64);
+            0
+        }
+        Lookup::Refused(n) => n,
+    }
+}
+
+// How many functions a framed sheet has.
+pub fn count(sheet: &[u8]) -> usize
+    requires { ⌜ Framed 1 (now sheet) ⌝ }
+    ensures { λ r. ⌜ r ≡ length (entriesOf (now (sheet .entry))) ⌝ }
+{
+    (sheet.len() - 1) / STRIDE
+}
+
+// The part of record k, from 0, after the version byte, the records before it and its own length.
+pub fn part(sheet: &[u8], k: usize) -> &[u8]
+    requires { ⌜ sheetLength (k + 1) ≤ length (now sheet) ⌝ }
+    ensures { λ r. ⌜ now r ≡ partAt (now (sheet .entry)) k ⌝ }
+{
+    let start = STRIDE * k + 3;
+    let end = start + SIZE;
+    &sheet[start..end]
+}
+
+// ---- the frame
+
+// 20: every record has its size, and the last ends at the end.
 fn is_framed(sheet: &[u8]) -> bool
     requires { ⌜ 1 ≤ length (now sheet) ⌝ }
     ensures { λ r. ⌜ r ≡ isFramed (drop 1 (now (sheet .entry))) ⌝ }
@@ -46,87 +151,16 @@ fn is_framed(sheet: &[u8]) -> bool
                 return false;
             }
             Next::Record(n) => {
-                if n != 90 {
+                if n != SIZE {
                     return false;
                 }
-                at += 92;
+                at += STRIDE;
             }
         }
     }
 }
 
-// Some record breaks the rule.
-fn any_breaks(rule: Rule, sheet: &[u8]) -> bool
-    requires { ⌜ Framed 1 (now sheet) ⌝ }
-    ensures { λ r. ⌜ r ≡ anyBreaks rule (entriesOf (now (sheet .entry))) ⌝ }
-{
-    let mut at: usize = 1;
-    while at < sheet.len() {
-        let start = at + 2;
-        let end = at + 92;
-        if record::breaks(rule, &sheet[start..end]) {
-            return true;
-        }
-        at = end;
-    }
-    false
-}
-
-// The first record with this ID among those that start at `from` or later.
-fn find_from(sheet: &[u8], from: usize, id: u16) -> Found
-    requires { ⌜ Framed from (now sheet) ⌝ }
-    ensures { λ r. ⌜ r ≡ findFrom id from (entriesFrom (now (sheet .entry)) from) ⌝ }
-{
-    let mut at = from;
-    while at < sheet.len() {
-        let start = at + 2;
-        let end = at + 92;
-        if record::id_of(&sheet[start..end]) == id {
-            return Found::At(at);
-        }
-        at = end;
-    }
-    Found::Nothing
-}
-
-// 28: a record's ID that an earlier record has is met marked.
-fn id_twice(sheet: &[u8]) -> bool
-    requires { ⌜ Framed 1 (now sheet) ⌝ }
-    ensures { λ r. ⌜ r ≡ idTwice (entriesOf (now (sheet .entry))) ⌝ }
-{
-    let mut seen = [0u64; 1024];
-    let mut at: usize = 1;
-    while at < sheet.len() {
-        let start = at + 2;
-        let end = at + 92;
-        let id = record::id_of(&sheet[start..end]);
-        if marks::is_marked(&seen, id) {
-            return true;
-        }
-        marks::mark(&mut seen, id);
-        at = end;
-    }
-    false
-}
-
-// Any bytes: 0 for a sheet that passes, or the number of the first check that it fails.
-pub fn check(sheet: &[u8]) -> u8
-    ensures { λ r. ⌜ r ≡ sheetNumber (now (sheet .entry)) ⌝ }
-{
-    if sheet.len() == 0 {
-        return 20;
-    }
-    if sheet[0] != 1 {
-        return 21;
-    }
-    if !is_framed(sheet) {
-        return 20;
-    }
-    if 23553 < sheet.len() {
-        return 22;
-    }
-    check_records(sheet)
-}
+// ---- passes over a framed sheet's records
 
 // The checks from 24 on, each over all records before the next.
 fn check_records(sheet: &[u8]) -> u8
@@ -151,73 +185,56 @@ fn check_records(sheet: &[u8]) -> u8
     0
 }
 
-// The sheet's number first, then 40 where no function has the ID.
-pub fn find(sheet: &[u8], id: u16) -> Lookup
-    ensures { λ r. ⌜ r ≡ lookupOf (now (sheet .entry)) id ⌝ }
-{
-    let n = check(sheet);
-    if n != 0 {
-        return Lookup::Refused(n);
-    }
-    match find_from(sheet, 1, id) {
-        Found::At(at) => Lookup::Registers(at + 4),
-        Found::Nothing => Lookup::Refused(40),
-    }
-}
-
-// The function's 64 register bytes themselves, or an empty part.
-pub fn registers(sheet: &[u8], id: u16) -> &[u8]
-    ensures { λ r. ⌜ now r ≡ registerBytes (lookupOf (now (sheet .entry)) id) (now (sheet .entry)) ⌝ }
-{
-    match find(sheet, id) {
-        Lookup::Registers(at) => &sheet[at..at + 64],
-        Lookup::Refused(_) => &sheet[0..0],
-    }
-}
-
-// The same, with the number: 0 where the part is not empty.
-pub fn registers_and_number<'a>(sheet: &'a [u8], id: u16, number: &mut u8) -> &'a [u8]
-    ensures { λ r. ⌜ (now r ≡ registerBytes (lookupOf (now (sheet .entry)) id) (now (sheet .entry))) × (now (number .exit) ≡ lookupNumber (lookupOf (now (sheet .entry)) id)) ⌝ }
-{
-    match find(sheet, id) {
-        Lookup::Registers(at) => {
-            *number = 0;
-            &sheet[at..at + 64]
-        }
-        Lookup::Refused(n) => {
-            *number = n;
-            &sheet[0..0]
-        }
-    }
-}
-
-// Rewrites the command word of the function with this ID, and no other byte. Refused, by the same numbers, it changes nothing.
-pub fn set_command(sheet: &mut [u8], id: u16, command: u16) -> u8
-    ensures { λ r. ⌜ (r ≡ lookupNumber (lookupOf (now (sheet .entry)) id)) × (now (sheet .exit) ≡ withCommand (lookupOf (now (sheet .entry)) id) (now (sheet .entry)) command) ⌝ }
-{
-    match find(sheet, id) {
-        Lookup::Registers(at) => {
-            endian::write_le16(sheet, at + 4, command as u64);
-            0
-        }
-        Lookup::Refused(n) => n,
-    }
-}
-
-// How many functions a framed sheet has.
-pub fn count(sheet: &[u8]) -> usize
+// Some record breaks the rule.
+fn any_breaks(rule: Rule, sheet: &[u8]) -> bool
     requires { ⌜ Framed 1 (now sheet) ⌝ }
-    ensures { λ r. ⌜ r ≡ length (entriesOf (now (sheet .entry))) ⌝ }
+    ensures { λ r. ⌜ r ≡ anyBreaks rule (entriesOf (now (sheet .entry))) ⌝ }
 {
-    (sheet.len() - 1) / 92
+    let mut at: usize = 1;
+    while at < sheet.len() {
+        let start = at + 2;
+        let end = at + STRIDE;
+        if record::breaks(rule, &sheet[start..end]) {
+            return true;
+        }
+        at = end;
+    }
+    false
 }
 
-// The part of record k, from 0: the 90 bytes after its own length.
-pub fn part(sheet: &[u8], k: usize) -> &[u8]
-    requires { ⌜ 92 * k + 93 ≤ length (now sheet) ⌝ }
-    ensures { λ r. ⌜ now r ≡ partAt (now (sheet .entry)) k ⌝ }
+// 28: a record's ID that an earlier record has is met marked.
+fn id_twice(sheet: &[u8]) -> bool
+    requires { ⌜ Framed 1 (now sheet) ⌝ }
+    ensures { λ r. ⌜ r ≡ idTwice (entriesOf (now (sheet .entry))) ⌝ }
 {
-    let start = 92 * k + 3;
-    let end = 92 * k + 93;
-    &sheet[start..end]
+    let mut seen = [0u64; 1024];
+    let mut at: usize = 1;
+    while at < sheet.len() {
+        let start = at + 2;
+        let end = at + STRIDE;
+        let id = record::id_of(&sheet[start..end]);
+        if marks::is_marked(&seen, id) {
+            return true;
+        }
+        marks::mark(&mut seen, id);
+        at = end;
+    }
+    false
+}
+
+// The first record with this ID among those that start at `from` or later.
+fn find_from(sheet: &[u8], from: usize, id: u16) -> Found
+    requires { ⌜ Framed from (now sheet) ⌝ }
+    ensures { λ r. ⌜ r ≡ findFrom id from (entriesFrom (now (sheet .entry)) from) ⌝ }
+{
+    let mut at = from;
+    while at < sheet.len() {
+        let start = at + 2;
+        let end = at + STRIDE;
+        if record::id_of(&sheet[start..end]) == id {
+            return Found::At(at);
+        }
+        at = end;
+    }
+    Found::Nothing
 }

@@ -1,12 +1,15 @@
-// One record of a sheet. Every function here gets the record's part, the 90 bytes after its own length: the ID, the 64-byte configuration header
-// and the six read-backs.
+// One record of a sheet. Every function here gets the record's part, the bytes after its own length: the ID, the configuration header and the six
+// read-backs.
 ghost use mathlib.Core.Path.{_≡_};
+ghost use Prim.Native.Nat.{_+_};
 ghost use lib.ListN.{length};
 ghost use Rattle.endian.specs.Endian.{be, le};
-ghost use Rattle.sheet.specs.Entry.{recordSize, idOf, busOf, commandOf, headerOf, isBridge, slotCount, secondaryOf, subordinateOf, windowOf, dwords, entryOf};
+ghost use Rattle.sheet.specs.Places.{valuesAt, readbacksAt, recordSize};
+ghost use Rattle.sheet.specs.Entry.{idOf, busOf, commandOf, headerOf, isBridge, slotCount, primaryOf, secondaryOf, subordinateOf, windowOf, dwords, entryOf};
 ghost use Rattle.sheet.specs.Spaces.{enables};
 ghost use Rattle.sheet.specs.Sheet.{allZero, typeWrong, busesWrong, readBacksWrong, nibblesWrong, breaks as breaksOf};
 use super::Rule;
+use super::places;
 use super::spaces;
 use pools::Pool;
 use pools::Space;
@@ -16,21 +19,21 @@ pub fn id_of(part: &[u8]) -> u16
     requires { ⌜ length (now part) ≡ recordSize ⌝ }
     ensures { λ r. ⌜ r ≡ idOf (now (part .entry)) ⌝ }
 {
-    endian::read_be16(part, 0) as u16
+    endian::read_be16(part, places::ID) as u16
 }
 
 pub fn bus_of(part: &[u8]) -> u8
     requires { ⌜ length (now part) ≡ recordSize ⌝ }
     ensures { λ r. ⌜ r ≡ busOf (now (part .entry)) ⌝ }
 {
-    part[0]
+    part[places::ID]
 }
 
 pub fn command_of(part: &[u8]) -> u16
     requires { ⌜ length (now part) ≡ recordSize ⌝ }
     ensures { λ r. ⌜ r ≡ commandOf (now (part .entry)) ⌝ }
 {
-    endian::read_le16(part, 6) as u16
+    endian::read_le16(part, places::COMMAND) as u16
 }
 
 // Header type 1. Bit 7 only says that the device has several functions.
@@ -38,7 +41,7 @@ pub fn is_bridge(part: &[u8]) -> bool
     requires { ⌜ length (now part) ≡ recordSize ⌝ }
     ensures { λ r. ⌜ r ≡ isBridge (headerOf (now (part .entry))) ⌝ }
 {
-    part[16] % 128 == 1
+    part[places::HEADER_TYPE] % 128 == 1
 }
 
 // How many BAR slots the function has.
@@ -57,18 +60,25 @@ pub fn is_enabled(part: &[u8], space: Space) -> bool
     spaces::enables(space, command_of(part))
 }
 
+pub fn primary_of(part: &[u8]) -> u8
+    requires { ⌜ length (now part) ≡ recordSize ⌝ }
+    ensures { λ r. ⌜ r ≡ primaryOf (now (part .entry)) ⌝ }
+{
+    part[places::PRIMARY]
+}
+
 pub fn secondary_of(part: &[u8]) -> u8
     requires { ⌜ length (now part) ≡ recordSize ⌝ }
     ensures { λ r. ⌜ r ≡ secondaryOf (now (part .entry)) ⌝ }
 {
-    part[27]
+    part[places::SECONDARY]
 }
 
 pub fn subordinate_of(part: &[u8]) -> u8
     requires { ⌜ length (now part) ≡ recordSize ⌝ }
     ensures { λ r. ⌜ r ≡ subordinateOf (now (part .entry)) ⌝ }
 {
-    part[28]
+    part[places::SUBORDINATE]
 }
 
 // The registers of a bridge's window.
@@ -78,20 +88,20 @@ pub fn window_of(part: &[u8], q: Pool) -> Window
 {
     match q {
         Pool::Low => Window {
-            base: endian::read_le16(part, 34) as u16,
-            limit: endian::read_le16(part, 36) as u16,
+            base: endian::read_le16(part, places::LOW_BASE) as u16,
+            limit: endian::read_le16(part, places::LOW_LIMIT) as u16,
             upper_base: 0,
             upper_limit: 0,
         },
         Pool::High => Window {
-            base: endian::read_le16(part, 38) as u16,
-            limit: endian::read_le16(part, 40) as u16,
-            upper_base: endian::read_le32(part, 42) as u32,
-            upper_limit: endian::read_le32(part, 46) as u32,
+            base: endian::read_le16(part, places::HIGH_BASE) as u16,
+            limit: endian::read_le16(part, places::HIGH_LIMIT) as u16,
+            upper_base: endian::read_le32(part, places::UPPER_BASE) as u32,
+            upper_limit: endian::read_le32(part, places::UPPER_LIMIT) as u32,
         },
         Pool::Io => Window {
-            base: endian::wide(part[30]) as u16,
-            limit: endian::wide(part[31]) as u16,
+            base: endian::wide(part[places::IO_BASE]) as u16,
+            limit: endian::wide(part[places::IO_LIMIT]) as u16,
             upper_base: 0,
             upper_limit: 0,
         },
@@ -101,29 +111,29 @@ pub fn window_of(part: &[u8], q: Pool) -> Window
 // The six BAR registers. A bridge's last four are other registers.
 pub fn values_of(part: &[u8]) -> [u32; 6]
     requires { ⌜ length (now part) ≡ recordSize ⌝ }
-    ensures { λ r. ⌜ r ≡ dwords (le 4) 6 (now (part .entry)) 18 ⌝ }
+    ensures { λ r. ⌜ r ≡ dwords (le 4) 6 (now (part .entry)) valuesAt ⌝ }
 {
     [
-        endian::read_le32(part, 18) as u32,
-        endian::read_le32(part, 22) as u32,
-        endian::read_le32(part, 26) as u32,
-        endian::read_le32(part, 30) as u32,
-        endian::read_le32(part, 34) as u32,
-        endian::read_le32(part, 38) as u32,
+        endian::read_le32(part, places::BAR0) as u32,
+        endian::read_le32(part, places::BAR1) as u32,
+        endian::read_le32(part, places::BAR2) as u32,
+        endian::read_le32(part, places::BAR3) as u32,
+        endian::read_le32(part, places::BAR4) as u32,
+        endian::read_le32(part, places::BAR5) as u32,
     ]
 }
 
 pub fn readbacks_of(part: &[u8]) -> [u32; 6]
     requires { ⌜ length (now part) ≡ recordSize ⌝ }
-    ensures { λ r. ⌜ r ≡ dwords (be 4) 6 (now (part .entry)) 66 ⌝ }
+    ensures { λ r. ⌜ r ≡ dwords (be 4) 6 (now (part .entry)) readbacksAt ⌝ }
 {
     [
-        endian::read_be32(part, 66) as u32,
-        endian::read_be32(part, 70) as u32,
-        endian::read_be32(part, 74) as u32,
-        endian::read_be32(part, 78) as u32,
-        endian::read_be32(part, 82) as u32,
-        endian::read_be32(part, 86) as u32,
+        endian::read_be32(part, places::READBACK0) as u32,
+        endian::read_be32(part, places::READBACK1) as u32,
+        endian::read_be32(part, places::READBACK2) as u32,
+        endian::read_be32(part, places::READBACK3) as u32,
+        endian::read_be32(part, places::READBACK4) as u32,
+        endian::read_be32(part, places::READBACK5) as u32,
     ]
 }
 
@@ -131,7 +141,7 @@ fn type_wrong(part: &[u8]) -> bool
     requires { ⌜ length (now part) ≡ recordSize ⌝ }
     ensures { λ r. ⌜ r ≡ typeWrong (entryOf (now (part .entry))) ⌝ }
 {
-    1 < part[16] % 128
+    1 < part[places::HEADER_TYPE] % 128
 }
 
 fn buses_wrong(part: &[u8]) -> bool
@@ -141,9 +151,9 @@ fn buses_wrong(part: &[u8]) -> bool
     if !is_bridge(part) {
         return false;
     }
-    let primary = part[26];
-    let secondary = part[27];
-    let subordinate = part[28];
+    let primary = part[places::PRIMARY];
+    let secondary = part[places::SECONDARY];
+    let subordinate = part[places::SUBORDINATE];
     !((bus_of(part) == primary) & ((primary < secondary) & (secondary <= subordinate)))
 }
 
@@ -163,11 +173,12 @@ fn nibbles_wrong(part: &[u8]) -> bool
 // The last four read-backs, which a bridge does not have.
 fn rest_zero(part: &[u8]) -> bool
     requires { ⌜ length (now part) ≡ recordSize ⌝ }
-    ensures { λ r. ⌜ r ≡ allZero (dwords (be 4) 4 (now (part .entry)) 74) ⌝ }
+    ensures { λ r. ⌜ r ≡ allZero (dwords (be 4) 4 (now (part .entry)) (readbacksAt + 8)) ⌝ }
 {
-    (endian::read_be32(part, 74) == 0)
-        & ((endian::read_be32(part, 78) == 0)
-            & ((endian::read_be32(part, 82) == 0) & (endian::read_be32(part, 86) == 0)))
+    (endian::read_be32(part, places::READBACK2) == 0)
+        & ((endian::read_be32(part, places::READBACK3) == 0)
+            & ((endian::read_be32(part, places::READBACK4) == 0)
+                & (endian::read_be32(part, places::READBACK5) == 0)))
 }
 
 fn read_backs_wrong(part: &[u8]) -> bool

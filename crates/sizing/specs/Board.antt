@@ -11,7 +11,8 @@ use Rattle.pools.specs.declared.Pool.{Pool}
 use Rattle.pools.specs.declared.Pool.the-variants.{Low, High, Io}
 use Rattle.bar.specs.Bar.{anyBad}
 use Rattle.placing.specs.Records.{Function, DepthFirst, onlyHost}
-use Rattle.placing.specs.Above.{aboveByParents, aboveBus, mostAbove}
+use Rattle.placing.specs.Above.{aboveByParents, aboveBus}
+use Rattle.records.specs.Limits.{mostAbove}
 use Rattle.placing.specs.Sizing as placing
 use Rattle.placing.specs.Sizing.{busLaid, functionLaid}
 use Rattle.placing.specs.SizingLaws.{Ready}

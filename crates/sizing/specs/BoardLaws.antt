@@ -16,7 +16,7 @@ use Rattle.placing.specs.Order.{le-or-lt}
 use Rattle.lists.specs.Lists.{front}
 use Rattle.placing.specs.Records.{Host, Function, Lawful, run}
 use Rattle.placing.specs.declared.Extent.{Extent}
-use Rattle.placing.specs.Above.{mostAbove}
+use Rattle.records.specs.Limits.{mostAbove}
 use Rattle.placing.specs.Sizing as placing
 use Rattle.placing.specs.Sizing.{busLaid, rootLaid, endsPast}
 use Rattle.placing.specs.SizingLaws.{laid-ext, ready-start}

@@ -29,7 +29,7 @@ pub struct Laid {
 }
 
 // How deep a bus can lie: below one more bridge than may stand above a function.
-const DEEPEST: usize = placing::MOST_ABOVE + 1;
+const DEEPEST: usize = records::MOST_ABOVE + 1;
 
 // Every bus of the board, in one pass: what the root bus comes to from the pools' bases, and in `memo`, eight numbers for each function, what
 // lies below each bridge. Function i has its parent record and its header type byte at i, its six read-backs at 6 * i, its numbers at 8 * i.

@@ -8,6 +8,7 @@ use lib.ListN.{length, getD, take, drop, length-map, length-append}
 use lib.Seq.{sets, sets-eq, length-sets, length-take-le, take-at, drop-at, drop-append-add}
 use Rattle.records.specs.Records.{partsOf, partsFrom}
 use Rattle.records.specs.RecordsLaws.{false-of-or}
+use Rattle.records.specs.Limits.{mostFunctions}
 use Rattle.bar.specs.Bar.{anyBad}
 use Rattle.lists.specs.Lists.{All, any}
 use Rattle.placing.specs.Records as placing
@@ -16,7 +17,7 @@ use Rattle.placing.specs.Numbering.{bridges}
 use Rattle.board.specs.declared.Function.{Function}
 use Rattle.board.specs.Function.{functionOfPart, readbacksWrong}
 use Rattle.board.specs.FunctionLaws.{length-readbacks}
-use Rattle.board.specs.Board.{mostFunctions, boardNumber, functionsOf}
+use Rattle.board.specs.Board.{boardNumber, functionsOf}
 use Rattle.board.specs.BoardLaws.{accepted-of-zero}
 use Rattle.board.specs.ToPlacing.{toFunction, toPlacing}
 use Rattle.board.specs.ToPlacingLaws.{lawful-of-accepted}

@@ -6,9 +6,10 @@ use Prim.Native.Nat.{ℕ, _+_, _*_, _≤_}
 use lib.ListN.{length, set}
 use lib.Seq.{sets}
 use Rattle.records.specs.Records.{partsFrom, anyPart}
+use Rattle.records.specs.Limits.{mostFunctions}
 use Rattle.board.specs.declared.Function.{Function}
 use Rattle.board.specs.Function.{functionOfPart, headerWrong}
-use Rattle.board.specs.Board.{mostFunctions, functionsOf}
+use Rattle.board.specs.Board.{functionsOf}
 
 abbrev pub parentsOf : List Function → List ℕ
 parentsOf = map (λ f. f .parent)

@@ -6,13 +6,14 @@ use borrow.Author.Needs.{needs}
 use Prim.Native.Nat.{_+_, _-_, _≤_}
 use mathlib.Core.Path.{_≡_, sym, _∙_}
 use lib.ListN.{length}
+use Rattle.records.specs.Limits.{mostFunctions}
 use Rattle.records.specs.Records.{partsFrom}
 use Rattle.records.specs.RecordsLaws.{fits-at}
 use borrow.Author.Tests.{lt-ltb, le-ltb}
 use Rattle.board.specs.BoardLaws.{length-record, length-end, length-broken}
 
 abbrev Inv-loop : tie.InvT-loop
-Inv-loop board at₀ count₀ at count = (count ≤ 256) × (count + length (partsFrom board at) ≡ length (partsFrom board 33))
+Inv-loop board at₀ count₀ at count = (count ≤ mostFunctions) × (count + length (partsFrom board at) ≡ length (partsFrom board 33))
 
 abbrev μ-loop : tie.MeasureT-loop
 μ-loop board at₀ count₀ at count = length board - at
@@ -31,7 +32,7 @@ returns c =
     let s = c .before .before .before .before .before .args .board .now in
     let at = c .before .before .before .loop .at in
     let e = sym (c .before .before .next-at .ensures) ∙ c .enum-told .given .1 in
-    sym (le-ltb 256 (length (partsFrom s 33)) (omega (arith, length-end s at e)))
+    sym (le-ltb mostFunctions (length (partsFrom s 33)) (omega (arith, length-end s at e)))
 
 enum-told-2 : tie.Need-enum-told-2 Inv-loop μ-loop
 enum-told-2 c = search needs
@@ -41,7 +42,7 @@ returns-2 c =
     let s = c .before .before .before .before .before .args .board .now in
     let at = c .before .before .before .loop .at in
     let e = sym (c .before .before .next-at .ensures) ∙ c .enum-told2 .given .1 in
-    sym (le-ltb 256 (length (partsFrom s 33)) (omega (arith, length-broken s at e)))
+    sym (le-ltb mostFunctions (length (partsFrom s 33)) (omega (arith, length-broken s at e)))
 
 enum-known-n : tie.Need-enum-known-n Inv-loop μ-loop
 enum-known-n c = search needs
@@ -51,7 +52,7 @@ returns-3 c =
     let s = c .before .before .before .before .before .before .before .args .board .now in
     let at = c .before .before .before .before .before .loop .at in
     let e = sym (c .before .before .before .before .next-at .ensures) ∙ c .before .before .n .given .1 in
-    sym (lt-ltb 256 (length (partsFrom s 33)) (omega (arith, length-record s at _ e)))
+    sym (lt-ltb mostFunctions (length (partsFrom s 33)) (omega (arith, length-record s at _ e)))
 
 add-count : tie.Need-add-count Inv-loop μ-loop
 add-count c = omega arith

@@ -4,16 +4,16 @@ use Prim.Native.Nat.{_-_, _≤_}
 use native.Mathlib.Numerals.{add-one}
 use native.Mathlib.Omega.{arith}
 use lib.ListN.{length}
-use Rattle.placement.specs.Loop.{Filled}
+use Rattle.placement.specs.Loop.{mostBuses, Filled}
 use Rattle.placement.specs.LoopLaws.{filled-next}
 use Rattle.placement.proofs.fill_cursors.Statement.{statement}
 use Rattle.placement.proofs.fill_cursors.Tie as tie
 
 abbrev Inv-loop : tie.InvT-loop
-Inv-loop cursors₀ base b₀ cursors b = (b ≤ 257) × (length cursors ≡ length cursors₀) × Filled base b cursors
+Inv-loop cursors₀ base b₀ cursors b = (b ≤ mostBuses) × (length cursors ≡ length cursors₀) × Filled base b cursors
 
 abbrev μ-loop : tie.MeasureT-loop
-μ-loop cursors₀ base b₀ cursors b = 257 - b
+μ-loop cursors₀ base b₀ cursors b = mostBuses - b
 
 loop-holds : tie.Need-loop-holds Inv-loop μ-loop
 loop-holds c = (omega arith, refl, λ k l q. absurd (omega arith))

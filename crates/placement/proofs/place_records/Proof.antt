@@ -9,6 +9,7 @@ use borrow.Author.Needs.{needs}
 use Rattle.records.specs.RecordsLaws.{fits-at}
 use Rattle.board.specs.declared.Function.{Function}
 use Rattle.board.specs.Function.{isBridge}
+use Rattle.sheet.specs.Sheet.{sheetLength}
 use Rattle.layout.specs.Layout.{plannedOf, recordBytes}
 use Rattle.placement.specs.Step.{registersOf, cursorsNext, Placeable}
 use Rattle.placement.specs.Loop.{Standing}
@@ -74,7 +75,7 @@ loop-less : tie.Need-loop-less Inv-loop μ-loop
 loop-less c = let e = sym (c .before .before .before .before .before .before .before .before .before .before .before .next-at .ensures) ∙ c .before .before .before .before .before .before .before .before .before .n .given .1 in omega (arith, fits-at (c .before .before .before .before .before .before .before .before .before .before .before .before .before .before .before .before .before .before .args .board .now) (c .before .before .before .before .before .before .before .before .before .before .before .before .loop .at) _ e)
 
 loop-again : tie.Need-loop-again Inv-loop μ-loop
-loop-again c = let e = sym (c .before .before .before .before .before .before .before .before .before .before .before .next-at .ensures) ∙ c .before .before .before .before .before .before .before .before .before .n .given .1 in rw (add-one (c .before .before .before .before .before .before .before .before .before .before .before .before .loop .i)) (standing-turn (c .before .before .before .before .before .before .before .before .before .before .before .before .before .before .before .before .before .before .pre) (c .before .before .before .before .before .before .before .before .before .before .before .before .loop .inv) _ e (c .before .before .before .before .write-next .ensures .0 ∙ ap (λ (f : Function). cursorsNext (c .before .before .before .before .before .before .before .before .before .before .before .before .before .before .before .before .before .before .args .memo .now) (c .before .before .before .before .before .before .before .before .before .before .before .before .loop .cursors) (c .before .before .before .before .before .before .before .before .before .before .before .before .loop .i) f) (c .before .before .before .before .before .before .before .function-at .ensures)) (c .before .before .before .before .write-next .ensures .1 ∙ ap (λ (f : Function). sets (c .before .before .before .before .before .before .before .before .before .before .before .before .loop .sheet) (1 + 92 * c .before .before .before .before .before .before .before .before .before .before .before .before .loop .i) (recordBytes (plannedOf (registersOf (c .before .before .before .before .before .before .before .before .before .before .before .before .before .before .before .before .before .before .args .first) (c .before .before .before .before .before .before .before .before .before .before .before .before .before .before .before .before .before .before .args .counts .now) (c .before .before .before .before .before .before .before .before .before .before .before .before .before .before .before .before .before .before .args .memo .now) (c .before .before .before .before .before .before .before .before .before .before .before .before .loop .cursors) (c .before .before .before .before .before .before .before .before .before .before .before .before .loop .i) f)))) (c .before .before .before .before .before .before .before .function-at .ensures)) (omega (arith, c .before .before .before .before .write-next .kept .1 .1 .1 .1 .1 .0)))
+loop-again c = let e = sym (c .before .before .before .before .before .before .before .before .before .before .before .next-at .ensures) ∙ c .before .before .before .before .before .before .before .before .before .n .given .1 in rw (add-one (c .before .before .before .before .before .before .before .before .before .before .before .before .loop .i)) (standing-turn (c .before .before .before .before .before .before .before .before .before .before .before .before .before .before .before .before .before .before .pre) (c .before .before .before .before .before .before .before .before .before .before .before .before .loop .inv) _ e (c .before .before .before .before .write-next .ensures .0 ∙ ap (λ (f : Function). cursorsNext (c .before .before .before .before .before .before .before .before .before .before .before .before .before .before .before .before .before .before .args .memo .now) (c .before .before .before .before .before .before .before .before .before .before .before .before .loop .cursors) (c .before .before .before .before .before .before .before .before .before .before .before .before .loop .i) f) (c .before .before .before .before .before .before .before .function-at .ensures)) (c .before .before .before .before .write-next .ensures .1 ∙ ap (λ (f : Function). sets (c .before .before .before .before .before .before .before .before .before .before .before .before .loop .sheet) (sheetLength (c .before .before .before .before .before .before .before .before .before .before .before .before .loop .i)) (recordBytes (plannedOf (registersOf (c .before .before .before .before .before .before .before .before .before .before .before .before .before .before .before .before .before .before .args .first) (c .before .before .before .before .before .before .before .before .before .before .before .before .before .before .before .before .before .before .args .counts .now) (c .before .before .before .before .before .before .before .before .before .before .before .before .before .before .before .before .before .before .args .memo .now) (c .before .before .before .before .before .before .before .before .before .before .before .before .loop .cursors) (c .before .before .before .before .before .before .before .before .before .before .before .before .loop .i) f)))) (c .before .before .before .before .before .before .before .function-at .ensures)) (omega (arith, c .before .before .before .before .write-next .kept .1 .1 .1 .1 .1 .0)))
 
 pub place-records-spec : {M : Type 1} → statement M
 place-records-spec =

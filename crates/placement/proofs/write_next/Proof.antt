@@ -3,6 +3,7 @@ use mathlib.Core.Path.{ap, _∙_}
 use Prim.Native.Nat.{_+_, _*_}
 use native.Mathlib.Omega.{arith}
 use lib.Seq.{sets}
+use Rattle.sheet.specs.Sheet.{sheetLength}
 use Rattle.layout.specs.declared.Registers.{Registers}
 use Rattle.layout.specs.Layout.{plannedOf, recordBytes}
 use Rattle.placement.specs.LoopLaws.{io-bytes}
@@ -29,7 +30,7 @@ same-length-2 : tie.Need-same-length-2
 same-length-2 c = search needs
 
 returns : tie.Need-returns
-returns c = (c .before .before .before .before .before .before .place-record .ensures .1, c .before .before .write-record .ensures ∙ ap (λ (r : Registers). sets (c .before .before .before .before .before .before .before .before .before .before .before .before .args .sheet .now) (1 + 92 * c .before .before .before .before .before .before .before .before .before .before .before .before .args .i) (recordBytes (plannedOf r))) (c .before .before .before .before .before .before .place-record .ensures .0))
+returns c = (c .before .before .before .before .before .before .place-record .ensures .1, c .before .before .write-record .ensures ∙ ap (λ (r : Registers). sets (c .before .before .before .before .before .before .before .before .before .before .before .before .args .sheet .now) (sheetLength (c .before .before .before .before .before .before .before .before .before .before .before .before .args .i)) (recordBytes (plannedOf r))) (c .before .before .before .before .before .before .place-record .ensures .0))
 
 pub write-next-spec : {M : Type 1} → statement M
 write-next-spec =

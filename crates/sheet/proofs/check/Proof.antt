@@ -4,6 +4,7 @@ use mathlib.Core.Path.{sym, _∙_}
 use native.Mathlib.Omega.{arith}
 use lib.ListN.{length}
 use borrow.Author.Tests.{eq-eqb, ne-eqb, lt-ltb, le-ltb, not-true, not-false}
+use Rattle.records.specs.Limits.{mostFunctions}
 use Rattle.sheet.specs.Sheet.{Framed, entriesFrom, from20, from21, from22, sheetNumber}
 use Rattle.sheet.specs.CheckLaws.{count-entries}
 use Rattle.sheet.proofs.check.Statement.{statement}
@@ -33,14 +34,14 @@ returns-3 c = rw (ne-eqb _ _ (c .before .before .before .before .if1 .left), eq-
 
 returns-4 : tie.Need-returns-4
 unfolding sheetNumber from21 from20 from22
-returns-4 c = let f = framed (c .before) in rw (ne-eqb _ _ (c .before .before .before .before .before .if1 .left), eq-eqb _ _ (c .before .before .before .if2 .left), f .sized, lt-ltb 256 (length (entriesFrom (c .before .before .before .before .before .before .before .args .sheet .now) 1)) (omega (arith, count-entries _ f, c .if4 .taken)))
+returns-4 c = let f = framed (c .before) in rw (ne-eqb _ _ (c .before .before .before .before .before .if1 .left), eq-eqb _ _ (c .before .before .before .if2 .left), f .sized, lt-ltb mostFunctions (length (entriesFrom (c .before .before .before .before .before .before .before .args .sheet .now) 1)) (omega (arith, count-entries _ f, c .if4 .taken)))
 
 check-records-requires : tie.Need-check-records-requires
 check-records-requires c κs = framed (c .before)
 
 returns-5 : tie.Need-returns-5
 unfolding sheetNumber from21 from20 from22
-returns-5 c = let f = framed (c .before .before) in rw (ne-eqb _ _ (c .before .before .before .before .before .before .if1 .left), eq-eqb _ _ (c .before .before .before .before .if2 .left), f .sized, le-ltb 256 (length (entriesFrom (c .before .before .before .before .before .before .before .before .args .sheet .now) 1)) (omega (arith, count-entries _ f, c .before .if4 .left))) (c .check-records .ensures)
+returns-5 c = let f = framed (c .before .before) in rw (ne-eqb _ _ (c .before .before .before .before .before .before .if1 .left), eq-eqb _ _ (c .before .before .before .before .if2 .left), f .sized, le-ltb mostFunctions (length (entriesFrom (c .before .before .before .before .before .before .before .before .args .sheet .now) 1)) (omega (arith, count-entries _ f, c .before .if4 .left))) (c .check-records .ensures)
 
 pub check-spec : {M : Type 1} → statement M
 check-spec =

@@ -1,4 +1,4 @@
--- `sheet::count` meets its contract: the records are 92 bytes each. Assumes nothing.
+-- `sheet::count` meets its contract: every record takes as many bytes. Assumes nothing.
 use borrow.Author.Needs.{needs}
 use Rattle.sheet.specs.IndexLaws.{count-index}
 use Rattle.sheet.proofs.count.Statement.{statement}

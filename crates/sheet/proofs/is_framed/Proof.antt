@@ -8,6 +8,7 @@ use borrow.Author.Needs.{needs}
 use Rattle.records.specs.declared.Next.the-variants.{Record}
 use Rattle.records.specs.Records.{nextOf}
 use Rattle.records.specs.RecordsLaws.{fits-at}
+use Rattle.sheet.specs.Places.{stride}
 use Rattle.sheet.specs.Sheet.{isFramed}
 use Rattle.sheet.specs.FrameLaws.{framed-end, framed-broken, framed-other, framed-on}
 use Rattle.sheet.proofs.is_framed.Statement.{statement}
@@ -19,11 +20,11 @@ Inv-loop sheet at₀ at = (at ≤ length sheet) × (isFramed (drop at sheet) ≡
 abbrev μ-loop : tie.MeasureT-loop
 μ-loop sheet at₀ at = length sheet - at
 
--- the record of 90 bytes at the cursor
+-- the record at the cursor, which has its size
 found : (c : tie.Else1 Inv-loop μ-loop) → nextOf (drop (c .before .before .before .before .before .loop .at) (c .before .before .before .before .before .before .before .args .sheet .now)) ≡ Record (c .before .before .n .given .0 .0)
 found c = sym (c .before .before .before .before .next-at .ensures) ∙ c .before .before .n .given .1
 
-fits : (c : tie.Else1 Inv-loop μ-loop) → c .before .before .before .before .before .loop .at + 92 ≤ length (c .before .before .before .before .before .before .before .args .sheet .now)
+fits : (c : tie.Else1 Inv-loop μ-loop) → c .before .before .before .before .before .loop .at + stride ≤ length (c .before .before .before .before .before .before .before .args .sheet .now)
 fits c =
     let s = c .before .before .before .before .before .before .before .args .sheet .now in
     omega (arith, c .if1 .left, fits-at s (c .before .before .before .before .before .loop .at) (c .before .before .n .given .0 .0) (found c))

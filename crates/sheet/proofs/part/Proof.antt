@@ -1,8 +1,9 @@
--- `sheet::part` meets its contract: 90 bytes lie between the two ends. Assumes nothing.
+-- `sheet::part` meets its contract: a part lies between the two ends. Assumes nothing.
 use borrow.Author.Needs.{needs}
 use Prim.Native.Nat.{_+_, _-_, _*_}
 use mathlib.Core.Path.{_≡_}
 use native.Mathlib.Omega.{arith}
+use Rattle.sheet.specs.Places.{recordSize, stride}
 use Rattle.sheet.proofs.part.Statement.{statement}
 use Rattle.sheet.proofs.part.Tie as tie
 
@@ -11,9 +12,6 @@ mul-start c = search needs
 
 add-start : tie.Need-add-start
 add-start c = search needs
-
-mul-end : tie.Need-mul-end
-mul-end c = search needs
 
 add-end : tie.Need-add-end
 add-end c = search needs
@@ -28,7 +26,10 @@ part-result-end : tie.Need-part-result-end
 part-result-end c = search needs
 
 returns : tie.Need-returns
-returns c = let n : 92 * c .before .args .k + 93 - (92 * c .before .args .k + 3) ≡ 90 = omega arith in rw n
+returns c =
+    let at = stride * c .before .args .k + 3 in
+    let n : at + recordSize - at ≡ recordSize = omega arith in
+    rw n
 
 pub part-spec : {M : Type 1} → statement M
 part-spec =
@@ -36,7 +37,6 @@ part-spec =
     (tie.spec
     mul-start
     add-start
-    mul-end
     add-end
     sub-result
     part-result-start

@@ -10,6 +10,7 @@ use mathlib.Core.Path.{_≡_, refl, sym, ap, _∙_}
 use mathlib.Core.Bool.{Bool, false}
 use mathlib.Core.List.{List, [], map}
 use lib.ListN.{length, getD, set, length-set}
+use Rattle.records.specs.Limits.{mostAbove}
 use Rattle.records.specs.Records.{partsFrom, anyPart}
 use Rattle.records.specs.RecordsLaws.{fits-at, pass-end, pass-broken, none-here, none-later}
 use Rattle.board.specs.declared.Function.{Function}
@@ -27,11 +28,11 @@ left number ls ps = unplacedFrom number ls (map functionOfPart ps)
 
 abbrev Inv-loop : tie.InvT-loop
 Inv-loop board buses₀ nexts₀ shared₀ levels₀ number₀ at₀ buses nexts shared levels number at =
-    (levels ≤ 18)
+    (levels ≤ mostAbove + 2)
     × (number ≤ at)
-    × (length buses ≡ 18)
-    × (length nexts ≡ 18)
-    × (length shared ≡ 18)
+    × (length buses ≡ mostAbove + 2)
+    × (length nexts ≡ mostAbove + 2)
+    × (length shared ≡ mostAbove + 2)
     × (anyPart headerWrong (partsFrom board at) ≡ false)
     × (unplacedFrom number (deepest buses nexts shared levels) (map functionOfPart (partsFrom board at)) ≡ anyMisplaced 0 [] (map functionOfPart (partsFrom board 33)))
 
@@ -59,7 +60,7 @@ level : (c : tie.After-known-told2 Inv-loop μ-loop) → foundIn (function (c .b
 level c = ap (λ (p : ℕ). foundIn p (c .before .before .before .before .before .before .before .before .before .before .before .loop .buses) (c .before .before .before .before .before .before .before .before .before .before .before .loop .levels)) (sym (c .before .before .before .before .parent-of .ensures)) ∙ sym (c .before .before .before .level-of .ensures) ∙ c .before .i .given .1
 
 -- the parent's level is among those that are open
-room : (c : tie.After-known-told2 Inv-loop μ-loop) → c .before .i .given .0 .0 < 18
+room : (c : tie.After-known-told2 Inv-loop μ-loop) → c .before .i .given .0 .0 < mostAbove + 2
 room c = omega (arith, lt-of-found (function (c .before .before .before .before .before) .parent) (c .before .before .before .before .before .before .before .before .before .before .before .loop .buses) (c .before .before .before .before .before .before .before .before .before .before .before .loop .levels) _ (level c), c .before .before .before .before .before .before .before .before .before .before .before .loop .inv .0)
 
 -- a function that is in its place
@@ -68,7 +69,7 @@ placed : (c : tie.Else1 Inv-loop μ-loop)
 placed c = sym (c .before .unplaced .ensures) ∙ c .if1 .left
 
 -- has a level after its own
-shallow : (c : tie.Else1 Inv-loop μ-loop) → c .before .before .before .i .given .0 .0 ≤ 16
+shallow : (c : tie.Else1 Inv-loop μ-loop) → c .before .before .before .i .given .0 .0 ≤ mostAbove
 shallow c = shallow-of-placed _ _ _ (function (c .before .before .before .before .before .before .before)) (placed c)
 
 loop-holds : tie.Need-loop-holds Inv-loop μ-loop
