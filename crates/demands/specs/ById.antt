@@ -9,6 +9,7 @@ use Rattle.pairs.specs.declared.ConfigKind.{ConfigKind}
 use Rattle.pairs.specs.declared.ConfigKind.the-variants.{CfgRd0, CfgWr0, CfgRd1, CfgWr1}
 use Rattle.packet.specs.declared.Packet.{Packet}
 use Rattle.packet.specs.declared.Packet.the-variants.{Memory, Io, Config, Completion}
+use Rattle.records.specs.Limits.{mostAbove}
 use Rattle.board.specs.Board.{functionsOf}
 use Rattle.planned.specs.ById.{HasIdAsNumbered}
 use Rattle.board.specs.ToPlacing.{devfnOf}
@@ -89,6 +90,6 @@ pub record RoutedById (b t header : List ℕ) (p : Packet) (id : ℕ) : Type 0 w
   -- the walk crosses exactly the bridges above the function, those and no others, the uppermost first
   pub crosses-exactly : (k count : ℕ) (q : Packet) → routeOf header t ≡ Delivered k count q
       → (bridges : List ℕ) → Crosses p t bridges k ↔ (bridges ≡ reverse (bridgesAbove b k))
-  -- and their number, at most 16, is the one reported
+  -- and their number, at most 16 (`mostAbove`), is the one reported
   pub count-reported : (k count : ℕ) (q : Packet) → routeOf header t ≡ Delivered k count q
-      → (count ≡ length (bridgesAbove b k)) × (count ≤ 16)
+      → (count ≡ length (bridgesAbove b k)) × (count ≤ mostAbove)

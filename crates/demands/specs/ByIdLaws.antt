@@ -234,7 +234,7 @@ module _ (b room : List ℕ) (n : ℕ) (bytes : Bytes b) (planned : planning b (
               let way = crosses k (arrived-of answered k count q e .has-id) in
               (λ trail. trail-unique _ _ _ _ _ _ trail way .0, λ those. rw those way);
           count-reported =
-              λ k count q e. let c = arrived-of answered k count q e .count-is in (c, omega (arith, sheet .at-most-16-above k));
+              λ k count q e. let c = arrived-of answered k count q e .count-is in (c, omega (arith, sheet .not-too-deep k));
         }
 
 -- ## The theorem

@@ -85,23 +85,6 @@ pub fn registers(sheet: &[u8], id: u16) -> &[u8]
     }
 }
 
-// The same, with the number: 0 where the part is not empty.
-pub fn registers_and_number<'a>(sheet: &'a [u8], id: u16, number: &mut u8) -> &'a [u8]
-    ensures part { λ r. ⌜ now r ≡ registerBytes (lookupOf (now (sheet .entry)) id) (now (sheet .entry)) ⌝ }
-    ensures number { λ _. ⌜ now (number .exit) ≡ lookupNumber (lookupOf (now (sheet .entry)) id) ⌝ }
-{
-    match find(sheet, id) {
-        Lookup::Registers(at) => {
-            *number = 0;
-            &sheet[at..at + places::REGISTERS_SIZE]
-        }
-        Lookup::Refused(n) => {
-            *number = n;
-            &sheet[0..0]
-        }
-    }
-}
-
 // Rewrites the command word of the function with this ID, and no other byte. Refused, by the same numbers, it changes nothing.
 pub fn set_command(sheet: &mut [u8], id: u16, command: u16) -> u8
     ensures number { λ r. ⌜ r ≡ lookupNumber (lookupOf (now (sheet .entry)) id) ⌝ }

@@ -1,7 +1,7 @@
 -- `board_feed::Tally::number` meets its contract. Assumes nothing.
 use Prim.Native.Nat.{_+_}
 use borrow.Author.Tests.{lt-ltb, le-ltb}
-use Rattle.board.specs.Board.{mostFunctions}
+use Rattle.records.specs.Limits.{mostFunctions}
 use Rattle.board_feed.specs.Tally.{wholeNumber}
 use Rattle.board_feed.proofs.Tally.number.Statement.{statement}
 use Rattle.board_feed.proofs.Tally.number.Tie as tie
