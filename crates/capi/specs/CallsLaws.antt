@@ -26,8 +26,9 @@ use Rattle.numbers.specs.Parsing.{onPair, packetOf}
 use Rattle.numbers.specs.Fields.{fieldsOf, checked, checked-fields}
 use Rattle.tlp.specs.declared.Writing.{Writing}
 use Rattle.tlp.specs.declared.Writing.the-variants.{Written, Refused as NotWritten}
-use Rattle.tlp.specs.LayoutLaws.{size-of-lawful}
-use Rattle.tlp.specs.Writing.{size, writeOf, roomAfter}
+use Rattle.tlp_layout.specs.Layout.{size}
+use Rattle.tlp_layout.specs.LayoutLaws.{size-of-lawful}
+use Rattle.tlp.specs.Writing.{writeOf, roomAfter}
 use Rattle.sheet.specs.declared.Found.{Found}
 use Rattle.sheet.specs.declared.Found.the-variants.{At, Nothing}
 use Rattle.sheet.specs.declared.Lookup.the-variants.{Refused as NotFound}

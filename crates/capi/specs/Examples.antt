@@ -10,8 +10,9 @@ use Rattle.packet.specs.Rules.{reservedSet, fixedWrong, upperZero, enablesWrong
 use Rattle.packet.specs.Verdict.{onRules, onFields, verdictOf}
 use Rattle.numbers.specs.Numbers.{numbersOf}
 use Rattle.numbers.specs.Parsing.{kinds, kindAt, anyAbove, headFrom, enablesFrom, onKind, fromKind, packetOf}
-use Rattle.tlp.specs.Layout.{frontBytes, requestBytes, addressBytes, layout}
-use Rattle.tlp.specs.Reading.{headAt, enablesAt, addressAt, unnamed, judged, readOf}
+use Rattle.tlp_layout.specs.Layout.{frontBytes, requestBytes, addressBytes, layout}
+use Rattle.tlp_fields.specs.Fields.{headAt, enablesAt, addressAt, unnamed}
+use Rattle.tlp.specs.Reading.{judged, readOf}
 use Rattle.tlp.specs.Writing.{writeOf, roomAfter}
 use Rattle.bar.specs.Bar.{sizeFrom, sized, ioSlot, narrowSlot, wideSlot, slotHere, slots}
 use Rattle.bar.specs.Values.{isBarValue, valuesFit}

@@ -25,9 +25,11 @@ use Rattle.numbers.specs.declared.Parsed.the-variants.{Accepted as Taken, Refus
 use Rattle.numbers.specs.Parsing.{kindAt, byAddress, byTarget, completing, anyAbove, packetAs, onPair, onKind, fromKind, packetOf}
 use Rattle.tlp.specs.declared.Reading.{Reading}
 use Rattle.tlp.specs.declared.Reading.the-variants.{Accepted, Refused as NotRead}
-use Rattle.tlp.specs.Reading.{unnamed, unnamedTarget, unnamedLower, judged, readAs, readPair, readOf}
+use Rattle.tlp_fields.specs.Fields.{unnamed, unnamedTarget, unnamedLower}
+use Rattle.tlp.specs.Reading.{judged, readAs, readPair, readOf}
 use Rattle.tlp.specs.declared.Writing.the-variants.{Written, Refused as NotWritten}
-use Rattle.tlp.specs.Writing.{size, writeAs, writeOf}
+use Rattle.tlp_layout.specs.Layout.{size}
+use Rattle.tlp.specs.Writing.{writeAs, writeOf}
 use Rattle.walk.specs.Registers.{bar, window}
 use Rattle.walk.specs.Tally.{Tally, none, one, several}
 use Rattle.walk.specs.Walk.{settle, walkOver, walkFrom}

@@ -26,7 +26,8 @@ use Rattle.tlp.specs.declared.Reading.the-variants.{Accepted, Refused as NotRea
 use Rattle.tlp.specs.declared.Writing.{Writing}
 use Rattle.tlp.specs.declared.Writing.the-variants.{Written, Refused as NotWritten}
 use Rattle.tlp.specs.Reading.{readOf}
-use Rattle.tlp.specs.Writing.{size, writeOf, roomAfter}
+use Rattle.tlp_layout.specs.Layout.{size}
+use Rattle.tlp.specs.Writing.{writeOf, roomAfter}
 use Rattle.tlp.specs.RoundTrip.{read-write, write-read, read-lawful}
 use Rattle.capi.specs.Answers.{returned, filled}
 use Rattle.capi.specs.Numbered.{Given, given-of-zero, numbered-read, numbered-write}

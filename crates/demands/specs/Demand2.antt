@@ -13,7 +13,8 @@ use Rattle.packet.specs.Verdict.{verdictOf}
 use Rattle.tlp.specs.declared.Reading.the-variants.{Accepted}
 use Rattle.tlp.specs.declared.Writing.the-variants.{Written}
 use Rattle.tlp.specs.Reading.{readOf}
-use Rattle.tlp.specs.Writing.{size, writeOf, roomAfter}
+use Rattle.tlp_layout.specs.Layout.{size}
+use Rattle.tlp.specs.Writing.{writeOf, roomAfter}
 use Rattle.tlp.specs.RoundTrip.{read-write, write-read, lawful-read-iff}
 
 pub record Demand2 : Type 0 where

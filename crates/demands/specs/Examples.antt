@@ -11,7 +11,8 @@ use Rattle.packet.specs.Fields.{headOf}
 use Rattle.packet.specs.Rules.{reservedSet, fixedWrong, upperZero, enablesWrong, crossesPage, statusWrong, fromRule5, fromRule6, fromRule7, fromRule8, fromRule9, ruleNumber}
 use Rattle.tlp.specs.declared.Reading.{Reading}
 use Rattle.tlp.specs.declared.Reading.the-variants.{Accepted, Refused}
-use Rattle.tlp.specs.Reading.{numberOf as readingNumber, headAt, enablesAt, addressAt, unnamed, judged, readOf}
+use Rattle.tlp_fields.specs.Fields.{headAt, enablesAt, addressAt, unnamed}
+use Rattle.tlp.specs.Reading.{numberOf as readingNumber, judged, readOf}
 use Rattle.records.specs.Records.{nextOf, partsOver, partsOf, anyPart}
 use Rattle.lists.specs.Lists.{keep, any}
 use Rattle.placing.specs.Align.{alignUp}

@@ -9,7 +9,8 @@ use Rattle.pairs.specs.Pairs.{table, first, findPair, pairOf}
 use Rattle.packet.specs.Rules.{reservedSet, fixedWrong, upperZero, enablesWrong, crossesPage, statusWrong, fromRule5, fromRule6, fromRule7, fromRule8, fromRule9, ruleNumber}
 use Rattle.tlp.specs.declared.Reading.{Reading}
 use Rattle.tlp.specs.declared.Reading.the-variants.{Accepted, Refused as NotRead}
-use Rattle.tlp.specs.Reading.{headAt, enablesAt, addressAt, targetAt, outcomeAt, unnamed, unnamedTarget, unnamedLower, judged, readOf}
+use Rattle.tlp_fields.specs.Fields.{headAt, enablesAt, addressAt, targetAt, outcomeAt, unnamed, unnamedTarget, unnamedLower}
+use Rattle.tlp.specs.Reading.{judged, readOf}
 use Rattle.bar.specs.Bar.{sizeFrom, sized, ioSlot, narrowSlot, wideSlot, slotHere, slots}
 use Rattle.bar.specs.Values.{isBarValue, valuesFit}
 use Rattle.window.specs.Window.{closed, start, stop, isNibbled}

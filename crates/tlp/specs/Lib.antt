@@ -1,10 +1,6 @@
--- The header codec: document 01's layout, reading and writing.
-pub mod Layout
+-- The header codec: document 01's reading and writing.
 pub mod Reading
 pub mod Writing
-pub mod LayoutLaws
 pub mod WritingLaws
-pub mod FieldsLaws
-pub mod LayoutBytes
 pub mod ReadingLaws
 pub mod RoundTrip

@@ -12,7 +12,8 @@ use Rattle.lists.specs.BoolLaws.{false-of-or}
 use Rattle.endian.specs.Endian.{Bytes, be}
 use Rattle.pairs.specs.declared.Row.{Row}
 use Rattle.pairs.specs.declared.Kind.{Kind}
-use Rattle.pairs.specs.declared.Kind.the-variants.{Memory as MemoryKind, Io as IoKind, Config as ConfigKind, Completion as CompletionKind, Msg, MsgD, FetchAdd, Swap, Cas}
+use Rattle.pairs.specs.declared.Kind.the-variants.{Memory as MemoryKind, Io as IoKind, Config as ConfigKind, Completion as CompletionKind}
+use Rattle.pairs.specs.declared.Kind.the-variants.{Msg, MsgD, FetchAdd, Swap, Cas}
 use Rattle.pairs.specs.declared.CompletionKind.{CompletionKind as Completing}
 use Rattle.pairs.specs.declared.CompletionKind.the-variants.{Cpl, CplD, CplLk, CplDLk}
 use Rattle.pairs.specs.declared.Pair.{Pair}
@@ -29,15 +30,19 @@ use Rattle.packet.specs.Widths.{lengthIn, lengthFits, enablesFit, addressFits, 
 use Rattle.packet.specs.WidthsLaws.{and-intro, FieldsFit, fields-fit-intro, fields-fit-elim}
 use Rattle.packet.specs.Rules.{reservedSet, fixedWrong, fromRule6, fromRule5, ruleNumber}
 use Rattle.packet.specs.Verdict.{verdictOf}
-use Rattle.packet.specs.VerdictLaws.{lawful-intro, lawful-elim, RequestBounds, memory-of-lawful, io-of-lawful, config-of-lawful, completion-of-lawful}
+use Rattle.packet.specs.VerdictLaws.{lawful-intro, lawful-elim, RequestBounds, memory-of-lawful, io-of-lawful, config-of-lawful}
+use Rattle.packet.specs.VerdictLaws.{completion-of-lawful}
 use Rattle.tlp.specs.declared.Reading.the-variants.{Accepted, Refused}
-use Rattle.tlp.specs.Layout.{frontBytes, requestBytes, addressBytes, targetBytes, completionBytes, bodyBytes, layout}
-use Rattle.tlp.specs.LayoutLaws.{form-of-lawful, size-of-lawful, layout-carried, length-layout}
-use Rattle.tlp.specs.Reading.{codeAt, lengthOf, completionLength, headAt, requestHeadAt, completionHeadAt, enablesAt, addressAt, targetAt, outcomeAt, unnamed, unnamedTarget, unnamedLower, judged, readAs, readPair, readOf}
-use Rattle.tlp.specs.Writing.{size}
-use Rattle.tlp.specs.FieldsLaws.{unnamed-front, requestHeadAt-request, enablesAt-request, addressAt-address, targetAt-target, unnamed-target, outcomeAt-completion, unnamed-completion, completionHeadAt-completion}
-use Rattle.tlp.specs.FieldsLaws.{append-take, frontBytes-headAt, requestBytes-requestHeadAt, addressBytes-addressAt, targetBytes-targetAt, completionBytes-completionHeadAt}
-use Rattle.tlp.specs.FieldsLaws.{requestHeadAt-fits, completionHeadAt-fits, enablesAt-fits, addressAt-fits, targetAt-fits, outcomeAt-fits, lengthOf-fits, code-of-length, code-of-completion}
+use Rattle.tlp_layout.specs.Layout.{frontBytes, requestBytes, addressBytes, targetBytes, completionBytes, bodyBytes, layout, size}
+use Rattle.tlp_layout.specs.LayoutLaws.{form-of-lawful, size-of-lawful, layout-carried, length-layout}
+use Rattle.tlp_fields.specs.Fields.{codeAt, lengthOf, completionLength, headAt, requestHeadAt, completionHeadAt, enablesAt, addressAt}
+use Rattle.tlp_fields.specs.Fields.{targetAt, outcomeAt, unnamed, unnamedTarget, unnamedLower}
+use Rattle.tlp.specs.Reading.{judged, readAs, readPair, readOf}
+use Rattle.tlp_fields.specs.FieldsLaws.{unnamed-front, requestHeadAt-request, enablesAt-request, addressAt-address, targetAt-target}
+use Rattle.tlp_fields.specs.FieldsLaws.{unnamed-target, outcomeAt-completion, unnamed-completion, completionHeadAt-completion, append-take}
+use Rattle.tlp_fields.specs.FieldsLaws.{frontBytes-headAt, requestBytes-requestHeadAt, addressBytes-addressAt, targetBytes-targetAt}
+use Rattle.tlp_fields.specs.FieldsLaws.{completionBytes-completionHeadAt, requestHeadAt-fits, completionHeadAt-fits, enablesAt-fits}
+use Rattle.tlp_fields.specs.FieldsLaws.{addressAt-fits, targetAt-fits, outcomeAt-fits, lengthOf-fits, code-of-length, code-of-completion}
 
 -- ## A lawful packet is read back from its layout
 
@@ -54,7 +59,8 @@ addressed-read make row h e a t b length form fits rules =
     let head = requestHeadAt-request row h e b (addressBytes h a ++ t) length in
     let enables = enablesAt-request row h e b (addressBytes h a ++ t) in
     let address = addressAt-address row h e t a form fits in
-    judged-intro _ _ _ (unnamed-front row h (b .head) (requestBytes h e ++ (addressBytes h a ++ t))) (λ i. make (head i) (enables i) (address i)) rules
+    let clean = unnamed-front row h (b .head) (requestBytes h e ++ (addressBytes h a ++ t)) in
+    judged-intro _ _ _ clean (λ i. make (head i) (enables i) (address i)) rules
 
 read-as-layout : (row : Row) (p : Packet) (rest : List ℕ) → verdictOf p ≡ Lawful row
     → readAs (kindOf p) (headOf p .form) (frontBytes row (headOf p) ++ (bodyBytes p ++ rest)) ≡ Accepted p
@@ -63,12 +69,14 @@ read-as-layout row (Memory k h e a) rest lawful =
     let p = Memory k h e a in
     let l = lawful-elim row p lawful in
     let b = memory-of-lawful row k h e a lawful in
-    rw append-assoc (addressed-read (Memory k) row h e a rest (b .0) (fields-fit-elim p (l .fits) .length) (form-of-lawful row p lawful) (b .1) (l .rules))
+    let length = fields-fit-elim p (l .fits) .length in
+    rw append-assoc (addressed-read (Memory k) row h e a rest (b .0) length (form-of-lawful row p lawful) (b .1) (l .rules))
 read-as-layout row (Io k h e a) rest lawful =
     let p = Io k h e a in
     let l = lawful-elim row p lawful in
     let b = io-of-lawful row k h e a lawful in
-    rw append-assoc (addressed-read (Io k) row h e a rest (b .0) (fields-fit-elim p (l .fits) .length) (form-of-lawful row p lawful) (b .1) (l .rules))
+    let length = fields-fit-elim p (l .fits) .length in
+    rw append-assoc (addressed-read (Io k) row h e a rest (b .0) length (form-of-lawful row p lawful) (b .1) (l .rules))
 read-as-layout row (Config k h e t) rest lawful =
     let p = Config k h e t in
     let l = lawful-elim row p lawful in
@@ -76,7 +84,8 @@ read-as-layout row (Config k h e t) rest lawful =
     let head = requestHeadAt-request row h e (b .0) (targetBytes t ++ rest) (fields-fit-elim p (l .fits) .length) in
     let enables = enablesAt-request row h e (b .0) (targetBytes t ++ rest) in
     let target = targetAt-target row h e rest t (b .2) (b .1) in
-    let clean = ap₂ _||_ (unnamed-front row h (b .0 .head) (requestBytes h e ++ (targetBytes t ++ rest))) (unnamed-target row h e rest t (b .2)) in
+    let front = unnamed-front row h (b .0 .head) (requestBytes h e ++ (targetBytes t ++ rest)) in
+    let clean = ap₂ _||_ front (unnamed-target row h e rest t (b .2)) in
     rw append-assoc (judged-intro _ _ _ clean (λ i. Config k (head i) (enables i) (target i)) (l .rules))
 read-as-layout row (Completion k h o) rest lawful =
     let p = Completion k h o in
@@ -137,7 +146,8 @@ unfolding readOf
 row-read s p = on-length (ltb (length s) 12) refl
   where
     on-form : (row : Row) → pairOf (getD s 0 0) ≡ Carried row → 12 ≤ length s
-        → (b : Bool) → ltb (length s) (4 * row .form) ≡ b → cond b (Refused 1) (readAs (kindNamed (row .name)) (row .form) s) ≡ Accepted p → RowRead s p
+        → (b : Bool) → ltb (length s) (4 * row .form) ≡ b
+        → cond b (Refused 1) (readAs (kindNamed (row .name)) (row .form) s) ≡ Accepted p → RowRead s p
     on-form row pair twelve true t e = refused-not-accepted e
     on-form row pair twelve false t e = record { row = row; pair = pair; twelve = twelve; whole = ltb-false _ _ t; by-kind = e }
 
@@ -167,7 +177,8 @@ pub record WrittenBack (s : List ℕ) (p : Packet) : Type 0 where
   pub whole : size p ≤ length s
   pub bytes : layout p ≡ take (size p) s
 
-module _ (s : List ℕ) (bytes : Bytes s) (row : Row) (c : CarriedRow row) (pair : row .byte ≡ getD s 0 0) (whole : 4 * row .form ≤ length s) where
+module _ (s : List ℕ) (bytes : Bytes s) (row : Row) (c : CarriedRow row)
+    (pair : row .byte ≡ getD s 0 0) (whole : 4 * row .form ≤ length s) where
   three-le-form : 3 ≤ row .form
   three-le-form = omega (arith, c .form-fmt)
 
@@ -188,15 +199,19 @@ module _ (s : List ℕ) (bytes : Bytes s) (row : Row) (c : CarriedRow row) (pair
 
   request-front : unnamed s ≡ false → frontBytes row (requestHeadAt (row .form) s) ≡ take 4 s
   request-front clean =
-      frontBytes-headAt s bytes row (row .form) (lengthOf (codeAt s)) (be 2 s 4) (getD s 6 0) (omega (arith, three-le-form)) clean pair (code-of-length s bytes)
+      let code = code-of-length s bytes in
+      let four : 4 ≤ length s = omega (arith, three-le-form) in
+      frontBytes-headAt s bytes row (row .form) (lengthOf (codeAt s)) (be 2 s 4) (getD s 6 0) four clean pair code
 
   completion-front : (k : Completing) → unnamed s ≡ false → frontBytes row (completionHeadAt k (row .form) s) ≡ take 4 s
   completion-front k clean =
-      frontBytes-headAt s bytes row (row .form) (completionLength k (codeAt s)) (be 2 s 8) (getD s 10 0) (omega (arith, three-le-form)) clean pair (code-of-completion s bytes k)
+      let code = code-of-completion s bytes k in
+      let four : 4 ≤ length s = omega (arith, three-le-form) in
+      frontBytes-headAt s bytes row (row .form) (completionLength k (codeAt s)) (be 2 s 8) (getD s 10 0) four clean pair code
 
   -- memory and I/O requests alike
-  request-body : requestBytes (requestHeadAt (row .form) s) (enablesAt s) ++ addressBytes (requestHeadAt (row .form) s) (addressAt (row .form) s)
-      ≡ take (4 * row .form - 4) (drop 4 s)
+  request-body : let h = requestHeadAt (row .form) s in
+      requestBytes h (enablesAt s) ++ addressBytes h (addressAt (row .form) s) ≡ take (4 * row .form - 4) (drop 4 s)
   unfolding headAt
   request-body =
       let low = three-le-form in
@@ -211,16 +226,21 @@ module _ (s : List ℕ) (bytes : Bytes s) (row : Row) (c : CarriedRow row) (pair
   request-fits = and-intro _ _ (enablesAt-fits s bytes) (addressAt-fits s bytes (requestHeadAt (row .form) s))
 
   -- Cpl and CplLk have no Length by rule 5
-  completion-length-fits : (k : Completing) → let p = Completion k (completionHeadAt k (row .form) s) (outcomeAt s) in ruleNumber p ≡ 0 → lengthFits p ≡ true
+  completion-length-fits : (k : Completing)
+      → let p = Completion k (completionHeadAt k (row .form) s) (outcomeAt s) in ruleNumber p ≡ 0 → lengthFits p ≡ true
   unfolding lengthFits fixedWrong headAt
   completion-length-fits Cpl rules = not-false _ (fixed-right (Completion Cpl (completionHeadAt Cpl (row .form) s) (outcomeAt s)) rules)
   completion-length-fits CplD rules = lengthOf-fits s bytes
-  completion-length-fits CplLk rules = not-false _ (fixed-right (Completion CplLk (completionHeadAt CplLk (row .form) s) (outcomeAt s)) rules)
+  completion-length-fits CplLk rules =
+      not-false _ (fixed-right (Completion CplLk (completionHeadAt CplLk (row .form) s) (outcomeAt s)) rules)
   completion-length-fits CplDLk rules = lengthOf-fits s bytes
 
   -- the reader's packet q is the one that it answered with
-  judged-back : (stray : Bool) (q p : Packet) → judged stray q ≡ Accepted p → (stray ≡ false → ruleNumber q ≡ 0 → WrittenBack s q) → WrittenBack s p
-  judged-back stray q p e back = let j = judged-elim stray q p e in subst (λ (x : Packet). WrittenBack s x) (j .same) (back (j .clean) (j .rules))
+  judged-back : (stray : Bool) (q p : Packet) → judged stray q ≡ Accepted p
+      → (stray ≡ false → ruleNumber q ≡ 0 → WrittenBack s q) → WrittenBack s p
+  judged-back stray q p e back =
+      let j = judged-elim stray q p e in
+      subst (λ (x : Packet). WrittenBack s x) (j .same) (back (j .clean) (j .rules))
 
   three-dwords : {body : List ℕ} → row .form ≡ 3 → body ≡ take 8 (drop 4 s) → body ≡ take (4 * row .form - 4) (drop 4 s)
   three-dwords form body = body ∙ ap (λ (n : ℕ). take (4 * n - 4) (drop 4 s)) (sym form)
@@ -229,11 +249,13 @@ module _ (s : List ℕ) (bytes : Bytes s) (row : Row) (c : CarriedRow row) (pair
   unfolding headAt lengthFits bodyFits
   read-as-back p (MemoryKind k) kind e =
       let q = Memory k (requestHeadAt (row .form) s) (enablesAt s) (addressAt (row .form) s) in
-      let fits : FieldsFit q = record { head = requestHeadAt-fits s bytes (row .form); length = lengthOf-fits s bytes; body = request-fits } in
+      let head = requestHeadAt-fits s bytes (row .form) in
+      let fits : FieldsFit q = record { head = head; length = lengthOf-fits s bytes; body = request-fits } in
       judged-back (unnamed s) q p e (λ clean rules. written-back q kind refl fits rules (request-front clean) request-body)
   read-as-back p (IoKind k) kind e =
       let q = Io k (requestHeadAt (row .form) s) (enablesAt s) (addressAt (row .form) s) in
-      let fits : FieldsFit q = record { head = requestHeadAt-fits s bytes (row .form); length = lengthOf-fits s bytes; body = request-fits } in
+      let head = requestHeadAt-fits s bytes (row .form) in
+      let fits : FieldsFit q = record { head = head; length = lengthOf-fits s bytes; body = request-fits } in
       judged-back (unnamed s) q p e (λ clean rules. written-back q kind refl fits rules (request-front clean) request-body)
   read-as-back p (ConfigKind k) kind e =
       let form : row .form ≡ 3 = forms-of-kind c kind in
@@ -243,7 +265,8 @@ module _ (s : List ℕ) (bytes : Bytes s) (row : Row) (c : CarriedRow row) (pair
       judged-back (unnamed s || unnamedTarget s) q p e
       (λ clean rules.
       let each = false-of-or (unnamed s) (unnamedTarget s) clean in
-      let body = append-take 4 4 s 4 (requestBytes-requestHeadAt s bytes (row .form) (omega arith)) (targetBytes-targetAt s bytes (omega arith) (each .1)) in
+      let request = requestBytes-requestHeadAt s bytes (row .form) (omega arith) in
+      let body = append-take 4 4 s 4 request (targetBytes-targetAt s bytes (omega arith) (each .1)) in
       written-back q kind refl fits rules (request-front (each .0)) (three-dwords form body))
   read-as-back p (CompletionKind k) kind e =
       let form : row .form ≡ 3 = forms-of-kind c kind in
@@ -251,7 +274,8 @@ module _ (s : List ℕ) (bytes : Bytes s) (row : Row) (c : CarriedRow row) (pair
       judged-back (unnamed s || unnamedLower s) q p e
       (λ clean rules.
       let each = false-of-or (unnamed s) (unnamedLower s) clean in
-      let fits : FieldsFit q = record { head = completionHeadAt-fits s bytes k (row .form); length = completion-length-fits k rules; body = outcomeAt-fits s bytes } in
+      let head = completionHeadAt-fits s bytes k (row .form) in
+      let fits : FieldsFit q = record { head = head; length = completion-length-fits k rules; body = outcomeAt-fits s bytes } in
       let body = completionBytes-completionHeadAt s bytes k (row .form) (omega arith) (each .1) in
       written-back q kind refl fits rules (completion-front k (each .0)) (three-dwords form body))
   read-as-back p Msg kind e = refused-not-accepted e

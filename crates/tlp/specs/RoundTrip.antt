@@ -14,11 +14,11 @@ use Rattle.packet.specs.declared.Verdict.the-variants.{Lawful, Refused as Unlaw
 use Rattle.packet.specs.Verdict.{verdictOf}
 use Rattle.tlp.specs.declared.Reading.the-variants.{Accepted}
 use Rattle.tlp.specs.declared.Writing.the-variants.{Written}
-use Rattle.tlp.specs.Layout.{layout}
-use Rattle.tlp.specs.LayoutBytes.{bytes-layout}
+use Rattle.tlp_layout.specs.Layout.{layout, size}
+use Rattle.tlp_layout.specs.LayoutBytes.{bytes-layout}
 use Rattle.tlp.specs.Reading.{readOf}
 use Rattle.tlp.specs.ReadingLaws.{read-layout, layout-read}
-use Rattle.tlp.specs.Writing.{size, writeAs, writeOf, roomAfter}
+use Rattle.tlp.specs.Writing.{writeAs, writeOf, roomAfter}
 use Rattle.tlp.specs.WritingLaws.{outcome-written}
 
 -- ## What is written is read, and what is read is written

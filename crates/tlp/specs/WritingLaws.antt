@@ -12,9 +12,9 @@ use Rattle.packet.specs.declared.Verdict.the-variants.{Lawful, Refused as Unlaw
 use Rattle.packet.specs.Verdict.{verdictOf}
 use Rattle.tlp.specs.declared.Writing.{Writing}
 use Rattle.tlp.specs.declared.Writing.the-variants.{Written, Refused}
-use Rattle.tlp.specs.Layout.{layout}
-use Rattle.tlp.specs.LayoutLaws.{length-layout}
-use Rattle.tlp.specs.Writing.{size, writeOf, roomAfter}
+use Rattle.tlp_layout.specs.Layout.{layout, size}
+use Rattle.tlp_layout.specs.LayoutLaws.{length-layout}
+use Rattle.tlp.specs.Writing.{writeOf, roomAfter}
 
 -- the answer and the room afterwards, together
 abbrev pub Outcome : Packet → List ℕ → Writing → List ℕ → Type 0
@@ -24,7 +24,8 @@ pub outcome-unlawful : (p : Packet) (room : List ℕ) (n : ℕ) → verdictOf p 
 unfolding writeOf roomAfter
 outcome-unlawful p room n v = (rw v, rw v)
 
-pub outcome-short : (row : Row) (p : Packet) (room : List ℕ) → verdictOf p ≡ Lawful row → length room < size p → Outcome p room (Refused 11) room
+pub outcome-short : (row : Row) (p : Packet) (room : List ℕ) → verdictOf p ≡ Lawful row → length room < size p
+    → Outcome p room (Refused 11) room
 unfolding writeOf roomAfter
 outcome-short row p room v h = (rw (v, lt-ltb _ _ h), rw (v, lt-ltb _ _ h))
 

@@ -1,20 +1,15 @@
 // The header codec: any bytes are read as a packet or refused by number, and a packet is written as
 // the layout's bytes or refused by number.
-mod fields;
-mod room;
-
 ghost use mathlib.Core.Path.{_≡_};
 ghost use Prim.Native.Nat.{_≤_, _*_};
 ghost use lib.ListN.{length};
 ghost use Rattle.pairs.specs.declared.Kind.the-variants.{Memory, Io, Config, Completion};
 ghost use Rattle.pairs.specs.declared.Pair.the-variants.{Carried};
 ghost use Rattle.tlp.specs.Reading.{numberOf as readingNumber, readOf, readPair, readAs, judged};
-ghost use Rattle.tlp.specs.Layout.{bodyBytes};
-ghost use Rattle.tlp.specs.Writing.{numberOf as writingNumber, writeOf, roomAfter, size};
+ghost use Rattle.tlp.specs.Writing.{numberOf as writingNumber, writeOf, roomAfter};
 ghost use Rattle.packet.specs.Rules.{ruleNumber};
 ghost use Rattle.packet.specs.Verdict.{verdictOf};
 ghost use Rattle.packet.specs.declared.Verdict.the-variants.{Lawful};
-ghost use lib.Seq.{sets};
 use packet::Packet;
 use packet::Verdict;
 use pairs::CompletionKind;
@@ -75,6 +70,17 @@ pub fn read(header: &[u8]) -> Reading
     }
 }
 
+// Writes the packet's 12 or 16 bytes at the front of the room and nothing past them. A refused
+// packet leaves the room as it was.
+pub fn write(p: Packet, room: &mut [u8]) -> Writing
+    ensures { λ r. ⌜ (r ≡ writeOf p (length (now (room .entry)))) × (now (room .exit) ≡ roomAfter p (now (room .entry))) ⌝ }
+{
+    match packet::judge(p) {
+        Verdict::Refused(n) => Writing::Refused(n),
+        Verdict::Lawful(row) => write_lawful(row, p, room),
+    }
+}
+
 fn read_row(row: Row, s: &[u8]) -> Reading
     requires { ⌜ 12 ≤ length (now s) ⌝ }
     ensures { λ r. ⌜ r ≡ readPair (Carried row) (now (s .entry)) ⌝ }
@@ -85,12 +91,6 @@ fn read_row(row: Row, s: &[u8]) -> Reading
         return Reading::Refused(1);
     }
     read_as(pairs::kind_named(name), form, s)
-}
-
-fn size_of(form: u8) -> usize
-    ensures { λ r. ⌜ r ≡ 4 * form ⌝ }
-{
-    4 * (form as usize)
 }
 
 fn read_as(kind: Kind, form: u8, s: &[u8]) -> Reading
@@ -116,10 +116,10 @@ fn read_memory(k: MemoryKind, form: u8, s: &[u8]) -> Reading
     requires { ⌜ (12 ≤ length (now s)) × (4 * form ≤ length (now s)) ⌝ }
     ensures { λ r. ⌜ r ≡ readAs (Memory k) form (now (s .entry)) ⌝ }
 {
-    let h = fields::request_head_at(form, s);
-    let e = fields::enables_at(s);
-    let a = fields::address_at(form, s);
-    let stray = fields::unnamed(s);
+    let h = tlp_fields::request_head_at(form, s);
+    let e = tlp_fields::enables_at(s);
+    let a = tlp_fields::address_at(form, s);
+    let stray = tlp_fields::unnamed(s);
     let n = packet::memory_rules(h, e, a);
     judge(stray, n, Packet::Memory(k, h, e, a))
 }
@@ -128,10 +128,10 @@ fn read_io(k: IoKind, form: u8, s: &[u8]) -> Reading
     requires { ⌜ (12 ≤ length (now s)) × (4 * form ≤ length (now s)) ⌝ }
     ensures { λ r. ⌜ r ≡ readAs (Io k) form (now (s .entry)) ⌝ }
 {
-    let h = fields::request_head_at(form, s);
-    let e = fields::enables_at(s);
-    let a = fields::address_at(form, s);
-    let stray = fields::unnamed(s);
+    let h = tlp_fields::request_head_at(form, s);
+    let e = tlp_fields::enables_at(s);
+    let a = tlp_fields::address_at(form, s);
+    let stray = tlp_fields::unnamed(s);
     let n = packet::io_rules(h, e, a);
     judge(stray, n, Packet::Io(k, h, e, a))
 }
@@ -140,10 +140,10 @@ fn read_config(k: ConfigKind, form: u8, s: &[u8]) -> Reading
     requires { ⌜ 12 ≤ length (now s) ⌝ }
     ensures { λ r. ⌜ r ≡ readAs (Config k) form (now (s .entry)) ⌝ }
 {
-    let h = fields::request_head_at(form, s);
-    let e = fields::enables_at(s);
-    let t = fields::target_at(s);
-    let stray = fields::unnamed(s) | fields::unnamed_target(s);
+    let h = tlp_fields::request_head_at(form, s);
+    let e = tlp_fields::enables_at(s);
+    let t = tlp_fields::target_at(s);
+    let stray = tlp_fields::unnamed(s) | tlp_fields::unnamed_target(s);
     let n = packet::config_rules(h, e);
     judge(stray, n, Packet::Config(k, h, e, t))
 }
@@ -152,9 +152,9 @@ fn read_completion(k: CompletionKind, form: u8, s: &[u8]) -> Reading
     requires { ⌜ 12 ≤ length (now s) ⌝ }
     ensures { λ r. ⌜ r ≡ readAs (Completion k) form (now (s .entry)) ⌝ }
 {
-    let h = fields::completion_head_at(k, form, s);
-    let o = fields::outcome_at(s);
-    let stray = fields::unnamed(s) | fields::unnamed_lower(s);
+    let h = tlp_fields::completion_head_at(k, form, s);
+    let o = tlp_fields::outcome_at(s);
+    let stray = tlp_fields::unnamed(s) | tlp_fields::unnamed_lower(s);
     let n = packet::completion_rules(k, h, o);
     judge(stray, n, Packet::Completion(k, h, o))
 }
@@ -173,17 +173,6 @@ fn judge(stray: bool, n: u8, p: Packet) -> Reading
     Reading::Refused(n)
 }
 
-// Writes the packet's 12 or 16 bytes at the front of the room and nothing past them. A refused
-// packet leaves the room as it was.
-pub fn write(p: Packet, room: &mut [u8]) -> Writing
-    ensures { λ r. ⌜ (r ≡ writeOf p (length (now (room .entry)))) × (now (room .exit) ≡ roomAfter p (now (room .entry))) ⌝ }
-{
-    match packet::judge(p) {
-        Verdict::Refused(n) => Writing::Refused(n),
-        Verdict::Lawful(row) => write_lawful(row, p, room),
-    }
-}
-
 fn write_lawful(row: Row, p: Packet, room: &mut [u8]) -> Writing
     requires { ⌜ verdictOf p ≡ Lawful row ⌝ }
     ensures { λ r. ⌜ (r ≡ writeOf p (length (now (room .entry)))) × (now (room .exit) ≡ roomAfter p (now (room .entry))) ⌝ }
@@ -193,31 +182,12 @@ fn write_lawful(row: Row, p: Packet, room: &mut [u8]) -> Writing
     if room.len() < n {
         return Writing::Refused(11);
     }
-    room::put_front(row, h, room);
-    write_body(row, p, room);
+    tlp_layout::put(row, p, room);
     Writing::Written(n)
 }
 
-// Bytes 4 on.
-fn write_body(row: Row, p: Packet, room: &mut [u8])
-    requires { ⌜ (verdictOf p ≡ Lawful row) × (12 ≤ length (now room)) × (size p ≤ length (now room)) ⌝ }
-    ensures { λ _. ⌜ now (room .exit) ≡ sets (now (room .entry)) 4 (bodyBytes p) ⌝ }
+fn size_of(form: u8) -> usize
+    ensures { λ r. ⌜ r ≡ 4 * form ⌝ }
 {
-    match p {
-        Packet::Memory(_, h, e, a) => {
-            room::put_request(h, e, room);
-            room::put_address(h, a, room);
-        }
-        Packet::Io(_, h, e, a) => {
-            room::put_request(h, e, room);
-            room::put_address(h, a, room);
-        }
-        Packet::Config(_, h, e, t) => {
-            room::put_request(h, e, room);
-            room::put_target(t, room);
-        }
-        Packet::Completion(_, h, o) => {
-            room::put_completion(h, o, room);
-        }
-    }
+    4 * (form as usize)
 }

@@ -29,15 +29,22 @@ read-row-requires c κs = search needs
 
 returns-2 : tie.Need-returns-2
 unfolding readOf
-returns-2 c = rw (le-ltb _ 12 (c .before .before .before .before .if1 .left), ← c .before .before .pair-of .ensures, c .enum-told .given .1)
+returns-2 c =
+    let looked = c .before .before in
+    rw (le-ltb _ 12 (looked .before .before .if1 .left), ← looked .pair-of .ensures, c .enum-told .given .1)
 
 returns-3 : tie.Need-returns-3
 unfolding readOf
-returns-3 c = rw (le-ltb _ 12 (c .before .before .before .before .if1 .left), ← c .before .before .pair-of .ensures, c .enum-told2 .given .1)
+returns-3 c =
+    let looked = c .before .before in
+    rw (le-ltb _ 12 (looked .before .before .if1 .left), ← looked .pair-of .ensures, c .enum-told2 .given .1)
 
 returns-4 : tie.Need-returns-4
 unfolding readOf
-returns-4 c = rw (le-ltb _ 12 (c .before .before .before .before .before .before .if1 .left), ← c .before .before .before .before .pair-of .ensures, c .before .before .row .given .1) (c .read-row .ensures)
+returns-4 c =
+    let found = c .before .before in
+    let looked = found .before .before in
+    rw (le-ltb _ 12 (looked .before .before .if1 .left), ← looked .pair-of .ensures, found .row .given .1) (c .read-row .ensures)
 
 pub read-spec : {M : Type 1} → statement M
 read-spec =

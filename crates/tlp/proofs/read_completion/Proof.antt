@@ -22,7 +22,13 @@ judge-requires : tie.Need-judge-requires
 judge-requires c κs = search needs
 
 returns : tie.Need-returns
-returns c = rw (← c .before .before .before .before .before .completion-head-at .ensures, ← c .before .before .before .before .outcome-at .ensures, ← c .before .before .before .unnamed .ensures, ← c .before .before .unnamed-lower .ensures) (c .judge .ensures)
+returns c =
+    let stray = c .before .before in
+    let outcome = stray .before .before in
+    let head = outcome .before in
+    let clean = stray .before .unnamed .ensures in
+    rw (← head .completion-head-at .ensures, ← outcome .outcome-at .ensures, ← clean, ← stray .unnamed-lower .ensures)
+    (c .judge .ensures)
 
 pub read-completion-spec : {M : Type 1} → statement M
 read-completion-spec =

@@ -25,7 +25,14 @@ judge-requires : tie.Need-judge-requires
 judge-requires c κs = c .config-rules .ensures _ _
 
 returns : tie.Need-returns
-returns c = rw (← c .before .before .before .before .before .before .request-head-at .ensures, ← c .before .before .before .before .before .enables-at .ensures, ← c .before .before .before .before .target-at .ensures, ← c .before .before .before .unnamed .ensures, ← c .before .before .unnamed-target .ensures) (c .judge .ensures)
+returns c =
+    let stray = c .before .before in
+    let target = stray .before .before in
+    let enables = target .before in
+    let head = enables .before in
+    let clean = stray .before .unnamed .ensures in
+    rw (← head .request-head-at .ensures, ← enables .enables-at .ensures, ← target .target-at .ensures, ← clean)
+    (rw (← stray .unnamed-target .ensures) (c .judge .ensures))
 
 pub read-config-spec : {M : Type 1} → statement M
 read-config-spec =

@@ -22,7 +22,13 @@ judge-requires : tie.Need-judge-requires
 judge-requires c κs = c .memory-rules .ensures _
 
 returns : tie.Need-returns
-returns c = rw (← c .before .before .before .before .before .request-head-at .ensures, ← c .before .before .before .before .enables-at .ensures, ← c .before .before .before .address-at .ensures, ← c .before .before .unnamed .ensures) (c .judge .ensures)
+returns c =
+    let stray = c .before .before in
+    let address = stray .before in
+    let enables = address .before in
+    let head = enables .before in
+    rw (← head .request-head-at .ensures, ← enables .enables-at .ensures, ← address .address-at .ensures, ← stray .unnamed .ensures)
+    (c .judge .ensures)
 
 pub read-memory-spec : {M : Type 1} → statement M
 read-memory-spec =

@@ -17,7 +17,9 @@ read-as-requires : tie.Need-read-as-requires
 read-as-requires c κs = search needs
 
 returns-2 : tie.Need-returns-2
-returns-2 c = rw (← c .before .before .before .size-of .ensures, le-ltb _ _ (c .before .before .if1 .left), ← c .before .kind-named .ensures) (c .read-as .ensures)
+returns-2 c =
+    let long = c .before .before in
+    rw (← long .before .size-of .ensures, le-ltb _ _ (long .if1 .left), ← c .before .kind-named .ensures) (c .read-as .ensures)
 
 pub read-row-spec : {M : Type 1} → statement M
 read-row-spec = tie.close (tie.spec size-of-requires returns kind-named-requires read-as-requires returns-2)
