@@ -9,7 +9,8 @@ use Rattle.pairs.specs.declared.ConfigKind.the-variants.{CfgWr0}
 use Rattle.pairs.specs.declared.CompletionKind.the-variants.{CplD}
 use Rattle.packet.specs.declared.Packet.{Packet}
 use Rattle.packet.specs.declared.Packet.the-variants.{Memory, Config, Completion}
-use Rattle.labels.specs.Labels.{marksText, transactionText, headText, enablesText, targetText, countText, outcomeText, packetText}
+use Rattle.labels.specs.Labels.{marksText, transactionText, headText, enablesText, addressText}
+use Rattle.labels.specs.Labels.{targetText, countText, outcomeText, bodyText, packetText}
 
 pub record Row : Type 0 where
   pub packet : Packet
@@ -47,5 +48,19 @@ rows =
     ∷ []
 
 pub examples : map (λ r. packetText (r .packet)) rows ≡ map (λ r. ascii (r .line)) rows
-unfolding hexadecimal decimal decimalOver ascii marksText transactionText headText enablesText targetText countText outcomeText packetText
+unfolding
+  hexadecimal
+  decimal
+  decimalOver
+  ascii
+  marksText
+  transactionText
+  headText
+  enablesText
+  addressText
+  targetText
+  countText
+  outcomeText
+  bodyText
+  packetText
 examples = refl

@@ -1,17 +1,16 @@
--- A packet's text: its kind, its form in dwords, and its fields by name, in the order of document 01's header layout: what every packet has, then
--- what its kind has. Assumes nothing.
+-- A packet's text: its kind, its form in dwords, and its fields by name, in the order of document 01's header layout: what every
+-- packet has, then what its kind has. Assumes nothing.
 use Prim.Native.Nat.{ℕ}
 use mathlib.Core.Bool.{Bool, cond}
 use mathlib.Core.List.{List, _++_}
 use Prim.Native.String.{String}
 use Rattle.text.specs.Text.{ascii, decimal, hexadecimal}
-use Rattle.pairs.specs.declared.MemoryKind.{MemoryKind}
+use Rattle.pairs.specs.declared.Kind.{Kind}
+use Rattle.pairs.specs.declared.Kind.the-variants.{Memory as MemoryKind, Io as IoKind, Config as ConfigKind, Completion as CompletionKind}
+use Rattle.pairs.specs.declared.Kind.the-variants.{Msg, MsgD, FetchAdd, Swap, Cas}
 use Rattle.pairs.specs.declared.MemoryKind.the-variants.{MRd, MRdLk, MWr}
-use Rattle.pairs.specs.declared.IoKind.{IoKind}
 use Rattle.pairs.specs.declared.IoKind.the-variants.{IORd, IOWr}
-use Rattle.pairs.specs.declared.ConfigKind.{ConfigKind}
 use Rattle.pairs.specs.declared.ConfigKind.the-variants.{CfgRd0, CfgWr0, CfgRd1, CfgWr1}
-use Rattle.pairs.specs.declared.CompletionKind.{CompletionKind}
 use Rattle.pairs.specs.declared.CompletionKind.the-variants.{Cpl, CplD, CplLk, CplDLk}
 use Rattle.packet.specs.declared.Head.{Head}
 use Rattle.packet.specs.declared.Enables.{Enables}
@@ -19,6 +18,7 @@ use Rattle.packet.specs.declared.Target.{Target}
 use Rattle.packet.specs.declared.Outcome.{Outcome}
 use Rattle.packet.specs.declared.Packet.{Packet}
 use Rattle.packet.specs.declared.Packet.the-variants.{Memory, Io, Config, Completion}
+use Rattle.packet.specs.Fields.{kindOf, headOf}
 
 -- a name, and a number in decimal
 abbrev pub named : String → ℕ → List ℕ
@@ -33,26 +33,25 @@ bitOf b = cond b 1 0
 
 -- ## Kinds
 
-abbrev pub memoryWord : MemoryKind → List ℕ
-memoryWord MRd = ascii "MRd"
-memoryWord MRdLk = ascii "MRdLk"
-memoryWord MWr = ascii "MWr"
-
-abbrev pub ioWord : IoKind → List ℕ
-ioWord IORd = ascii "IORd"
-ioWord IOWr = ascii "IOWr"
-
-abbrev pub configWord : ConfigKind → List ℕ
-configWord CfgRd0 = ascii "CfgRd0"
-configWord CfgWr0 = ascii "CfgWr0"
-configWord CfgRd1 = ascii "CfgRd1"
-configWord CfgWr1 = ascii "CfgWr1"
-
-abbrev pub completionWord : CompletionKind → List ℕ
-completionWord Cpl = ascii "Cpl"
-completionWord CplD = ascii "CplD"
-completionWord CplLk = ascii "CplLk"
-completionWord CplDLk = ascii "CplDLk"
+abbrev pub kindText : Kind → List ℕ
+kindText (MemoryKind MRd) = ascii "MRd"
+kindText (MemoryKind MRdLk) = ascii "MRdLk"
+kindText (MemoryKind MWr) = ascii "MWr"
+kindText (IoKind IORd) = ascii "IORd"
+kindText (IoKind IOWr) = ascii "IOWr"
+kindText (ConfigKind CfgRd0) = ascii "CfgRd0"
+kindText (ConfigKind CfgWr0) = ascii "CfgWr0"
+kindText (ConfigKind CfgRd1) = ascii "CfgRd1"
+kindText (ConfigKind CfgWr1) = ascii "CfgWr1"
+kindText (CompletionKind Cpl) = ascii "Cpl"
+kindText (CompletionKind CplD) = ascii "CplD"
+kindText (CompletionKind CplLk) = ascii "CplLk"
+kindText (CompletionKind CplDLk) = ascii "CplDLk"
+kindText Msg = ascii "Msg"
+kindText MsgD = ascii "MsgD"
+kindText FetchAdd = ascii "FetchAdd"
+kindText Swap = ascii "Swap"
+kindText Cas = ascii "CAS"
 
 -- ## Fields
 
@@ -68,6 +67,9 @@ headText h = named " " (h .form) ++ (named "dw tc " (h .tc) ++ (named " attr " (
 unfoldable pub enablesText : Enables → List ℕ
 enablesText e = namedHexadecimal " last " 1 (e .last) ++ namedHexadecimal " first " 1 (e .first)
 
+unfoldable pub addressText : ℕ → List ℕ
+addressText a = namedHexadecimal " address " 16 a
+
 unfoldable pub targetText : Target → List ℕ
 targetText t = namedHexadecimal " target " 4 (t .id) ++ namedHexadecimal " register " 3 (t .register)
 
@@ -79,8 +81,12 @@ outcomeText o = namedHexadecimal " completer " 4 (o .completer) ++ (named " stat
 
 -- ## The packet
 
+-- what its kind has
+unfoldable pub bodyText : Packet → List ℕ
+bodyText (Memory k h e a) = enablesText e ++ addressText a
+bodyText (Io k h e a) = enablesText e ++ addressText a
+bodyText (Config k h e t) = enablesText e ++ targetText t
+bodyText (Completion k h o) = outcomeText o
+
 unfoldable pub packetText : Packet → List ℕ
-packetText (Memory k h e a) = memoryWord k ++ (headText h ++ (enablesText e ++ namedHexadecimal " address " 16 a))
-packetText (Io k h e a) = ioWord k ++ (headText h ++ (enablesText e ++ namedHexadecimal " address " 16 a))
-packetText (Config k h e t) = configWord k ++ (headText h ++ (enablesText e ++ targetText t))
-packetText (Completion k h o) = completionWord k ++ (headText h ++ outcomeText o)
+packetText p = kindText (kindOf p) ++ (headText (headOf p) ++ bodyText p)

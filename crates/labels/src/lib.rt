@@ -2,8 +2,10 @@
 // Counts and small fields are decimal; IDs, tags, byte enables, registers and addresses are
 // hexadecimal. The text stands in specs/Labels.
 ghost use mathlib.Core.Path.{_≡_};
+ghost use lib.ListN.{take};
 ghost use Rattle.text.specs.Text.{Put};
-ghost use Rattle.labels.specs.Labels.{bitOf, memoryWord, ioWord, configWord, completionWord, marksText, transactionText, headText, enablesText, targetText, countText, outcomeText, packetText};
+ghost use Rattle.labels.specs.Labels.{bitOf, kindText, marksText, transactionText, headText};
+ghost use Rattle.labels.specs.Labels.{enablesText, addressText, targetText, countText, outcomeText, bodyText, packetText};
 use packet::Enables;
 use packet::Head;
 use packet::Outcome;
@@ -12,7 +14,9 @@ use packet::Target;
 use pairs::CompletionKind;
 use pairs::ConfigKind;
 use pairs::IoKind;
+use pairs::Kind;
 use pairs::MemoryKind;
+use text::front;
 use text::put_named;
 use text::put_named_hexadecimal;
 use text::put_text;
@@ -21,71 +25,75 @@ use text::put_text;
 pub fn put_packet(out: &mut [u8], start: usize, p: Packet) -> usize
     ensures { λ r. ⌜ Put (now (out .entry)) start (packetText p) (now (out .exit)) r ⌝ }
 {
+    let mut at = put_kind(out, start, packet::kind_of(p));
+    at = put_head(out, at, packet::head_of(p));
+    put_body(out, at, p)
+}
+
+// Puts the kind's name alone.
+pub fn put_kind(out: &mut [u8], at: usize, kind: Kind) -> usize
+    ensures { λ r. ⌜ Put (now (out .entry)) at (kindText kind) (now (out .exit)) r ⌝ }
+{
+    let word = word_of(kind);
+    let count = word.0;
+    let letters = word.1;
+    put_text(out, at, front(&letters, count))
+}
+
+// A word of so many letters, with dots after them.
+struct Word(usize, [u8; 8]);
+
+fn word_of(kind: Kind) -> Word
+    ensures { λ r. ⌜ take (r .0) (r .1) ≡ kindText kind ⌝ }
+{
+    match kind {
+        Kind::Memory(k) => match k {
+            MemoryKind::MRd => Word(3, *b"MRd....."),
+            MemoryKind::MRdLk => Word(5, *b"MRdLk..."),
+            MemoryKind::MWr => Word(3, *b"MWr....."),
+        },
+        Kind::Io(k) => match k {
+            IoKind::IORd => Word(4, *b"IORd...."),
+            IoKind::IOWr => Word(4, *b"IOWr...."),
+        },
+        Kind::Config(k) => match k {
+            ConfigKind::CfgRd0 => Word(6, *b"CfgRd0.."),
+            ConfigKind::CfgWr0 => Word(6, *b"CfgWr0.."),
+            ConfigKind::CfgRd1 => Word(6, *b"CfgRd1.."),
+            ConfigKind::CfgWr1 => Word(6, *b"CfgWr1.."),
+        },
+        Kind::Completion(k) => match k {
+            CompletionKind::Cpl => Word(3, *b"Cpl....."),
+            CompletionKind::CplD => Word(4, *b"CplD...."),
+            CompletionKind::CplLk => Word(5, *b"CplLk..."),
+            CompletionKind::CplDLk => Word(6, *b"CplDLk.."),
+        },
+        Kind::Msg => Word(3, *b"Msg....."),
+        Kind::MsgD => Word(4, *b"MsgD...."),
+        Kind::FetchAdd => Word(8, *b"FetchAdd"),
+        Kind::Swap => Word(4, *b"Swap...."),
+        Kind::Cas => Word(3, *b"CAS....."),
+    }
+}
+
+// What a packet of this kind has beside its head.
+fn put_body(out: &mut [u8], start: usize, p: Packet) -> usize
+    ensures { λ r. ⌜ Put (now (out .entry)) start (bodyText p) (now (out .exit)) r ⌝ }
+{
     match p {
-        Packet::Memory(k, h, e, a) => {
-            let mut at = put_memory_kind(out, start, k);
-            at = put_head(out, at, h);
-            at = put_enables(out, at, e);
-            put_named_hexadecimal(out, at, b" address ", 16, a)
+        Packet::Memory(_, _, e, a) => {
+            let at = put_enables(out, start, e);
+            put_address(out, at, a)
         }
-        Packet::Io(k, h, e, a) => {
-            let mut at = put_io_kind(out, start, k);
-            at = put_head(out, at, h);
-            at = put_enables(out, at, e);
-            put_named_hexadecimal(out, at, b" address ", 16, a)
+        Packet::Io(_, _, e, a) => {
+            let at = put_enables(out, start, e);
+            put_address(out, at, a)
         }
-        Packet::Config(k, h, e, t) => {
-            let mut at = put_config_kind(out, start, k);
-            at = put_head(out, at, h);
-            at = put_enables(out, at, e);
+        Packet::Config(_, _, e, t) => {
+            let at = put_enables(out, start, e);
             put_target(out, at, t)
         }
-        Packet::Completion(k, h, o) => {
-            let mut at = put_completion_kind(out, start, k);
-            at = put_head(out, at, h);
-            put_outcome(out, at, o)
-        }
-    }
-}
-
-fn put_memory_kind(out: &mut [u8], at: usize, k: MemoryKind) -> usize
-    ensures { λ r. ⌜ Put (now (out .entry)) at (memoryWord k) (now (out .exit)) r ⌝ }
-{
-    match k {
-        MemoryKind::MRd => put_text(out, at, b"MRd"),
-        MemoryKind::MRdLk => put_text(out, at, b"MRdLk"),
-        MemoryKind::MWr => put_text(out, at, b"MWr"),
-    }
-}
-
-fn put_io_kind(out: &mut [u8], at: usize, k: IoKind) -> usize
-    ensures { λ r. ⌜ Put (now (out .entry)) at (ioWord k) (now (out .exit)) r ⌝ }
-{
-    match k {
-        IoKind::IORd => put_text(out, at, b"IORd"),
-        IoKind::IOWr => put_text(out, at, b"IOWr"),
-    }
-}
-
-fn put_config_kind(out: &mut [u8], at: usize, k: ConfigKind) -> usize
-    ensures { λ r. ⌜ Put (now (out .entry)) at (configWord k) (now (out .exit)) r ⌝ }
-{
-    match k {
-        ConfigKind::CfgRd0 => put_text(out, at, b"CfgRd0"),
-        ConfigKind::CfgWr0 => put_text(out, at, b"CfgWr0"),
-        ConfigKind::CfgRd1 => put_text(out, at, b"CfgRd1"),
-        ConfigKind::CfgWr1 => put_text(out, at, b"CfgWr1"),
-    }
-}
-
-fn put_completion_kind(out: &mut [u8], at: usize, k: CompletionKind) -> usize
-    ensures { λ r. ⌜ Put (now (out .entry)) at (completionWord k) (now (out .exit)) r ⌝ }
-{
-    match k {
-        CompletionKind::Cpl => put_text(out, at, b"Cpl"),
-        CompletionKind::CplD => put_text(out, at, b"CplD"),
-        CompletionKind::CplLk => put_text(out, at, b"CplLk"),
-        CompletionKind::CplDLk => put_text(out, at, b"CplDLk"),
+        Packet::Completion(_, _, o) => put_outcome(out, start, o),
     }
 }
 
@@ -120,6 +128,12 @@ fn put_enables(out: &mut [u8], start: usize, e: Enables) -> usize
 {
     let at = put_named_hexadecimal(out, start, b" last ", 1, e.last as u64);
     put_named_hexadecimal(out, at, b" first ", 1, e.first as u64)
+}
+
+fn put_address(out: &mut [u8], at: usize, a: u64) -> usize
+    ensures { λ r. ⌜ Put (now (out .entry)) at (addressText a) (now (out .exit)) r ⌝ }
+{
+    put_named_hexadecimal(out, at, b" address ", 16, a)
 }
 
 fn put_target(out: &mut [u8], start: usize, t: Target) -> usize

@@ -38,7 +38,12 @@ same-length c = search needs
 
 returns : tie.Need-returns
 unfolding ascii countText
-returns c = put-append (rw (c .before .before .before .before .before .before .before .before .before .before .before .before .before .before .before .bit .ensures) at (c .before .before .before .before .before .before .before .before .before .before .before .before .before .before .put-named .ensures)) (put-append (c .before .before .before .before .before .before .before .before .put-named2 .ensures) (c .before .before .put-named-hexadecimal .ensures))
+returns c =
+    let lower = c .before .before in
+    let count = lower .before .before .before .before .before .before in
+    let bcm = count .before .before .before .before .before .before in
+    put-append (rw (bcm .before .bit .ensures) at (bcm .put-named .ensures))
+    (put-append (count .put-named2 .ensures) (lower .put-named-hexadecimal .ensures))
 
 pub put-count-spec : {M : Type 1} → statement M
 put-count-spec =

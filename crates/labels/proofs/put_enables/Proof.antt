@@ -29,7 +29,10 @@ same-length c = search needs
 
 returns : tie.Need-returns
 unfolding ascii enablesText
-returns c = put-append (c .before .before .before .before .before .before .before .before .put-named-hexadecimal .ensures) (c .before .before .put-named-hexadecimal2 .ensures)
+returns c =
+    let first = c .before .before in
+    let last = first .before .before .before .before .before .before in
+    put-append (last .put-named-hexadecimal .ensures) (first .put-named-hexadecimal2 .ensures)
 
 pub put-enables-spec : {M : Type 1} → statement M
 put-enables-spec =

@@ -44,7 +44,16 @@ same-length c = search needs
 
 returns : tie.Need-returns
 unfolding ascii headText
-returns c = put-append (c .before .before .before .before .before .before .before .before .before .before .before .before .before .before .before .before .before .before .before .before .before .before .put-named .ensures) (put-append (c .before .before .before .before .before .before .before .before .before .before .before .before .before .before .before .before .put-named2 .ensures) (put-append (c .before .before .before .before .before .before .before .before .before .before .put-named3 .ensures) (put-append (c .before .before .before .before .before .before .put-marks .ensures) (c .before .before .put-transaction .ensures))))
+returns c =
+    let transaction = c .before .before in
+    let marks = transaction .before .before .before .before in
+    let attr = marks .before .before .before .before in
+    let tc = attr .before .before .before .before .before .before in
+    let form = tc .before .before .before .before .before .before in
+    put-append (form .put-named .ensures)
+    (put-append (tc .put-named2 .ensures)
+    (put-append (attr .put-named3 .ensures)
+    (put-append (marks .put-marks .ensures) (transaction .put-transaction .ensures))))
 
 pub put-head-spec : {M : Type 1} → statement M
 put-head-spec =

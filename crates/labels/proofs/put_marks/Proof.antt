@@ -38,7 +38,12 @@ same-length c = search needs
 
 returns : tie.Need-returns
 unfolding ascii marksText
-returns c = put-append (rw (c .before .before .before .before .before .before .before .before .before .before .before .before .before .before .before .bit .ensures) at (c .before .before .before .before .before .before .before .before .before .before .before .before .before .before .put-named .ensures)) (put-append (rw (c .before .before .before .before .before .before .before .before .before .bit2 .ensures) at (c .before .before .before .before .before .before .before .before .put-named2 .ensures)) (c .before .before .put-named3 .ensures))
+returns c =
+    let third = c .before .before in
+    let ep = third .before .before .before .before .before .before in
+    let td = ep .before .before .before .before .before .before in
+    put-append (rw (td .before .bit .ensures) at (td .put-named .ensures))
+    (put-append (rw (ep .before .bit2 .ensures) at (ep .put-named2 .ensures)) (third .put-named3 .ensures))
 
 pub put-marks-spec : {M : Type 1} → statement M
 put-marks-spec =

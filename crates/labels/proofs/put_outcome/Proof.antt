@@ -32,7 +32,11 @@ same-length c = search needs
 
 returns : tie.Need-returns
 unfolding ascii outcomeText
-returns c = put-append (c .before .before .before .before .before .before .before .before .before .before .before .before .put-named-hexadecimal .ensures) (put-append (c .before .before .before .before .before .before .put-named .ensures) (c .before .before .put-count .ensures))
+returns c =
+    let count = c .before .before in
+    let status = count .before .before .before .before in
+    let completer = status .before .before .before .before .before .before in
+    put-append (completer .put-named-hexadecimal .ensures) (put-append (status .put-named .ensures) (count .put-count .ensures))
 
 pub put-outcome-spec : {M : Type 1} → statement M
 put-outcome-spec =

@@ -29,7 +29,10 @@ same-length c = search needs
 
 returns : tie.Need-returns
 unfolding ascii targetText
-returns c = put-append (c .before .before .before .before .before .before .before .before .put-named-hexadecimal .ensures) (c .before .before .put-named-hexadecimal2 .ensures)
+returns c =
+    let register = c .before .before in
+    let id = register .before .before .before .before .before .before in
+    put-append (id .put-named-hexadecimal .ensures) (register .put-named-hexadecimal2 .ensures)
 
 pub put-target-spec : {M : Type 1} → statement M
 put-target-spec =

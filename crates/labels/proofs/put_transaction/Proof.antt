@@ -38,7 +38,12 @@ same-length c = search needs
 
 returns : tie.Need-returns
 unfolding ascii transactionText
-returns c = put-append (c .before .before .before .before .before .before .before .before .before .before .before .before .before .before .put-named .ensures) (put-append (c .before .before .before .before .before .before .before .before .put-named-hexadecimal .ensures) (c .before .before .put-named-hexadecimal2 .ensures))
+returns c =
+    let tag = c .before .before in
+    let requester = tag .before .before .before .before .before .before in
+    let dwords = requester .before .before .before .before .before .before in
+    put-append (dwords .put-named .ensures)
+    (put-append (requester .put-named-hexadecimal .ensures) (tag .put-named-hexadecimal2 .ensures))
 
 pub put-transaction-spec : {M : Type 1} → statement M
 put-transaction-spec =
