@@ -1,5 +1,5 @@
--- Twenty numbers as a packet for a caller that looks at the kind and form itself, and that looking at them afterwards is the whole of Parsing.
--- Assumes nothing.
+-- Twenty numbers as a packet for a caller that looks at the kind and form itself, and that looking at them afterwards is the whole of
+-- Parsing. Assumes nothing.
 use Prim.Native.Nat.{ℕ, suc}
 use mathlib.Core.Path.{_≡_, refl}
 use mathlib.Core.Bool.{Bool, true, false, cond, _||_}
@@ -7,7 +7,8 @@ use mathlib.Core.List.{List, [], _∷_}
 use lib.ListN.{length, getD}
 use lib.Dec.{ltb}
 use Rattle.pairs.specs.declared.Kind.{Kind}
-use Rattle.pairs.specs.declared.Kind.the-variants.{Memory as MemoryKind, Io as IoKind, Config as ConfigKind, Completion as CompletionKind, Msg, MsgD, FetchAdd, Swap, Cas}
+use Rattle.pairs.specs.declared.Kind.the-variants.{Memory as MemoryKind, Io as IoKind, Config as ConfigKind, Completion as CompletionKind}
+use Rattle.pairs.specs.declared.Kind.the-variants.{Msg, MsgD, FetchAdd, Swap, Cas}
 use Rattle.pairs.specs.declared.Pair.{Pair}
 use Rattle.pairs.specs.declared.Pair.the-variants.{Carried, NotCarried, Unknown}
 use Rattle.pairs.specs.Pairs.{rowOf}
@@ -33,7 +34,8 @@ fieldsAs kind ns = packetAs (tooLarge kind ns) kind ns
 
 unfoldable pub fieldsOf : List ℕ → Parsed
 fieldsOf ns =
-    cond (ltb (length ns) size) (Refused 11) (cond (ltb lastKind (getD ns 0 0) || ltb 4 (getD ns 1 0)) (Refused 2) (fieldsAs (kindAt (getD ns 0 0)) ns))
+    cond (ltb (length ns) size) (Refused 11)
+    (cond (ltb lastKind (getD ns 0 0) || ltb 4 (getD ns 1 0)) (Refused 2) (fieldsAs (kindAt (getD ns 0 0)) ns))
 
 -- ## The kind and form looked at afterwards
 
@@ -57,7 +59,8 @@ checked-kind : (kind : Kind) (ns : List ℕ) → onPair (rowOf kind (getD ns 1 0
 unfolding headFrom
 checked-kind (MemoryKind k) ns =
     checked-test (anyAbove byAddress ns) (rowOf (MemoryKind k) (getD ns 1 0)) (Memory k (headFrom ns) (enablesFrom ns) (getD ns 12 0)) refl
-checked-kind (IoKind k) ns = checked-test (anyAbove byAddress ns) (rowOf (IoKind k) (getD ns 1 0)) (Io k (headFrom ns) (enablesFrom ns) (getD ns 12 0)) refl
+checked-kind (IoKind k) ns =
+    checked-test (anyAbove byAddress ns) (rowOf (IoKind k) (getD ns 1 0)) (Io k (headFrom ns) (enablesFrom ns) (getD ns 12 0)) refl
 checked-kind (ConfigKind k) ns =
     checked-test (anyAbove byTarget ns) (rowOf (ConfigKind k) (getD ns 1 0)) (Config k (headFrom ns) (enablesFrom ns) (targetFrom ns)) refl
 checked-kind (CompletionKind k) ns =

@@ -1,5 +1,5 @@
--- A packet as twenty numbers: kind, form, TC, Attr, TD, EP, AT, Length, requester, tag, last enables, first enables, address, target, register,
--- completer, status, BCM, byte count, lower address. A field that the kind does not have is 0. Assumes nothing.
+-- A packet as twenty numbers: kind, form, TC, Attr, TD, EP, AT, Length, requester, tag, last enables, first enables, address, target,
+-- register, completer, status, BCM, byte count, lower address. A field that the kind does not have is 0. Assumes nothing.
 use Prim.Native.Nat.{ℕ}
 use mathlib.Core.Bool.{Bool, true, false}
 use mathlib.Core.List.{List, [], _∷_, _++_}

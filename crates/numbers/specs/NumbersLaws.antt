@@ -36,18 +36,21 @@ or-above b at (m ∷ ms) ns h =
 
 or-above-append : (b : Bool) (at : ℕ) (xs ys ns : List ℕ) → orAbove b at (xs ++ ys) ns ≡ orAbove (orAbove b at xs ns) (at + length xs) ys ns
 or-above-append b at [] ys ns = rw (add-zero at)
-or-above-append b at (x ∷ xs) ys ns = rw (add-suc at (length xs), ← suc-add at (length xs)) (or-above-append (b || ltb x (getD ns at 0)) (suc at) xs ys ns)
+or-above-append b at (x ∷ xs) ys ns =
+    rw (add-suc at (length xs), ← suc-add at (length xs)) (or-above-append (b || ltb x (getD ns at 0)) (suc at) xs ys ns)
 
 -- the head, the places of a request and those of an outcome, each tested for itself
 pub above-parts : (ns : List ℕ) → size ≤ length ns → (request outcome : List ℕ) → length request ≡ 5 → length outcome ≡ 5
-    → orAbove false 0 (lastKind ∷ 4 ∷ headMost) ns || orAbove false 10 request ns || orAbove false 15 outcome ns ≡ anyAbove (mostOf request outcome) ns
+    → orAbove false 0 (lastKind ∷ 4 ∷ headMost) ns || orAbove false 10 request ns || orAbove false 15 outcome ns
+    ≡ anyAbove (mostOf request outcome) ns
 above-parts ns enough request outcome five five' =
     let head = orAbove false 0 (lastKind ∷ 4 ∷ headMost) ns in
     let joined = or-above false 0 (mostOf request outcome) ns (omega (arith, length-append request outcome)) in
     let split = or-above-append head 10 request outcome ns in
     let middle = or-above head 10 request ns (omega arith) in
     let end = or-above (orAbove head 10 request ns) 15 outcome ns (omega arith) in
-    rw (or-above false 10 request ns (omega arith), or-above false 15 outcome ns (omega arith), ← middle, ← end) (rw five at (sym split) ∙ joined)
+    rw (or-above false 10 request ns (omega arith), or-above false 15 outcome ns (omega arith), ← middle, ← end)
+    (rw five at (sym split) ∙ joined)
 
 -- ## What the test says of every place
 
@@ -97,6 +100,7 @@ module _ (ns : List ℕ) (enough : size ≤ length ns) where
   unfolding fieldsOf
   outside-list e = rw (le-ltb (length ns) size enough, e)
 
-  pub inside-list : ltb lastKind (getD ns 0 0) || ltb 4 (getD ns 1 0) ≡ false → (kind : Kind) → kind ≡ kindAt (getD ns 0 0) → fieldsAs kind ns ≡ fieldsOf ns
+  pub inside-list : ltb lastKind (getD ns 0 0) || ltb 4 (getD ns 1 0) ≡ false → (kind : Kind) → kind ≡ kindAt (getD ns 0 0)
+      → fieldsAs kind ns ≡ fieldsOf ns
   unfolding fieldsOf
   inside-list e kind named = rw (le-ltb (length ns) size enough, e, named)

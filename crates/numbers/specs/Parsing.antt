@@ -1,12 +1,14 @@
--- What any numbers are taken for: fewer than twenty are 11, then a kind and form not carried 2, then a number too large for the packet's field, or other
--- than 0 where the kind has no such field, 10. Widths below those of the packet's fields are the packet's own check. Assumes nothing.
+-- What any numbers are taken for: fewer than twenty are 11, then a kind and form not carried 2, then a number too large for the
+-- packet's field, or other than 0 where the kind has no such field, 10. Widths below those of the packet's fields are the packet's own
+-- check. Assumes nothing.
 use Prim.Native.Nat.{ℕ, suc, _≤_}
 use mathlib.Core.Bool.{Bool, false, cond, _||_}
 use mathlib.Core.List.{List, [], _∷_, _++_}
 use lib.ListN.{length, getD}
 use lib.Dec.{ltb, eqb}
 use Rattle.pairs.specs.declared.Kind.{Kind}
-use Rattle.pairs.specs.declared.Kind.the-variants.{Memory as MemoryKind, Io as IoKind, Config as ConfigKind, Completion as CompletionKind, Msg, MsgD, FetchAdd, Swap, Cas}
+use Rattle.pairs.specs.declared.Kind.the-variants.{Memory as MemoryKind, Io as IoKind, Config as ConfigKind, Completion as CompletionKind}
+use Rattle.pairs.specs.declared.Kind.the-variants.{Msg, MsgD, FetchAdd, Swap, Cas}
 use Rattle.pairs.specs.declared.MemoryKind.the-variants.{MRd, MRdLk, MWr}
 use Rattle.pairs.specs.declared.IoKind.the-variants.{IORd, IOWr}
 use Rattle.pairs.specs.declared.ConfigKind.the-variants.{CfgRd0, CfgWr0, CfgRd1, CfgWr1}

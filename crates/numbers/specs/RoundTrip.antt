@@ -1,5 +1,5 @@
--- A lawful packet's twenty numbers are taken for the same packet, whatever follows them, and numbers that are taken for a packet are its numbers.
--- Assumes nothing.
+-- A lawful packet's twenty numbers are taken for the same packet, whatever follows them, and numbers that are taken for a packet are
+-- its numbers. Assumes nothing.
 use Prim.Native.Nat.{ℕ, zero, suc, _+_, _≤_, _<_}
 use native.Mathlib.Omega.{arith}
 use native.Mathlib.Nat.{add-zero, add-suc, suc-add}
@@ -12,7 +12,8 @@ use lib.Seq.{drop-cons}
 use lib.Dec.{ltb, eqb}
 use borrow.Author.Tests.{le-ltb, eqb-true, eqb-false, ltb-false}
 use Rattle.pairs.specs.declared.Kind.{Kind}
-use Rattle.pairs.specs.declared.Kind.the-variants.{Memory as MemoryKind, Io as IoKind, Config as ConfigKind, Completion as CompletionKind, Msg, MsgD, FetchAdd, Swap, Cas}
+use Rattle.pairs.specs.declared.Kind.the-variants.{Memory as MemoryKind, Io as IoKind, Config as ConfigKind, Completion as CompletionKind}
+use Rattle.pairs.specs.declared.Kind.the-variants.{Msg, MsgD, FetchAdd, Swap, Cas}
 use Rattle.pairs.specs.declared.MemoryKind.the-variants.{MRd, MRdLk, MWr}
 use Rattle.pairs.specs.declared.IoKind.the-variants.{IORd, IOWr}
 use Rattle.pairs.specs.declared.ConfigKind.the-variants.{CfgRd0, CfgWr0, CfgRd1, CfgWr1}
@@ -80,9 +81,12 @@ numbered k (x ∷ xs) = eqb (kindNumber x) k && numbered (suc k) xs
 numbered-at : (k : ℕ) (xs : List Kind) (d : Kind) → numbered k xs ≡ true → (i : ℕ) → i < length xs → kindNumber (getD xs i d) ≡ k + i
 unfolding numbered
 numbered-at k [] d e i h = absurd (omega arith)
-numbered-at k (x ∷ xs) d e zero h = eqb-true (kindNumber x) k (and-eq-true-iff (eqb (kindNumber x) k) (numbered (suc k) xs) .0 e .0) ∙ sym (add-zero k)
+numbered-at k (x ∷ xs) d e zero h =
+    let both = and-eq-true-iff (eqb (kindNumber x) k) (numbered (suc k) xs) .0 e in
+    eqb-true (kindNumber x) k (both .0) ∙ sym (add-zero k)
 numbered-at k (x ∷ xs) d e (suc i) h =
-    numbered-at (suc k) xs d (and-eq-true-iff (eqb (kindNumber x) k) (numbered (suc k) xs) .0 e .1) i (omega arith) ∙ suc-add k i ∙ sym (add-suc k i)
+    let both = and-eq-true-iff (eqb (kindNumber x) k) (numbered (suc k) xs) .0 e in
+    numbered-at (suc k) xs d (both .1) i (omega arith) ∙ suc-add k i ∙ sym (add-suc k i)
 
 kinds-numbered : numbered 0 kinds ≡ true
 unfolding numbered kinds
@@ -122,7 +126,8 @@ length-most row p l = length-of-fits p (fields-fit-elim p (lawful-elim row p l .
 
 -- ## A lawful packet's numbers are taken for the packet
 
-head-within : (row : Row) (p : Packet) → verdictOf p ≡ Lawful row → Within 0 (lastKind ∷ 4 ∷ headMost) (headNumbers (kindNumber (kindOf p)) (headOf p))
+head-within : (row : Row) (p : Packet) → verdictOf p ≡ Lawful row
+    → Within 0 (lastKind ∷ 4 ∷ headMost) (headNumbers (kindNumber (kindOf p)) (headOf p))
 head-within row p l =
     let b = head-of-lawful row p l in
     let kind = kind-read p .0 in
@@ -207,7 +212,8 @@ zero-at : (ns : List ℕ) (i : ℕ) → getD ns i 0 ≤ 0 → getD ns i 0 ≡ 0
 zero-at ns i h = omega arith
 
 module _ (ns : List ℕ) (enough : size ≤ length ns) where
-  given : (kind : Kind) (p : Packet) → kindNumber kind ≡ getD ns 0 0 → packetAs (Refused 10) kind ns ≡ Accepted p → numbersOf p ≡ gets size 0 ns
+  given : (kind : Kind) (p : Packet) → kindNumber kind ≡ getD ns 0 0 → packetAs (Refused 10) kind ns ≡ Accepted p
+      → numbersOf p ≡ gets size 0 ns
   unfolding numbersOf headFrom enablesFrom targetFrom outcomeFrom
   given (MemoryKind k) p n e =
       let q = passed (anyAbove byAddress ns) 10 (Memory k (headFrom ns) (enablesFrom ns) (getD ns 12 0)) p e in
@@ -264,7 +270,8 @@ module _ (ns : List ℕ) (enough : size ≤ length ns) where
   given Swap p n e = absurd (let z : _≡_ {A = ℕ} 0 1 = cc in omega arith)
   given Cas p n e = absurd (let z : _≡_ {A = ℕ} 0 1 = cc in omega arith)
 
-  given-by-pair : (pair : Pair) (kind : Kind) (p : Packet) → kindNumber kind ≡ getD ns 0 0 → onPair pair (packetAs (Refused 10) kind ns) ≡ Accepted p → numbersOf p ≡ gets size 0 ns
+  given-by-pair : (pair : Pair) (kind : Kind) (p : Packet) → kindNumber kind ≡ getD ns 0 0
+      → onPair pair (packetAs (Refused 10) kind ns) ≡ Accepted p → numbersOf p ≡ gets size 0 ns
   given-by-pair (Carried row) kind p n e = given kind p n e
   given-by-pair NotCarried kind p n e = absurd (let z : _≡_ {A = ℕ} 0 1 = cc in omega arith)
   given-by-pair Unknown kind p n e = absurd (let z : _≡_ {A = ℕ} 0 1 = cc in omega arith)
@@ -279,4 +286,5 @@ numbers-of-packet ns p e =
     let k = past outside 2 (onKind ns) p (l .1) in
     let inside = ltb-false lastKind (getD ns 0 0) (or-elim (ltb lastKind (getD ns 0 0)) (ltb 4 (getD ns 1 0)) (k .0) .0) in
     let kind = kindAt (getD ns 0 0) in
-    (enough, given-by-pair ns enough (rowOf kind (getD ns 1 0)) kind p (kind-written (getD ns 0 0) inside) (k .1) ∙ sym (take-gets size 0 ns enough))
+    let written = kind-written (getD ns 0 0) inside in
+    (enough, given-by-pair ns enough (rowOf kind (getD ns 1 0)) kind p written (k .1) ∙ sym (take-gets size 0 ns enough))

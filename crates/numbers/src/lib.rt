@@ -1,5 +1,5 @@
-// A packet as twenty numbers, for callers that have no enums: kind, form, TC, Attr, TD, EP, AT, Length, requester, tag, last enables, first enables,
-// address, target, register, completer, status, BCM, byte count, lower address. A field that the kind does not have is 0.
+// A packet as twenty numbers, for callers that have no enums: kind, form, TC, Attr, TD, EP, AT, Length, requester, tag, last enables,
+// first enables, address, target, register, completer, status, BCM, byte count, lower address. A field that the kind does not have is 0.
 ghost use mathlib.Core.Path.{_≡_};
 ghost use mathlib.Core.Bool.{false};
 ghost use mathlib.Core.List.{[], _∷_, _++_};
@@ -7,8 +7,8 @@ ghost use Prim.Native.Nat.{_+_, _≤_};
 ghost use lib.ListN.{length, getD};
 ghost use lib.Seq.{sets};
 ghost use Rattle.numbers.specs.Numbers.{bit as bitOf, headNumbers, requestNumbers, outcomeNumbers, absent, numbersOf};
-ghost use Rattle.numbers.specs.Parsing.{byte, word, lastKind, headMost, requestMost, outcomeMost, byAddress, byTarget, completing, kindAt, anyAbove, Within};
-ghost use Rattle.numbers.specs.Parsing.{headFrom, enablesFrom, targetFrom, outcomeFrom};
+ghost use Rattle.numbers.specs.Parsing.{byte, word, lastKind, headMost, requestMost, outcomeMost, byAddress, byTarget, completing};
+ghost use Rattle.numbers.specs.Parsing.{kindAt, anyAbove, Within, headFrom, enablesFrom, targetFrom, outcomeFrom};
 ghost use Rattle.numbers.specs.Fields.{orAbove, tooLarge, fieldsAs, fieldsOf};
 use packet::Enables;
 use packet::Head;
@@ -44,8 +44,9 @@ const QWORD: u64 = 18446744073709551615;
 
 // ---- numbers to a packet
 
-// The packet that the first twenty numbers are, for the writer, which looks at the kind and form itself: 11 for fewer, 2 for a kind or a form outside
-// the list, 10 for a number too large for its field or in a field that the kind does not have. Later numbers are not looked at.
+// The packet that the first twenty numbers are, for the writer, which looks at the kind and form itself: 11 for fewer, 2 for a kind or
+// a form outside the list, 10 for a number too large for its field or in a field that the kind does not have. Later numbers are not
+// looked at.
 pub fn fields_of(numbers: &[u64]) -> Parsed
     ensures { λ r. ⌜ r ≡ fieldsOf (now (numbers .entry)) ⌝ }
 {

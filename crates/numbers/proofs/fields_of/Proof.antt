@@ -1,4 +1,5 @@
--- `numbers::fields_of` meets its contract: the checks in order: fewer than twenty, a kind or form outside the list, then by the kind. Assumes nothing.
+-- `numbers::fields_of` meets its contract: the checks in order: fewer than twenty, a kind or form outside the list, then by the kind.
+-- Assumes nothing.
 use borrow.Author.Needs.{needs}
 use borrow.Author.Tests.{ltb-false}
 use lib.Dec.{ltb}
@@ -19,7 +20,9 @@ shared-slice-read-if2-2 : tie.Need-shared-slice-read-if2-2
 shared-slice-read-if2-2 c = search needs
 
 returns-2 : tie.Need-returns-2
-returns-2 c = outside-list (c .before .before .before .before .before .args .numbers .now) (c .before .before .before .if1 .left) (c .if2 .taken)
+returns-2 c =
+    let enough = c .before .before .before in
+    outside-list (enough .before .before .args .numbers .now) (enough .if1 .left) (c .if2 .taken)
 
 shared-slice-read-kind-at : tie.Need-shared-slice-read-kind-at
 shared-slice-read-kind-at c = search needs
@@ -36,7 +39,10 @@ fields-as-requires c κs =
 returns-3 : tie.Need-returns-3
 returns-3 c =
     let named = c .before .kind-at in
-    c .fields-as .ensures ∙ inside-list (c .before .before .before .before .before .before .before .before .args .numbers .now) (c .before .before .before .before .before .before .if1 .left) (c .before .before .before .if2 .left) (named .result) (named .ensures)
+    let inside = c .before .before .before in
+    let enough = inside .before .before .before in
+    c .fields-as .ensures
+    ∙ inside-list (enough .before .before .args .numbers .now) (enough .if1 .left) (inside .if2 .left) (named .result) (named .ensures)
 
 pub fields-of-spec : {M : Type 1} → statement M
 fields-of-spec =

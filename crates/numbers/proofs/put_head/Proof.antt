@@ -41,21 +41,24 @@ cast-put-five-7 : tie.Need-cast-put-five-7
 cast-put-five-7 c = search needs
 
 put-five-requires-2 : tie.Need-put-five-requires-2
-put-five-requires-2 c κs = omega (arith, c .before .before .before .before .before .before .before .put-five .kept .0, c .before .before .before .before .before .before .before .before .before .before .before .before .before .before .before .pre)
+put-five-requires-2 c κs =
+    let first = c .before .before .before .before .before .before .before in
+    omega (arith, first .put-five .kept .0, first .before .before .before .before .before .before .before .before .pre)
 
 same-length : tie.Need-same-length
 same-length c = search needs
 
 returns : tie.Need-returns
 returns c =
-    let first = c .before .before .before .before .before .before .before .before .before .before in
+    let second = c .before .before in
+    let first = second .before .before .before .before .before .before .before .before in
     let ep = first .before .before .before .before .before in
     let td = ep .before in
     let s = td .before .before .args in
     let h = s .h in
     rw (← td .bit .ensures, ← ep .bit2 .ensures)
     (sets-append (s .out .now) (s .at) 5 (s .kind ∷ h .form ∷ h .tc ∷ h .attr ∷ td .bit .result ∷ [])
-    (ep .bit2 .result ∷ h .at ∷ h .length ∷ h .requester ∷ h .tag ∷ []) refl (first .put-five .ensures) (c .before .before .put-five2 .ensures))
+    (ep .bit2 .result ∷ h .at ∷ h .length ∷ h .requester ∷ h .tag ∷ []) refl (first .put-five .ensures) (second .put-five2 .ensures))
 
 pub put-head-spec : {M : Type 1} → statement M
 put-head-spec =

@@ -21,10 +21,12 @@ same-length c = search needs
 
 returns : tie.Need-returns
 returns c =
-    let first = c .before .before .before .before .before .before in
+    let second = c .before .before in
+    let first = second .before .before .before .before in
     let s = first .before .before .before .args in
-    sets-append (s .out .now) (s .at) 10 (headNumbers (s .kind) (s .h)) (requestNumbers (s .e) (s .address) (s .target) (s .register) ++ absent) refl
-    (first .put-head .ensures) (c .before .before .put-target .ensures)
+    let request = requestNumbers (s .e) (s .address) (s .target) (s .register) in
+    sets-append (s .out .now) (s .at) 10 (headNumbers (s .kind) (s .h)) (request ++ absent) refl
+    (first .put-head .ensures) (second .put-target .ensures)
 
 pub put-request-spec : {M : Type 1} → statement M
 put-request-spec =
