@@ -1,4 +1,5 @@
--- The byte enables' patterns as bits of a number, as the code tests them: bit x is set exactly where x is one of the patterns. Assumes nothing.
+-- The byte enables' patterns as bits of a number, as the code tests them: bit x is set exactly where x is one of the patterns.
+-- Assumes nothing.
 use Prim.Native.Nat.{ℕ, zero, suc, _<_, _≤_, _/_, _%_, _^_}
 use mathlib.Core.Path.{_≡_, refl, sym}
 use mathlib.Core.Bool.{Bool, true, false, not, _&&_, and-eq-true-iff}

@@ -13,7 +13,8 @@ use Rattle.packet.specs.declared.Enables.{Enables}
 use Rattle.packet.specs.declared.Target.{Target}
 use Rattle.packet.specs.declared.Outcome.{Outcome}
 use Rattle.packet.specs.declared.Packet.the-variants.{Memory, Io, Config, Completion}
-use Rattle.packet.specs.Rules.{reservedSet, oneDword, fixedWrong, upperZero, enablesLawful, enablesWrong, crossesPage, isStatus, statusWrong, fromRule9, fromRule8, fromRule7, fromRule6, fromRule5, ruleNumber}
+use Rattle.packet.specs.Rules.{reservedSet, oneDword, fixedWrong, upperZero, enablesLawful, enablesWrong, crossesPage, isStatus}
+use Rattle.packet.specs.Rules.{statusWrong, fromRule9, fromRule8, fromRule7, fromRule6, fromRule5, ruleNumber}
 
 -- a check that answers no leaves those after it; one that answers yes gives its number
 pub passed : {t b : Bool} {n : ℕ} (k : ℕ) → t ≡ b → t ≡ false → cond b k n ≡ n
@@ -64,7 +65,8 @@ picked true true y = refl
 picked true false y = refl
 picked false x y = refl
 
-four-joined : (a b c d : Bool) → ((a || b) || c) || d ≡ true → _≡_ {A = ℕ} (cond a 4 (cond b 6 (cond c 7 8))) (cond a 4 (cond b 6 (cond c 7 (cond d 8 0))))
+four-joined : (a b c d : Bool) → ((a || b) || c) || d ≡ true
+    → _≡_ {A = ℕ} (cond a 4 (cond b 6 (cond c 7 8))) (cond a 4 (cond b 6 (cond c 7 (cond d 8 0))))
 four-joined true b c d h = refl
 four-joined false true c d h = refl
 four-joined false false true d h = refl
@@ -79,7 +81,8 @@ none-joined false false false true h = absurd (false≢true (sym h))
 none-joined false false false false h = refl
 
 -- the four rules of a memory request: t is what was answered of the enables, and l the Length that was added
-module _ (k : MemoryKind) (h : Head) (e : Enables) (a : ℕ) {t : Bool} {l : ℕ} (enables : t ≡ enablesLawful (h .length) e) (dwords : l ≡ h .length) where
+module _ (k : MemoryKind) (h : Head) (e : Enables) (a : ℕ) {t : Bool} {l : ℕ}
+    (enables : t ≡ enablesLawful (h .length) e) (dwords : l ≡ h .length) where
   abbrev reserved : Bool
   reserved = not (eqb (a % 4) 0) || eqb (h .at) 3
 

@@ -22,7 +22,8 @@ use Rattle.packet.specs.declared.Packet.the-variants.{Memory, Io, Config
 use Rattle.packet.specs.declared.Verdict.the-variants.{Lawful, Refused}
 use Rattle.packet.specs.Fields.{kindOf, headOf}
 use Rattle.packet.specs.Widths.{enablesFit, addressFits, targetFits, bodyFits, fieldsFit}
-use Rattle.packet.specs.WidthsLaws.{and-elim, HeadBounds, head-bounds-elim, enables-fit-elim, target-fits-elim, OutcomeBounds, outcome-bounds-elim, FieldsFit, fields-fit-elim}
+use Rattle.packet.specs.WidthsLaws.{and-elim, HeadBounds, head-bounds-elim, enables-fit-elim, target-fits-elim, OutcomeBounds}
+use Rattle.packet.specs.WidthsLaws.{outcome-bounds-elim, FieldsFit, fields-fit-elim}
 use Rattle.packet.specs.Rules.{ruleNumber}
 use Rattle.packet.specs.Verdict.{verdictOf, onPair, onFields, onRules}
 
@@ -47,7 +48,8 @@ pub lawful-elim : (row : Row) (p : Packet) → verdictOf p ≡ Lawful row → Pa
 unfolding verdictOf onFields
 lawful-elim row p = on-pair (rowOf (kindOf p) (headOf p .form)) refl
   where
-    on-fits : (r : Row) → rowOf (kindOf p) (headOf p .form) ≡ Carried r → (b : Bool) → fieldsFit p ≡ b → cond b (onRules r (ruleNumber p)) (Refused 10) ≡ Lawful row → Passes row p
+    on-fits : (r : Row) → rowOf (kindOf p) (headOf p .form) ≡ Carried r → (b : Bool) → fieldsFit p ≡ b
+        → cond b (onRules r (ruleNumber p)) (Refused 10) ≡ Lawful row → Passes row p
     on-fits r k true f e = let q = on-rules-lawful row r (ruleNumber p) e in record { carried = rw (← q .0) k; fits = f; rules = q .1 }
     on-fits r k false f e = let z : _≡_ {A = ℕ} 0 1 = cc in absurd (omega arith)
 

@@ -31,11 +31,17 @@ head-bounds-elim h e =
     let b = and-elim _ _ (a .0) in
     let c = and-elim _ _ (b .0) in
     let d = and-elim _ _ (c .0) in
-    record
-    { requester = ltb-true _ _ (d .0); tc = ltb-true _ _ (d .1); attr = ltb-true _ _ (c .1); «at» = ltb-true _ _ (b .1); tag = ltb-true _ _ (a .1) }
+    record {
+      requester = ltb-true _ _ (d .0);
+      tc = ltb-true _ _ (d .1);
+      attr = ltb-true _ _ (c .1);
+      «at» = ltb-true _ _ (b .1);
+      tag = ltb-true _ _ (a .1);
+    }
 
 pub head-bounds-intro : (h : Head) → HeadBounds h → headFits h ≡ true
-head-bounds-intro h b = simp (lt-ltb _ _ (b .requester), lt-ltb _ _ (b .tc), lt-ltb _ _ (b .attr), lt-ltb _ _ (b .«at»), lt-ltb _ _ (b .tag))
+head-bounds-intro h b =
+    simp (lt-ltb _ _ (b .requester), lt-ltb _ _ (b .tc), lt-ltb _ _ (b .attr), lt-ltb _ _ (b .«at»), lt-ltb _ _ (b .tag))
 
 pub length-in-elim : (n : ℕ) → lengthIn n ≡ true → (1 ≤ n) × (n ≤ 1024)
 length-in-elim n e = let a = and-elim _ _ e in (leb-true _ _ (a .0), leb-true _ _ (a .1))

@@ -19,16 +19,27 @@ has-no-length-requires : tie.Need-has-no-length-requires
 has-no-length-requires c κs = search needs
 
 returns-2 : tie.Need-returns-2
-returns-2 c = sym (rule-number-completion _ _ _ ∙ passed 4 refl (c .before .before .before .if1 .left) ∙ stopped _ (no-length (c .before .before .before .before .before .args .h) (c .before .before .has-no-length .ensures)) (c .if2 .taken))
+returns-2 c =
+    let asked = c .before .before in
+    let five = no-length (asked .before .before .before .args .h) (asked .has-no-length .ensures) in
+    sym (rule-number-completion _ _ _ ∙ passed 4 refl (asked .before .if1 .left) ∙ stopped _ five (c .if2 .taken))
 
 is-status-requires : tie.Need-is-status-requires
 is-status-requires c κs = search needs
 
 returns-3 : tie.Need-returns-3
-returns-3 c = sym (rule-number-completion _ _ _ ∙ passed 4 refl (c .before .before .before .before .before .if1 .left) ∙ passed 5 (no-length (c .before .before .before .before .before .before .before .args .h) (c .before .before .before .before .has-no-length .ensures)) (c .before .before .if2 .left) ∙ stopped _ (ap not (c .before .is-status .ensures)) (c .if3 .taken))
+returns-3 c =
+    let asked = c .before .before .before .before in
+    let five = no-length (asked .before .before .before .args .h) (asked .has-no-length .ensures) in
+    sym (rule-number-completion _ _ _ ∙ passed 4 refl (asked .before .if1 .left) ∙ passed 5 five (c .before .before .if2 .left)
+    ∙ stopped _ (ap not (c .before .is-status .ensures)) (c .if3 .taken))
 
 returns-4 : tie.Need-returns-4
-returns-4 c = sym (rule-number-completion _ _ _ ∙ passed 4 refl (c .before .before .before .before .before .if1 .left) ∙ passed 5 (no-length (c .before .before .before .before .before .before .before .args .h) (c .before .before .before .before .has-no-length .ensures)) (c .before .before .if2 .left) ∙ passed 9 (ap not (c .before .is-status .ensures)) (c .if3 .left))
+returns-4 c =
+    let asked = c .before .before .before .before in
+    let five = no-length (asked .before .before .before .args .h) (asked .has-no-length .ensures) in
+    sym (rule-number-completion _ _ _ ∙ passed 4 refl (asked .before .if1 .left) ∙ passed 5 five (c .before .before .if2 .left)
+    ∙ passed 9 (ap not (c .before .is-status .ensures)) (c .if3 .left))
 
 pub completion-rules-spec : {M : Type 1} → statement M
 completion-rules-spec =

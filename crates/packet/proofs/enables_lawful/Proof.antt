@@ -16,7 +16,9 @@ pick-requires-2 : tie.Need-pick-requires-2
 pick-requires-2 c κs = search needs
 
 returns : tie.Need-returns
-returns c = rw (c .pick2 .ensures, c .before .before .pick .ensures, c .before .before .before .before .is-first .ensures, c .before .before .before .is-last .ensures)
+returns c =
+    let first = c .before .before in
+    rw (c .pick2 .ensures, first .pick .ensures, first .before .before .is-first .ensures, first .before .is-last .ensures)
 
 pub enables-lawful-spec : {M : Type 1} → statement M
 enables-lawful-spec =

@@ -18,7 +18,9 @@ body-fits-requires c κs = search needs
 
 returns : tie.Need-returns
 unfolding fieldsFit
-returns c = rw (c .before .before .head-fits .ensures, c .before .before .before .head-of .ensures, c .before .length-fits .ensures, c .body-fits .ensures)
+returns c =
+    let head = c .before .before in
+    rw (head .head-fits .ensures, head .before .head-of .ensures, c .before .length-fits .ensures, c .body-fits .ensures)
 
 pub fields-fit-spec : {M : Type 1} → statement M
 fields-fit-spec =

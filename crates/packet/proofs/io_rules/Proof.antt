@@ -13,10 +13,16 @@ one-dword-requires : tie.Need-one-dword-requires
 one-dword-requires c κs = search needs
 
 returns-2 : tie.Need-returns-2
-returns-2 c = λ k. sym (rule-number-io k _ _ _ ∙ passed 4 refl (c .before .before .if1 .left) ∙ stopped _ (ap not (c .before .one-dword .ensures)) (c .if2 .taken))
+returns-2 c =
+    λ k.
+    let five = ap not (c .before .one-dword .ensures) in
+    sym (rule-number-io k _ _ _ ∙ passed 4 refl (c .before .before .if1 .left) ∙ stopped _ five (c .if2 .taken))
 
 returns-3 : tie.Need-returns-3
-returns-3 c = λ k. sym (rule-number-io k _ _ _ ∙ passed 4 refl (c .before .before .if1 .left) ∙ passed 5 (ap not (c .before .one-dword .ensures)) (c .if2 .left))
+returns-3 c =
+    λ k.
+    let five = ap not (c .before .one-dword .ensures) in
+    sym (rule-number-io k _ _ _ ∙ passed 4 refl (c .before .before .if1 .left) ∙ passed 5 five (c .if2 .left))
 
 pub io-rules-spec : {M : Type 1} → statement M
 io-rules-spec = tie.close (tie.spec returns one-dword-requires returns-2 returns-3)

@@ -27,15 +27,26 @@ enum-told-2 c = search needs
 
 returns : tie.Need-returns
 unfolding verdictOf
-returns c = rw (← c .before .before .before .before .before .before .head-of .ensures, ← c .before .before .before .before .before .kind-of .ensures, ← c .before .before .before .before .row-of .ensures, c .before .before .row .given .1) (c .judge-fields .ensures)
+returns c =
+    let found = c .before .before in
+    let looked = found .before .before in
+    let kind = looked .before in
+    rw (← kind .before .head-of .ensures, ← kind .kind-of .ensures, ← looked .row-of .ensures, found .row .given .1)
+    (c .judge-fields .ensures)
 
 returns-2 : tie.Need-returns-2
 unfolding verdictOf
-returns-2 c = rw (← c .before .before .before .before .head-of .ensures, ← c .before .before .before .kind-of .ensures, ← c .before .before .row-of .ensures, c .enum-told .given .1)
+returns-2 c =
+    let looked = c .before .before in
+    let kind = looked .before in
+    rw (← kind .before .head-of .ensures, ← kind .kind-of .ensures, ← looked .row-of .ensures, c .enum-told .given .1)
 
 returns-3 : tie.Need-returns-3
 unfolding verdictOf
-returns-3 c = rw (← c .before .before .before .before .head-of .ensures, ← c .before .before .before .kind-of .ensures, ← c .before .before .row-of .ensures, c .enum-told2 .given .1)
+returns-3 c =
+    let looked = c .before .before in
+    let kind = looked .before in
+    rw (← kind .before .head-of .ensures, ← kind .kind-of .ensures, ← looked .row-of .ensures, c .enum-told2 .given .1)
 
 pub judge-spec : {M : Type 1} → statement M
 judge-spec =

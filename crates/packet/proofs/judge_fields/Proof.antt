@@ -17,11 +17,19 @@ rule-number-requires c κs = search needs
 
 returns-2 : tie.Need-returns-2
 unfolding onFields onRules
-returns-2 c = rw (← c .before .before .before .fields-fit .ensures, not-false (c .before .before .before .fields-fit .result) (c .before .before .if1 .left), ← c .before .rule-number .ensures, eq-eqb (c .before .rule-number .result) 0 (c .if2 .taken))
+returns-2 c =
+    let fields = c .before .before .before .fields-fit in
+    let rules = c .before .rule-number in
+    let fit = not-false (fields .result) (c .before .before .if1 .left) in
+    rw (← fields .ensures, fit, ← rules .ensures, eq-eqb (rules .result) 0 (c .if2 .taken))
 
 returns-3 : tie.Need-returns-3
 unfolding onFields onRules
-returns-3 c = rw (← c .before .before .before .fields-fit .ensures, not-false (c .before .before .before .fields-fit .result) (c .before .before .if1 .left), ← c .before .rule-number .ensures, ne-eqb (c .before .rule-number .result) 0 (c .if2 .left))
+returns-3 c =
+    let fields = c .before .before .before .fields-fit in
+    let rules = c .before .rule-number in
+    let fit = not-false (fields .result) (c .before .before .if1 .left) in
+    rw (← fields .ensures, fit, ← rules .ensures, ne-eqb (rules .result) 0 (c .if2 .left))
 
 pub judge-fields-spec : {M : Type 1} → statement M
 judge-fields-spec =

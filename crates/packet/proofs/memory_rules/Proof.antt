@@ -21,10 +21,20 @@ first-broken-requires : tie.Need-first-broken-requires
 first-broken-requires c κs = search needs
 
 returns : tie.Need-returns
-returns c = λ k. c .first-broken .ensures ∙ one-broken k (c .before .before .before .before .before .before .args .h) (c .before .before .before .before .before .before .args .e) (c .before .before .before .before .before .before .args .a) (c .before .before .before .enables-lawful .ensures) (c .before .before .wide .ensures .0) (c .before .if1 .taken)
+returns c =
+    let dwords = c .before .before in
+    let enables = dwords .before in
+    let a = enables .before .before .before .args in
+    λ k.
+    c .first-broken .ensures
+    ∙ one-broken k (a .h) (a .e) (a .a) (enables .enables-lawful .ensures) (dwords .wide .ensures .0) (c .before .if1 .taken)
 
 returns-2 : tie.Need-returns-2
-returns-2 c = λ k. none-broken k (c .before .before .before .before .before .args .h) (c .before .before .before .before .before .args .e) (c .before .before .before .before .before .args .a) (c .before .before .enables-lawful .ensures) (c .before .wide .ensures .0) (c .if1 .left)
+returns-2 c =
+    let dwords = c .before in
+    let enables = dwords .before in
+    let a = enables .before .before .before .args in
+    λ k. none-broken k (a .h) (a .e) (a .a) (enables .enables-lawful .ensures) (dwords .wide .ensures .0) (c .if1 .left)
 
 pub memory-rules-spec : {M : Type 1} → statement M
 memory-rules-spec =
