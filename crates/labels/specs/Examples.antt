@@ -49,18 +49,6 @@ rows =
 
 pub examples : map (λ r. packetText (r .packet)) rows ≡ map (λ r. ascii (r .line)) rows
 unfolding
-  hexadecimal
-  decimal
-  decimalOver
-  ascii
-  marksText
-  transactionText
-  headText
-  enablesText
-  addressText
-  targetText
-  countText
-  outcomeText
-  bodyText
-  packetText
+    hexadecimal decimal decimalOver ascii marksText transactionText headText enablesText addressText
+    targetText countText outcomeText bodyText packetText
 examples = refl

@@ -2,7 +2,7 @@
 // Counts and small fields are decimal; IDs, tags, byte enables, registers and addresses are
 // hexadecimal. The text stands in specs/Labels.
 ghost use mathlib.Core.Path.{_≡_};
-ghost use lib.ListN.{take};
+ghost use lib.ListN.{getD, take};
 ghost use Rattle.text.specs.Text.{Put};
 ghost use Rattle.labels.specs.Labels.{bitOf, kindText, marksText, transactionText, headText};
 ghost use Rattle.labels.specs.Labels.{enablesText, addressText, targetText, countText, outcomeText, bodyText, packetText};
@@ -34,45 +34,42 @@ pub fn put_packet(out: &mut [u8], start: usize, p: Packet) -> usize
 pub fn put_kind(out: &mut [u8], at: usize, kind: Kind) -> usize
     ensures { λ r. ⌜ Put (now (out .entry)) at (kindText kind) (now (out .exit)) r ⌝ }
 {
-    let word = word_of(kind);
-    let count = word.0;
-    let letters = word.1;
-    put_text(out, at, front(&letters, count))
+    let name = name_of(kind);
+    let count = name[8] as usize;
+    put_text(out, at, front(&name, count))
 }
 
-// A word of so many letters, with dots after them.
-struct Word(usize, [u8; 8]);
-
-fn word_of(kind: Kind) -> Word
-    ensures { λ r. ⌜ take (r .0) (r .1) ≡ kindText kind ⌝ }
+// A kind's name, zeros up to the longest, and its length. An array for each kind is checked quicker than a text put for each.
+fn name_of(kind: Kind) -> [u8; 9]
+    ensures { λ r. ⌜ take (getD r 8 0) r ≡ kindText kind ⌝ }
 {
     match kind {
         Kind::Memory(k) => match k {
-            MemoryKind::MRd => Word(3, *b"MRd....."),
-            MemoryKind::MRdLk => Word(5, *b"MRdLk..."),
-            MemoryKind::MWr => Word(3, *b"MWr....."),
+            MemoryKind::MRd => [b'M', b'R', b'd', 0, 0, 0, 0, 0, 3],
+            MemoryKind::MRdLk => [b'M', b'R', b'd', b'L', b'k', 0, 0, 0, 5],
+            MemoryKind::MWr => [b'M', b'W', b'r', 0, 0, 0, 0, 0, 3],
         },
         Kind::Io(k) => match k {
-            IoKind::IORd => Word(4, *b"IORd...."),
-            IoKind::IOWr => Word(4, *b"IOWr...."),
+            IoKind::IORd => [b'I', b'O', b'R', b'd', 0, 0, 0, 0, 4],
+            IoKind::IOWr => [b'I', b'O', b'W', b'r', 0, 0, 0, 0, 4],
         },
         Kind::Config(k) => match k {
-            ConfigKind::CfgRd0 => Word(6, *b"CfgRd0.."),
-            ConfigKind::CfgWr0 => Word(6, *b"CfgWr0.."),
-            ConfigKind::CfgRd1 => Word(6, *b"CfgRd1.."),
-            ConfigKind::CfgWr1 => Word(6, *b"CfgWr1.."),
+            ConfigKind::CfgRd0 => [b'C', b'f', b'g', b'R', b'd', b'0', 0, 0, 6],
+            ConfigKind::CfgWr0 => [b'C', b'f', b'g', b'W', b'r', b'0', 0, 0, 6],
+            ConfigKind::CfgRd1 => [b'C', b'f', b'g', b'R', b'd', b'1', 0, 0, 6],
+            ConfigKind::CfgWr1 => [b'C', b'f', b'g', b'W', b'r', b'1', 0, 0, 6],
         },
         Kind::Completion(k) => match k {
-            CompletionKind::Cpl => Word(3, *b"Cpl....."),
-            CompletionKind::CplD => Word(4, *b"CplD...."),
-            CompletionKind::CplLk => Word(5, *b"CplLk..."),
-            CompletionKind::CplDLk => Word(6, *b"CplDLk.."),
+            CompletionKind::Cpl => [b'C', b'p', b'l', 0, 0, 0, 0, 0, 3],
+            CompletionKind::CplD => [b'C', b'p', b'l', b'D', 0, 0, 0, 0, 4],
+            CompletionKind::CplLk => [b'C', b'p', b'l', b'L', b'k', 0, 0, 0, 5],
+            CompletionKind::CplDLk => [b'C', b'p', b'l', b'D', b'L', b'k', 0, 0, 6],
         },
-        Kind::Msg => Word(3, *b"Msg....."),
-        Kind::MsgD => Word(4, *b"MsgD...."),
-        Kind::FetchAdd => Word(8, *b"FetchAdd"),
-        Kind::Swap => Word(4, *b"Swap...."),
-        Kind::Cas => Word(3, *b"CAS....."),
+        Kind::Msg => [b'M', b's', b'g', 0, 0, 0, 0, 0, 3],
+        Kind::MsgD => [b'M', b's', b'g', b'D', 0, 0, 0, 0, 4],
+        Kind::FetchAdd => [b'F', b'e', b't', b'c', b'h', b'A', b'd', b'd', 8],
+        Kind::Swap => [b'S', b'w', b'a', b'p', 0, 0, 0, 0, 4],
+        Kind::Cas => [b'C', b'A', b'S', 0, 0, 0, 0, 0, 3],
     }
 }
 
