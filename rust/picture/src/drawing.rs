@@ -158,7 +158,7 @@ impl Drawing {
     fn finish(self, title: &str) -> String {
         let width = self.width() + 2 * MARGIN;
         let height = self.tops[self.tops.len() - 1] + LEGEND_HEIGHT + MARGIN / 2;
-        self.svg.finish(title, width, height)
+        self.svg.finish(title, [width, height], "")
     }
 }
 

@@ -29,6 +29,12 @@ text { font-family: system-ui, -apple-system, 'Segoe UI', Helvetica, Arial, sans
 pub struct Svg(String);
 
 impl Svg {
+    /// A line down from one point to another, upright at both ends.
+    pub fn curve(&mut self, class: &str, [x, top]: [usize; 2], [end, bottom]: [usize; 2]) {
+        let middle = (top + bottom) / 2;
+        self.put(format_args!(r#"<path class="{class}" d="M{x} {top}C{x} {middle} {end} {middle} {end} {bottom}"/>"#));
+    }
+
     /// A line down, from `top` to `bottom`.
     pub fn line(&mut self, x: usize, top: usize, bottom: usize) {
         self.put(format_args!(r#"<path class="line" d="M{x} {top}V{bottom}"/>"#));
@@ -53,15 +59,15 @@ impl Svg {
         let _ = writeln!(self.0, "{element}");
     }
 
-    /// The file.
-    pub fn finish(self, title: &str, width: usize, height: usize) -> String {
+    /// The file, with more styles where the picture has its own.
+    pub fn finish(self, title: &str, [width, height]: [usize; 2], styles: &str) -> String {
         let size = format!(r#"width="{width}" height="{height}" viewBox="0 0 {width} {height}""#);
         let (card_width, card_height) = (width - 1, height - 1);
         let body = self.0;
         format!(
             r#"<svg xmlns="http://www.w3.org/2000/svg" {size} role="img">
 <title>{title}</title>
-<style>{STYLE}</style>
+<style>{STYLE}{styles}</style>
 <rect class="card" x="0.5" y="0.5" width="{card_width}" height="{card_height}" rx="8"/>
 {body}</svg>
 "#
