@@ -11,6 +11,7 @@
 //! |---|---|
 //! | a header's bytes as a packet, and back | [`read()`], [`write()`] |
 //! | a board as a register sheet | [`plan`] |
+//! | the record of a board that finds no room | [`what_does_not_fit`] |
 //! | a sheet: is it lawful, a function's registers, its command word | [`check`], [`registers`], [`set_command`] |
 //! | the function that a packet goes to | [`route`] |
 //! | the same calls with numbers in place of types | [`calls`] |
@@ -37,9 +38,11 @@
 pub mod calls;
 mod packet;
 mod refusal;
+mod unfit;
 
 pub use packet::{Body, CompletionKind, ConfigurationKind, Enables, Form, Id, IoKind, MemoryKind, Packet};
 pub use refusal::Refusal;
+pub use unfit::{what_does_not_fit, Pool, Unfit};
 
 use calls::{DELIVERY, PACKET};
 
