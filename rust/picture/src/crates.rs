@@ -53,8 +53,7 @@ mod tests {
 
     #[test]
     fn groups_and_what_crates_are_built_on() {
-        let text =
-            "# A head.\n\n# Bytes.\nendian:\ntext: endian\n\n# A plan: read,\n# and printed.\nplan: text libc\n";
+        let text = "# A head.\n\n# Bytes.\nendian:\ntext: endian\n\n# A plan: read,\n# and printed.\nplan: text libc\n";
         let crates = Crates::read(text).unwrap();
         assert_eq!(crates.groups, ["Bytes", "A plan"]);
         let found =

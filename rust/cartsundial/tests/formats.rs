@@ -1,0 +1,25 @@
+//! docs/FORMATS.md shows a whole sheet under its board. It must be the sheet that the library leaves, byte for byte. (The
+//! other examples there go to the proved programs: docs/formats.sh.)
+
+use cartsundial::{plan, FULL_SHEET};
+
+const FORMATS: &str = include_str!("../../../docs/FORMATS.md");
+
+/// The bytes that the lines spell, each without its comment.
+fn bytes<'a>(lines: impl Iterator<Item = &'a str>) -> Vec<u8> {
+    let code = |line: &'a str| line.split('#').next().unwrap_or("");
+    let digits: String = lines.flat_map(|line| code(line).chars().filter(|digit| *digit != ' ')).collect();
+    let pair = |at| u8::from_str_radix(&digits[at..at + 2], 16).unwrap();
+    (0..digits.len()).step_by(2).map(pair).collect()
+}
+
+#[test]
+fn the_whole_sheet() {
+    let section = FORMATS.split("### A whole sheet\n").nth(1).unwrap();
+    let block = |mark: &str| section.split(mark).nth(1).unwrap().split("```").next().unwrap();
+    let board = bytes(block("```plan\n").lines());
+    let sheet = bytes(block("```routes\nsheet ").lines().take_while(|line| !line.starts_with("lookup")));
+    let mut room = [0; FULL_SHEET];
+    let length = plan(&board, &mut room).unwrap();
+    assert_eq!(room[..length], sheet);
+}
