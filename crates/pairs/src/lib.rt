@@ -337,6 +337,73 @@ pub fn row_of(kind: Kind, form: u8) -> Pair
     answer(find_key(key(kind_number(kind), form)))
 }
 
+// The whole table.
+pub fn rows() -> [Row; ROWS]
+    ensures { λ r. ⌜ r ≡ table ⌝ }
+{
+    TABLE
+}
+
+// The kind that a name stands for.
+pub fn kind_named(name: Name) -> Kind
+    ensures { λ r. ⌜ r ≡ kindNamed name ⌝ }
+{
+    match name {
+        Name::MRd => Kind::Memory(MemoryKind::MRd),
+        Name::MRdLk => Kind::Memory(MemoryKind::MRdLk),
+        Name::MWr => Kind::Memory(MemoryKind::MWr),
+        Name::IORd => Kind::Io(IoKind::IORd),
+        Name::IOWr => Kind::Io(IoKind::IOWr),
+        Name::CfgRd0 => Kind::Config(ConfigKind::CfgRd0),
+        Name::CfgWr0 => Kind::Config(ConfigKind::CfgWr0),
+        Name::CfgRd1 => Kind::Config(ConfigKind::CfgRd1),
+        Name::CfgWr1 => Kind::Config(ConfigKind::CfgWr1),
+        Name::Cpl => Kind::Completion(CompletionKind::Cpl),
+        Name::CplD => Kind::Completion(CompletionKind::CplD),
+        Name::CplLk => Kind::Completion(CompletionKind::CplLk),
+        Name::CplDLk => Kind::Completion(CompletionKind::CplDLk),
+        Name::Msg => Kind::Msg,
+        Name::MsgD => Kind::MsgD,
+        Name::FetchAdd => Kind::FetchAdd,
+        Name::Swap => Kind::Swap,
+        Name::Cas => Kind::Cas,
+    }
+}
+
+// Enums are compared by number.
+pub fn kind_number(kind: Kind) -> u8
+    ensures { λ r. ⌜ r ≡ kindNumber kind ⌝ }
+{
+    match kind {
+        Kind::Memory(k) => match k {
+            MemoryKind::MRd => 0,
+            MemoryKind::MRdLk => 1,
+            MemoryKind::MWr => 2,
+        },
+        Kind::Io(k) => match k {
+            IoKind::IORd => 3,
+            IoKind::IOWr => 4,
+        },
+        Kind::Config(k) => match k {
+            ConfigKind::CfgRd0 => 5,
+            ConfigKind::CfgWr0 => 6,
+            ConfigKind::CfgRd1 => 7,
+            ConfigKind::CfgWr1 => 8,
+        },
+        Kind::Completion(k) => match k {
+            CompletionKind::Cpl => 9,
+            CompletionKind::CplD => 10,
+            CompletionKind::CplLk => 11,
+            CompletionKind::CplDLk => 12,
+        },
+        Kind::Msg => 13,
+        Kind::MsgD => 14,
+        Kind::FetchAdd => 15,
+        Kind::Swap => 16,
+        Kind::Cas => 17,
+    }
+}
+
 fn answer(looked: Looked) -> Pair
     ensures { λ r. ⌜ r ≡ answerOf looked ⌝ }
 {
@@ -401,39 +468,6 @@ fn key(number: u8, form: u8) -> u32
     256 * (form as u32) + (number as u32)
 }
 
-// The whole table.
-pub fn rows() -> [Row; ROWS]
-    ensures { λ r. ⌜ r ≡ table ⌝ }
-{
-    TABLE
-}
-
-// The kind that a name stands for.
-pub fn kind_named(name: Name) -> Kind
-    ensures { λ r. ⌜ r ≡ kindNamed name ⌝ }
-{
-    match name {
-        Name::MRd => Kind::Memory(MemoryKind::MRd),
-        Name::MRdLk => Kind::Memory(MemoryKind::MRdLk),
-        Name::MWr => Kind::Memory(MemoryKind::MWr),
-        Name::IORd => Kind::Io(IoKind::IORd),
-        Name::IOWr => Kind::Io(IoKind::IOWr),
-        Name::CfgRd0 => Kind::Config(ConfigKind::CfgRd0),
-        Name::CfgWr0 => Kind::Config(ConfigKind::CfgWr0),
-        Name::CfgRd1 => Kind::Config(ConfigKind::CfgRd1),
-        Name::CfgWr1 => Kind::Config(ConfigKind::CfgWr1),
-        Name::Cpl => Kind::Completion(CompletionKind::Cpl),
-        Name::CplD => Kind::Completion(CompletionKind::CplD),
-        Name::CplLk => Kind::Completion(CompletionKind::CplLk),
-        Name::CplDLk => Kind::Completion(CompletionKind::CplDLk),
-        Name::Msg => Kind::Msg,
-        Name::MsgD => Kind::MsgD,
-        Name::FetchAdd => Kind::FetchAdd,
-        Name::Swap => Kind::Swap,
-        Name::Cas => Kind::Cas,
-    }
-}
-
 // The number of the kind that a name stands for, with no detour by the kind: a search asks for it row by row.
 fn name_number(name: Name) -> u8
     ensures { λ r. ⌜ r ≡ kindNumber (kindNamed name) ⌝ }
@@ -457,39 +491,5 @@ fn name_number(name: Name) -> u8
         Name::FetchAdd => 15,
         Name::Swap => 16,
         Name::Cas => 17,
-    }
-}
-
-// Enums are compared by number.
-pub fn kind_number(kind: Kind) -> u8
-    ensures { λ r. ⌜ r ≡ kindNumber kind ⌝ }
-{
-    match kind {
-        Kind::Memory(k) => match k {
-            MemoryKind::MRd => 0,
-            MemoryKind::MRdLk => 1,
-            MemoryKind::MWr => 2,
-        },
-        Kind::Io(k) => match k {
-            IoKind::IORd => 3,
-            IoKind::IOWr => 4,
-        },
-        Kind::Config(k) => match k {
-            ConfigKind::CfgRd0 => 5,
-            ConfigKind::CfgWr0 => 6,
-            ConfigKind::CfgRd1 => 7,
-            ConfigKind::CfgWr1 => 8,
-        },
-        Kind::Completion(k) => match k {
-            CompletionKind::Cpl => 9,
-            CompletionKind::CplD => 10,
-            CompletionKind::CplLk => 11,
-            CompletionKind::CplDLk => 12,
-        },
-        Kind::Msg => 13,
-        Kind::MsgD => 14,
-        Kind::FetchAdd => 15,
-        Kind::Swap => 16,
-        Kind::Cas => 17,
     }
 }

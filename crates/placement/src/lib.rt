@@ -33,6 +33,68 @@ use window::Window;
 // The root bus, and a bus below each record.
 const BUSES: usize = 1 + records::MOST_FUNCTIONS;
 
+// The whole pass over a planned board: the sheet's bytes, and past them nothing.
+pub fn place_all(board: &[u8], host: Host, counts: &[u16], memo: &[u64], sheet: &mut [u8])
+    requires { ⌜ Placing (now board) host (now counts) (now memo) (now sheet) ⌝ }
+    ensures { λ _. ⌜ now (sheet .exit) ≡ sets (now (sheet .entry)) 0 (sheetBytes (planOn (now (board .entry)))) ⌝ }
+{
+    let mut cursors = [0u64; 3 * BUSES];
+    fill_cursors(&mut cursors, bases_of(host));
+    sheet[0] = 1;
+    place_records(board, host.first_bus, counts, memo, &mut cursors, sheet);
+}
+
+// Every record, from cursors at the pools' bases and a sheet that has its version byte.
+pub fn place_records(
+    board: &[u8],
+    first: u8,
+    counts: &[u16],
+    memo: &[u64],
+    cursors: &mut [u64],
+    sheet: &mut [u8],
+)
+    requires { ⌜ Ready (now board) first (now counts) (now memo) (now cursors) (now sheet) ⌝ }
+    ensures { λ _. ⌜ now (sheet .exit) ≡ sets (now (sheet .entry)) 0 (sheetBytes (planOn (now (board .entry)))) ⌝ }
+{
+    let mut at = board::FUNCTIONS;
+    let mut i: usize = 0;
+    loop {
+        match records::next_at(board, at) {
+            Next::End => {
+                return;
+            }
+            Next::Broken => {
+                return;
+            }
+            Next::Record(n) => {
+                let f = function_at(board, at, n);
+                write_next(f, i, first, counts, memo, cursors, sheet);
+                at = at + 2 + n;
+                i += 1;
+            }
+        }
+    }
+}
+
+// Record i + 1: its registers, and the cursors after it. Its BARs are placed here for both kinds: one call is inlined, two are not.
+pub fn place_record(
+    f: Function,
+    i: usize,
+    first: u8,
+    counts: &[u16],
+    memo: &[u64],
+    cursors: &mut [u64],
+) -> Registers
+    requires { ⌜ Placeable first (now counts) (now cursors) f × (isBridgeOf f ≡ true → Bridged first (now counts) (now memo) (now cursors) i) ⌝ }
+    ensures { λ r. ⌜ (r ≡ registersOf first (now (counts .entry)) (now (memo .entry)) (now (cursors .entry)) i f) × (now (cursors .exit) ≡ cursorsNext (now (memo .entry)) (now (cursors .entry)) i f) ⌝ }
+{
+    let bars = own_bars(f, cursors);
+    if bar::is_bridge(f.header) {
+        return place_bridge(f, bars, i, first, counts, memo, cursors);
+    }
+    place_leaf(f, bars, first, counts, cursors)
+}
+
 // The cursors of bus b: three numbers at 3 * b.
 fn cursors_at(cursors: &[u64], b: usize) -> Cursors
     requires { ⌜ 3 * b + 3 ≤ length (now cursors) ⌝ }
@@ -211,25 +273,6 @@ fn place_bridge(
     r
 }
 
-// Record i + 1: its registers, and the cursors after it. Its BARs are placed here for both kinds: one call is inlined, two are not.
-pub fn place_record(
-    f: Function,
-    i: usize,
-    first: u8,
-    counts: &[u16],
-    memo: &[u64],
-    cursors: &mut [u64],
-) -> Registers
-    requires { ⌜ Placeable first (now counts) (now cursors) f × (isBridgeOf f ≡ true → Bridged first (now counts) (now memo) (now cursors) i) ⌝ }
-    ensures { λ r. ⌜ (r ≡ registersOf first (now (counts .entry)) (now (memo .entry)) (now (cursors .entry)) i f) × (now (cursors .exit) ≡ cursorsNext (now (memo .entry)) (now (cursors .entry)) i f) ⌝ }
-{
-    let bars = own_bars(f, cursors);
-    if bar::is_bridge(f.header) {
-        return place_bridge(f, bars, i, first, counts, memo, cursors);
-    }
-    place_leaf(f, bars, first, counts, cursors)
-}
-
 // ---- all records
 
 // The function at a place where a record stands.
@@ -258,38 +301,6 @@ fn write_next(
     layout::write_record(sheet, at, r);
 }
 
-// Every record, from cursors at the pools' bases and a sheet that has its version byte.
-pub fn place_records(
-    board: &[u8],
-    first: u8,
-    counts: &[u16],
-    memo: &[u64],
-    cursors: &mut [u64],
-    sheet: &mut [u8],
-)
-    requires { ⌜ Ready (now board) first (now counts) (now memo) (now cursors) (now sheet) ⌝ }
-    ensures { λ _. ⌜ now (sheet .exit) ≡ sets (now (sheet .entry)) 0 (sheetBytes (planOn (now (board .entry)))) ⌝ }
-{
-    let mut at = board::FUNCTIONS;
-    let mut i: usize = 0;
-    loop {
-        match records::next_at(board, at) {
-            Next::End => {
-                return;
-            }
-            Next::Broken => {
-                return;
-            }
-            Next::Record(n) => {
-                let f = function_at(board, at, n);
-                write_next(f, i, first, counts, memo, cursors, sheet);
-                at = at + 2 + n;
-                i += 1;
-            }
-        }
-    }
-}
-
 // ---- the pass
 
 fn bases_of(host: Host) -> Cursors
@@ -315,15 +326,4 @@ fn fill_cursors(cursors: &mut [u64], base: Cursors)
         store_cursors(cursors, b, base);
         b += 1;
     }
-}
-
-// The whole pass over a planned board: the sheet's bytes, and past them nothing.
-pub fn place_all(board: &[u8], host: Host, counts: &[u16], memo: &[u64], sheet: &mut [u8])
-    requires { ⌜ Placing (now board) host (now counts) (now memo) (now sheet) ⌝ }
-    ensures { λ _. ⌜ now (sheet .exit) ≡ sets (now (sheet .entry)) 0 (sheetBytes (planOn (now (board .entry)))) ⌝ }
-{
-    let mut cursors = [0u64; 3 * BUSES];
-    fill_cursors(&mut cursors, bases_of(host));
-    sheet[0] = 1;
-    place_records(board, host.first_bus, counts, memo, &mut cursors, sheet);
 }

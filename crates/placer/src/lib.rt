@@ -54,6 +54,79 @@ pub struct WindowsPlaced {
     pub below: Cursors,
 }
 
+// The BARs of the first n read-backs of a lawful set, in slot order.
+pub fn place_bars(set: [u32; 6], n: usize, c: Cursors) -> BarsPlaced
+    requires { ⌜ (n ≤ 6) × (anyBad (slots (take n set)) ≡ false) ⌝ }
+    ensures { λ r. ⌜ r ≡ barsPlaced set n (endsOf c) ⌝ }
+{
+    let mut values = [0u32; 6];
+    let mut at = kept(c);
+    let mut i: usize = 0;
+    while i < n {
+        let x = bar::slot_at(set, n, i);
+        let v = bar::value_of(x, set[i], bar_start(at, x));
+        put_registers(&mut values, i, x, v);
+        at = after_bar(at, x);
+        i += bar::span(x);
+    }
+    BarsPlaced {
+        values: values,
+        cursors: at,
+    }
+}
+
+// A window over what is inside it, from the end before; none where there is nothing inside.
+pub fn place_window(q: Pool, inner: Extent, end: u64, below: u64) -> WindowPlaced
+    requires { ⌜ PowerOfTwo (windowAlign q (inner .align)) ⌝ }
+    ensures { λ r. ⌜ r ≡ windowPlaced q inner end below ⌝ }
+{
+    if inner.align == 0 {
+        return WindowPlaced {
+            window: Window::closed(q),
+            cursor: placing::cap(end),
+            below: placing::cap(below),
+        };
+    }
+    let start = placing::start_at(placing::window_align(q, inner.align), end);
+    let stop = placing::end_of(start, placing::window_size(q, inner.end));
+    WindowPlaced {
+        window: Window::opened(q, start, stop),
+        cursor: stop,
+        below: start,
+    }
+}
+
+// A bridge's windows, after its own BARs: `c` are the cursors of the bus it is on, `below` those of the bus below it.
+pub fn place_windows(inner: Extents, c: Cursors, below: Cursors) -> WindowsPlaced
+    requires { ⌜ ((q : PoolName) → PowerOfTwo (windowAlign q (extentIn inner q .align))) ⌝ }
+    ensures { λ r. ⌜ r ≡ windowsPlaced inner c below ⌝ }
+{
+    let low_inner = inner.low;
+    let high_inner = inner.high;
+    let io_inner = inner.io;
+    let low = place_window(Pool::Low, low_inner, c.low, below.low);
+    let high = place_window(Pool::High, high_inner, c.high, below.high);
+    let io = place_window(Pool::Io, io_inner, c.io, below.io);
+    let low_window = low.window;
+    let high_window = high.window;
+    let io_window = io.window;
+    WindowsPlaced {
+        low: low_window,
+        high: high_window,
+        io: io_window,
+        cursors: Cursors {
+            low: low.cursor,
+            high: high.cursor,
+            io: io.cursor,
+        },
+        below: Cursors {
+            low: low.below,
+            high: high.below,
+            io: io.below,
+        },
+    }
+}
+
 // ---- cursors
 
 fn kept(c: Cursors) -> Cursors
@@ -136,80 +209,5 @@ fn put_registers(values: &mut [u32], i: usize, x: Slot, v: u64)
     values[i] = (v % 4294967296) as u32;
     if bar::takes_next(x) {
         values[i + 1] = (v / 4294967296) as u32;
-    }
-}
-
-// The BARs of the first n read-backs of a lawful set, in slot order.
-pub fn place_bars(set: [u32; 6], n: usize, c: Cursors) -> BarsPlaced
-    requires { ⌜ (n ≤ 6) × (anyBad (slots (take n set)) ≡ false) ⌝ }
-    ensures { λ r. ⌜ r ≡ barsPlaced set n (endsOf c) ⌝ }
-{
-    let mut values = [0u32; 6];
-    let mut at = kept(c);
-    let mut i: usize = 0;
-    while i < n {
-        let x = bar::slot_at(set, n, i);
-        let v = bar::value_of(x, set[i], bar_start(at, x));
-        put_registers(&mut values, i, x, v);
-        at = after_bar(at, x);
-        i += bar::span(x);
-    }
-    BarsPlaced {
-        values: values,
-        cursors: at,
-    }
-}
-
-// ---- windows
-
-// A window over what is inside it, from the end before; none where there is nothing inside.
-pub fn place_window(q: Pool, inner: Extent, end: u64, below: u64) -> WindowPlaced
-    requires { ⌜ PowerOfTwo (windowAlign q (inner .align)) ⌝ }
-    ensures { λ r. ⌜ r ≡ windowPlaced q inner end below ⌝ }
-{
-    if inner.align == 0 {
-        return WindowPlaced {
-            window: Window::closed(q),
-            cursor: placing::cap(end),
-            below: placing::cap(below),
-        };
-    }
-    let start = placing::start_at(placing::window_align(q, inner.align), end);
-    let stop = placing::end_of(start, placing::window_size(q, inner.end));
-    WindowPlaced {
-        window: Window::opened(q, start, stop),
-        cursor: stop,
-        below: start,
-    }
-}
-
-// A bridge's windows, after its own BARs: `c` are the cursors of the bus it is on, `below` those of the bus below it.
-pub fn place_windows(inner: Extents, c: Cursors, below: Cursors) -> WindowsPlaced
-    requires { ⌜ ((q : PoolName) → PowerOfTwo (windowAlign q (extentIn inner q .align))) ⌝ }
-    ensures { λ r. ⌜ r ≡ windowsPlaced inner c below ⌝ }
-{
-    let low_inner = inner.low;
-    let high_inner = inner.high;
-    let io_inner = inner.io;
-    let low = place_window(Pool::Low, low_inner, c.low, below.low);
-    let high = place_window(Pool::High, high_inner, c.high, below.high);
-    let io = place_window(Pool::Io, io_inner, c.io, below.io);
-    let low_window = low.window;
-    let high_window = high.window;
-    let io_window = io.window;
-    WindowsPlaced {
-        low: low_window,
-        high: high_window,
-        io: io_window,
-        cursors: Cursors {
-            low: low.cursor,
-            high: high.cursor,
-            io: io.cursor,
-        },
-        below: Cursors {
-            low: low.below,
-            high: high.below,
-            io: io.below,
-        },
     }
 }

@@ -36,6 +36,21 @@ pub fn fill(board: &[u8], parents: &mut [u16], headers: &mut [u8], readbacks: &m
     }
 }
 
+// At k, for k up to the number of functions: how many bridges are among the first k functions.
+pub fn count_bridges(headers: &[u8], counts: &mut [u16])
+    requires { ⌜ (length (now headers) ≤ mostFunctions) × (length (now headers) < length (now counts)) ⌝ }
+    ensures { λ _. ⌜ now (counts .exit) ≡ sets (now (counts .entry)) 0 (countsOf (now (headers .entry))) ⌝ }
+{
+    let mut n: u16 = 0;
+    let mut i: usize = 0;
+    while i < headers.len() {
+        counts[i] = n;
+        n += weight(headers[i]);
+        i += 1;
+    }
+    counts[i] = n;
+}
+
 // Of a record whose header type and length passed their check; byte 3 is the header type.
 fn put(part: &[u8], i: usize, parents: &mut [u16], headers: &mut [u8], readbacks: &mut [u32])
     requires { ⌜ (headerWrong (now part) ≡ false) × Room (i + 1) (now parents) (now headers) (now readbacks) ⌝ }
@@ -55,21 +70,6 @@ fn put_set(readbacks: &mut [u32], at: usize, part: &[u8])
         readbacks[at + j] = board::readback_at(part, j);
         j += 1;
     }
-}
-
-// At k, for k up to the number of functions: how many bridges are among the first k functions.
-pub fn count_bridges(headers: &[u8], counts: &mut [u16])
-    requires { ⌜ (length (now headers) ≤ mostFunctions) × (length (now headers) < length (now counts)) ⌝ }
-    ensures { λ _. ⌜ now (counts .exit) ≡ sets (now (counts .entry)) 0 (countsOf (now (headers .entry))) ⌝ }
-{
-    let mut n: u16 = 0;
-    let mut i: usize = 0;
-    while i < headers.len() {
-        counts[i] = n;
-        n += weight(headers[i]);
-        i += 1;
-    }
-    counts[i] = n;
 }
 
 fn weight(header: u8) -> u16
