@@ -1,4 +1,5 @@
--- `boards::answer_lines` is safe and ends. The measure is the number of bytes that may still come. Assumes nothing.
+-- `boards::answer_lines` is safe and ends. The invariant: the room for pieces keeps its
+-- length; the measure is the number of bytes that may still come. Assumes nothing.
 use borrow.Author.Needs.{needs}
 use Rattle.boards.proofs.answer_lines.Statement.{statement}
 use Rattle.boards.proofs.answer_lines.Tie as tie

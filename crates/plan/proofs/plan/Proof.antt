@@ -1,4 +1,5 @@
--- `plan::plan` is safe and ends. The measure is the number of pieces that may still come. Assumes nothing.
+-- `plan::plan` is safe and ends. The invariant: the room for pieces keeps its length; the measure is the number of pieces that may
+-- still come. Assumes nothing.
 use borrow.Author.Needs.{needs}
 use Rattle.plan.proofs.plan.Statement.{statement}
 use Rattle.plan.proofs.plan.Tie as tie

@@ -1,4 +1,5 @@
--- `routes::answer_lines` is safe and ends. The measure is the number of bytes that may still come. Assumes nothing.
+-- `routes::answer_lines` is safe and ends. The invariant: the room for pieces keeps its
+-- length; the measure is the number of bytes that may still come. Assumes nothing.
 use borrow.Author.Needs.{needs}
 use Rattle.routes.proofs.answer_lines.Statement.{statement}
 use Rattle.routes.proofs.answer_lines.Tie as tie

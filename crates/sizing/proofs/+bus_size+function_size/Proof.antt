@@ -1,6 +1,7 @@
 -- `sizing::bus_size` and `sizing::function_size` meet their contracts. The measure is the depth that remains and the records left, and one
--- more for a bus: from a bus to its function neither rises, from a bridge to its bus both fall. The loop over a bus stands where `OnBus`
--- says: what is still to come, from what was laid out, comes to what the bus comes to. Assumes nothing.
+-- more for a bus: from a bus to its function neither rises, from a bridge to its bus both fall. The invariant of the loop over a
+-- bus is `OnBus`: what is still to come, from what was laid out, comes to what the bus comes to; its measure is the records left. Assumes
+-- nothing.
 use borrow.Author.Needs.{needs}
 use mathlib.Core.Path.{sym, ap, _∙_}
 use Prim.Native.Nat.{ℕ, _+_, _-_, _*_, _<_}

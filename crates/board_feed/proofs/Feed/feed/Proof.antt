@@ -1,5 +1,5 @@
--- `board_feed::Feed::feed` meets its contract: what fits of the piece is kept, and the loop has left what the rest of the piece comes to.
--- Assumes nothing.
+-- `board_feed::Feed::feed` meets its contract: what fits of the piece is kept. The invariant: from what was heard, the rest of the piece
+-- comes to what the whole piece comes to; the measure is the bytes left. Assumes nothing.
 use Prim.Native.Nat.{_≤_, _-_}
 use mathlib.Core.Path.{_≡_, refl, sym, _∙_}
 use lib.ListN.{length, drop}
