@@ -32,7 +32,7 @@ use Rattle.tlp.specs.Writing.{writeOf, roomAfter}
 use Rattle.sheet.specs.declared.Found.{Found}
 use Rattle.sheet.specs.declared.Found.the-variants.{At, Nothing}
 use Rattle.sheet.specs.declared.Lookup.the-variants.{Refused as NotFound}
-use Rattle.sheet.specs.Places.{stride}
+use Rattle.sheet_record.specs.Places.{stride}
 use Rattle.sheet.specs.Sheet.{Framed, entriesOf, findFrom, sheetNumber, sheetLength}
 use Rattle.sheet.specs.SheetLaws.{checked-of-zero}
 use Rattle.sheet.specs.Lookup.{placed, lookupOf, lookupNumber, withCommand}

@@ -22,11 +22,12 @@ use Rattle.lists.specs.Lists.{All, keep}
 use Rattle.walk.specs.Registers.{itemsOf, items, enabledIn}
 use Rattle.walk.specs.Tally.{join, tallyOn}
 use Rattle.walk.specs.Walk.{walkOver, walkFrom}
-use Rattle.sheet.specs.Entry.{dwords, windowOf, entryOf}
+use Rattle.sheet_record.specs.Spaces.{barsFrom}
+use Rattle.sheet_record.specs.Entry.{dwords, windowOf, entryOf}
 use Rattle.sheet.specs.Sheet.{allSized, isFramed, entriesFrom, commandsOf, allZero, readBacksWrong, breaks, anyBreaks, hasId, idTwice, findFrom}
 use Rattle.sheet.specs.Sheet.{from29, from25, from28, from27, from24, from22, from20, from21, sheetNumber}
 use Rattle.sheet.specs.Lookup.{lookupOf}
-use Rattle.sheet.specs.Spaces.{barsFrom, functionsFrom, nodesFrom}
+use Rattle.sheet.specs.Spaces.{functionsFrom, nodesFrom}
 use Rattle.sheet.specs.Examples.{p10}
 use Rattle.route.specs.Route.{routeOf, fromSheet, from40, from42}
 use Rattle.route.specs.Examples.{MRd, F9000FFC, F9001000}

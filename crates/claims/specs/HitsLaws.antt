@@ -21,9 +21,9 @@ use Rattle.walk.specs.Tally as tallies
 use Rattle.walk.specs.Tally.{join, hitsOf}
 use Rattle.walk.specs.TallyLaws.{join-append, join-several}
 use Rattle.walk.specs.SearchLaws.{hits-nil, hits-append}
-use Rattle.sheet.specs.Entry.{headerOf, isBridge, secondaryOf, windowOf, entryOf}
-use Rattle.sheet.specs.Spaces.{barHere, barHolds, openRange}
-use Rattle.sheet.specs.SpacesLaws.{barsAt, bars-step, bars-end, bar-hits, window-hits}
+use Rattle.sheet_record.specs.Spaces.{barHere, barHolds, openRange}
+use Rattle.sheet_record.specs.Entry.{headerOf, isBridge, secondaryOf, windowOf, entryOf}
+use Rattle.sheet_record.specs.SpacesLaws.{barsAt, bars-step, bars-end, bar-hits, window-hits}
 use Rattle.claims.specs.declared.Tally.{Tally}
 use Rattle.claims.specs.declared.Tally.the-variants.{Nothing, One, Several}
 use Rattle.claims.specs.Claims.{tallyOf, isSeveral}

@@ -16,13 +16,14 @@ use Rattle.walk.specs.Tally.{Tally, none, one, join}
 use Rattle.walk.specs.TallyLaws.{join-append}
 use Rattle.walk.specs.Good.{busRange}
 use Rattle.walk.specs.Ids.{hasId, leadsToward, bridgeClaim, firstOf, tallyById}
-use Rattle.sheet.specs.Places.{stride}
-use Rattle.sheet.specs.Entry.{idOf, busOf, headerOf, isBridge, secondaryOf, subordinateOf, entryOf}
+use Rattle.sheet_record.specs.Spaces.{nodeOf}
+use Rattle.sheet_record.specs.Places.{stride}
+use Rattle.sheet_record.specs.Entry.{idOf, busOf, headerOf, isBridge, secondaryOf, subordinateOf, entryOf}
 use Rattle.sheet.specs.Sheet.{entriesFrom, entriesOf, partAt}
 use Rattle.sheet.specs.CheckLaws.{entries-past, count-entries}
 use Rattle.sheet.specs.IndexLaws.{entries-index}
 use Rattle.sheet.specs.SheetLaws.{Checked}
-use Rattle.sheet.specs.Spaces.{nodeOf, nodesFrom, nodesOf}
+use Rattle.sheet.specs.Spaces.{nodesFrom, nodesOf}
 use Rattle.claims.specs.HitsLaws.{join-nil}
 
 -- ## The tests of one record

@@ -6,8 +6,8 @@ use lib.Dec.{eqb}
 use Rattle.pools.specs.declared.Space.{Space}
 use Rattle.walk.specs.Registers.{Claim, window, openWindows}
 use Rattle.walk.specs.Tally.{hitsOf}
-use Rattle.sheet.specs.Entry.{busOf, commandOf, entryOf}
-use Rattle.sheet.specs.Spaces.{functionOf, enables}
+use Rattle.sheet_record.specs.Spaces.{functionOf, enables}
+use Rattle.sheet_record.specs.Entry.{busOf, commandOf, entryOf}
 
 -- a function of this bus whose space is enabled
 abbrev pub isLive : Space → ℕ → List ℕ → Bool

@@ -15,14 +15,15 @@ use Rattle.walk.specs.Ranges.{Range}
 use Rattle.walk.specs.Registers.{Registers, Claim, bar}
 use Rattle.walk.specs.Tally.{Tally, none, join, hitsOf, claimsOf, claimsOn, tallyOn}
 use Rattle.walk.specs.SearchLaws.{claims-nil, claims-cons, claims-of-here, claims-of-other}
-use Rattle.sheet.specs.Places.{valuesAt, readbacksAt, recordSize, stride}
-use Rattle.sheet.specs.Entry.{dwords, headerOf, isBridge, slotCount, entryOf}
+use Rattle.sheet_record.specs.EntryLaws.{bars-entry}
+use Rattle.sheet_record.specs.Spaces.{barsOf, functionOf}
+use Rattle.sheet_record.specs.Places.{valuesAt, readbacksAt, recordSize, stride}
+use Rattle.sheet_record.specs.Entry.{dwords, headerOf, isBridge, slotCount, entryOf}
 use Rattle.sheet.specs.Sheet.{entriesFrom, entriesOf, partAt, sheetLength}
 use Rattle.sheet.specs.IndexLaws.{length-part, record-fits, functions-index, functions-end, enabled-index}
-use Rattle.sheet.specs.EntryLaws.{bars-entry}
 use Rattle.sheet.specs.SheetLaws.{Checked, lawful-index}
-use Rattle.sheet.specs.Spaces.{barsOf, functionOf, functionsFrom, registersOf, enabledOf}
-use Rattle.sheet.specs.SpacesLaws.{barsAt}
+use Rattle.sheet.specs.Spaces.{functionsFrom, registersOf, enabledOf}
+use Rattle.sheet_record.specs.SpacesLaws.{barsAt}
 use Rattle.claims.specs.Search.{isLive, windowClaims}
 use Rattle.claims.specs.HitsLaws.{join-nil, LawfulFrom}
 

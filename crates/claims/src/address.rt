@@ -3,9 +3,10 @@ ghost use mathlib.Core.Path.{_≡_};
 ghost use lib.ListN.{length};
 ghost use Rattle.walk.specs.Tally.{join, hitsOf, tallyOn};
 ghost use Rattle.walk.specs.Registers.{window};
-ghost use Rattle.sheet.specs.Places.{recordSize};
-ghost use Rattle.sheet.specs.Entry.{secondaryOf, windowOf};
-ghost use Rattle.sheet.specs.Spaces.{openRange, registersOf, enabledOf};
+ghost use Rattle.sheet_record.specs.Spaces.{openRange};
+ghost use Rattle.sheet_record.specs.Places.{recordSize};
+ghost use Rattle.sheet_record.specs.Entry.{secondaryOf, windowOf};
+ghost use Rattle.sheet.specs.Spaces.{registersOf, enabledOf};
 ghost use Rattle.sheet.specs.SheetLaws.{Checked};
 ghost use Rattle.claims.specs.Claims.{tallyOf};
 ghost use Rattle.claims.specs.Search.{isLive, windowClaims};
@@ -13,15 +14,14 @@ use super::Claim;
 use super::Tally;
 use pools::Pool;
 use pools::Space;
-use sheet::record;
 
 // A function of this bus whose space is enabled. The others are passed over.
 fn is_live(part: &[u8], space: Space, bus: u8) -> bool
     requires { ⌜ length (now part) ≡ recordSize ⌝ }
     ensures { λ r. ⌜ r ≡ isLive space bus (now (part .entry)) ⌝ }
 {
-    if record::bus_of(part) == bus {
-        record::is_enabled(part, space)
+    if sheet_record::bus_of(part) == bus {
+        sheet_record::is_enabled(part, space)
     } else {
         false
     }
@@ -32,8 +32,8 @@ fn with_window(tally: Tally, part: &[u8], q: Pool, number: u16, address: u64) ->
     requires { ⌜ length (now part) ≡ recordSize ⌝ }
     ensures { λ r. ⌜ tallyOf r ≡ join (tallyOf tally) (hitsOf address (window number (secondaryOf (now (part .entry)))) (openRange q (windowOf q (now (part .entry))))) ⌝ }
 {
-    if record::window_of(part, q).holds(q, address) {
-        return tally.with_claim(Claim::Window(number, record::secondary_of(part)));
+    if sheet_record::window_of(part, q).holds(q, address) {
+        return tally.with_claim(Claim::Window(number, sheet_record::secondary_of(part)));
     }
     tally
 }
@@ -43,7 +43,7 @@ fn with_windows(tally: Tally, part: &[u8], space: Space, number: u16, address: u
     requires { ⌜ length (now part) ≡ recordSize ⌝ }
     ensures { λ r. ⌜ tallyOf r ≡ join (tallyOf tally) (windowClaims space address number (now (part .entry))) ⌝ }
 {
-    if !record::is_bridge(part) {
+    if !sheet_record::is_bridge(part) {
         return tally;
     }
     match space {
@@ -68,15 +68,15 @@ pub fn claims_on(sheet: &[u8], space: Space, bus: u8, address: u64) -> Tally
         k += 1;
         if is_live(part, space, bus) {
             let number = k as u16;
-            let set = record::readbacks_of(part);
-            let values = record::values_of(part);
-            let slots = record::slot_count(part);
+            let set = sheet_record::readbacks_of(part);
+            let values = sheet_record::values_of(part);
+            let slots = sheet_record::slot_count(part);
             let mut i: usize = 0;
             while i < slots {
                 let slot = bar::slot_at(set, slots, i);
                 let value = bar::value_here(slot, values, slots, i);
                 i += bar::span(slot);
-                if sheet::spaces::bar_holds(space, slot, value, address) {
+                if sheet_record::spaces::bar_holds(space, slot, value, address) {
                     tally = tally.with_claim(Claim::Bar(number));
                     if tally.is_several() {
                         break 'records;

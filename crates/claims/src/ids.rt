@@ -6,14 +6,14 @@ ghost use lib.ListN.{length};
 ghost use Rattle.lists.specs.Lists.{keep};
 ghost use Rattle.walk.specs.Tally.{none, join};
 ghost use Rattle.walk.specs.Ids.{hasId, leadsToward, bridgeClaim, firstOf, tallyById};
-ghost use Rattle.sheet.specs.Places.{recordSize};
-ghost use Rattle.sheet.specs.Entry.{entryOf};
+ghost use Rattle.sheet_record.specs.Spaces.{nodeOf};
+ghost use Rattle.sheet_record.specs.Places.{recordSize};
+ghost use Rattle.sheet_record.specs.Entry.{entryOf};
 ghost use Rattle.sheet.specs.SheetLaws.{Checked};
-ghost use Rattle.sheet.specs.Spaces.{nodeOf, nodesOf};
+ghost use Rattle.sheet.specs.Spaces.{nodesOf};
 ghost use Rattle.claims.specs.Claims.{tallyOf};
 use super::Claim;
 use super::Tally;
-use sheet::record;
 
 // The function with this ID, wherever it stands on its bus.
 fn owner_of(sheet: &[u8], id: u16) -> Tally
@@ -25,7 +25,7 @@ fn owner_of(sheet: &[u8], id: u16) -> Tally
     while k < records {
         let part = sheet::part(sheet, k);
         k += 1;
-        if record::id_of(part) == id {
+        if sheet_record::id_of(part) == id {
             return Tally::One(Claim::Bar(k as u16));
         }
     }
@@ -37,13 +37,13 @@ fn leads_toward(part: &[u8], target: u8, bus: u8) -> bool
     requires { ⌜ length (now part) ≡ recordSize ⌝ }
     ensures { λ r. ⌜ r ≡ leadsToward target bus (nodeOf 0 (entryOf (now (part .entry)))) ⌝ }
 {
-    if record::bus_of(part) != bus {
+    if sheet_record::bus_of(part) != bus {
         return false;
     }
-    if !record::is_bridge(part) {
+    if !sheet_record::is_bridge(part) {
         return false;
     }
-    (record::secondary_of(part) <= target) & (target <= record::subordinate_of(part))
+    (sheet_record::secondary_of(part) <= target) & (target <= sheet_record::subordinate_of(part))
 }
 
 // The bridges on this bus that lead toward the target's. The second ends the search.
@@ -58,7 +58,7 @@ fn bridges_toward(sheet: &[u8], target: u8, bus: u8) -> Tally
         let part = sheet::part(sheet, k);
         k += 1;
         if leads_toward(part, target, bus) {
-            tally = tally.with_claim(Claim::Window(k as u16, record::secondary_of(part)));
+            tally = tally.with_claim(Claim::Window(k as u16, sheet_record::secondary_of(part)));
             if tally.is_several() {
                 break;
             }

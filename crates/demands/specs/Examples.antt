@@ -30,10 +30,11 @@ use Rattle.board.specs.Function.{functionOfPart, headerWrong, readbacksWrong}
 use Rattle.board.specs.Order.{above, parents, lastSibling, misplaced, anyMisplaced}
 use Rattle.board.specs.Board.{misframed, fromReadbacks, fromOrder, fromEdges, fromHeaders, fromCount, fromFrame, fromVersion, boardNumber, hostOf, functionsOf}
 use Rattle.board.specs.Examples.{host, hostWith, row, card, p10}
-use Rattle.sheet.specs.Entry.{dwords, windowOf, entryOf}
+use Rattle.sheet_record.specs.Spaces.{barsFrom as rangesFrom}
+use Rattle.sheet_record.specs.Entry.{dwords, windowOf, entryOf}
 use Rattle.sheet.specs.Sheet.{allSized, isFramed, entriesFrom, commandsOf, allZero, readBacksWrong, breaks, anyBreaks, hasId, idTwice, fullSheet}
 use Rattle.sheet.specs.Sheet.{from29, from25, from28, from27, from24, from22, from20, from21, sheetNumber}
-use Rattle.sheet.specs.Spaces.{barsFrom as rangesFrom, functionsFrom, nodesFrom}
+use Rattle.sheet.specs.Spaces.{functionsFrom, nodesFrom}
 use Rattle.sheet.specs.Examples.{p10 as p10-sheet}
 use Rattle.layout.specs.Layout.{dwordBytes, endBytes, bridgeBytes, bodyBytes, commonBytes, configBytes, partBytes, recordBytes, sheetBytes}
 use Rattle.walk.specs.Registers.{itemsOf, items, enabledIn}

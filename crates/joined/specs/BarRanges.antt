@@ -16,7 +16,7 @@ use Rattle.bar.specs.Bars.{barsFrom}
 use Rattle.bar.specs.Values.{valueHere, baseOf}
 use Rattle.lists.specs.Lists.{keep}
 use Rattle.walk.specs.Ranges.{Pool as RangePool}
-use Rattle.sheet.specs.Spaces.{poolOf, barsFrom as rangesFrom}
+use Rattle.sheet_record.specs.Spaces.{poolOf, barsFrom as rangesFrom}
 use Rattle.planned.specs.RecordPieces.{barRange}
 use Rattle.joined.specs.WindowRanges.{pool-agree}
 

@@ -23,12 +23,13 @@ use Rattle.board.specs.declared.Function.{Function}
 use Rattle.board.specs.Function.{isBridge}
 use Rattle.board.specs.ToPlacing.{toHost, toPlacing, devfnOf}
 use Rattle.walk.specs.Ids.{DistinctIds}
+use Rattle.sheet_record.specs.Spaces.{nodeOf}
 use Rattle.sheet.specs.declared.Rule.{Rule}
 use Rattle.sheet.specs.declared.Rule.the-variants.{HeaderType, Buses, ReadBacks, Nibbles}
-use Rattle.sheet.specs.Entry.{Entry}
+use Rattle.sheet_record.specs.Entry.{Entry}
 use Rattle.sheet.specs.Sheet.{entriesOf, readBacksWrong, breaks, anyBreaks, hasId, idTwice, sheetNumber}
 use Rattle.sheet.specs.SheetLaws.{Checked, zero-of-checked}
-use Rattle.sheet.specs.Spaces.{nodeOf, nodesFrom}
+use Rattle.sheet.specs.Spaces.{nodesFrom}
 use Rattle.sheet.specs.Commands.{SameButCommands}
 use Rattle.sheet.specs.CommandsLaws.{number-same}
 use Rattle.layout.specs.Layout.{Planned, sheetBytes}

@@ -31,10 +31,10 @@ use Rattle.board.specs.declared.Function.{Function}
 use Rattle.board.specs.Function.{isBridge}
 use Rattle.board.specs.ToPlacing.{toHost, toFunction, toPlacing, devfnOf}
 use Rattle.walk.specs.Registers.{Registers}
-use Rattle.sheet.specs.Entry.{Entry}
+use Rattle.sheet_record.specs.Spaces.{barsFrom as rangesFrom, nodeOf, functionOf, barsOf as sheetBars, windowsOf as sheetWindows}
+use Rattle.sheet_record.specs.Entry.{Entry}
 use Rattle.sheet.specs.Sheet.{entriesOf}
-use Rattle.sheet.specs.Spaces.{barsFrom as rangesFrom, nodeOf, functionOf, functionsFrom, registersOf, nodesOf}
-use Rattle.sheet.specs.Spaces.{barsOf as sheetBars, windowsOf as sheetWindows}
+use Rattle.sheet.specs.Spaces.{functionsFrom, registersOf, nodesOf}
 use Rattle.sheet.specs.SheetLaws.{nodes-functions}
 use Rattle.layout.specs.Layout.{Planned, sheetBytes}
 use Rattle.layout.specs.ReadBack.{entriesOf-sheetBytes}

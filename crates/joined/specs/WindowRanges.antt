@@ -21,7 +21,7 @@ use Rattle.placing.specs.Pieces.{windowOver, windowPiece}
 use Rattle.placer.specs.Registers.{isWindowIn, windowFor}
 use Rattle.lists.specs.Lists.{_∈_, keep}
 use Rattle.walk.specs.Ranges.{Pool as RangePool}
-use Rattle.sheet.specs.Spaces.{poolOf, openRange}
+use Rattle.sheet_record.specs.Spaces.{poolOf, openRange}
 use Rattle.planned.specs.Spaces.{rangePool}
 use Rattle.planned.specs.Registers.{rangeOf, isWindowOf}
 use Rattle.joined.specs.Windows.{WindowAt}

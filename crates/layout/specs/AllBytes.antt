@@ -8,8 +8,8 @@ use Rattle.endian.specs.Endian.{Bytes, beBytes, leBytes}
 use Rattle.endian.specs.BytesLaws.{bytes-nil, bytes-cons, bytes-append}
 use Rattle.endian.specs.EndianLaws.{bytes-beBytes, bytes-leBytes}
 use Rattle.lists.specs.Lists.{All}
-use Rattle.sheet.specs.Places.{recordSize}
-use Rattle.sheet.specs.Entry.{Entry, isBridge}
+use Rattle.sheet_record.specs.Places.{recordSize}
+use Rattle.sheet_record.specs.Entry.{Entry, isBridge}
 use Rattle.layout.specs.Layout.{Planned, Shaped, WellShaped, zeros, dwordBytes, endBytes, bridgeBytes, bodyBytes, commonBytes, configBytes, partBytes, recordBytes, sheetBytes}
 
 -- a list of bytes, so told that a list is known by its proof

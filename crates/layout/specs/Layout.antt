@@ -9,8 +9,8 @@ use Rattle.endian.specs.Endian.{beBytes, leBytes}
 use Rattle.pools.specs.declared.Pool.the-variants.{Low, High, Io}
 use Rattle.window.specs.declared.Window.{Window}
 use Rattle.window.specs.Window.{closed, Fits}
-use Rattle.sheet.specs.Places.{registersAt, commandAt, headerTypeAt, valuesAt, upperLimitAt, readbacksAt, recordSize}
-use Rattle.sheet.specs.Entry.{Entry, isBridge, slotCount}
+use Rattle.sheet_record.specs.Places.{registersAt, commandAt, headerTypeAt, valuesAt, upperLimitAt, readbacksAt, recordSize}
+use Rattle.sheet_record.specs.Entry.{Entry, isBridge, slotCount}
 use Rattle.layout.specs.declared.Registers.{Registers}
 
 -- what the planner writes of one function: its record and its command word

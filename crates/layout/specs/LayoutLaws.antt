@@ -10,8 +10,8 @@ use lib.Seq.{sets, sets-eq, getD-take}
 use Rattle.endian.specs.Endian.{beBytes, leBytes}
 use Rattle.endian.specs.SetsLaws.{sets-append}
 use Rattle.endian.specs.EndianLaws.{length-beBytes}
-use Rattle.sheet.specs.Places.{recordSize, stride}
-use Rattle.sheet.specs.Entry.{Entry, isBridge}
+use Rattle.sheet_record.specs.Places.{recordSize, stride}
+use Rattle.sheet_record.specs.Entry.{Entry, isBridge}
 use Rattle.sheet.specs.Sheet.{sheetLength}
 use Rattle.layout.specs.declared.Registers.{Registers}
 use Rattle.layout.specs.Layout.{Planned, zeros, dwordBytes, endBytes, numberBytes, memoryBytes, bridgeBytes, bodyBytes, commonBytes, configBytes, partBytes, recordBytes, sheetBytes, plannedOf}

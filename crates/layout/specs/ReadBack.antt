@@ -19,8 +19,8 @@ use Rattle.records.specs.declared.Next.the-variants.{End, Record}
 use Rattle.records.specs.Records.{nextOf, Parts, partsOf}
 use Rattle.records.specs.RecordsLaws.{partsOf-step}
 use Rattle.lists.specs.Lists.{All}
-use Rattle.sheet.specs.Places.{valuesAt, readbacksAt, recordSize, stride}
-use Rattle.sheet.specs.Entry.{Entry, dwords, isBridge, slotCount, idOf, commandOf, headerOf, primaryOf, secondaryOf, subordinateOf, windowOf, entryOf}
+use Rattle.sheet_record.specs.Places.{valuesAt, readbacksAt, recordSize, stride}
+use Rattle.sheet_record.specs.Entry.{Entry, dwords, isBridge, slotCount, idOf, commandOf, headerOf, primaryOf, secondaryOf, subordinateOf, windowOf, entryOf}
 use Rattle.sheet.specs.Sheet.{allSized, isFramed, Framed, partsIn, entriesFrom, entriesOf, commandsOf}
 use Rattle.layout.specs.Layout.{Planned, Dwords, NoBridge, Shaped, WellShaped, zeros, dwordBytes, endBytes, numberBytes, memoryBytes, bridgeBytes, bodyBytes, commonBytes, configBytes, partBytes, recordBytes, sheetBytes}
 use Rattle.layout.specs.LayoutLaws.{length-common, length-body, length-partBytes, length-recordBytes, length-sheetBytes}

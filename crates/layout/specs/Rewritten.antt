@@ -2,7 +2,7 @@
 use mathlib.Core.Path.{_≡_, refl, sym, ap, _∙_}
 use mathlib.Core.Bool.{Bool, true, false}
 use mathlib.Core.List.{List, [], _∷_, _++_, flatMap, map}
-use Prim.Native.Nat.{ℕ, zero, suc, _+_, _*_, _/_, _^_, _≤_, _<_}
+use Prim.Native.Nat.{ℕ, zero, suc, _+_, _*_, _^_, _≤_, _<_}
 use native.Mathlib.Nat.{suc-add}
 use native.Mathlib.Omega.{arith}
 use lib.Dec.{ltb}
@@ -13,7 +13,7 @@ use Rattle.endian.specs.Endian.{beBytes, leBytes}
 use Rattle.endian.specs.SetsLaws.{getD-sets-before, getD-sets-after}
 use Rattle.endian.specs.EndianLaws.{length-leBytes}
 use Rattle.lists.specs.Lists.{All}
-use Rattle.sheet.specs.Places.{commandAt, stride}
+use Rattle.sheet_record.specs.Places.{commandAt, stride}
 use Rattle.sheet.specs.Sheet.{sheetLength}
 use Rattle.sheet.specs.Commands.{InCommand, SameButCommands}
 use Rattle.layout.specs.Layout.{Planned, WellShaped, commonBytes, configBytes, partBytes, recordBytes, sheetBytes}

@@ -5,9 +5,9 @@ ghost use Prim.Native.Nat.{_+_, _<_, _≤_};
 ghost use lib.ListN.{length};
 ghost use lib.Seq.{sets};
 ghost use Rattle.endian.specs.Endian.{beBytes, leBytes};
-ghost use Rattle.sheet.specs.Places.{recordSize, stride};
+ghost use Rattle.sheet_record.specs.Places.{recordSize, stride};
 ghost use Rattle.layout.specs.Layout.{zeros, dwordBytes, numberBytes, memoryBytes, windowBytes, bodyBytes, commonBytes, recordBytes, plannedOf};
-use sheet::places;
+use sheet_record::places;
 use window::Window;
 
 const SIZE: u64 = places::SIZE as u64;

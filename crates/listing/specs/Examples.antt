@@ -21,7 +21,7 @@ use Rattle.board.specs.Function.{functionOfPart, headerWrong, readbacksWrong}
 use Rattle.board.specs.Order.{above, parents, lastSibling, misplaced, anyMisplaced}
 use Rattle.board.specs.Board.{misframed, fromReadbacks, fromOrder, fromEdges, fromHeaders, fromCount, fromFrame, fromVersion, boardNumber, hostOf, functionsOf}
 use Rattle.board.specs.Examples.{p10 as p10-board}
-use Rattle.sheet.specs.Entry.{dwords, windowOf, entryOf}
+use Rattle.sheet_record.specs.Entry.{dwords, windowOf, entryOf}
 use Rattle.sheet.specs.Sheet.{fullSheet, allSized, isFramed, entriesFrom, allZero, readBacksWrong, breaks, anyBreaks, hasId, idTwice}
 use Rattle.sheet.specs.Sheet.{from29, from25, from28, from27, from24, from22, from20, from21, sheetNumber}
 use Rattle.sheet.specs.Examples.{p8, p10, nibbled}

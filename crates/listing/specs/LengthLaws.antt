@@ -14,8 +14,8 @@ use Rattle.text.specs.Text.{ascii, Put, digit, hexadecimal, decimal}
 use Rattle.text.specs.TextLaws.{decimal-one, decimal-more}
 use Rattle.records.specs.Limits.{mostFunctions}
 use Rattle.sheet.specs.declared.Rule.the-variants.{HeaderType, Buses, ReadBacks, Nibbles}
-use Rattle.sheet.specs.Places.{valuesAt}
-use Rattle.sheet.specs.Entry.{Entry, dwords, idOf, headerOf, isBridge, slotCount, entryOf}
+use Rattle.sheet_record.specs.Places.{valuesAt}
+use Rattle.sheet_record.specs.Entry.{Entry, dwords, idOf, headerOf, isBridge, slotCount, entryOf}
 use Rattle.sheet.specs.Sheet.{isFramed, partsIn, entriesFrom, entriesOf, anyBreaks, idTwice, from29, from25, from28, from27, from24, from22, from20, from21, sheetNumber}
 use Rattle.sheet.specs.IndexLaws.{length-entries}
 use Rattle.sheet.specs.SheetLaws.{checked-of-zero}

@@ -8,7 +8,7 @@ use lib.Dec.{eqb}
 use Rattle.text.specs.Text.{ascii, hexadecimal, decimal}
 use Rattle.records.specs.Limits.{mostFunctions}
 use Rattle.window.specs.declared.Window.{Window}
-use Rattle.sheet.specs.Entry.{Entry, bridges}
+use Rattle.sheet_record.specs.Entry.{Entry, bridges}
 use Rattle.sheet.specs.Sheet.{entriesOf, sheetNumber}
 use Rattle.planning.specs.declared.Planning.{Planning}
 use Rattle.planning.specs.declared.Planning.the-variants.{Planned, Refused}

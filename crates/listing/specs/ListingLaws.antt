@@ -13,8 +13,8 @@ use Rattle.text.specs.Text.{ascii, Put, hexadecimal}
 use Rattle.text.specs.TextLaws.{put-length}
 use Rattle.pools.specs.declared.Pool.the-variants.{Low, High, Io}
 use Rattle.window.specs.declared.Window.{Window}
-use Rattle.sheet.specs.Places.{valuesAt}
-use Rattle.sheet.specs.Entry.{Entry, dwords, idOf, headerOf, isBridge, primaryOf, secondaryOf, subordinateOf, windowOf, entryOf}
+use Rattle.sheet_record.specs.Places.{valuesAt}
+use Rattle.sheet_record.specs.Entry.{Entry, dwords, idOf, headerOf, isBridge, primaryOf, secondaryOf, subordinateOf, windowOf, entryOf}
 use Rattle.sheet.specs.Sheet.{Framed, partsIn, partAt, entriesFrom, entriesOf, sheetNumber}
 use Rattle.sheet.specs.FrameLaws.{part-index}
 use Rattle.sheet.specs.IndexLaws.{length-entries}

@@ -6,13 +6,12 @@ ghost use mathlib.Core.List.{[], _∷_, _++_};
 ghost use Prim.Native.Nat.{_≤_};
 ghost use lib.ListN.{length};
 ghost use Rattle.text.specs.Text.{Put, hexadecimal};
-ghost use Rattle.sheet.specs.Places.{recordSize};
-ghost use Rattle.sheet.specs.Entry.{headerOf, isBridge, entryOf};
+ghost use Rattle.sheet_record.specs.Places.{recordSize};
+ghost use Rattle.sheet_record.specs.Entry.{headerOf, isBridge, entryOf};
 ghost use Rattle.sheet.specs.Sheet.{Framed, entriesOf};
 ghost use Rattle.listing.specs.Listing.{buses, words, windowText, bridgeText, endText, lineOf, countText, planText, refusalText, sheetText, planningText, longest};
 use planning::Planning;
 use pools::Pool;
-use sheet::record;
 use text::put_byte;
 use text::put_hexadecimal;
 use text::put_text;
@@ -74,8 +73,8 @@ fn put_record(out: &mut [u8], at: usize, part: &[u8]) -> usize
     requires { ⌜ length (now part) ≡ recordSize ⌝ }
     ensures { λ r. ⌜ Put (now (out .entry)) at (lineOf (entryOf (now (part .entry)))) (now (out .exit)) r ⌝ }
 {
-    let next = put_hexadecimal(out, at, 4, record::id_of(part) as u64);
-    if record::is_bridge(part) {
+    let next = put_hexadecimal(out, at, 4, sheet_record::id_of(part) as u64);
+    if sheet_record::is_bridge(part) {
         return put_bridge(out, next, part);
     }
     put_end(out, next, part)
@@ -86,7 +85,7 @@ fn put_end(out: &mut [u8], at: usize, part: &[u8]) -> usize
     requires { ⌜ isBridge (headerOf (now part)) ≡ false ⌝ }
     ensures { λ r. ⌜ Put (now (out .entry)) at (endText (entryOf (now (part .entry)))) (now (out .exit)) r ⌝ }
 {
-    let values = record::values_of(part);
+    let values = sheet_record::values_of(part);
     let next = put_bars(out, at, b" end", &values);
     put_byte(out, next, b'\n')
 }
@@ -96,7 +95,7 @@ fn put_bridge(out: &mut [u8], at: usize, part: &[u8]) -> usize
     requires { ⌜ isBridge (headerOf (now part)) ≡ true ⌝ }
     ensures { λ r. ⌜ Put (now (out .entry)) at (bridgeText (entryOf (now (part .entry)))) (now (out .exit)) r ⌝ }
 {
-    let values = record::values_of(part);
+    let values = sheet_record::values_of(part);
     let mut next = put_bars(out, at, b" bridge", &values[..2]);
     next = put_buses(out, next, part);
     next = put_windows(out, next, part);
@@ -109,9 +108,9 @@ fn put_buses(out: &mut [u8], at: usize, part: &[u8]) -> usize
     ensures { λ r. ⌜ Put (now (out .entry)) at (words 2 (buses (entryOf (now (part .entry))))) (now (out .exit)) r ⌝ }
 {
     let numbers = [
-        record::primary_of(part) as u32,
-        record::secondary_of(part) as u32,
-        record::subordinate_of(part) as u32,
+        sheet_record::primary_of(part) as u32,
+        sheet_record::secondary_of(part) as u32,
+        sheet_record::subordinate_of(part) as u32,
     ];
     put_words(out, at, 2, &numbers)
 }
@@ -122,9 +121,9 @@ fn put_windows(out: &mut [u8], at: usize, part: &[u8]) -> usize
     requires { ⌜ isBridge (headerOf (now part)) ≡ true ⌝ }
     ensures { λ r. ⌜ Put (now (out .entry)) at (windowText (entryOf (now (part .entry)))) (now (out .exit)) r ⌝ }
 {
-    let io = record::window_of(part, Pool::Io);
-    let low = record::window_of(part, Pool::Low);
-    let high = record::window_of(part, Pool::High);
+    let io = sheet_record::window_of(part, Pool::Io);
+    let low = sheet_record::window_of(part, Pool::Low);
+    let high = sheet_record::window_of(part, Pool::High);
     let mut next = put_pair(out, at, 2, io.base as u32, io.limit as u32);
     next = put_pair(out, next, 4, low.base as u32, low.limit as u32);
     next = put_pair(out, next, 4, high.base as u32, high.limit as u32);

@@ -27,7 +27,7 @@ use placer::Extents;
 use placer::WindowsPlaced;
 use pools::Pool;
 use records::Next;
-use sheet::places::STRIDE;
+use sheet_record::places::STRIDE;
 use window::Window;
 
 // The root bus, and a bus below each record.

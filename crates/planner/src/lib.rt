@@ -11,7 +11,7 @@ use board::Span;
 use placing::Extent;
 use planning::Planning;
 use records::MOST_FUNCTIONS;
-use sheet::places::STRIDE;
+use sheet_record::places::STRIDE;
 use sizing::Laid;
 
 // The sheet's length, or the number. The sheet is written up to its length and nothing past it; a refused board leaves it as it was.

@@ -19,7 +19,7 @@ use Rattle.board.specs.declared.Function.{Function}
 use Rattle.board.specs.Function.{isBridge, slotCount}
 use Rattle.board.specs.Board.{boardNumber, hostOf, functionsOf}
 use Rattle.board.specs.ToPlacing.{toHost, toPlacing}
-use Rattle.sheet.specs.Entry.{Entry}
+use Rattle.sheet_record.specs.Entry.{Entry}
 use Rattle.sheet.specs.Sheet.{sheetLength}
 use Rattle.planning.specs.declared.Planning.{Planning}
 use Rattle.planning.specs.declared.Planning.the-variants.{Planned as PlannedAt, Refused}

@@ -20,10 +20,11 @@ use Rattle.walk.specs.Registers.{itemsOf, items, enabledIn}
 use Rattle.walk.specs.Tally.{join, tallyOn}
 use Rattle.walk.specs.Walk.{walkOver, walkFrom}
 use Rattle.walk.specs.Ids.{tallyById}
-use Rattle.sheet.specs.Entry.{dwords, windowOf, entryOf}
+use Rattle.sheet_record.specs.Spaces.{barsFrom}
+use Rattle.sheet_record.specs.Entry.{dwords, windowOf, entryOf}
 use Rattle.sheet.specs.Sheet.{allSized, isFramed, entriesFrom, commandsOf, allZero, readBacksWrong, breaks, anyBreaks, hasId, idTwice}
 use Rattle.sheet.specs.Sheet.{from29, from25, from28, from27, from24, from22, from20, from21, sheetNumber}
-use Rattle.sheet.specs.Spaces.{barsFrom, functionsFrom, nodesFrom}
+use Rattle.sheet.specs.Spaces.{functionsFrom, nodesFrom}
 use Rattle.sheet.specs.Examples.{p8, p10, sunk}
 use Rattle.route.specs.declared.Routing.{Routing}
 use Rattle.route.specs.declared.Routing.the-variants.{Delivered, Refused}

@@ -17,7 +17,7 @@ use Rattle.walk.specs.Walk.{Outcome, delivered, refused, noOwner}
 use Rattle.walk.specs.WalkLaws.{walk-none}
 use Rattle.walk.specs.TallyLaws.{tally-nil}
 use Rattle.walk.specs.Tally.{tallyOn}
-use Rattle.sheet.specs.Entry.{Entry}
+use Rattle.sheet_record.specs.Entry.{Entry}
 use Rattle.sheet.specs.Sheet.{entriesOf, sheetNumber}
 use Rattle.sheet.specs.Spaces.{functionsFrom, nodesFrom, nodesOf, enabledOf}
 use Rattle.claims.specs.declared.Aim.the-variants.{Address}

@@ -15,7 +15,7 @@ use Rattle.walk.specs.TallyLaws.{rising-of-bridges}
 use Rattle.walk.specs.Walk.{Outcome, delivered, refused, settle, Rising}
 use Rattle.walk.specs.WalkLaws.{walk-step}
 use Rattle.walk.specs.IdsLaws.{rising-by-id}
-use Rattle.sheet.specs.Entry.{Entry, entryOf, busOf}
+use Rattle.sheet_record.specs.Entry.{Entry, entryOf, busOf}
 use Rattle.sheet.specs.Sheet.{entriesOf, partAt, sheetNumber}
 use Rattle.sheet.specs.IndexLaws.{entries-index}
 use Rattle.sheet.specs.SheetLaws.{Checked, checked-of-zero, zero-of-checked, passes-of-zero}

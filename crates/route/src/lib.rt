@@ -11,7 +11,6 @@ use claims::Aim;
 use claims::Claim;
 use claims::Tally;
 use packet::Packet;
-use sheet::record;
 use tlp::Reading;
 
 // Delivered to the record with this number after so many bridges, as the packet arrives, or refused by number.
@@ -58,7 +57,7 @@ fn route_from_root(p: Packet, sheet: &[u8]) -> Routing
     requires { ⌜ Checked (now sheet) × (0 < length (entriesOf (now sheet))) ⌝ }
     ensures { λ r. ⌜ r ≡ from42 p (now (sheet .entry)) ⌝ }
 {
-    let root = record::bus_of(sheet::part(sheet, 0));
+    let root = sheet_record::bus_of(sheet::part(sheet, 0));
     if arrival::type_wrong(p, root) {
         return Routing::Refused(42);
     }

@@ -2,7 +2,7 @@
 use mathlib.Core.Path.{_≡_, refl, sym, ap, _∙_}
 use mathlib.Core.Bool.{Bool, true, false, not, _&&_, and-true}
 use mathlib.Core.List.{List, [], _∷_}
-use Prim.Native.Nat.{ℕ, _+_, _-_, _*_, _≤_}
+use Prim.Native.Nat.{ℕ, _+_, _-_, _≤_}
 use native.Mathlib.Omega.{arith}
 use lib.ListN.{length, take, drop, length-drop, length-map}
 use lib.Seq.{length-take-le}
@@ -12,8 +12,8 @@ use Rattle.sheet.specs.declared.Found.the-variants.{At, Nothing}
 use Rattle.sheet.specs.declared.Rule.{Rule}
 use Rattle.endian.specs.Endian.{be, le}
 use Rattle.bar.specs.Values.{valuesLawful}
-use Rattle.sheet.specs.Places.{valuesAt, readbacksAt, recordSize, stride}
-use Rattle.sheet.specs.Entry.{Entry, dwords, idOf, headerOf, isBridge, slotCount, entryOf}
+use Rattle.sheet_record.specs.Places.{valuesAt, readbacksAt, recordSize, stride}
+use Rattle.sheet_record.specs.Entry.{Entry, dwords, idOf, headerOf, isBridge, slotCount, entryOf}
 use Rattle.sheet.specs.Sheet.{Framed, partsIn, entriesFrom, breaks, anyBreaks, findFrom, allZero, readBacksWrong, sheetLength}
 use Rattle.sheet.specs.FrameLaws.{FramedAt, framed-at, parts-past, length-framed}
 

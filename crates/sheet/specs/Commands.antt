@@ -3,7 +3,7 @@ use mathlib.Core.Path.{_≡_}
 use mathlib.Core.List.{List}
 use Prim.Native.Nat.{ℕ, _+_, _-_, _/_, _%_}
 use lib.ListN.{length, getD}
-use Rattle.sheet.specs.Places.{commandAt, stride}
+use Rattle.sheet_record.specs.Places.{commandAt, stride}
 
 -- the place of byte i in its record, which starts with its length; the version byte stands before the first
 abbrev pub placeIn : ℕ → ℕ

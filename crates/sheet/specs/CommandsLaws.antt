@@ -18,8 +18,8 @@ use Rattle.records.specs.Records.{nextOf}
 use Rattle.records.specs.RecordsLaws.{fits-at, next-end, next-stray, next-record, next-broken}
 use Rattle.sheet.specs.declared.Lookup.{Lookup}
 use Rattle.sheet.specs.declared.Lookup.the-variants.{Registers, Refused}
-use Rattle.sheet.specs.Places.{idAt, registersAt, commandAt, headerTypeAt, valuesAt, primaryAt, secondaryAt, subordinateAt, ioBaseAt, ioLimitAt, lowBaseAt, lowLimitAt, highBaseAt, highLimitAt, upperBaseAt, upperLimitAt, readbacksAt, recordSize, stride}
-use Rattle.sheet.specs.Entry.{dwords, headerOf, slotCount, windowOf, Entry, entryOf}
+use Rattle.sheet_record.specs.Places.{idAt, registersAt, commandAt, headerTypeAt, valuesAt, primaryAt, secondaryAt, subordinateAt, ioBaseAt, ioLimitAt, lowBaseAt, lowLimitAt, highBaseAt, highLimitAt, upperBaseAt, upperLimitAt, readbacksAt, recordSize, stride}
+use Rattle.sheet_record.specs.Entry.{dwords, headerOf, slotCount, windowOf, Entry, entryOf}
 use Rattle.sheet.specs.Sheet.{isFramed, Framed, entriesFrom, entriesOf, commandsOf, from20, from21, from22, sheetNumber}
 use Rattle.sheet.specs.Lookup.{lookupOf, commandFrom, withCommand}
 use Rattle.sheet.specs.Spaces.{functionsFrom, nodesFrom, registersOf, nodesOf}

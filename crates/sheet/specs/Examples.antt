@@ -14,12 +14,13 @@ use Rattle.records.specs.Records.{nextOf, partsOver, partsOf}
 use Rattle.lists.specs.Lists.{All}
 use Rattle.walk.specs.Registers.{Registers}
 use Rattle.walk.specs.Examples.{p10-memory, p10-io}
+use Rattle.sheet_record.specs.Spaces.{barsFrom}
 use Rattle.sheet.specs.declared.Lookup.{Lookup}
 use Rattle.sheet.specs.declared.Lookup.the-variants.{Registers as Found, Refused}
-use Rattle.sheet.specs.Entry.{dwords, windowOf, entryOf}
+use Rattle.sheet_record.specs.Entry.{dwords, windowOf, entryOf}
 use Rattle.sheet.specs.Sheet.{allSized, isFramed, entriesFrom, commandsOf, allZero, readBacksWrong, breaks, anyBreaks, findFrom, hasId, idTwice, from29, from25, from28, from27, from24, from22, from20, from21, sheetNumber}
 use Rattle.sheet.specs.Lookup.{lookupOf, withCommand}
-use Rattle.sheet.specs.Spaces.{barsFrom, functionsFrom, registersOf}
+use Rattle.sheet.specs.Spaces.{functionsFrom, registersOf}
 
 -- ## P10's sheet, byte by byte
 

@@ -13,7 +13,7 @@ use Rattle.records.specs.declared.Next.{Next}
 use Rattle.records.specs.declared.Next.the-variants.{End, Record, Broken}
 use Rattle.records.specs.Records.{nextOf, Parts, partsOf, partsFrom}
 use Rattle.records.specs.RecordsLaws.{empty-of-end, fits-at, length-part, next-end, next-broken, next-record, parts-record, parts-end, parts-broken}
-use Rattle.sheet.specs.Places.{recordSize, stride}
+use Rattle.sheet_record.specs.Places.{recordSize, stride}
 use Rattle.sheet.specs.Sheet.{allSized, isFramed, Framed, partsIn, partAt, sheetLength}
 
 -- ## One turn of the pass that checks the frame

@@ -11,10 +11,11 @@ use Rattle.endian.specs.EndianLaws.{le-take, le-drop}
 use Rattle.pools.specs.declared.Space.{Space}
 use Rattle.pools.specs.declared.Space.the-variants.{Memory, Io}
 use Rattle.walk.specs.Registers.{enabledIn}
-use Rattle.sheet.specs.Places.{commandAt, recordSize, stride}
-use Rattle.sheet.specs.Entry.{commandOf, entryOf}
+use Rattle.sheet_record.specs.Spaces.{functionOf, enables}
+use Rattle.sheet_record.specs.Places.{commandAt, recordSize, stride}
+use Rattle.sheet_record.specs.Entry.{commandOf, entryOf}
 use Rattle.sheet.specs.Sheet.{Framed, entriesFrom, entriesOf, commandsOf, partsIn, partAt, sheetLength}
-use Rattle.sheet.specs.Spaces.{functionOf, functionsFrom, enables, enabledOf}
+use Rattle.sheet.specs.Spaces.{functionsFrom, enabledOf}
 use Rattle.sheet.specs.FrameLaws.{framed-at, part-index}
 use Rattle.sheet.specs.CheckLaws.{partFrom, entries-on, entries-past, count-entries}
 

@@ -11,7 +11,7 @@ use Rattle.sheet.specs.declared.Found.{Found}
 use Rattle.sheet.specs.declared.Found.the-variants.{At, Nothing}
 use Rattle.sheet.specs.declared.Lookup.{Lookup}
 use Rattle.sheet.specs.declared.Lookup.the-variants.{Registers, Refused}
-use Rattle.sheet.specs.Places.{registersAt, registersSize, commandAt}
+use Rattle.sheet_record.specs.Places.{registersAt, registersSize, commandAt}
 use Rattle.sheet.specs.Sheet.{entriesOf, findFrom, sheetNumber}
 
 -- the registers stand after the record's length and ID

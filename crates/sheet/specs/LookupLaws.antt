@@ -10,8 +10,8 @@ use borrow.Author.Tests.{eqb-true, eq-eqb, ne-eqb}
 use Rattle.sheet.specs.declared.Found.{Found}
 use Rattle.sheet.specs.declared.Found.the-variants.{At, Nothing}
 use Rattle.sheet.specs.declared.Lookup.the-variants.{Registers, Refused}
-use Rattle.sheet.specs.Places.{registersAt, registersSize, stride}
-use Rattle.sheet.specs.Entry.{Entry, entryOf, idOf}
+use Rattle.sheet_record.specs.Places.{registersAt, registersSize, stride}
+use Rattle.sheet_record.specs.Entry.{Entry, entryOf, idOf}
 use Rattle.sheet.specs.Sheet.{Framed, entriesFrom, entriesOf, findFrom, sheetNumber}
 use Rattle.sheet.specs.Lookup.{placed, lookupOf, registerBytes}
 use Rattle.sheet.specs.CheckLaws.{partFrom, FirstAt, first-at}

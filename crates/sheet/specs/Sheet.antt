@@ -15,8 +15,8 @@ use Rattle.sheet.specs.declared.Found.{Found}
 use Rattle.sheet.specs.declared.Found.the-variants.{At, Nothing}
 use Rattle.sheet.specs.declared.Rule.{Rule}
 use Rattle.sheet.specs.declared.Rule.the-variants.{HeaderType, Buses, ReadBacks, Nibbles}
-use Rattle.sheet.specs.Places.{recordSize, stride}
-use Rattle.sheet.specs.Entry.{Entry, entryOf, commandOf, bus, bridges, slotCount}
+use Rattle.sheet_record.specs.Places.{recordSize, stride}
+use Rattle.sheet_record.specs.Entry.{Entry, entryOf, commandOf, bus, bridges, slotCount}
 
 -- ## The frame: version byte 1, then records of 90 bytes
 

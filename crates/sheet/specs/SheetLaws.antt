@@ -16,14 +16,15 @@ use Rattle.lists.specs.Lists.{All}
 use Rattle.walk.specs.Registers.{nodes, NumberedFrom}
 use Rattle.walk.specs.Good.{Rises, BridgesRise}
 use Rattle.walk.specs.Ids.{DistinctIds}
+use Rattle.sheet_record.specs.Spaces.{slotsOf, nodeOf}
 use Rattle.sheet.specs.declared.Rule.the-variants.{HeaderType, Buses, ReadBacks, Nibbles}
-use Rattle.sheet.specs.Places.{subordinateAt, stride}
-use Rattle.sheet.specs.Entry.{Entry, headerOf, isBridge, subordinateOf, entryOf, bus, devfn, bridges}
+use Rattle.sheet_record.specs.Places.{subordinateAt, stride}
+use Rattle.sheet_record.specs.Entry.{Entry, headerOf, isBridge, subordinateOf, entryOf, bus, devfn, bridges}
 use Rattle.sheet.specs.Sheet.{isFramed, Framed, partAt, entriesFrom, entriesOf, busesWrong, breaks, anyBreaks, hasId, idTwice, from20, from21, from22, from24, from25, from27, from28, from29, sheetNumber}
-use Rattle.sheet.specs.EntryLaws.{breaks-index, lawful-entry}
 use Rattle.sheet.specs.CheckLaws.{partFrom, first-at}
 use Rattle.bar.specs.Bar.{anyBad}
-use Rattle.sheet.specs.Spaces.{slotsOf, nodeOf, functionsFrom, nodesFrom, registersOf, nodesOf}
+use Rattle.sheet.specs.Spaces.{functionsFrom, nodesFrom, registersOf, nodesOf}
+use Rattle.sheet.specs.RulesLaws.{breaks-index, lawful-entry}
 
 -- ## The checks, one by one
 

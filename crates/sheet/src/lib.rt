@@ -1,18 +1,17 @@
 // The register sheet: its checks, by number, and what its records say. A sheet is the version byte 1 and then a record for each function, each after its
 // own two-byte length.
-pub mod marks;
-pub mod places;
-pub mod record;
-pub mod spaces;
+mod rules;
 
 ghost use mathlib.Core.Path.{_≡_};
 ghost use Prim.Native.Nat.{_+_, _≤_};
 ghost use lib.ListN.{length, drop};
 ghost use Rattle.sheet.specs.Lookup.{lookupOf, lookupNumber, registerBytes, withCommand};
 ghost use Rattle.sheet.specs.Sheet.{isFramed, Framed, sheetLength, partAt, entriesOf, entriesFrom, anyBreaks, findFrom, idTwice, from24, sheetNumber};
-use places::SIZE;
-use places::STRIDE;
 use records::Next;
+use sheet_record::id_of;
+use sheet_record::places;
+use sheet_record::places::SIZE;
+use sheet_record::places::STRIDE;
 
 // The length of the longest sheet.
 pub const FULL: usize = 1 + STRIDE * records::MOST_FUNCTIONS;
@@ -177,7 +176,7 @@ fn any_breaks(rule: Rule, sheet: &[u8]) -> bool
     while at < sheet.len() {
         let start = at + 2;
         let end = at + STRIDE;
-        if record::breaks(rule, &sheet[start..end]) {
+        if rules::breaks(rule, &sheet[start..end]) {
             return true;
         }
         at = end;
@@ -195,11 +194,11 @@ fn id_twice(sheet: &[u8]) -> bool
     while at < sheet.len() {
         let start = at + 2;
         let end = at + STRIDE;
-        let id = record::id_of(&sheet[start..end]);
-        if marks::is_marked(&seen, id) {
+        let id = id_of(&sheet[start..end]);
+        if sheet_marks::is_marked(&seen, id) {
             return true;
         }
-        marks::mark(&mut seen, id);
+        sheet_marks::mark(&mut seen, id);
         at = end;
     }
     false
@@ -214,7 +213,7 @@ fn find_from(sheet: &[u8], from: usize, id: u16) -> Found
     while at < sheet.len() {
         let start = at + 2;
         let end = at + STRIDE;
-        if record::id_of(&sheet[start..end]) == id {
+        if id_of(&sheet[start..end]) == id {
             return Found::At(at);
         }
         at = end;

@@ -2,7 +2,7 @@
 use Rattle.endian.specs.Endian.{beBytes}
 use Rattle.endian.specs.EndianLaws.{length-beBytes}
 use Rattle.endian.specs.SetsLaws.{sets-append}
-use Rattle.sheet.specs.Places.{recordSize}
+use Rattle.sheet_record.specs.Places.{recordSize}
 use borrow.Author.Needs.{needs}
 use Rattle.layout.proofs.put_marks.Statement.{statement}
 use Rattle.layout.proofs.put_marks.Tie as tie

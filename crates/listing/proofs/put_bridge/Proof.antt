@@ -1,7 +1,7 @@
 -- `listing::put_bridge` meets its contract: two of the values that were read, the buses, the windows, the end of the line. Assumes nothing.
 use borrow.Author.Needs.{needs}
 use Rattle.text.specs.TextLaws.{put-append}
-use Rattle.sheet.specs.Entry.{dwords}
+use Rattle.sheet_record.specs.Entry.{dwords}
 use Rattle.text.specs.Text.{ascii}
 use Rattle.listing.specs.ListingLaws.{bridgeText-of-bridge}
 use Rattle.listing.proofs.put_bridge.Statement.{statement}

@@ -2,7 +2,7 @@
 use borrow.Author.Needs.{needs}
 use mathlib.Core.Path.{_≡_, sym, _∙_}
 use mathlib.Core.List.{List}
-use Rattle.sheet.specs.Entry.{Entry}
+use Rattle.sheet_record.specs.Entry.{Entry}
 use Rattle.sheet.specs.Sheet.{entriesFrom, from24, from27, from28, from25, from29}
 use Rattle.sheet.proofs.check_records.Statement.{statement}
 use Rattle.sheet.proofs.check_records.Tie as tie

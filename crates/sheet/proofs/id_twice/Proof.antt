@@ -7,11 +7,11 @@ use mathlib.Core.Path.{_≡_, refl, sym, _∙_}
 use lib.ListN.{length, drop}
 use Rattle.sheet.specs.FrameLaws.{FramedAt, framed-at}
 use Rattle.sheet.specs.CheckLaws.{part-sized}
-use Rattle.sheet.specs.MarksLaws.{repeats-start, repeats-hit, repeats-miss, repeats-past}
-use Rattle.sheet.specs.Marks.{repeats}
 use Rattle.sheet.specs.Sheet.{isFramed, entriesFrom, idTwice}
 use Rattle.sheet.proofs.id_twice.Statement.{statement}
 use Rattle.sheet.proofs.id_twice.Tie as tie
+use Rattle.sheet.specs.Repeats.{repeats}
+use Rattle.sheet.specs.RepeatsLaws.{repeats-start, repeats-hit, repeats-miss, repeats-past}
 
 abbrev Inv-loop : tie.InvT-loop
 Inv-loop sheet seen₀ at₀ seen at = (at ≤ length sheet) × (isFramed (drop at sheet) ≡ true) × (repeats seen (entriesFrom sheet at) ≡ idTwice (entriesFrom sheet 1)) × (length seen ≡ 1024)

@@ -8,7 +8,7 @@ use borrow.Author.Needs.{needs}
 use Rattle.records.specs.declared.Next.the-variants.{Record}
 use Rattle.records.specs.Records.{nextOf}
 use Rattle.records.specs.RecordsLaws.{fits-at}
-use Rattle.sheet.specs.Places.{stride}
+use Rattle.sheet_record.specs.Places.{stride}
 use Rattle.sheet.specs.Sheet.{isFramed}
 use Rattle.sheet.specs.FrameLaws.{framed-end, framed-broken, framed-other, framed-on}
 use Rattle.sheet.proofs.is_framed.Statement.{statement}

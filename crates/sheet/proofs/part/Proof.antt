@@ -3,7 +3,7 @@ use borrow.Author.Needs.{needs}
 use Prim.Native.Nat.{_+_, _-_, _*_}
 use mathlib.Core.Path.{_≡_}
 use native.Mathlib.Omega.{arith}
-use Rattle.sheet.specs.Places.{recordSize, stride}
+use Rattle.sheet_record.specs.Places.{recordSize, stride}
 use Rattle.sheet.proofs.part.Statement.{statement}
 use Rattle.sheet.proofs.part.Tie as tie
 

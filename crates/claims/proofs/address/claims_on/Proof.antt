@@ -9,7 +9,7 @@ use lib.ListN.{take}
 use Rattle.walk.specs.Registers.{bar}
 use Rattle.walk.specs.Tally.{join, hitsOf, tallyOn}
 use Rattle.sheet.specs.Spaces.{registersOf, enabledOf}
-use Rattle.sheet.specs.SpacesLaws.{barsAt}
+use Rattle.sheet_record.specs.SpacesLaws.{barsAt}
 use Rattle.claims.specs.Claims.{tallyOf}
 use Rattle.claims.specs.Search.{windowClaims}
 use Rattle.claims.specs.HitsLaws.{LawfulFrom, lawful-next, bar-hit, bar-miss, windows-turn, several-end}
