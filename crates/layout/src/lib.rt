@@ -98,7 +98,7 @@ fn put_body(out: &mut [u8], at: usize, r: Registers)
     requires { ⌜ (at + 48 ≤ length (now out)) × (r .io .base < 256) × (r .io .limit < 256) ⌝ }
     ensures { λ _. ⌜ now (out .exit) ≡ sets (now (out .entry)) at (bodyBytes (plannedOf r .entry)) ⌝ }
 {
-    if r.header % 128 == 1 {
+    if bar::is_bridge(r.header) {
         put_bridge(out, at, r);
         return;
     }

@@ -4,10 +4,10 @@ use Prim.Native.Nat.{ℕ, zero, suc, _+_, _/_, _%_}
 use mathlib.Core.Bool.{Bool, cond}
 use mathlib.Core.List.{List, [], _∷_}
 use lib.ListN.{getD}
-use lib.Dec.{eqb}
 use Rattle.endian.specs.Endian.{be, le}
 use Rattle.pools.specs.declared.Pool.{Pool}
 use Rattle.pools.specs.declared.Pool.the-variants.{Low, High, Io}
+pub use Rattle.bar.specs.Header.{isBridge, slotCount}
 use Rattle.window.specs.declared.Window.{Window}
 use Rattle.window.specs.Window.{closed}
 use Rattle.sheet_record.specs.Places.{idAt, commandAt, headerTypeAt, valuesAt, primaryAt, secondaryAt, subordinateAt}
@@ -32,14 +32,6 @@ commandOf p = le 2 p commandAt
 
 abbrev pub headerOf : List ℕ → ℕ
 headerOf p = getD p headerTypeAt 0
-
--- header type 1; bit 7 says that the device has several functions
-abbrev pub isBridge : ℕ → Bool
-isBridge header = eqb (header % 128) 1
-
--- how many BARs a function has room for
-abbrev pub slotCount : ℕ → ℕ
-slotCount header = cond (isBridge header) 2 6
 
 abbrev pub primaryOf : List ℕ → ℕ
 primaryOf p = getD p primaryAt 0

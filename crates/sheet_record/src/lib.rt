@@ -34,12 +34,11 @@ pub fn command_of(part: &[u8]) -> u16
     endian::read_le16(part, places::COMMAND) as u16
 }
 
-// Header type 1. Bit 7 only says that the device has several functions.
 pub fn is_bridge(part: &[u8]) -> bool
     requires { ⌜ length (now part) ≡ recordSize ⌝ }
     ensures { λ r. ⌜ r ≡ isBridge (headerOf (now (part .entry))) ⌝ }
 {
-    part[places::HEADER_TYPE] % 128 == 1
+    bar::is_bridge(part[places::HEADER_TYPE])
 }
 
 // How many BAR slots the function has.
@@ -47,7 +46,7 @@ pub fn slot_count(part: &[u8]) -> usize
     requires { ⌜ length (now part) ≡ recordSize ⌝ }
     ensures { λ r. ⌜ r ≡ slotCount (headerOf (now (part .entry))) ⌝ }
 {
-    if is_bridge(part) { 2 } else { 6 }
+    bar::slot_count(part[places::HEADER_TYPE])
 }
 
 // The command bit of the space.
