@@ -81,7 +81,7 @@ commandLeft sheet id command = cond (ltb word command) sheet (withCommand (looku
 -- ## Routing: record, bridges, and the packet as it arrives
 
 abbrev pub onRouting : Routing → Answer
-onRouting (Delivered number bridges p) = gives (number ∷ bridges ∷ numbersOf p)
+onRouting (Delivered d) = gives (d .owner ∷ d .bridges ∷ numbersOf (d .packet))
 onRouting (NotDelivered n) = refuses n
 
 abbrev pub routeAnswer : List ℕ → List ℕ → Answer

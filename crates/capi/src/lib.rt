@@ -97,7 +97,10 @@ pub extern "C" fn cartsundial_route(header: &[u8], sheet: &[u8], answer: &mut [u
     ensures { λ r. ⌜ (r ≡ returned (routeAnswer (now (header .entry)) (now (sheet .entry))) (now (answer .entry))) × (now (answer .exit) ≡ filled (routeAnswer (now (header .entry)) (now (sheet .entry))) (now (answer .entry))) ⌝ }
 {
     match route::route(header, sheet) {
-        Routing::Delivered(number, bridges, p) => give_delivery(number, bridges, p, answer),
+        Routing::Delivered(d) => {
+            let p = d.packet;
+            give_delivery(d.owner, d.bridges, p, answer)
+        }
         Routing::Refused(n) => n as u32,
     }
 }

@@ -13,6 +13,7 @@ use Rattle.records.specs.Limits.{mostAbove}
 use Rattle.board.specs.Board.{functionsOf}
 use Rattle.planned.specs.ById.{HasIdAsNumbered}
 use Rattle.board.specs.ToPlacing.{devfnOf}
+use Rattle.route.specs.declared.Delivery.{Delivery}
 use Rattle.route.specs.declared.Routing.the-variants.{Delivered}
 use Rattle.route.specs.Route.{routeOf}
 use Rattle.demands.specs.Demand3.{host, functions, bridgesAbove, routeNumber, DeliveredTo, Crosses}
@@ -86,10 +87,10 @@ pub record RoutedById (b t header : List ℕ) (p : Packet) (id : ℕ) : Type 0 w
   -- one of the three: never 41, and no other number
   pub delivered-40-or-42 : ((k : ℕ) × DeliveredTo header t k) ⊎ ((routeNumber header t ≡ 40) ⊎ (routeNumber header t ≡ 42))
   -- "Delivery returns record number, bridges crossed, and the packet as it arrives."
-  pub arrives : (k count : ℕ) (q : Packet) → routeOf header t ≡ Delivered k count q → q ≡ arrival p
+  pub arrives : (d : Delivery) → routeOf header t ≡ Delivered d → d .packet ≡ arrival p
   -- the walk crosses exactly the bridges above the function, those and no others, the uppermost first
-  pub crosses-exactly : (k count : ℕ) (q : Packet) → routeOf header t ≡ Delivered k count q
-      → (bridges : List ℕ) → Crosses p t bridges k ↔ (bridges ≡ reverse (bridgesAbove b k))
+  pub crosses-exactly : (d : Delivery) → routeOf header t ≡ Delivered d
+      → (bridges : List ℕ) → Crosses p t bridges (d .owner) ↔ (bridges ≡ reverse (bridgesAbove b (d .owner)))
   -- and their number, at most 16 (`mostAbove`), is the one reported
-  pub count-reported : (k count : ℕ) (q : Packet) → routeOf header t ≡ Delivered k count q
-      → (count ≡ length (bridgesAbove b k)) × (count ≤ mostAbove)
+  pub count-reported : (d : Delivery) → routeOf header t ≡ Delivered d
+      → (d .bridges ≡ length (bridgesAbove b (d .owner))) × (d .bridges ≤ mostAbove)

@@ -34,6 +34,7 @@ use Rattle.joined.specs.Delivery.{PlannedSheet}
 use Rattle.joined.specs.Answer.{planned-sheet-of-answer}
 use Rattle.claims.specs.declared.Aim.{Aim}
 use Rattle.claims.specs.declared.Aim.the-variants.{Id}
+use Rattle.route.specs.declared.Delivery.{Delivery}
 use Rattle.route.specs.declared.Routing.the-variants.{Delivered, Refused}
 use Rattle.route.specs.Route.{numberOf as routingNumber, aimOf, kindWrong, typeWrong, arrived, answer, walked, root, routeOf}
 use Rattle.route.specs.OrderLaws.{route-no-functions, route-wrong-type, route-walked}
@@ -107,11 +108,14 @@ module _ (b room : List ℕ) (n : ℕ) (bytes : Bytes b) (planned : planning b (
     delivers : DeliversAsNumbered (host b) (functions b) (devfnOf (functionsOf b)) id (tallyById (nodesOf t) (id / 256) (id % 256))
     delivers = sheet .delivers-by-id id
 
+    -- the delivery to function k
+    abbrev to : ℕ → Delivery
+    to k = record { owner = k; bridges = length (bridgesAbove b k); packet = arrival p }
+
     -- the three answers, each with what it comes from
     data Answered : Type 0 where
       wrong-type : WrongType b p → routeOf header t ≡ Refused 42 → Answered
-      delivered-to : ¬ WrongType b p → (k : ℕ) → HasId b id k
-          → routeOf header t ≡ Delivered k (length (bridgesAbove b k)) (arrival p) → Answered
+      delivered-to : ¬ WrongType b p → (k : ℕ) → HasId b id k → routeOf header t ≡ Delivered (to k) → Answered
       no-owner : ¬ WrongType b p → ((k : ℕ) → ¬ HasId b id k) → routeOf header t ≡ Refused 40 → Answered
 
     -- what the walk comes to, from the root bus
@@ -124,7 +128,9 @@ module _ (b room : List ℕ) (n : ℕ) (bytes : Bytes b) (planned : planning b (
         go : (o : Outcome) → outcome ≡ o → Answered
         go (delivered k count) e =
             let (has, count-is) = delivers .delivered-exactly k count .0 e in
-            delivered-to right k has (route-is ∙ ap (answer p) e ∙ ap₂ (Delivered k) count-is (arrival-agree p))
+            let with : ℕ → Packet → Delivery = λ n q. record { owner = k; bridges = n; packet = q } in
+            let same : with count (arrived p) ≡ to k = ap₂ with count-is (arrival-agree p) in
+            delivered-to right k has (route-is ∙ ap (answer p) e ∙ ap Delivered same)
         go (refused m) e =
             let nobody : (k : ℕ) → ¬ HasId b id k =
             λ k has. let d = delivers .delivered-exactly k (length (bridgesAbove b k)) .1 (has, refl) in suc-ne-zero 0 (cc) in
@@ -179,33 +185,27 @@ module _ (b room : List ℕ) (n : ℕ) (bytes : Bytes b) (planned : planning b (
     number-of-nobody (no-owner r nobody e) right = ap routingNumber e
 
     -- what a delivery says
-    record Arrived (k count : ℕ) (q : Packet) : Type 0 where
+    record Arrived (d : Delivery) : Type 0 where
       right-type : ¬ WrongType b p
-      has-id : HasId b id k
-      count-is : count ≡ length (bridgesAbove b k)
-      packet-is : q ≡ arrival p
+      has-id : HasId b id (d .owner)
+      count-is : d .bridges ≡ length (bridgesAbove b (d .owner))
+      packet-is : d .packet ≡ arrival p
 
-    arrived-of : Answered → (k count : ℕ) (q : Packet) → routeOf header t ≡ Delivered k count q → Arrived k count q
-    arrived-of (wrong-type w e) k count q d = absurd (suc-ne-zero 0 (cc))
-    arrived-of (delivered-to r j has e) k count q d =
-        let same : j ≡ k = cc in
-        let counted : length (bridgesAbove b j) ≡ count = cc in
-        record {
-          right-type = r;
-          has-id = subst (HasId b id) same has;
-          count-is = sym counted ∙ ap (λ (i : ℕ). length (bridgesAbove b i)) same;
-          packet-is = cc;
-        }
-    arrived-of (no-owner r nobody e) k count q d = absurd (suc-ne-zero 0 (cc))
+    arrived-of : Answered → (d : Delivery) → routeOf header t ≡ Delivered d → Arrived d
+    arrived-of (wrong-type w e) d f = absurd (suc-ne-zero 0 (cc))
+    arrived-of (delivered-to r k has e) d f =
+        let same : to k ≡ d = cc in
+        subst Arrived same (record { right-type = r; has-id = has; count-is = refl; packet-is = refl })
+    arrived-of (no-owner r nobody e) d f = absurd (suc-ne-zero 0 (cc))
 
     delivered-of : Answered → (k : ℕ) → ¬ WrongType b p × HasId b id k → DeliveredTo header t k
     delivered-of (wrong-type w e) k (r, has) = absurd (r w)
-    delivered-of (delivered-to _ j has-j e) k (r, has) = subst (DeliveredTo header t) (delivers .one-owner j k has-j has) (_, _, e)
+    delivered-of (delivered-to _ j has-j e) k (r, has) = (to j, e, delivers .one-owner j k has-j has)
     delivered-of (no-owner _ nobody e) k (r, has) = absurd (nobody k has)
 
     one-of-three : Answered → ((k : ℕ) × DeliveredTo header t k) ⊎ ((routeNumber header t ≡ 40) ⊎ (routeNumber header t ≡ 42))
     one-of-three (wrong-type w e) = inr (inr (ap routingNumber e))
-    one-of-three (delivered-to r k has e) = inl (k, (_, _, e))
+    one-of-three (delivered-to r k has e) = inl (k, (to k, e, refl))
     one-of-three (no-owner r nobody e) = inr (inl (ap routingNumber e))
 
     crosses : (k : ℕ) → HasId b id k → Crosses p t (reverse (bridgesAbove b k)) k
@@ -222,19 +222,19 @@ module _ (b room : List ℕ) (n : ℕ) (bytes : Bytes b) (planned : planning b (
           no-functions-40 = λ none. number-of-nobody answered (nobody-of-none none);
           wrong-type-42 = (wrong-of-42 answered, number-of-wrong answered);
           delivered-exactly = λ k. (
-            λ (count, q, e). let a = arrived-of answered k count q e in (a .right-type, a .has-id),
+            λ (d, e, is-k). let a = arrived-of answered d e in (a .right-type, subst (HasId b id) is-k (a .has-id)),
             delivered-of answered k,
           );
           else-no-owner = (nobody-of-40 answered, number-of-nobody answered);
           delivered-40-or-42 = one-of-three answered;
           one-owner = delivers .one-owner;
-          arrives = λ k count q e. arrived-of answered k count q e .packet-is;
+          arrives = λ d e. arrived-of answered d e .packet-is;
           crosses-exactly =
-              λ k count q e bridges.
-              let way = crosses k (arrived-of answered k count q e .has-id) in
+              λ d e bridges.
+              let way = crosses (d .owner) (arrived-of answered d e .has-id) in
               (λ trail. trail-unique _ _ _ _ _ _ trail way .0, λ those. rw those way);
           count-reported =
-              λ k count q e. let c = arrived-of answered k count q e .count-is in (c, omega (arith, sheet .not-too-deep k));
+              λ d e. let c = arrived-of answered d e .count-is in (c, omega (arith, sheet .not-too-deep (d .owner)));
         }
 
 -- ## The theorem
@@ -250,7 +250,7 @@ by-id-routed = routed
 
 not-41 : (header t : List ℕ) → ((k : ℕ) × DeliveredTo header t k) ⊎ ((routeNumber header t ≡ 40) ⊎ (routeNumber header t ≡ 42))
     → ¬ (routeNumber header t ≡ 41)
-not-41 header t (inl (k, (count, q, e))) number = omega (arith, ap routingNumber e)
+not-41 header t (inl (k, (d, e, is-k))) number = omega (arith, ap routingNumber e)
 not-41 header t (inr (inl e)) number = omega arith
 not-41 header t (inr (inr e)) number = omega arith
 

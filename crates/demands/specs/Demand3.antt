@@ -33,6 +33,7 @@ use Rattle.planned.specs.Delivery.{BarHolds, OwnsAsPlaced}
 use Rattle.planning.specs.declared.Planning.the-variants.{Planned, Refused}
 use Rattle.planning.specs.Plan.{numberOf as planningNumber, planning, sheetAfter}
 use Rattle.claims.specs.Claims.{tallyFor}
+use Rattle.route.specs.declared.Delivery.{Delivery}
 use Rattle.route.specs.declared.Routing.the-variants.{Delivered}
 use Rattle.route.specs.Route.{numberOf as routingNumber, aimOf, root, routeOf}
 
@@ -111,7 +112,7 @@ abbrev pub routeNumber : List ℕ → List ℕ → ℕ
 routeNumber header t = routingNumber (routeOf header t)
 
 abbrev pub DeliveredTo : List ℕ → List ℕ → ℕ → Type 0
-DeliveredTo header t k = (count : ℕ) × (q : Packet) × (routeOf header t ≡ Delivered k count q)
+DeliveredTo header t k = (d : Delivery) × (routeOf header t ≡ Delivered d) × (d .owner ≡ k)
 
 -- the router's walk with p goes through windows of these bridges, in this order, and ends at a BAR of function k
 abbrev pub Crosses : Packet → List ℕ → List ℕ → ℕ → Type 0
@@ -128,12 +129,13 @@ pub record Routed (b t header : List ℕ) (p : Packet) (sp : Space) (address : �
   pub delivered-or-40 : ((k : ℕ) × DeliveredTo header t k) ⊎ (routeNumber header t ≡ 40)
   pub one-owner : (j k : ℕ) → Owns b t sp address j → Owns b t sp address k → j ≡ k
   -- "A delivered request arrives unchanged."
-  pub arrives-unchanged : (k count : ℕ) (q : Packet) → routeOf header t ≡ Delivered k count q → q ≡ p
+  pub arrives-unchanged : (d : Delivery) → routeOf header t ≡ Delivered d → d .packet ≡ p
   -- "It crosses exactly the bridges above the owner, ..": those and no others, the uppermost first
-  pub crosses-exactly : (k count : ℕ) (q : Packet) → routeOf header t ≡ Delivered k count q
-      → (bridges : List ℕ) → Crosses p t bridges k ↔ (bridges ≡ reverse (bridgesAbove b k))
+  pub crosses-exactly : (d : Delivery) → routeOf header t ≡ Delivered d
+      → (bridges : List ℕ) → Crosses p t bridges (d .owner) ↔ (bridges ≡ reverse (bridgesAbove b (d .owner)))
   -- ".. and their number, at most 16, is the one reported."
-  pub count-reported : (k count : ℕ) (q : Packet) → routeOf header t ≡ Delivered k count q → (count ≡ length (bridgesAbove b k)) × (count ≤ mostAbove)
+  pub count-reported : (d : Delivery) → routeOf header t ≡ Delivered d
+      → (d .bridges ≡ length (bridgesAbove b (d .owner))) × (d .bridges ≤ mostAbove)
 
 -- ## The demand
 

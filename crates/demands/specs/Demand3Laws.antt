@@ -47,9 +47,10 @@ use Rattle.joined.specs.Delivery.{PlannedSheet}
 use Rattle.joined.specs.Answer.{AnswersPlanned, planned-of-answer, planned-sheet-of-answer}
 use Rattle.claims.specs.declared.Aim.the-variants.{Address}
 use Rattle.claims.specs.Claims.{tallyFor}
+use Rattle.route.specs.declared.Delivery.{Delivery}
 use Rattle.route.specs.declared.Routing.the-variants.{Delivered}
-use Rattle.route.specs.Route.{numberOf as routingNumber, aimOf, arrived, answer, walked, root, routeOf}
-use Rattle.route.specs.RequestLaws.{arrives-unchanged, route-request}
+use Rattle.route.specs.Route.{numberOf as routingNumber, aimOf, answer, walked, root, routeOf}
+use Rattle.route.specs.RequestLaws.{route-request, request-delivered-iff}
 use Rattle.demands.specs.Demand3.{Lawful, host, functions, lengthOfSheet, RunsOut, planNumber, AnswersByNumber, SheetSays, Demand3}
 use Rattle.demands.specs.Demand3.{IsRequest, HasBarOver, bridgesAbove, Owns, routeNumber, DeliveredTo, Crosses, Routed}
 
@@ -240,15 +241,12 @@ module _ (b room : List ℕ) (n : ℕ) (bytes : Bytes b) (planned : planning b (
       route-is : routeOf header t ≡ answer p outcome
       route-is = route-request sp address header t p read aim (sheet .passes)
 
-      delivered-elim : (k count : ℕ) (q : Packet) → routeOf header t ≡ Delivered k count q → (outcome ≡ delivered k count) × (q ≡ p)
-      delivered-elim k count q e = go outcome (sym route-is ∙ e)
-        where
-          go : (o : Outcome) → answer p o ≡ Delivered k count q → (o ≡ delivered k count) × (q ≡ p)
-          go (delivered j c) e = let arrives : arrived p ≡ q = cc in (cc, sym arrives ∙ arrives-unchanged sp address p aim)
-          go (refused m) e = absurd (suc-ne-zero 0 (cc))
+      delivered-iff : (d : Delivery) → (routeOf header t ≡ Delivered d) ↔ ((outcome ≡ delivered (d .owner) (d .bridges)) × (d .packet ≡ p))
+      delivered-iff = request-delivered-iff sp address header t p read aim (sheet .passes)
 
-      delivered-intro : (k count : ℕ) → outcome ≡ delivered k count → DeliveredTo header t k
-      delivered-intro k count e = (count, p, route-is ∙ ap (answer p) e ∙ ap (Delivered k count) (arrives-unchanged sp address p aim))
+      delivered-to : (k count : ℕ) → outcome ≡ delivered k count → DeliveredTo header t k
+      delivered-to k count e =
+          let d : Delivery = record { owner = k; bridges = count; packet = p } in (d, delivered-iff d .1 (e, refl), refl)
 
       -- a number that is not 0 is the walk's
       number-iff-refused : (m : ℕ) → 0 < m → (routeNumber header t ≡ m) ↔ (outcome ≡ refused m)
@@ -258,39 +256,40 @@ module _ (b room : List ℕ) (n : ℕ) (bytes : Bytes b) (planned : planning b (
           go (delivered j c) e = absurd (omega arith)
           go (refused i) e = ap refused e
 
-      owner-of : (k count : ℕ) (q : Packet) → routeOf header t ≡ Delivered k count q → Owns b t sp address k × (count ≡ length (bridgesAbove b k))
-      owner-of k count q e = delivers .delivered-exactly k count .0 (delivered-elim k count q e .0)
+      owner-of : (d : Delivery) → routeOf header t ≡ Delivered d
+          → Owns b t sp address (d .owner) × (d .bridges ≡ length (bridgesAbove b (d .owner)))
+      owner-of d e = delivers .delivered-exactly (d .owner) (d .bridges) .0 (delivered-iff d .0 e .0)
 
       delivered-of-owner : (k : ℕ) → Owns b t sp address k → outcome ≡ delivered k (length (bridgesAbove b k))
       delivered-of-owner k o = delivers .delivered-exactly k (length (bridgesAbove b k)) .1 (o, refl)
 
       -- a refused walk has no owner, and so the number 40
       owner-or-40 : (o : Outcome) → outcome ≡ o → ((k : ℕ) × DeliveredTo header t k) ⊎ (routeNumber header t ≡ 40)
-      owner-or-40 (delivered k count) e = inl (k, delivered-intro k count e)
+      owner-or-40 (delivered k count) e = inl (k, delivered-to k count e)
       owner-or-40 (refused m) e = inr (number-iff-refused 40 (omega arith) .1 (delivers .else-no-owner .1 nobody))
         where
           nobody : (k : ℕ) → Owns b t sp address k → ⊥
           nobody k o = let d = delivered-of-owner k o in suc-ne-zero 0 (cc)
 
-      crosses : (k count : ℕ) (q : Packet) → routeOf header t ≡ Delivered k count q → Crosses p t (reverse (bridgesAbove b k)) k
-      crosses k count q e = rw aim (crosses-above-owner sp address k (owner-of k count q e .0))
+      crosses : (d : Delivery) → routeOf header t ≡ Delivered d → Crosses p t (reverse (bridgesAbove b (d .owner))) (d .owner)
+      crosses d e = rw aim (crosses-above-owner sp address (d .owner) (owner-of d e .0))
 
       routed : Routed b t header p sp address
       routed =
           record {
             delivered-exactly = λ k. (
-              λ (count, q, e). owner-of k count q e .0,
-              λ o. delivered-intro k (length (bridgesAbove b k)) (delivered-of-owner k o),
+              λ (d, e, is-k). subst (Owns b t sp address) is-k (owner-of d e .0),
+              λ o. delivered-to k (length (bridgesAbove b k)) (delivered-of-owner k o),
             );
             else-no-owner = Iff·trans (number-iff-refused 40 (omega arith)) (delivers .else-no-owner);
             delivered-or-40 = owner-or-40 outcome refl;
             one-owner = delivers .one-owner;
-            arrives-unchanged = λ k count q e. delivered-elim k count q e .1;
-            crosses-exactly = λ k count q e bridges. (
-              λ trail. trail-unique _ _ _ _ _ _ trail (crosses k count q e) .0,
-              λ those. rw those (crosses k count q e),
+            arrives-unchanged = λ d e. delivered-iff d .0 e .1;
+            crosses-exactly = λ d e bridges. (
+              λ trail. trail-unique _ _ _ _ _ _ trail (crosses d e) .0,
+              λ those. rw those (crosses d e),
             );
-            count-reported = λ k count q e. let c = owner-of k count q e .1 in (c, omega (arith, sheet .not-too-deep k));
+            count-reported = λ d e. let c = owner-of d e .1 in (c, omega (arith, sheet .not-too-deep (d .owner)));
           }
 
 -- ## The demand

@@ -55,11 +55,11 @@ lengthRead (Refused n) = 0
 
 -- the record that a request is delivered to, 0 where it is refused, and the bridges crossed on the way
 abbrev pub recordOf : Routing → ℕ
-recordOf (Delivered k count p) = k
+recordOf (Delivered d) = d .owner
 recordOf (NotDelivered n) = 0
 
 abbrev pub crossed : Routing → ℕ
-crossed (Delivered k count p) = count
+crossed (Delivered d) = d .bridges
 crossed (NotDelivered n) = 0
 
 pub data Claim : Type 0 where

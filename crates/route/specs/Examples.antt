@@ -93,8 +93,8 @@ pub data Claim : Type 0 where
   refuses : List ℕ → List ℕ → ℕ → Claim
 
 abbrev pub delivers : ℕ → ℕ → Reading → Routing
-delivers number bridges (Accepted p) = Delivered number bridges p
-delivers number bridges (NotRead n) = Refused n
+delivers number crossed (Accepted p) = Delivered (record { owner = number; bridges = crossed; packet = p })
+delivers number crossed (NotRead n) = Refused n
 
 abbrev pub Holds : Claim → Type 0
 Holds (goes h s number bridges arrives) = routeOf h s ≡ delivers number bridges (readOf arrives)

@@ -21,8 +21,9 @@ use Rattle.sheet_record.specs.Entry.{Entry}
 use Rattle.sheet.specs.Sheet.{entriesOf, sheetNumber}
 use Rattle.sheet.specs.Spaces.{functionsFrom, nodesFrom, nodesOf, enabledOf}
 use Rattle.claims.specs.declared.Aim.the-variants.{Address}
+use Rattle.route.specs.declared.Delivery.{Delivery}
 use Rattle.route.specs.declared.Routing.the-variants.{Delivered, Refused}
-use Rattle.route.specs.Route.{aimOf, typeWrong, arrived, answer, walked, root, from42, from40, fromSheet, routeOf}
+use Rattle.route.specs.Route.{aimOf, typeWrong, arrived, arrives, answer, walked, root, from42, from40, fromSheet, routeOf}
 
 module _ (space : Space) (address : ℕ) where
   -- 42 is of configuration alone
@@ -57,19 +58,23 @@ module _ (space : Space) (address : ℕ) where
     route-request = rw (read, eq-eqb (sheetNumber s) 0 passes) (request-from-40 (eqb (length (nodesOf s)) 0) refl)
 
     -- delivered just where the walk delivers, with its record and its count, and unchanged
-    pub request-delivered-iff : (number bridges : ℕ)
-        → (routeOf header s ≡ Delivered number bridges p) ↔ (walked (Address space address) s (root s) 0 ≡ delivered number bridges)
-    request-delivered-iff number bridges = (to, from)
+    pub request-delivered-iff : (d : Delivery) → (routeOf header s ≡ Delivered d)
+        ↔ ((walked (Address space address) s (root s) 0 ≡ delivered (d .owner) (d .bridges)) × (d .packet ≡ p))
+    request-delivered-iff d = (λ e. to (walked (Address space address) s (root s) 0) (sym route-request ∙ e), from)
       where
-        go : (o : Outcome) → answer p o ≡ Delivered number bridges p → o ≡ delivered number bridges
-        go (delivered n k) e = cc
-        go (refused n) e = absurd (suc-ne-zero 0 (cc))
+        to : (o : Outcome) → answer p o ≡ Delivered d → (o ≡ delivered (d .owner) (d .bridges)) × (d .packet ≡ p)
+        to (delivered number crossed) e =
+            let same : arrives p number crossed ≡ d = cc in (
+              ap (λ (x : Delivery). delivered (x .owner) (x .bridges)) same,
+              sym (ap (λ (x : Delivery). x .packet) same) ∙ arrives-unchanged p aim,
+            )
+        to (refused n) e = absurd (suc-ne-zero 0 (cc))
 
-        to : routeOf header s ≡ Delivered number bridges p → walked (Address space address) s (root s) 0 ≡ delivered number bridges
-        to e = go (walked (Address space address) s (root s) 0) (sym route-request ∙ e)
-
-        from : walked (Address space address) s (root s) 0 ≡ delivered number bridges → routeOf header s ≡ Delivered number bridges p
-        from e = route-request ∙ ap (answer p) e ∙ ap (Delivered number bridges) (arrives-unchanged p aim)
+        from : (walked (Address space address) s (root s) 0 ≡ delivered (d .owner) (d .bridges)) × (d .packet ≡ p)
+            → routeOf header s ≡ Delivered d
+        from (e, same) =
+            let with : Packet → Delivery = λ q. record { owner = d .owner; bridges = d .bridges; packet = q } in
+            route-request ∙ ap (answer p) e ∙ ap (λ (q : Packet). Delivered (with q)) (arrives-unchanged p aim ∙ sym same)
 
     pub request-refused-iff : (number : ℕ) → (routeOf header s ≡ Refused number) ↔ (walked (Address space address) s (root s) 0 ≡ refused number)
     request-refused-iff number = (to, from)

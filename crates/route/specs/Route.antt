@@ -22,12 +22,13 @@ use Rattle.claims.specs.declared.Aim.the-variants.{Address, Id}
 use Rattle.claims.specs.Claims.{tallyFor}
 use Rattle.route.specs.declared.Walked.{Walked}
 use Rattle.route.specs.declared.Walked.the-variants.{Delivered as WalkedTo, Refused as WalkRefused}
+use Rattle.route.specs.declared.Delivery.{Delivery}
 use Rattle.route.specs.declared.Routing.{Routing}
 use Rattle.route.specs.declared.Routing.the-variants.{Delivered, Refused}
 
 -- document 01's number of a routing
 abbrev pub numberOf : Routing → ℕ
-numberOf (Delivered number bridges p) = 0
+numberOf (Delivered d) = 0
 numberOf (Refused n) = n
 
 abbrev pub wrongType : ℕ
@@ -71,8 +72,12 @@ arrived (Completion k h o) = Completion k h o
 
 -- ## In order
 
+-- the packet at the function with this record number, after so many bridges
+abbrev pub arrives : Packet → ℕ → ℕ → Delivery
+arrives p number crossed = record { owner = number; bridges = crossed; packet = arrived p }
+
 abbrev pub answer : Packet → Outcome → Routing
-answer p (delivered number bridges) = Delivered number bridges (arrived p)
+answer p (delivered number crossed) = Delivered (arrives p number crossed)
 answer p (refused n) = Refused n
 
 -- where the code's walk ends, as the walk has it

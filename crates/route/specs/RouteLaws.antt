@@ -27,6 +27,7 @@ use Rattle.claims.specs.declared.Claim.the-variants.{Bar, Window}
 use Rattle.claims.specs.declared.Tally.{Tally}
 use Rattle.claims.specs.declared.Tally.the-variants.{Nothing, One, Several}
 use Rattle.claims.specs.Claims.{tallyOf, tallyFor}
+use Rattle.route.specs.declared.Delivery.{Delivery}
 use Rattle.route.specs.declared.Routing.{Routing}
 use Rattle.route.specs.declared.Routing.the-variants.{Delivered, Refused}
 use Rattle.route.specs.declared.Walked.{Walked}
@@ -111,8 +112,12 @@ module _ (p : Packet) (s : List ℕ) where
         unfolding from42
         walk-answered = rw (root-is, ← t, n, ← a) (ap (answer p) e)
 
-        pub walk-delivered : (number crossed : ℕ) (q : Packet) → w ≡ WalkedTo number crossed → q ≡ arrived p → Delivered number crossed q ≡ from42 p s
-        walk-delivered number crossed q f g = ap (Delivered number crossed) g ∙ ap (λ (x : Walked). answer p (outcomeOf x)) (sym f) ∙ walk-answered
+        pub walk-delivered : (number crossed : ℕ) (q : Packet) → w ≡ WalkedTo number crossed → q ≡ arrived p
+            → Delivered (record { owner = number; bridges = crossed; packet = q }) ≡ from42 p s
+        walk-delivered number crossed q f g =
+            ap (λ (x : Packet). Delivered (record { owner = number; bridges = crossed; packet = x })) g
+            ∙ ap (λ (x : Walked). answer p (outcomeOf x)) (sym f)
+            ∙ walk-answered
 
         pub walk-refused : (number : ℕ) → w ≡ WalkRefused number → Refused number ≡ from42 p s
         walk-refused number f = ap (λ (x : Walked). answer p (outcomeOf x)) (sym f) ∙ walk-answered

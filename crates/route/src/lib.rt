@@ -13,9 +13,16 @@ use claims::Tally;
 use packet::Packet;
 use tlp::Reading;
 
-// Delivered to the record with this number after so many bridges, as the packet arrives, or refused by number.
+// The record that gets a packet, by its number, the bridges crossed on the way, and the packet as it arrives.
+pub struct Delivery {
+    pub owner: u16,
+    pub bridges: u8,
+    pub packet: Packet,
+}
+
+// What becomes of a packet: delivered, or refused by number.
 pub enum Routing {
-    Delivered(u16, u8, Packet),
+    Delivered(Delivery),
     Refused(u8),
 }
 
@@ -25,7 +32,7 @@ impl Routing {
         ensures { λ r. ⌜ r ≡ numberOf self ⌝ }
     {
         match self {
-            Routing::Delivered(_, _, _) => 0,
+            Routing::Delivered(_) => 0,
             Routing::Refused(n) => n,
         }
     }
@@ -62,11 +69,11 @@ fn route_from_root(p: Packet, sheet: &[u8]) -> Routing
         return Routing::Refused(42);
     }
     match walk(sheet, arrival::aim_of(p), root, 0) {
-        Walked::Delivered(number, crossed) => Routing::Delivered(
-            number,
-            crossed,
-            arrival::arrived(p),
-        ),
+        Walked::Delivered(number, crossed) => Routing::Delivered(Delivery {
+            owner: number,
+            bridges: crossed,
+            packet: arrival::arrived(p),
+        }),
         Walked::Refused(n) => Routing::Refused(n),
     }
 }

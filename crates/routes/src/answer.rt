@@ -1,6 +1,6 @@
 // The answer to a line of the script, put into lent bytes from their start.
-use packet::Packet;
 use planning::Planning;
+use route::Delivery;
 use route::Routing;
 use sheet::Lookup;
 use text::front;
@@ -115,15 +115,16 @@ fn put_lookup(out: &mut [u8], bytes: &[u8], sheet: &[u8]) -> usize {
 
 fn put_routing(out: &mut [u8], header: &[u8], sheet: &[u8]) -> usize {
     match route::route(header, sheet) {
-        Routing::Delivered(record, bridges, p) => put_delivery(out, record, bridges, p),
+        Routing::Delivered(d) => put_delivery(out, d),
         Routing::Refused(n) => put_number(out, b"refused ", n as u64),
     }
 }
 
-fn put_delivery(out: &mut [u8], record: u16, bridges: u8, p: Packet) -> usize {
-    let mut at = put_named(out, 0, b"record ", record as u64);
-    at = put_named(out, at, b" bridges ", bridges as u64);
+fn put_delivery(out: &mut [u8], d: Delivery) -> usize {
+    let mut at = put_named(out, 0, b"record ", d.owner as u64);
+    at = put_named(out, at, b" bridges ", d.bridges as u64);
     at = put_byte(out, at, b' ');
+    let p = d.packet;
     at = labels::put_packet(out, at, p);
     put_byte(out, at, b'\n')
 }

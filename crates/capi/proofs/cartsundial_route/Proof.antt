@@ -7,8 +7,8 @@ use Rattle.capi.proofs.cartsundial_route.Tie as tie
 route-requires : tie.Need-route-requires
 route-requires c κs = search needs
 
-enum-known-number : tie.Need-enum-known-number
-enum-known-number c = search needs
+enum-known-d : tie.Need-enum-known-d
+enum-known-d c = search needs
 
 give-delivery-requires : tie.Need-give-delivery-requires
 give-delivery-requires c κs = search needs
@@ -23,7 +23,7 @@ same-length : tie.Need-same-length
 same-length c = search needs
 
 returns : tie.Need-returns
-returns c = rw (sym (c .before .before .before .before .before .before .before .route .ensures) ∙ c .before .before .before .before .before .number .given .1) (c .before .before .give-delivery .ensures)
+returns c = rw (sym (c .before .before .before .before .before .before .before .route .ensures) ∙ c .before .before .before .before .before .d .given .1) (c .before .before .give-delivery .ensures)
 
 returns-2 : tie.Need-returns-2
 returns-2 c = let e = sym (c .before .before .before .route .ensures) ∙ c .before .n .given .1 in (rw e, rw e)
@@ -33,7 +33,7 @@ cartsundial-route-spec =
     tie.close
     (tie.spec
     route-requires
-    enum-known-number
+    enum-known-d
     give-delivery-requires
     enum-known-n
     cast-result
