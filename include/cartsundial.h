@@ -5,6 +5,9 @@
  *         gcc -Iinclude main.c target/staticlib/libcapi.a
  *
  * The archive is for x86-64, System V calling convention, position independent, with SSE2. Of a C library it calls memset and nothing else.
+ * It can be built on one machine and linked on another, which needs the archive and this file only.
+ *
+ * docs/FORMATS.md has the formats byte by byte: headers, boards, sheets, and which of a function's registers boot code is to write.
  *
  * Every call takes any bytes and any numbers, always returns, and answers
  *
@@ -19,8 +22,17 @@
  *   - a slice that a call may write overlaps no other slice of that call, and nobody else touches it until the call returns.
  * Nothing is kept after a call returns. There is no state, no allocation and no I/O, so calls on different slices may run at the same time.
  *
- * Stack to allow, measured with room to spare and not proved: cartsundial_plan 32 KiB; cartsundial_route 16 KiB over a planned sheet, which has at most
- * 16 bridges in a row, and 96 KiB over a foreign one with 255; every other call 12 KiB.
+ * Stack to allow, measured and not proved: cartsundial_plan 32 KiB; cartsundial_route 16 KiB over a planned sheet, which has at most 16
+ * bridges in a row, and 96 KiB over a foreign one with 255; every other call 12 KiB. That is what a call takes. A thread's library takes
+ * its own part of the same stack (guard page, thread-local data, first frames), and so does each signal handler: a pthread of glibc 2.36
+ * needed 36 KiB for the deepest board and 68 KiB for the deepest sheet, where 32 and 64 KiB were too little.
+ *
+ * Red zone. The code keeps live data in the 128 bytes below the stack pointer, as the System V convention allows. In user mode nothing has
+ * to be done: signal handlers keep clear of it. In ring 0 an interrupt or exception that is handled on the interrupted stack overwrites
+ * it, and the call is then no longer the one that was proved. So call only where every handler has a stack of its own (an interrupt stack
+ * table entry), or with interrupts off and such stacks for what cannot be turned off, or from user mode. Firmware that takes its timer
+ * interrupt on the one stack that there is, as UEFI usually does, must turn it off for the call. The code uses XMM registers too: SSE must
+ * be enabled, and a handler that calls it has to save them.
  *
  * Answer slices (packet of cartsundial_read, answer, written, offset). The call writes the numbers that it names, and leaves the numbers past them
  * as they were. A slice too short for them is CARTSUNDIAL_SHORT, tried last: a header, board or sheet that is refused gets its own number first.
@@ -48,7 +60,7 @@ enum cartsundial_number {
     CARTSUNDIAL_ENABLES = 7,           /* memory byte enables */
     CARTSUNDIAL_PAGE = 8,              /* a memory request crosses a 4 KiB boundary */
     CARTSUNDIAL_STATUS = 9,            /* completion status not 000, 001, 010 or 100 */
-    CARTSUNDIAL_WIDTH = 10,            /* a value too wide for its field, or in a field that the kind does not have */
+    CARTSUNDIAL_WIDTH = 10,            /* a value that its field does not take: too wide, a wrong Length, or the kind has no such field */
     CARTSUNDIAL_SHORT = 11,            /* a lent slice is too short */
     CARTSUNDIAL_FRAME = 20,            /* empty; lengths not ending at the end; host record missing or not 30; function under 6; sheet record not 90 */
     CARTSUNDIAL_VERSION = 21,          /* version not 1 */
@@ -123,6 +135,11 @@ enum cartsundial_size {
 /* ---- headers ---- */
 
 /*
+ * header, here and in cartsundial_route: bytes in the order of the link, byte 0 (Fmt and Type) first, and each number's high byte first.
+ * Of 32-bit words, as a header log has them, give each word's high byte first.
+ */
+
+/*
  * Reads the header at the front of any bytes. packet: its twenty numbers. Later bytes are not looked at.
  * Refused: 1 to 9, then 11 for a packet slice of fewer than twenty numbers.
  */
@@ -130,8 +147,9 @@ uint32_t cartsundial_read(const uint8_t *header, size_t header_len, uint64_t *pa
 
 /*
  * Writes the packet that the first twenty numbers are, 12 or 16 bytes at the front of the room and nothing past them. written: how many.
- * Refused: 11 for fewer than twenty numbers, tried first; 2 for a kind or form outside the list, or not carried together; 10 for a number too large for
- * its field, or other than 0 in a field that the kind does not have; 4 to 9; 11 for a short room, or a written slice of no numbers.
+ * Refused: 11 for fewer than twenty numbers, tried first; 2 for a kind or form outside the list, or not carried together; 10 for a number
+ * that its field does not take (too large, a Length outside 1 to 1,024, or of Cpl and CplLk other than 0), or other than 0 in a field that
+ * the kind does not have; 4 to 9; 11 for a short room, or a written slice of no numbers.
  * What cartsundial_read gave is written back to the same bytes, and what was written is read back as the same twenty numbers.
  */
 uint32_t cartsundial_write(const uint64_t *packet, size_t packet_len, uint8_t *room, size_t room_len, uint64_t *written, size_t written_len);
@@ -142,6 +160,8 @@ uint32_t cartsundial_write(const uint64_t *packet, size_t packet_len, uint8_t *r
  * Plans a board: numbers its buses, places every BAR and window, and writes the register sheet at the front of sheet, nothing past it.
  * written: the sheet's length, at most CARTSUNDIAL_SHEET_BYTES.
  * Refused: 20 to 26 (the board), 30 to 33 (what runs out), then 11 for a short sheet, or a written slice of no numbers.
+ * Which record finds no room, at 31, 32 or 33: plan the board's fronts, each cut after a whole record, with a sheet_len of 0. The shortest
+ * one that gets the same number ends with that record. (A front that has room for everything gets 11.)
  */
 uint32_t cartsundial_plan(const uint8_t *board, size_t board_len, uint8_t *sheet, size_t sheet_len, uint64_t *written, size_t written_len);
 

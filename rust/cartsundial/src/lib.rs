@@ -4,8 +4,13 @@
 //! equation with document 01's definitions, for every input. This crate adds types and no rules of its own. Any bytes
 //! may be given; each call ends with an answer or a [`Refusal`], and a refused call changes no lent byte.
 //!
+//! docs/FORMATS.md in the repository is document 01 in our own words: headers, boards and sheets byte by byte, which of a
+//! function's registers boot code is to write, and every rule. A header is given in the order of the link, byte 0 first
+//! and each number's high byte first.
+//!
 //! No call allocates, keeps anything or waits. A stack of 128 KiB holds the deepest board and the deepest sheet; that is
-//! tested, not proved.
+//! tested, not proved. A call that runs where interrupts are handled on the same stack (ring 0) must not be interrupted:
+//! the archive uses the red zone; include/cartsundial.h says more.
 //!
 //! | for | call |
 //! |---|---|

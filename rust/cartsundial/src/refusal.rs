@@ -25,8 +25,8 @@ pub enum Refusal {
     BoundaryCrossed = 8,
     /// A completion status that is not 000, 001, 010 or 100.
     Status = 9,
-    /// A value too wide for its field, a Length outside 1 to 1,024, or an address of 4 GiB or more in the three-dword
-    /// form.
+    /// A value that its field does not take: too wide, a Length outside 1 to 1,024 (of Cpl and CplLk: other than 0), or
+    /// an address of 4 GiB or more in the three-dword form.
     TooWide = 10,
     /// Short room.
     ShortRoom = 11,
@@ -123,7 +123,7 @@ impl Refusal {
             Refusal::ByteEnables => "memory byte enables",
             Refusal::BoundaryCrossed => "memory request crosses a 4,096-byte boundary",
             Refusal::Status => "status not 000, 001, 010 or 100",
-            Refusal::TooWide => "value too wide for its field",
+            Refusal::TooWide => "a value that its field does not take",
             Refusal::ShortRoom => "short room",
             Refusal::Frame => "empty, or lengths of records",
             Refusal::Version => "version not 1",
