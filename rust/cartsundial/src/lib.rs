@@ -1,8 +1,9 @@
 //! A PCI Express header codec, board planner and packet router: Rust types over the proved library.
 //!
 //! The archive `libcapi.a` is compiled from proved code: what each call answers, and what the lent bytes then hold, is an
-//! equation with document 01's definitions, for every input. This crate adds types and no rules of its own. Any bytes
-//! may be given; each call ends with an answer or a [`Refusal`], and a refused call changes no lent byte.
+//! equation with document 01's definitions, for every input. This crate adds types, a search over [`plan`], and no rules
+//! of its own. Any bytes may be given; each call ends with an answer or a [`Refusal`], and a refused call changes no lent
+//! byte.
 //!
 //! docs/FORMATS.md in the repository is document 01 in our own words: headers, boards and sheets byte by byte, which of a
 //! function's registers boot code is to write, and every rule. A header is given in the order of the link, byte 0 first
