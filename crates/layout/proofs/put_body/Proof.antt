@@ -17,7 +17,7 @@ same-length c = search needs
 returns : tie.Need-returns
 returns c =
     let branch = c .before .before .before .before in
-    let s = branch .before .before .before .before .args in
+    let s = branch .before .before .before .args in
     rw (← body-of-bridge (s .r) (sym (branch .before .is-bridge .ensures) ∙ branch .if1 .taken)) (c .before .before .put-bridge .ensures)
 
 put-end-requires : tie.Need-put-end-requires
@@ -29,7 +29,7 @@ same-length-2 c = search needs
 returns-2 : tie.Need-returns-2
 returns-2 c =
     let branch = c .before .before .before .before .before in
-    let s = branch .before .before .before .before .args in
+    let s = branch .before .before .before .args in
     rw (← body-of-end (s .r) (sym (branch .before .is-bridge .ensures) ∙ branch .if1 .left)) (c .before .before .put-end .ensures)
 
 pub put-body-spec : {M : Type 1} → statement M
