@@ -29,7 +29,7 @@ use Rattle.sheet.specs.Sheet.{from29, from25, from28, from27, from24, from22, f
 use Rattle.sheet.specs.Lookup.{lookupOf}
 use Rattle.sheet.specs.Spaces.{functionsFrom, nodesFrom}
 use Rattle.sheet.specs.Examples.{p10}
-use Rattle.route.specs.Route.{routeOf, fromSheet, from40, from42}
+use Rattle.route.specs.Route.{routeOf, fromSheet, routePacket, from42}
 use Rattle.route.specs.Examples.{MRd, F9000FFC, F9001000}
 use Rattle.capi.specs.Answers.{Answer, refuses, gives, returned}
 use Rattle.capi.specs.Calls.{readAnswer, writeAnswer, roomLeft, onLookup, commandNumber, routeAnswer}
@@ -83,5 +83,5 @@ examples =
     ∷ []
 
 pub examples-hold : All Holds examples
-unfolding flatMap readOf pairOf findPair findKind rowOf first table judged headAt enablesAt addressAt unnamed ruleNumber fromRule5 fromRule6 fromRule7 fromRule8 fromRule9 reservedSet fixedWrong upperZero enablesWrong crossesPage statusWrong lengthFits bodyFits fieldsFit onRules onFields verdictOf numbersOf kinds kindAt anyAbove headFrom enablesFrom onKind fromKind packetOf frontBytes requestBytes addressBytes layout beBytes writeOf roomAfter lookupOf findFrom commandNumber routeOf fromSheet from40 from42 walkFrom walkOver tallyOn join keep itemsOf items enabledIn sheetNumber from21 from20 from22 from24 from27 from28 from25 from29 isFramed allSized entriesFrom commandsOf breaks anyBreaks allZero readBacksWrong hasId idTwice entryOf dwords windowOf barsFrom functionsFrom nodesFrom be le nextOf partsOver partsOf closed start stop isNibbled isBarValue valuesFit slots slotHere wideSlot narrowSlot ioSlot sized sizeFrom
+unfolding flatMap readOf pairOf findPair findKind rowOf first table judged headAt enablesAt addressAt unnamed ruleNumber fromRule5 fromRule6 fromRule7 fromRule8 fromRule9 reservedSet fixedWrong upperZero enablesWrong crossesPage statusWrong lengthFits bodyFits fieldsFit onRules onFields verdictOf numbersOf kinds kindAt anyAbove headFrom enablesFrom onKind fromKind packetOf frontBytes requestBytes addressBytes layout beBytes writeOf roomAfter lookupOf findFrom commandNumber routeOf fromSheet routePacket from42 walkFrom walkOver tallyOn join keep itemsOf items enabledIn sheetNumber from21 from20 from22 from24 from27 from28 from25 from29 isFramed allSized entriesFrom commandsOf breaks anyBreaks allZero readBacksWrong hasId idTwice entryOf dwords windowOf barsFrom functionsFrom nodesFrom be le nextOf partsOver partsOf closed start stop isNibbled isBarValue valuesFit slots slotHere wideSlot narrowSlot ioSlot sized sizeFrom
 examples-hold = (refl, (refl, (refl, (refl, (refl, (refl, (refl, (refl, (refl, (refl, (refl, (refl, (refl, (refl, (refl, (refl, (refl, tt)))))))))))))))))

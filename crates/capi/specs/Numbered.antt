@@ -40,9 +40,10 @@ use Rattle.sheet.specs.Sheet.{entriesOf, findFrom, sheetNumber, sheetLength}
 use Rattle.sheet.specs.Lookup.{placed, lookupOf}
 use Rattle.sheet.specs.Spaces.{nodesOf}
 use Rattle.claims.specs.Claims.{tallyFor}
+use Rattle.route_arrival.specs.Arrival.{aimOf, typeWrong}
 use Rattle.route.specs.declared.Routing.{Routing}
 use Rattle.route.specs.declared.Routing.the-variants.{Refused as NotDelivered}
-use Rattle.route.specs.Route.{aimOf, typeWrong, answer, walked, root, from42, from40, fromSheet, fromReading, routeOf}
+use Rattle.route.specs.Route.{answer, walked, root, from42, routePacket, fromSheet, fromReading, routeOf}
 use Rattle.placing.specs.Refusals.{refusalOf}
 use Rattle.board.specs.Board.{boardNumber, hostOf, functionsOf}
 use Rattle.board.specs.ToPlacing.{toHost, toPlacing}
@@ -231,12 +232,12 @@ unfolding walkFrom
 numbered-from-walk p s = numbered-walk 256 p (tallyFor (aimOf p) s) (root s) 0
 
 numbered-from-sheet : (p : Packet) (s : List ℕ) → NumberedRouting (fromSheet p s)
-unfolding fromSheet from40 from42
+unfolding fromSheet routePacket from42
 numbered-from-sheet p s =
     let walk = answer p (walked (aimOf p) s (root s) 0) in
     let typed = either NumberedRouting (typeWrong (root s) p) (NotDelivered 42) walk (omega arith) (numbered-from-walk p s) in
     let peopled = either NumberedRouting (eqb (length (nodesOf s)) 0) (NotDelivered 40) (cond (typeWrong (root s) p) (NotDelivered 42) walk) (omega arith) typed in
-    unless-zero NumberedRouting (sheetNumber s) (from40 p s) (NotDelivered (sheetNumber s)) peopled (λ h. h)
+    unless-zero NumberedRouting (sheetNumber s) (routePacket p s) (NotDelivered (sheetNumber s)) peopled (λ h. h)
 
 pub numbered-route : (header sheet : List ℕ) → Numbered (routeAnswer header sheet)
 unfolding routeOf

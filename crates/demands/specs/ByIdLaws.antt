@@ -34,9 +34,10 @@ use Rattle.joined.specs.Delivery.{PlannedSheet}
 use Rattle.joined.specs.Answer.{planned-sheet-of-answer}
 use Rattle.claims.specs.declared.Aim.{Aim}
 use Rattle.claims.specs.declared.Aim.the-variants.{Id}
+use Rattle.route_arrival.specs.Arrival.{aimOf, kindWrong, typeWrong, arrived}
 use Rattle.route.specs.declared.Delivery.{Delivery}
 use Rattle.route.specs.declared.Routing.the-variants.{Delivered, Refused}
-use Rattle.route.specs.Route.{numberOf as routingNumber, aimOf, kindWrong, typeWrong, arrived, answer, walked, root, routeOf}
+use Rattle.route.specs.Route.{numberOf as routingNumber, answer, walked, root, routeOf}
 use Rattle.route.specs.OrderLaws.{route-no-functions, route-wrong-type, route-walked}
 use Rattle.demands.specs.Demand3.{host, functions, IsRequest, bridgesAbove, routeNumber, DeliveredTo, Crosses, Routed}
 use Rattle.demands.specs.Demand3Laws.{demand-3}

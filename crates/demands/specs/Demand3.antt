@@ -33,9 +33,10 @@ use Rattle.planned.specs.Delivery.{BarHolds, OwnsAsPlaced}
 use Rattle.planning.specs.declared.Planning.the-variants.{Planned, Refused}
 use Rattle.planning.specs.Plan.{numberOf as planningNumber, planning, sheetAfter}
 use Rattle.claims.specs.Claims.{tallyFor}
+use Rattle.route_arrival.specs.Arrival.{aimOf}
 use Rattle.route.specs.declared.Delivery.{Delivery}
 use Rattle.route.specs.declared.Routing.the-variants.{Delivered}
-use Rattle.route.specs.Route.{numberOf as routingNumber, aimOf, root, routeOf}
+use Rattle.route.specs.Route.{numberOf as routingNumber, root, routeOf}
 
 -- ## A board
 

@@ -47,9 +47,10 @@ use Rattle.joined.specs.Delivery.{PlannedSheet}
 use Rattle.joined.specs.Answer.{AnswersPlanned, planned-of-answer, planned-sheet-of-answer}
 use Rattle.claims.specs.declared.Aim.the-variants.{Address}
 use Rattle.claims.specs.Claims.{tallyFor}
+use Rattle.route_arrival.specs.Arrival.{aimOf}
 use Rattle.route.specs.declared.Delivery.{Delivery}
 use Rattle.route.specs.declared.Routing.the-variants.{Delivered}
-use Rattle.route.specs.Route.{numberOf as routingNumber, aimOf, answer, walked, root, routeOf}
+use Rattle.route.specs.Route.{numberOf as routingNumber, answer, walked, root, routeOf}
 use Rattle.route.specs.RequestLaws.{route-request, request-delivered-iff}
 use Rattle.demands.specs.Demand3.{Lawful, host, functions, lengthOfSheet, RunsOut, planNumber, AnswersByNumber, SheetSays, Demand3}
 use Rattle.demands.specs.Demand3.{IsRequest, HasBarOver, bridgesAbove, Owns, routeNumber, DeliveredTo, Crosses, Routed}

@@ -46,7 +46,7 @@ use Rattle.listing.specs.Listing.{words, windowText, bridgeText, endText, lineO
 use Rattle.listing.specs.BoardText.{boardText}
 use Rattle.route.specs.declared.Routing.{Routing}
 use Rattle.route.specs.declared.Routing.the-variants.{Delivered, Refused as NotDelivered}
-use Rattle.route.specs.Route.{numberOf as routingNumber, routeOf, fromSheet, from40, from42}
+use Rattle.route.specs.Route.{numberOf as routingNumber, routeOf, fromSheet, routePacket, from42}
 
 -- the Length that a reading reports; a refused header has none, and 0 is no Length of a memory request
 abbrev pub lengthRead : Reading → ℕ
@@ -151,7 +151,7 @@ examples =
     ∷ []
 
 pub examples-hold : All examples
-unfolding examples ascii words windowText bridgeText endText lineOf countText planText boardText hexadecimal decimalOver decimal readOf pairOf findPair first table judged headAt enablesAt addressAt unnamed be ruleNumber fromRule5 fromRule6 fromRule7 fromRule8 fromRule9 reservedSet fixedWrong upperZero enablesWrong crossesPage statusWrong row planning onBoard onRoom boardNumber fromVersion fromFrame fromCount fromHeaders fromEdges fromOrder fromReadbacks misframed above parents lastSibling misplaced anyMisplaced functionOfPart headerWrong readbacksWrong hostOfPart poolWrong hostWrong beBytes nextOf partsOver partsOf anyPart any sizeFrom sized ioSlot narrowSlot wideSlot slotHere slots anyBad hostOf functionsOf refusalOf outOfPool place placed pieces ownPieces windowPieces barPieces layoutEnd largestAlign keep alignUp bridges barsFrom sheetAfter sheetBytes flatMap recordBytes partBytes configBytes commonBytes bodyBytes bridgeBytes endBytes dwordBytes planOf plannedFrom valuesFrom windowFor barStart closed opened busNumber subordinateOf greatestBelow le leBytes routeOf fromSheet from40 from42 walkFrom walkOver tallyOn join itemsOf items enabledIn sheetNumber from21 from20 from22 from24 from27 from28 from25 from29 isFramed allSized entriesFrom commandsOf breaks anyBreaks allZero readBacksWrong hasId idTwice entryOf dwords windowOf rangesFrom functionsFrom nodesFrom start stop isNibbled isBarValue valuesFit
+unfolding examples ascii words windowText bridgeText endText lineOf countText planText boardText hexadecimal decimalOver decimal readOf pairOf findPair first table judged headAt enablesAt addressAt unnamed be ruleNumber fromRule5 fromRule6 fromRule7 fromRule8 fromRule9 reservedSet fixedWrong upperZero enablesWrong crossesPage statusWrong row planning onBoard onRoom boardNumber fromVersion fromFrame fromCount fromHeaders fromEdges fromOrder fromReadbacks misframed above parents lastSibling misplaced anyMisplaced functionOfPart headerWrong readbacksWrong hostOfPart poolWrong hostWrong beBytes nextOf partsOver partsOf anyPart any sizeFrom sized ioSlot narrowSlot wideSlot slotHere slots anyBad hostOf functionsOf refusalOf outOfPool place placed pieces ownPieces windowPieces barPieces layoutEnd largestAlign keep alignUp bridges barsFrom sheetAfter sheetBytes flatMap recordBytes partBytes configBytes commonBytes bodyBytes bridgeBytes endBytes dwordBytes planOf plannedFrom valuesFrom windowFor barStart closed opened busNumber subordinateOf greatestBelow le leBytes routeOf fromSheet routePacket from42 walkFrom walkOver tallyOn join itemsOf items enabledIn sheetNumber from21 from20 from22 from24 from27 from28 from25 from29 isFramed allSized entriesFrom commandsOf breaks anyBreaks allZero readBacksWrong hasId idTwice entryOf dwords windowOf rangesFrom functionsFrom nodesFrom start stop isNibbled isBarValue valuesFit
 examples-hold = (
   refl,
   (refl, (refl, (refl, (refl, (refl, (refl, (refl, (refl, (refl, (refl, (refl, (refl, ((refl, refl), (refl, ((refl, refl), (refl, ((refl, refl), (refl, tt)))))))))))))))))),

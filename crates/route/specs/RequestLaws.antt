@@ -21,9 +21,10 @@ use Rattle.sheet_record.specs.Entry.{Entry}
 use Rattle.sheet.specs.Sheet.{entriesOf, sheetNumber}
 use Rattle.sheet.specs.Spaces.{functionsFrom, nodesFrom, nodesOf, enabledOf}
 use Rattle.claims.specs.declared.Aim.the-variants.{Address}
+use Rattle.route_arrival.specs.Arrival.{aimOf, typeWrong, arrived}
 use Rattle.route.specs.declared.Delivery.{Delivery}
 use Rattle.route.specs.declared.Routing.the-variants.{Delivered, Refused}
-use Rattle.route.specs.Route.{aimOf, typeWrong, arrived, arrives, answer, walked, root, from42, from40, fromSheet, routeOf}
+use Rattle.route.specs.Route.{arrives, answer, walked, root, from42, routePacket, fromSheet, routeOf}
 
 module _ (space : Space) (address : ℕ) where
   -- 42 is of configuration alone
@@ -39,28 +40,34 @@ module _ (space : Space) (address : ℕ) where
   arrives-unchanged (Config k h e t) q = absurd (suc-ne-zero 0 (cc))
   arrives-unchanged (Completion k h o) q = refl
 
+  -- what the walk over a sheet comes to
+  abbrev pub comesTo : List ℕ → Outcome
+  comesTo s = walked (Address space address) s (root s) 0
+
   -- over no functions the walk has no owner either
-  walk-nobody : (s : List ℕ) (es : List Entry) → entriesOf s ≡ es → length (nodesFrom 1 es) ≡ 0 → walked (Address space address) s (root s) 0 ≡ refused noOwner
+  walk-nobody : (s : List ℕ) (es : List Entry) → entriesOf s ≡ es → length (nodesFrom 1 es) ≡ 0 → comesTo s ≡ refused noOwner
   unfolding nodesFrom functionsFrom
   walk-nobody s [] e z =
       walk-none _ (root s) 0
-      (ap (λ (es : List Entry). tallyOn (enabledOf space s) (functionsFrom space 1 es) address (root s)) e ∙ tally-nil (enabledOf space s) address (root s))
+      (ap (λ (es : List Entry). tallyOn (enabledOf space s) (functionsFrom space 1 es) address (root s)) e
+      ∙ tally-nil (enabledOf space s) address (root s))
   walk-nobody s (x ∷ es) e z = absurd (suc-ne-zero _ z)
 
-  module _ (header s : List ℕ) (p : Packet) (read : readOf header ≡ Accepted p) (aim : aimOf p ≡ Address space address) (passes : sheetNumber s ≡ 0) where
-    request-from-40 : (b : Bool) → eqb (length (nodesOf s)) 0 ≡ b → cond b (Refused noOwner) (from42 p s) ≡ answer p (walked (Address space address) s (root s) 0)
+  module _ (header s : List ℕ) (p : Packet) (read : readOf header ≡ Accepted p) (aim : aimOf p ≡ Address space address)
+      (passes : sheetNumber s ≡ 0) where
+    request-from-40 : (b : Bool) → eqb (length (nodesOf s)) 0 ≡ b → cond b (Refused noOwner) (from42 p s) ≡ answer p (comesTo s)
     unfolding from42
     request-from-40 true e = sym (ap (answer p) (walk-nobody s (entriesOf s) refl (eqb-true (length (nodesOf s)) 0 e)))
     request-from-40 false e = rw (never-wrong p aim (root s), aim)
 
-    pub route-request : routeOf header s ≡ answer p (walked (Address space address) s (root s) 0)
-    unfolding routeOf fromSheet from40
+    pub route-request : routeOf header s ≡ answer p (comesTo s)
+    unfolding routeOf fromSheet routePacket
     route-request = rw (read, eq-eqb (sheetNumber s) 0 passes) (request-from-40 (eqb (length (nodesOf s)) 0) refl)
 
     -- delivered just where the walk delivers, with its record and its count, and unchanged
-    pub request-delivered-iff : (d : Delivery) → (routeOf header s ≡ Delivered d)
-        ↔ ((walked (Address space address) s (root s) 0 ≡ delivered (d .owner) (d .bridges)) × (d .packet ≡ p))
-    request-delivered-iff d = (λ e. to (walked (Address space address) s (root s) 0) (sym route-request ∙ e), from)
+    pub request-delivered-iff : (d : Delivery)
+        → (routeOf header s ≡ Delivered d) ↔ ((comesTo s ≡ delivered (d .owner) (d .bridges)) × (d .packet ≡ p))
+    request-delivered-iff d = (λ e. to (comesTo s) (sym route-request ∙ e), from)
       where
         to : (o : Outcome) → answer p o ≡ Delivered d → (o ≡ delivered (d .owner) (d .bridges)) × (d .packet ≡ p)
         to (delivered number crossed) e =
@@ -70,21 +77,14 @@ module _ (space : Space) (address : ℕ) where
             )
         to (refused n) e = absurd (suc-ne-zero 0 (cc))
 
-        from : (walked (Address space address) s (root s) 0 ≡ delivered (d .owner) (d .bridges)) × (d .packet ≡ p)
-            → routeOf header s ≡ Delivered d
+        from : (comesTo s ≡ delivered (d .owner) (d .bridges)) × (d .packet ≡ p) → routeOf header s ≡ Delivered d
         from (e, same) =
             let with : Packet → Delivery = λ q. record { owner = d .owner; bridges = d .bridges; packet = q } in
             route-request ∙ ap (answer p) e ∙ ap (λ (q : Packet). Delivered (with q)) (arrives-unchanged p aim ∙ sym same)
 
-    pub request-refused-iff : (number : ℕ) → (routeOf header s ≡ Refused number) ↔ (walked (Address space address) s (root s) 0 ≡ refused number)
-    request-refused-iff number = (to, from)
+    pub request-refused-iff : (number : ℕ) → (routeOf header s ≡ Refused number) ↔ (comesTo s ≡ refused number)
+    request-refused-iff number = (λ e. to (comesTo s) (sym route-request ∙ e), λ e. route-request ∙ ap (answer p) e)
       where
-        go : (o : Outcome) → answer p o ≡ Refused number → o ≡ refused number
-        go (delivered n k) e = absurd (suc-ne-zero 0 (cc))
-        go (refused n) e = cc
-
-        to : routeOf header s ≡ Refused number → walked (Address space address) s (root s) 0 ≡ refused number
-        to e = go (walked (Address space address) s (root s) 0) (sym route-request ∙ e)
-
-        from : walked (Address space address) s (root s) 0 ≡ refused number → routeOf header s ≡ Refused number
-        from e = route-request ∙ ap (answer p) e
+        to : (o : Outcome) → answer p o ≡ Refused number → o ≡ refused number
+        to (delivered n k) e = absurd (suc-ne-zero 0 (cc))
+        to (refused n) e = cc

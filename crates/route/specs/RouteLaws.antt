@@ -2,7 +2,8 @@
 use mathlib.Core.Path.{_≡_, refl, sym, ap, _∙_}
 use mathlib.Core.Bool.{Bool, true, false}
 use mathlib.Core.List.{List, [], _∷_}
-use Prim.Native.Nat.{ℕ, suc, _+_, _/_, _<_}
+use Prim.Native.Nat.{ℕ, suc, _+_, _*_, _/_, _<_, _≤_}
+use native.Mathlib.Omega.{arith}
 use lib.ListN.{length}
 use borrow.Author.Tests.{eq-eqb, ne-eqb}
 use Rattle.endian.specs.Endian.{Bytes}
@@ -15,9 +16,9 @@ use Rattle.walk.specs.TallyLaws.{rising-of-bridges}
 use Rattle.walk.specs.Walk.{Outcome, delivered, refused, settle, Rising}
 use Rattle.walk.specs.WalkLaws.{walk-step}
 use Rattle.walk.specs.IdsLaws.{rising-by-id}
-use Rattle.sheet_record.specs.Entry.{Entry, entryOf, busOf}
+use Rattle.sheet_record.specs.Entry.{Entry, recordSize, entryOf, busOf}
 use Rattle.sheet.specs.Sheet.{entriesOf, partAt, sheetNumber}
-use Rattle.sheet.specs.IndexLaws.{entries-index}
+use Rattle.sheet.specs.IndexLaws.{record-fits, length-part, entries-index}
 use Rattle.sheet.specs.SheetLaws.{Checked, checked-of-zero, zero-of-checked, passes-of-zero}
 use Rattle.sheet.specs.Spaces.{nodesFrom, nodesOf, registersOf, enabledOf}
 use Rattle.claims.specs.declared.Aim.{Aim}
@@ -27,12 +28,12 @@ use Rattle.claims.specs.declared.Claim.the-variants.{Bar, Window}
 use Rattle.claims.specs.declared.Tally.{Tally}
 use Rattle.claims.specs.declared.Tally.the-variants.{Nothing, One, Several}
 use Rattle.claims.specs.Claims.{tallyOf, tallyFor}
-use Rattle.route.specs.declared.Delivery.{Delivery}
+use Rattle.route_arrival.specs.Arrival.{aimOf, typeWrong, arrived}
 use Rattle.route.specs.declared.Routing.{Routing}
 use Rattle.route.specs.declared.Routing.the-variants.{Delivered, Refused}
 use Rattle.route.specs.declared.Walked.{Walked}
 use Rattle.route.specs.declared.Walked.the-variants.{Delivered as WalkedTo, Refused as WalkRefused}
-use Rattle.route.specs.Route.{typeWrong, aimOf, arrived, answer, outcomeOf, walked, root, from42, from40, fromSheet, fromReading, routeOf}
+use Rattle.route.specs.Route.{answer, outcomeOf, walked, root, from42, routePacket, fromSheet, fromReading, routeOf}
 
 -- ## The walk
 
@@ -46,7 +47,8 @@ rising-for (Id id) s b c =
     rising-by-id (nodesOf s) (p .bridges-rise) (p .distinct-ids) (id / 256) _
 
 -- t is the tally of the bus
-module _ (aim : Aim) (s : List ℕ) (bytes : Bytes s) (c : Checked s) (bus crossed : ℕ) (small : bus < 256) (t : Tally) (e : tallyOf t ≡ tallyFor aim s bus) where
+module _ (aim : Aim) (s : List ℕ) (bytes : Bytes s) (c : Checked s) (bus crossed : ℕ) (small : bus < 256) (t : Tally)
+    (e : tallyOf t ≡ tallyFor aim s bus) where
   on-bus : (u : Tally) → t ≡ u → walked aim s bus crossed ≡ settle (tallyOf u) crossed (λ b. walked aim s b (crossed + 1))
   on-bus u q = walk-step (rising-for aim s bytes c) bus crossed (tallyOf u) small (sym e ∙ ap tallyOf q)
 
@@ -68,67 +70,94 @@ module _ (aim : Aim) (s : List ℕ) (bytes : Bytes s) (c : Checked s) (bus cross
       pub bus-rises : (bus < secondary) × (secondary < 256)
       bus-rises = rising-for aim s bytes c .rises bus number secondary (sym e ∙ ap tallyOf (q ∙ ap One f))
 
--- ## Before the walk
+-- ## A packet over a sheet that passes its checks
 
 length-nodes : (k : ℕ) (es : List Entry) → length (nodesFrom k es) ≡ length es
 unfolding nodesFrom
 length-nodes k [] = refl
 length-nodes k (e ∷ es) = ap suc (length-nodes (k + 1) es)
 
-module _ (p : Packet) (s : List ℕ) where
-  pub sheet-refused : (n : ℕ) → n ≡ sheetNumber s → (n ≡ 0 → ⊥) → Refused n ≡ fromSheet p s
-  unfolding fromSheet
-  sheet-refused n e h = rw (← e, ne-eqb n 0 h)
+-- m functions
+module _ (p : Packet) (s : List ℕ) (m : ℕ) (count : m ≡ length (entriesOf s)) where
+  pub no-functions : m ≡ 0 → Refused 40 ≡ routePacket p s
+  unfolding routePacket
+  no-functions z = rw (eq-eqb (length (nodesOf s)) 0 (length-nodes 1 (entriesOf s) ∙ sym count ∙ z))
 
-  -- m functions
-  module _ (n : ℕ) (e : n ≡ sheetNumber s) (z : n ≡ 0) where
-    pub checked : Checked s
-    checked = checked-of-zero s (sym e ∙ z)
+  module _ (some : ¬ (m ≡ 0)) where
+    functions : from42 p s ≡ routePacket p s
+    unfolding routePacket
+    functions = rw (ne-eqb (length (nodesOf s)) 0 (λ z. some (count ∙ sym (length-nodes 1 (entriesOf s)) ∙ z)))
 
-    module _ (m : ℕ) (count : m ≡ length (entriesOf s)) where
-      pub no-functions : m ≡ 0 → Refused 40 ≡ fromSheet p s
-      unfolding fromSheet from40
-      no-functions h = rw (← e, eq-eqb n 0 z, eq-eqb (length (nodesOf s)) 0 (length-nodes 1 (entriesOf s) ∙ sym count ∙ h))
+    module _ (c : Checked s) where
+      first-inside : 0 < length (entriesOf s)
+      first-inside = omega arith
 
-      pub functions : (r : Routing) → (m ≡ 0 → ⊥) → r ≡ from42 p s → r ≡ fromSheet p s
-      unfolding fromSheet from40
-      functions r h q = rw (← e, eq-eqb n 0 z, ne-eqb (length (nodesOf s)) 0 (λ l. h (count ∙ sym (length-nodes 1 (entriesOf s)) ∙ l))) q
+      pub first-fits : 92 * 0 + 93 ≤ length s
+      first-fits = record-fits s (c .framed) 0 first-inside
 
-  -- f is the first record's part, top its bus
-  module _ (c : Checked s) (h : 0 < length (entriesOf s)) (f : List ℕ) (top : ℕ) (first : f ≡ partAt s 0) (own : top ≡ busOf f) where
-    root-is : root s ≡ top
-    unfolding nodesFrom entryOf
-    root-is = ap (λ (es : List Entry). rootOf (nodesFrom 1 es)) (entries-index s (c .framed) 0 h) ∙ sym (own ∙ ap busOf first)
+      -- f is the first record's part
+      module _ (f : List ℕ) (first : f ≡ partAt s 0) where
+        pub first-sized : length f ≡ recordSize
+        first-sized = ap length first ∙ length-part s 0 first-fits
 
-    -- b is the test of the packet's type
-    module _ (b : Bool) (t : b ≡ typeWrong top p) where
-      pub type-refused : b ≡ true → Refused 42 ≡ from42 p s
-      unfolding from42
-      type-refused y = rw (root-is, ← t, y)
+        -- top its bus
+        module _ (top : ℕ) (own : top ≡ busOf f) where
+          root-is : root s ≡ top
+          unfolding nodesFrom entryOf
+          root-is =
+              ap (λ (es : List Entry). rootOf (nodesFrom 1 es)) (entries-index s (c .framed) 0 first-inside)
+              ∙ sym (own ∙ ap busOf first)
 
-      -- w is where the walk ended
-      module _ (aim : Aim) (w : Walked) (n : b ≡ false) (a : aim ≡ aimOf p) (e : outcomeOf w ≡ walked aim s top 0) where
-        walk-answered : answer p (outcomeOf w) ≡ from42 p s
-        unfolding from42
-        walk-answered = rw (root-is, ← t, n, ← a) (ap (answer p) e)
+          -- b is the test of the packet's type
+          module _ (b : Bool) (t : b ≡ typeWrong top p) where
+            type-refused : b ≡ true → Refused 42 ≡ from42 p s
+            unfolding from42
+            type-refused y = rw (root-is, ← t, y)
 
-        pub walk-delivered : (number crossed : ℕ) (q : Packet) → w ≡ WalkedTo number crossed → q ≡ arrived p
-            → Delivered (record { owner = number; bridges = crossed; packet = q }) ≡ from42 p s
-        walk-delivered number crossed q f g =
-            ap (λ (x : Packet). Delivered (record { owner = number; bridges = crossed; packet = x })) g
-            ∙ ap (λ (x : Walked). answer p (outcomeOf x)) (sym f)
-            ∙ walk-answered
+            pub wrong-type : b ≡ true → Refused 42 ≡ routePacket p s
+            wrong-type y = type-refused y ∙ functions
 
-        pub walk-refused : (number : ℕ) → w ≡ WalkRefused number → Refused number ≡ from42 p s
-        walk-refused number f = ap (λ (x : Walked). answer p (outcomeOf x)) (sym f) ∙ walk-answered
+            -- w is where the walk ended
+            module _ (aim : Aim) (w : Walked) (n : b ≡ false) (a : aim ≡ aimOf p) (e : outcomeOf w ≡ walked aim s top 0) where
+              walk-answered : answer p (outcomeOf w) ≡ from42 p s
+              unfolding from42
+              walk-answered = rw (root-is, ← t, n, ← a) (ap (answer p) e)
 
--- ## The header
+              answered-as : (x : Walked) → w ≡ x → answer p (outcomeOf x) ≡ routePacket p s
+              answered-as x f = ap (λ (y : Walked). answer p (outcomeOf y)) (sym f) ∙ walk-answered ∙ functions
 
-module _ (header s : List ℕ) (reading : Reading) where
-  pub header-refused : (n m : ℕ) → reading ≡ readOf header → reading ≡ NotRead n → m ≡ readingNumber reading → Refused m ≡ routeOf header s
+              pub walk-delivered : (number crossed : ℕ) (q : Packet) → w ≡ WalkedTo number crossed → q ≡ arrived p
+                  → Delivered (record { owner = number; bridges = crossed; packet = q }) ≡ routePacket p s
+              walk-delivered number crossed q f g =
+                  ap (λ (x : Packet). Delivered (record { owner = number; bridges = crossed; packet = x })) g
+                  ∙ answered-as (WalkedTo number crossed) f
+
+              pub walk-refused : (number : ℕ) → w ≡ WalkRefused number → Refused number ≡ routePacket p s
+              walk-refused number f = answered-as (WalkRefused number) f
+
+-- ## A header over a sheet
+
+module _ (header s : List ℕ) (reading : Reading) (e : reading ≡ readOf header) where
+  pub header-refused : (n m : ℕ) → reading ≡ NotRead n → m ≡ readingNumber reading → Refused m ≡ routeOf header s
   unfolding routeOf
-  header-refused n m e f g = ap Refused (g ∙ ap readingNumber f) ∙ ap (λ (r : Reading). fromReading r s) (sym f ∙ e)
+  header-refused n m f g = ap Refused (g ∙ ap readingNumber f) ∙ ap (λ (r : Reading). fromReading r s) (sym f ∙ e)
 
-  pub header-accepted : (p : Packet) (r : Routing) → reading ≡ readOf header → reading ≡ Accepted p → r ≡ fromSheet p s → r ≡ routeOf header s
-  unfolding routeOf
-  header-accepted p r e f g = g ∙ ap (λ (x : Reading). fromReading x s) (sym f ∙ e)
+  -- n is the sheet's number
+  module _ (p : Packet) (f : reading ≡ Accepted p) (n : ℕ) (g : n ≡ sheetNumber s) where
+    header-accepted : fromSheet p s ≡ routeOf header s
+    unfolding routeOf
+    header-accepted = ap (λ (x : Reading). fromReading x s) (sym f ∙ e)
+
+    refused-by-sheet : ¬ (n ≡ 0) → Refused n ≡ fromSheet p s
+    unfolding fromSheet
+    refused-by-sheet h = rw (← g, ne-eqb n 0 h)
+
+    passed-by-sheet : n ≡ 0 → routePacket p s ≡ fromSheet p s
+    unfolding fromSheet
+    passed-by-sheet z = rw (← g, eq-eqb n 0 z)
+
+    pub sheet-refused : ¬ (n ≡ 0) → Refused n ≡ routeOf header s
+    sheet-refused h = refused-by-sheet h ∙ header-accepted
+
+    pub packet-routed : (r : Routing) → n ≡ 0 → r ≡ routePacket p s → r ≡ routeOf header s
+    packet-routed r z q = q ∙ passed-by-sheet z ∙ header-accepted

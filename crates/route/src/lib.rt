@@ -1,12 +1,9 @@
 // The router: a header and a register sheet to the function that gets the packet, or a number. Any bytes may be given as either.
-mod arrival;
-
 ghost use mathlib.Core.Path.{_≡_};
-ghost use Prim.Native.Nat.{_≤_, _<_};
-ghost use lib.ListN.{length};
-ghost use Rattle.sheet.specs.Sheet.{entriesOf};
+ghost use Prim.Native.Nat.{_≤_};
+ghost use Rattle.sheet.specs.Sheet.{sheetNumber};
 ghost use Rattle.sheet.specs.SheetLaws.{Checked};
-ghost use Rattle.route.specs.Route.{numberOf, outcomeOf, walked, from42, fromSheet, routeOf};
+ghost use Rattle.route.specs.Route.{numberOf, outcomeOf, walked, routePacket, routeOf};
 use claims::Aim;
 use claims::Claim;
 use claims::Tally;
@@ -38,6 +35,46 @@ impl Routing {
     }
 }
 
+// A header over a sheet: the header's number before the sheet is read, then the sheet's. What is left is a packet over a sheet that passes.
+pub fn route(header: &[u8], sheet: &[u8]) -> Routing
+    ensures { λ r. ⌜ r ≡ routeOf (now (header .entry)) (now (sheet .entry)) ⌝ }
+{
+    let reading = tlp::read(header);
+    let Reading::Accepted(p) = reading else {
+        return Routing::Refused(reading.number());
+    };
+    let n = sheet::check(sheet);
+    if n != 0 {
+        return Routing::Refused(n);
+    }
+    route_packet(p, sheet)
+}
+
+// A packet over a sheet that is known to pass its checks: 40 for no functions, 42, then the walk from the bus of the first record. For who
+// checks a sheet once and then routes over it many times.
+pub fn route_packet(p: Packet, sheet: &[u8]) -> Routing
+    requires { ⌜ sheetNumber (now sheet) ≡ 0 ⌝ }
+    ensures { λ r. ⌜ r ≡ routePacket p (now (sheet .entry)) ⌝ }
+{
+    if sheet::count(sheet) == 0 {
+        return Routing::Refused(40);
+    }
+    let root = sheet_record::bus_of(sheet::part(sheet, 0));
+    if route_arrival::type_wrong(p, root) {
+        return Routing::Refused(42);
+    }
+    match walk(sheet, route_arrival::aim_of(p), root, 0) {
+        Walked::Delivered(number, crossed) => Routing::Delivered(Delivery {
+            owner: number,
+            bridges: crossed,
+            packet: route_arrival::arrived(p),
+        }),
+        Walked::Refused(n) => Routing::Refused(n),
+    }
+}
+
+// ---- the walk
+
 // Where a walk ends: at a record after so many bridges, or refused by number.
 enum Walked {
     Delivered(u16, u8),
@@ -57,48 +94,4 @@ fn walk(sheet: &[u8], aim: Aim, bus: u8, crossed: u8) -> Walked
         },
         Tally::Several => Walked::Refused(41),
     }
-}
-
-// Over a checked sheet with functions: 42 before the walk, which starts on the bus of the first record.
-fn route_from_root(p: Packet, sheet: &[u8]) -> Routing
-    requires { ⌜ Checked (now sheet) × (0 < length (entriesOf (now sheet))) ⌝ }
-    ensures { λ r. ⌜ r ≡ from42 p (now (sheet .entry)) ⌝ }
-{
-    let root = sheet_record::bus_of(sheet::part(sheet, 0));
-    if arrival::type_wrong(p, root) {
-        return Routing::Refused(42);
-    }
-    match walk(sheet, arrival::aim_of(p), root, 0) {
-        Walked::Delivered(number, crossed) => Routing::Delivered(Delivery {
-            owner: number,
-            bridges: crossed,
-            packet: arrival::arrived(p),
-        }),
-        Walked::Refused(n) => Routing::Refused(n),
-    }
-}
-
-// The sheet's number, then 40 for a sheet with no functions.
-fn route_packet(p: Packet, sheet: &[u8]) -> Routing
-    ensures { λ r. ⌜ r ≡ fromSheet p (now (sheet .entry)) ⌝ }
-{
-    let n = sheet::check(sheet);
-    if n != 0 {
-        return Routing::Refused(n);
-    }
-    if sheet::count(sheet) == 0 {
-        return Routing::Refused(40);
-    }
-    route_from_root(p, sheet)
-}
-
-// Only a header that was accepted is taken further: otherwise its number comes back before the sheet is read.
-pub fn route(header: &[u8], sheet: &[u8]) -> Routing
-    ensures { λ r. ⌜ r ≡ routeOf (now (header .entry)) (now (sheet .entry)) ⌝ }
-{
-    let reading = tlp::read(header);
-    let Reading::Accepted(p) = reading else {
-        return Routing::Refused(reading.number());
-    };
-    route_packet(p, sheet)
 }

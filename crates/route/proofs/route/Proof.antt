@@ -1,6 +1,7 @@
--- `route::route`: a header that was not accepted gives its number; the packet of one that was goes on to the sheet. Assumes nothing.
+-- `route::route`: a header that was not accepted gives its number, then a sheet that does not pass; what is left is the packet's own call.
+-- Assumes nothing.
 use borrow.Author.Needs.{needs}
-use Rattle.route.specs.RouteLaws.{header-refused, header-accepted}
+use Rattle.route.specs.RouteLaws.{header-refused, sheet-refused, packet-routed}
 use Rattle.route.proofs.route.Statement.{statement}
 use Rattle.route.proofs.route.Tie as tie
 
@@ -17,13 +18,41 @@ number-requires : tie.Need-number-requires
 number-requires c κs = search needs
 
 returns : tie.Need-returns
-returns c = header-refused _ _ _ _ _ (c .before .before .before .read .ensures) (c .before .enum-told .given .1) (c .number .ensures)
+returns c =
+    let told = c .before in
+    let read = told .before .before in
+    header-refused _ _ _ (read .read .ensures) _ _ (told .enum-told .given .1) (c .number .ensures)
+
+check-requires : tie.Need-check-requires
+check-requires c κs = search needs
+
+returns-2 : tie.Need-returns-2
+returns-2 c =
+    let accepted = c .before .before .before in
+    let read = accepted .before .before in
+    sheet-refused _ _ _ (read .read .ensures) _ (accepted .reading .given .1) _ (c .before .check .ensures) (c .if1 .taken)
 
 route-packet-requires : tie.Need-route-packet-requires
 route-packet-requires c κs = search needs
 
-returns-2 : tie.Need-returns-2
-returns-2 c = header-accepted _ _ _ _ _ (c .before .before .before .before .read .ensures) (c .before .before .reading .given .1) (c .route-packet .ensures)
+returns-3 : tie.Need-returns-3
+returns-3 c =
+    let passed = c .before in
+    let accepted = passed .before .before .before in
+    let read = accepted .before .before in
+    packet-routed _ _ _ (read .read .ensures) _ (accepted .reading .given .1) _ (passed .before .check .ensures) _ (passed .if1 .left)
+    (c .route-packet .ensures)
 
 pub route-spec : {M : Type 1} → statement M
-route-spec = tie.close (tie.spec read-requires enum-known-reading enum-told number-requires returns route-packet-requires returns-2)
+route-spec =
+    tie.close
+    (tie.spec
+    read-requires
+    enum-known-reading
+    enum-told
+    number-requires
+    returns
+    check-requires
+    returns-2
+    route-packet-requires
+    returns-3)

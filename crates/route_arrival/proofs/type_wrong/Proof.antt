@@ -1,7 +1,7 @@
--- `route::arrival::type_wrong`: one return for each kind of packet. Assumes nothing.
+-- `route_arrival::type_wrong`: one return for each kind of packet. Assumes nothing.
 use borrow.Author.Needs.{needs}
-use Rattle.route.proofs.arrival.type_wrong.Statement.{statement}
-use Rattle.route.proofs.arrival.type_wrong.Tie as tie
+use Rattle.route_arrival.proofs.type_wrong.Statement.{statement}
+use Rattle.route_arrival.proofs.type_wrong.Tie as tie
 
 enum-told : tie.Need-enum-told
 enum-told c = search needs
@@ -31,4 +31,15 @@ returns-4 : tie.Need-returns-4
 returns-4 c = rw (c .enum-told3 .given .1)
 
 pub type-wrong-spec : {M : Type 1} → statement M
-type-wrong-spec = tie.close (tie.spec enum-told enum-told-2 enum-known-p kind-wrong-requires enum-told-3 returns returns-2 returns-3 returns-4)
+type-wrong-spec =
+    tie.close
+    (tie.spec
+    enum-told
+    enum-told-2
+    enum-known-p
+    kind-wrong-requires
+    enum-told-3
+    returns
+    returns-2
+    returns-3
+    returns-4)

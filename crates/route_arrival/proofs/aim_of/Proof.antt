@@ -1,7 +1,7 @@
--- `route::arrival::aim_of`: one return for each kind of packet. Assumes nothing.
+-- `route_arrival::aim_of`: one return for each kind of packet. Assumes nothing.
 use borrow.Author.Needs.{needs}
-use Rattle.route.proofs.arrival.aim_of.Statement.{statement}
-use Rattle.route.proofs.arrival.aim_of.Tie as tie
+use Rattle.route_arrival.proofs.aim_of.Statement.{statement}
+use Rattle.route_arrival.proofs.aim_of.Tie as tie
 
 enum-known-p : tie.Need-enum-known-p
 enum-known-p c = search needs
@@ -28,4 +28,14 @@ returns-4 : tie.Need-returns-4
 returns-4 c = rw (c .before .p4 .given .1)
 
 pub aim-of-spec : {M : Type 1} → statement M
-aim-of-spec = tie.close (tie.spec enum-known-p enum-known-p-2 enum-known-p-3 enum-known-p-4 returns returns-2 returns-3 returns-4)
+aim-of-spec =
+    tie.close
+    (tie.spec
+    enum-known-p
+    enum-known-p-2
+    enum-known-p-3
+    enum-known-p-4
+    returns
+    returns-2
+    returns-3
+    returns-4)

@@ -1,7 +1,7 @@
--- `route::arrival::arrived`: one return for each kind of packet. Assumes nothing.
+-- `route_arrival::arrived`: one return for each kind of packet. Assumes nothing.
 use borrow.Author.Needs.{needs}
-use Rattle.route.proofs.arrival.arrived.Statement.{statement}
-use Rattle.route.proofs.arrival.arrived.Tie as tie
+use Rattle.route_arrival.proofs.arrived.Statement.{statement}
+use Rattle.route_arrival.proofs.arrived.Tie as tie
 
 enum-known-p : tie.Need-enum-known-p
 enum-known-p c = search needs
@@ -31,4 +31,15 @@ returns-4 : tie.Need-returns-4
 returns-4 c = rw (c .before .p4 .given .1)
 
 pub arrived-spec : {M : Type 1} → statement M
-arrived-spec = tie.close (tie.spec enum-known-p enum-known-p-2 enum-known-p-3 last-kind-requires enum-known-p-4 returns returns-2 returns-3 returns-4)
+arrived-spec =
+    tie.close
+    (tie.spec
+    enum-known-p
+    enum-known-p-2
+    enum-known-p-3
+    last-kind-requires
+    enum-known-p-4
+    returns
+    returns-2
+    returns-3
+    returns-4)

@@ -1,6 +1,6 @@
 // A packet on its way: what it is looked for by, whether its configuration type is wrong, and how it arrives.
 ghost use mathlib.Core.Path.{_≡_};
-ghost use Rattle.route.specs.Route.{aimOf, kindWrong, typeWrong, lastKind, arrived as arrivedOf};
+ghost use Rattle.route_arrival.specs.Arrival.{aimOf, kindWrong, typeWrong, lastKind, arrived as arrivedOf};
 use claims::Aim;
 use packet::Packet;
 use pairs::ConfigKind;
@@ -18,17 +18,6 @@ pub fn aim_of(p: Packet) -> Aim
     }
 }
 
-fn kind_wrong(kind: ConfigKind, rooted: bool) -> bool
-    ensures { λ r. ⌜ r ≡ kindWrong kind rooted ⌝ }
-{
-    match kind {
-        ConfigKind::CfgRd0 => !rooted,
-        ConfigKind::CfgWr0 => !rooted,
-        ConfigKind::CfgRd1 => rooted,
-        ConfigKind::CfgWr1 => rooted,
-    }
-}
-
 // Configuration type 0 for another bus than the root bus, or type 1 for the root bus.
 pub fn type_wrong(p: Packet, root: u8) -> bool
     ensures { λ r. ⌜ r ≡ typeWrong root p ⌝ }
@@ -41,17 +30,6 @@ pub fn type_wrong(p: Packet, root: u8) -> bool
     }
 }
 
-fn last_kind(kind: ConfigKind) -> ConfigKind
-    ensures { λ r. ⌜ r ≡ lastKind kind ⌝ }
-{
-    match kind {
-        ConfigKind::CfgRd0 => ConfigKind::CfgRd0,
-        ConfigKind::CfgWr0 => ConfigKind::CfgWr0,
-        ConfigKind::CfgRd1 => ConfigKind::CfgRd0,
-        ConfigKind::CfgWr1 => ConfigKind::CfgWr0,
-    }
-}
-
 // Configuration type 1 becomes type 0 on the last bus. Nothing else changes.
 pub fn arrived(p: Packet) -> Packet
     ensures { λ r. ⌜ r ≡ arrivedOf p ⌝ }
@@ -61,5 +39,29 @@ pub fn arrived(p: Packet) -> Packet
         Packet::Io(k, h, e, a) => Packet::Io(k, h, e, a),
         Packet::Config(k, h, e, t) => Packet::Config(last_kind(k), h, e, t),
         Packet::Completion(k, h, o) => Packet::Completion(k, h, o),
+    }
+}
+
+// ---- by the kind
+
+fn kind_wrong(kind: ConfigKind, rooted: bool) -> bool
+    ensures { λ r. ⌜ r ≡ kindWrong kind rooted ⌝ }
+{
+    match kind {
+        ConfigKind::CfgRd0 => !rooted,
+        ConfigKind::CfgWr0 => !rooted,
+        ConfigKind::CfgRd1 => rooted,
+        ConfigKind::CfgWr1 => rooted,
+    }
+}
+
+fn last_kind(kind: ConfigKind) -> ConfigKind
+    ensures { λ r. ⌜ r ≡ lastKind kind ⌝ }
+{
+    match kind {
+        ConfigKind::CfgRd0 => ConfigKind::CfgRd0,
+        ConfigKind::CfgWr0 => ConfigKind::CfgWr0,
+        ConfigKind::CfgRd1 => ConfigKind::CfgRd0,
+        ConfigKind::CfgWr1 => ConfigKind::CfgWr0,
     }
 }

@@ -1,0 +1,2 @@
+-- Document 01, "The walk": what a packet is looked for by, the rule of configuration types, and how it arrives.
+pub mod Arrival
