@@ -11,25 +11,17 @@ use Rattle.records.specs.Records.{Parts, partsOf, anyPart}
 use Rattle.board.specs.declared.Host.{Host}
 use Rattle.board.specs.declared.Function.{Function}
 use Rattle.board.specs.Host.{hostLength, hostOfPart, hostWrong}
-use Rattle.board.specs.Function.{functionOfPart, headerWrong, readbacksWrong}
+use Rattle.board.specs.Function.{isShort, functionOfPart, headerWrong, readbacksWrong}
 use Rattle.board.specs.Order.{anyMisplaced}
 
 -- the most bytes of a lawful board: its version, its host and functions of 30 bytes, each after its own length
 abbrev pub mostBytes : ℕ
 mostBytes = 1 + 32 * (1 + mostFunctions)
 
--- "function under 6"
-abbrev pub isShort : List ℕ → Bool
-isShort p = ltb (length p) 6
-
 -- "no host record, or host not 30"
 abbrev pub noHost : List (List ℕ) → Bool
 noHost [] = true
 noHost (p ∷ ps) = not (eqb (length p) hostLength)
-
--- lengths not ending at the end, or a function under 6
-abbrev pub tailMisframed : Parts → Bool
-tailMisframed r = not (r .whole) || anyPart isShort (r .parts)
 
 -- 20: "lengths not ending at the end; no host record, or host not 30; function under 6"
 unfoldable pub misframed : Parts → Bool

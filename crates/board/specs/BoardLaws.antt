@@ -2,11 +2,11 @@
 use mathlib.Core.Path.{_≡_, refl, sym, ap, _∙_}
 use mathlib.Core.Bool.{Bool, true, false, cond, not, _||_, or-true, true≢false}
 use mathlib.Core.List.{List, [], _∷_, map}
-use Prim.Native.Nat.{ℕ, suc, _+_, _≤_, _<_}
+use Prim.Native.Nat.{ℕ, suc, _+_, _≤_}
 use native.Mathlib.Omega.{arith}
 use lib.ListN.{length, getD, take, drop}
 use lib.Dec.{eqb, ltb}
-use borrow.Author.Tests.{lt-ltb, le-ltb, eq-eqb, ne-eqb, eqb-true, ltb-false, not-false}
+use borrow.Author.Tests.{eq-eqb, ne-eqb, eqb-true, ltb-false, not-false}
 use Rattle.lists.specs.Lists.{any}
 use Rattle.records.specs.declared.Next.{Next}
 use Rattle.records.specs.declared.Next.the-variants.{End, Record, Broken}
@@ -16,9 +16,12 @@ use Rattle.records.specs.Limits.{mostFunctions}
 use Rattle.board.specs.declared.Host.{Host}
 use Rattle.board.specs.declared.Function.{Function}
 use Rattle.board.specs.Host.{hostOfPart, hostWrong}
-use Rattle.board.specs.Function.{functionOfPart, headerWrong, readbacksWrong}
+use Rattle.board.specs.declared.Rule.{Rule}
+use Rattle.board.specs.declared.Rule.the-variants.{Length}
+use Rattle.board.specs.Function.{isShort, functionOfPart, headerWrong, readbacksWrong}
+use Rattle.board.specs.Rules.{breaks, anyBreaks}
 use Rattle.board.specs.Order.{anyMisplaced}
-use Rattle.board.specs.Board.{isShort, tailMisframed, misframed, fromReadbacks, fromOrder, fromEdges, fromHeaders, fromCount, fromFrame, fromVersion, boardNumber, hostOf, functionsOf}
+use Rattle.board.specs.Board.{misframed, fromReadbacks, fromOrder, fromEdges, fromHeaders, fromCount, fromFrame, fromVersion, boardNumber, hostOf, functionsOf}
 
 pub any-map : {A : Type 0} (test : A → Bool) (f : List ℕ → A) (ps : List (List ℕ)) → any test (map f ps) ≡ anyPart (λ p. test (f p)) ps
 unfolding any anyPart
@@ -26,28 +29,6 @@ any-map test f [] = refl
 any-map test f (p ∷ ps) = ap (λ (t : Bool). test (f p) || t) (any-map test f ps)
 
 -- ---- 20
-
-module _ (s : List ℕ) (at : ℕ) where
-  pub tail-end : nextOf (drop at s) ≡ End → tailMisframed (partsOf (drop at s)) ≡ false
-  unfolding anyPart
-  tail-end e = ap tailMisframed (parts-end s at e)
-
-  pub tail-broken : nextOf (drop at s) ≡ Broken → tailMisframed (partsOf (drop at s)) ≡ true
-  tail-broken e = ap tailMisframed (parts-broken s at e)
-
-  pub tail-short : (n : ℕ) → nextOf (drop at s) ≡ Record n → n < 6 → tailMisframed (partsOf (drop at s)) ≡ true
-  unfolding anyPart
-  tail-short n e h =
-      ap tailMisframed (parts-record s at n e)
-      ∙ rw (lt-ltb (length (take n (drop (at + 2) s))) 6 (omega (arith, length-part s at n e)))
-      (or-true (not (partsOf (drop (at + 2 + n) s) .whole)))
-
-  pub tail-on : (n : ℕ) → nextOf (drop at s) ≡ Record n → 6 ≤ n
-      → tailMisframed (partsOf (drop at s)) ≡ tailMisframed (partsOf (drop (at + 2 + n) s))
-  unfolding anyPart
-  tail-on n e h =
-      ap tailMisframed (parts-record s at n e)
-      ∙ rw (le-ltb (length (take n (drop (at + 2) s))) 6 (omega (arith, length-part s at n e)))
 
 module _ (s : List ℕ) where
   pub misframed-end : nextOf (drop 1 s) ≡ End → misframed (partsOf (drop 1 s)) ≡ true
@@ -71,7 +52,7 @@ module _ (s : List ℕ) where
       ∙ rw (ne-eqb n 30 h)
       (ap (λ (t : Bool). t || anyPart isShort (partsFrom s (1 + 2 + n))) (or-true (not (partsOf (drop (1 + 2 + n) s) .whole))))
 
-  pub misframed-tail : (n : ℕ) → nextOf (drop 1 s) ≡ Record n → n ≡ 30 → misframed (partsOf (drop 1 s)) ≡ tailMisframed (partsOf (drop 33 s))
+  pub misframed-tail : (n : ℕ) → nextOf (drop 1 s) ≡ Record n → n ≡ 30 → misframed (partsOf (drop 1 s)) ≡ anyBreaks Length (partsOf (drop 33 s))
   misframed-tail n e h =
       let e₃₀ : nextOf (drop 1 s) ≡ Record 30 = e ∙ ap Record h in
       misframed-record 30 e₃₀ ∙ go (partsOf (drop 33 s) .whole)
@@ -92,6 +73,16 @@ module _ (s : List ℕ) where
       go End e = absurd (true≢false (sym (misframed-end e) ∙ h))
       go Broken e = absurd (true≢false (sym (misframed-broken e) ∙ h))
       go (Record n) e = sized n (eqb n 30) refl e
+
+  -- and its lengths end at the end, so that a rule is broken where a function breaks it
+  pub whole-of-framed : misframed (partsOf (drop 1 s)) ≡ false → partsOf (drop 33 s) .whole ≡ true
+  whole-of-framed h =
+      let tail = sym (misframed-tail 30 (host-of-framed h) refl) ∙ h in
+      not-false (partsOf (drop 33 s) .whole) (false-of-or (not (partsOf (drop 33 s) .whole)) (anyPart isShort (partsFrom s 33)) tail .0)
+
+  pub breaks-of-framed : (rule : Rule) → misframed (partsOf (drop 1 s)) ≡ false
+      → anyBreaks rule (partsOf (drop 33 s)) ≡ anyPart (breaks rule) (partsFrom s 33)
+  breaks-of-framed rule h = ap (λ (w : Bool). not w || anyPart (breaks rule) (partsFrom s 33)) (whole-of-framed h)
 
   pub framed : misframed (partsOf (drop 1 s)) ≡ false → fromFrame (partsOf (drop 1 s)) ≡ fromCount (hostOfPart (take 30 (drop 3 s))) (partsFrom s 33)
   unfolding fromFrame
@@ -194,13 +185,12 @@ accepted-of-zero b e =
     let c = count-of-zero (hostOfPart (take 30 (drop 3 b))) (partsFrom b 33) (sym (framed b f) ∙ v .1) in
     let host = ap (λ (r : Parts). hostOfPart (getD (r .parts) 0 [])) p in
     let functions = ap (λ (r : Parts). map functionOfPart (drop 1 (r .parts))) p in
-    let tail = sym (misframed-tail b 30 h refl) ∙ f in
     record {
       version = v .0;
       host-record = h;
       host-read = host;
       functions-read = functions;
-      whole = not-false (partsOf (drop 33 b) .whole) (false-of-or (not (partsOf (drop 33 b) .whole)) (anyPart isShort (partsFrom b 33)) tail .0);
+      whole = whole-of-framed b f;
       few = ltb-false mostFunctions (length (partsFrom b 33)) (c .0);
       headers = c .1;
       edges = ap hostWrong host ∙ c .2;

@@ -1,9 +1,10 @@
--- Document 01, "The board": function records, their header types and lengths (24), and their read-backs (25). Assumes nothing.
+-- Document 01, "The board": function records, their least length (20), their header types and lengths (24), and their
+-- read-backs (25). Assumes nothing.
 use Prim.Native.Nat.{ℕ}
 use mathlib.Core.Bool.{Bool, cond, not, _&&_, _||_}
 use mathlib.Core.List.{List, [], _∷_}
 use lib.ListN.{length, getD, take}
-use lib.Dec.{eqb}
+use lib.Dec.{eqb, ltb}
 use Rattle.endian.specs.Endian.{be}
 use Rattle.bar.specs.Header.{headerType, isBridge as isBridgeHeader, slotCount as slotCountFor}
 use Rattle.bar.specs.Bar.{slots, anyBad}
@@ -30,6 +31,10 @@ functionOfPart p =
       command = be 2 p 4;
       readbacks = readbacksFor (getD p 3 0) p;
     }
+
+-- of 20: "function under 6"
+abbrev pub isShort : List ℕ → Bool
+isShort p = ltb (length p) 6
 
 -- 24: "header type's low seven bits not 0 or 1, or wrong length for it", of a record's length and header type
 abbrev pub wrongFor : ℕ → ℕ → Bool

@@ -3,6 +3,8 @@ pub mod Host
 pub mod HostLaws
 pub mod Function
 pub mod FunctionLaws
+pub mod Rules
+pub mod RulesLaws
 pub mod Order
 pub mod OrderLaws
 pub mod Stack

@@ -3,16 +3,15 @@ mod order;
 
 ghost use mathlib.Core.Path.{_≡_};
 ghost use mathlib.Core.Bool.{false};
-ghost use mathlib.Core.List.{map};
 ghost use Prim.Native.Nat.{_<_};
 ghost use lib.ListN.{length, getD, drop};
 ghost use lib.Dec.{ltb};
-ghost use Rattle.lists.specs.Lists.{any};
 ghost use Rattle.records.specs.Records.{partsOf, partsFrom, anyPart};
 ghost use Rattle.records.specs.Limits.{mostFunctions};
 ghost use Rattle.board.specs.Host.{hostLength, hostOfPart, offEdges, outside as isOutside, poolWrong, hostWrong};
 ghost use Rattle.board.specs.Function.{readbacksFor, functionOfPart, wrongFor, headerWrong, isBridge, slotCount, readbacksWrong};
-ghost use Rattle.board.specs.Board.{misframed as isMisframed, tailMisframed, boardNumber};
+ghost use Rattle.board.specs.Rules.{breaks as breaksOf, tooEarly, anyBreaks};
+ghost use Rattle.board.specs.Board.{misframed as isMisframed, boardNumber};
 use pools::Pool;
 use records::Next;
 
@@ -40,6 +39,13 @@ pub struct Function {
     pub readbacks: [u32; 6],
 }
 
+// The checks of each function record by itself: its length among 20, its header (24) and its read-backs (25).
+pub enum Rule {
+    Length,
+    Header,
+    ReadBacks,
+}
+
 // Where the host record stands, and, in a board that is not misframed, the first function's.
 pub const HOST: usize = 1;
 
@@ -64,7 +70,7 @@ pub fn check(board: &[u8]) -> u8
     if too_many(board) {
         return 22;
     }
-    if headers_wrong(board) {
+    if any_breaks(Rule::Header, board) {
         return 24;
     }
     if host_wrong(host_of(records::part_at(board, HOST, 30))) {
@@ -73,7 +79,7 @@ pub fn check(board: &[u8]) -> u8
     if order::misplaced(board) {
         return 23;
     }
-    if readbacks_wrong(board) {
+    if any_breaks(Rule::ReadBacks, board) {
         return 25;
     }
     0
@@ -197,13 +203,15 @@ fn misframed(board: &[u8]) -> bool
             if n != 30 {
                 return true;
             }
-            functions_misframed(board)
+            any_breaks(Rule::Length, board)
         }
     }
 }
 
-fn functions_misframed(board: &[u8]) -> bool
-    ensures { λ r. ⌜ r ≡ tailMisframed (partsOf (drop 33 (now (board .entry)))) ⌝ }
+// The bytes break off, or some function breaks the rule.
+fn any_breaks(rule: Rule, board: &[u8]) -> bool
+    requires { ⌜ anyPart (tooEarly rule) (partsFrom (now board) 33) ≡ false ⌝ }
+    ensures { λ r. ⌜ r ≡ anyBreaks rule (partsOf (drop 33 (now (board .entry)))) ⌝ }
 {
     let mut at = FUNCTIONS;
     loop {
@@ -215,12 +223,23 @@ fn functions_misframed(board: &[u8]) -> bool
                 return true;
             }
             Next::Record(n) => {
-                if n < 6 {
+                if breaks(rule, records::part_at(board, at, n)) {
                     return true;
                 }
                 at = at + 2 + n;
             }
         }
+    }
+}
+
+fn breaks(rule: Rule, part: &[u8]) -> bool
+    requires { ⌜ tooEarly rule (now part) ≡ false ⌝ }
+    ensures { λ r. ⌜ r ≡ breaksOf rule (now (part .entry)) ⌝ }
+{
+    match rule {
+        Rule::Length => part.len() < 6,
+        Rule::Header => header_wrong(part),
+        Rule::ReadBacks => bad_readbacks(part),
     }
 }
 
@@ -251,28 +270,6 @@ fn too_many(board: &[u8]) -> bool
 }
 
 // ---- 24
-
-fn headers_wrong(board: &[u8]) -> bool
-    ensures { λ r. ⌜ r ≡ anyPart headerWrong (partsFrom (now (board .entry)) 33) ⌝ }
-{
-    let mut at = FUNCTIONS;
-    loop {
-        match records::next_at(board, at) {
-            Next::End => {
-                return false;
-            }
-            Next::Broken => {
-                return false;
-            }
-            Next::Record(n) => {
-                if header_wrong(records::part_at(board, at, n)) {
-                    return true;
-                }
-                at = at + 2 + n;
-            }
-        }
-    }
-}
 
 pub fn header_wrong(part: &[u8]) -> bool
     ensures { λ r. ⌜ r ≡ headerWrong (now (part .entry)) ⌝ }
@@ -333,29 +330,6 @@ fn off_edges(edge: u64, x: Span) -> bool
 }
 
 // ---- 25
-
-fn readbacks_wrong(board: &[u8]) -> bool
-    requires { ⌜ anyPart headerWrong (partsFrom (now board) 33) ≡ false ⌝ }
-    ensures { λ r. ⌜ r ≡ any readbacksWrong (map functionOfPart (partsFrom (now (board .entry)) 33)) ⌝ }
-{
-    let mut at = FUNCTIONS;
-    loop {
-        match records::next_at(board, at) {
-            Next::End => {
-                return false;
-            }
-            Next::Broken => {
-                return false;
-            }
-            Next::Record(n) => {
-                if bad_readbacks(records::part_at(board, at, n)) {
-                    return true;
-                }
-                at = at + 2 + n;
-            }
-        }
-    }
-}
 
 // One call for two slots and for six, so that the compiler can join it to the loop.
 fn bad_readbacks(part: &[u8]) -> bool

@@ -18,8 +18,8 @@ use Rattle.records.specs.Frame.{versionOf, stageAfter, stageOf, heardOf, ending
 use Rattle.records.specs.FrameLaws.{stage-append, heard-append, stage-other, heard-whole, ending-parts}
 use Rattle.board.specs.Host.{hostLength}
 use Rattle.records.specs.Limits.{mostFunctions}
-use Rattle.board.specs.Board.{isShort, noHost, misframed, boardNumber, fromVersion, fromFrame, fromCount, fromHeaders}
-use Rattle.board.specs.Function.{headerWrong}
+use Rattle.board.specs.Board.{noHost, misframed, boardNumber, fromVersion, fromFrame, fromCount, fromHeaders}
+use Rattle.board.specs.Function.{isShort, headerWrong}
 use Rattle.board.specs.FunctionLaws.{length-le}
 use Rattle.board_feed.specs.declared.Feed.{Feed}
 use Rattle.board_feed.specs.declared.Tally.{Tally}

@@ -2,48 +2,98 @@
 use borrow.Author.Needs.{needs}
 use Rattle.board.proofs.check.Statement.{statement}
 use Rattle.board.proofs.check.Tie as tie
+use Prim.Native.Nat.{ℕ}
 use mathlib.Core.Path.{_≡_, sym, ap, _∙_}
-use mathlib.Core.List.{map}
+use mathlib.Core.Bool.{false}
+use mathlib.Core.List.{List, map}
 use lib.ListN.{length, getD, take, drop}
 use borrow.Author.Tests.{eq-eqb, ne-eqb}
-use Rattle.records.specs.Records.{partsOf, partsFrom}
+use Rattle.lists.specs.Lists.{any}
+use Rattle.records.specs.Records.{partsOf, partsFrom, anyPart}
 use Rattle.records.specs.RecordsLaws.{fits-at, length-part}
+use Rattle.board.specs.declared.Host.{Host}
+use Rattle.board.specs.declared.Function.{Function}
+use Rattle.board.specs.declared.Rule.the-variants.{Header, ReadBacks}
 use Rattle.board.specs.Host.{hostOfPart, hostWrong}
-use Rattle.board.specs.Function.{functionOfPart}
-use Rattle.board.specs.Board.{fromReadbacks, fromOrder, fromEdges, fromHeaders, fromCount, fromFrame, fromVersion, boardNumber}
-use Rattle.board.specs.BoardLaws.{host-of-framed, framed, past-version, past-count, past-headers, past-edges, past-order}
+use Rattle.board.specs.Function.{functionOfPart, headerWrong, readbacksWrong}
+use Rattle.board.specs.RulesLaws.{any-never}
+use Rattle.board.specs.Board.{misframed, fromReadbacks, fromOrder, fromEdges, fromHeaders, fromCount, fromFrame, fromVersion, boardNumber}
+use Rattle.board.specs.BoardLaws.{any-map, host-of-framed, breaks-of-framed, framed, past-version, past-count, past-headers, past-edges, past-order}
 
-past-2 : (c : tie.Else2) → boardNumber (c .before .before .before .before .args .board .now) ≡ fromFrame (partsOf (drop 1 (c .before .before .before .before .args .board .now)))
+-- the start of the call, from each check that is passed
+abbrev start-2 : tie.Else2 → tie.Start
+start-2 c = c .before .before .before .before
+
+abbrev start-3 : tie.Else3 → tie.Start
+start-3 c = start-2 (c .before .before)
+
+abbrev start-4 : tie.Else4 → tie.Start
+start-4 c = start-3 (c .before .before)
+
+abbrev start-5 : tie.Else5 → tie.Start
+start-5 c = start-4 (c .before .before)
+
+abbrev start-6 : tie.Else6 → tie.Start
+start-6 c = start-5 (c .before .before .before .before)
+
+abbrev start-7 : tie.Else7 → tie.Start
+start-7 c = start-6 (c .before .before)
+
+-- the board's bytes, its host and its functions
+abbrev bytes : tie.Start → List ℕ
+bytes c = c .args .board .now
+
+abbrev host : tie.Start → Host
+host c = hostOfPart (take 30 (drop 3 (bytes c)))
+
+abbrev functions : tie.Start → List Function
+functions c = map functionOfPart (partsFrom (bytes c) 33)
+
+past-2 : (c : tie.Else2) → boardNumber (bytes (start-2 c)) ≡ fromFrame (partsOf (drop 1 (bytes (start-2 c))))
 past-2 c = past-version _ (c .before .before .if1 .left) (c .if2 .left)
 
-past-3 : (c : tie.Else3) → boardNumber (c .before .before .before .before .before .before .args .board .now) ≡ fromCount (hostOfPart (take 30 (drop 3 (c .before .before .before .before .before .before .args .board .now)))) (partsFrom (c .before .before .before .before .before .before .args .board .now) 33)
-past-3 c = past-2 (c .before .before) ∙ framed (c .before .before .before .before .before .before .args .board .now) (sym (c .before .misframed .ensures) ∙ c .if3 .left)
+whole : (c : tie.Else3) → misframed (partsOf (drop 1 (bytes (start-3 c)))) ≡ false
+whole c = sym (c .before .misframed .ensures) ∙ c .if3 .left
 
-past-4 : (c : tie.Else4) → boardNumber (c .before .before .before .before .before .before .before .before .args .board .now) ≡ fromHeaders (hostOfPart (take 30 (drop 3 (c .before .before .before .before .before .before .before .before .args .board .now)))) (partsFrom (c .before .before .before .before .before .before .before .before .args .board .now) 33)
+past-3 : (c : tie.Else3) → boardNumber (bytes (start-3 c)) ≡ fromCount (host (start-3 c)) (partsFrom (bytes (start-3 c)) 33)
+past-3 c = past-2 (c .before .before) ∙ framed (bytes (start-3 c)) (whole c)
+
+past-4 : (c : tie.Else4) → boardNumber (bytes (start-4 c)) ≡ fromHeaders (host (start-4 c)) (partsFrom (bytes (start-4 c)) 33)
 past-4 c = past-3 (c .before .before) ∙ past-count _ _ (sym (c .before .too-many .ensures) ∙ c .if4 .left)
 
-past-5 : (c : tie.Else5) → boardNumber (c .before .before .before .before .before .before .before .before .before .before .args .board .now) ≡ fromEdges (hostOfPart (take 30 (drop 3 (c .before .before .before .before .before .before .before .before .before .before .args .board .now)))) (map functionOfPart (partsFrom (c .before .before .before .before .before .before .before .before .before .before .args .board .now) 33))
-past-5 c = past-4 (c .before .before) ∙ past-headers _ _ (sym (c .before .headers-wrong .ensures) ∙ c .if5 .left)
+headers : (c : tie.After-any-breaks) → c .any-breaks .result ≡ anyPart headerWrong (partsFrom (bytes (start-4 (c .before))) 33)
+headers c = c .any-breaks .ensures ∙ breaks-of-framed (bytes (start-4 (c .before))) Header (whole (c .before .before .before))
 
-edges : (c : tie.After-host-wrong) → c .host-wrong .result ≡ hostWrong (hostOfPart (take 30 (drop 3 (c .before .before .before .before .before .before .before .before .before .before .before .before .before .args .board .now))))
+past-5 : (c : tie.Else5) → boardNumber (bytes (start-5 c)) ≡ fromEdges (host (start-5 c)) (functions (start-5 c))
+past-5 c = past-4 (c .before .before) ∙ past-headers _ _ (sym (headers (c .before)) ∙ c .if5 .left)
+
+edges : (c : tie.After-host-wrong) → c .host-wrong .result ≡ hostWrong (host (start-5 (c .before .before .before)))
 edges c = c .host-wrong .ensures ∙ ap hostWrong (c .before .host-of .ensures ∙ ap hostOfPart (c .before .before .part-at .ensures))
 
-past-6 : (c : tie.Else6) → boardNumber (c .before .before .before .before .before .before .before .before .before .before .before .before .before .before .args .board .now) ≡ fromOrder (map functionOfPart (partsFrom (c .before .before .before .before .before .before .before .before .before .before .before .before .before .before .args .board .now) 33))
+past-6 : (c : tie.Else6) → boardNumber (bytes (start-6 c)) ≡ fromOrder (functions (start-6 c))
 past-6 c = past-5 (c .before .before .before .before) ∙ past-edges _ _ (sym (edges (c .before)) ∙ c .if6 .left)
 
-past-7 : (c : tie.Else7) → boardNumber (c .before .before .before .before .before .before .before .before .before .before .before .before .before .before .before .before .args .board .now) ≡ fromReadbacks (map functionOfPart (partsFrom (c .before .before .before .before .before .before .before .before .before .before .before .before .before .before .before .before .args .board .now) 33))
+past-7 : (c : tie.Else7) → boardNumber (bytes (start-7 c)) ≡ fromReadbacks (functions (start-7 c))
 past-7 c = past-6 (c .before .before) ∙ past-order _ (sym (c .before .misplaced .ensures) ∙ c .if7 .left)
+
+readbacks : (c : tie.After-any-breaks2) → c .any-breaks2 .result ≡ any readbacksWrong (functions (start-7 (c .before)))
+readbacks c =
+    let s = bytes (start-7 (c .before)) in
+    let w = whole (c .before .before .before .before .before .before .before .before .before .before .before) in
+    c .any-breaks2 .ensures ∙ breaks-of-framed s ReadBacks w ∙ sym (any-map readbacksWrong functionOfPart (partsFrom s 33))
 
 returns : tie.Need-returns
 unfolding boardNumber
-returns c = sym (rw (eq-eqb (length (c .before .before .args .board .now)) 0 (c .if1 .taken)))
+returns c = sym (rw (eq-eqb (length (bytes (c .before .before))) 0 (c .if1 .taken)))
 
 shared-slice-read-if2 : tie.Need-shared-slice-read-if2
 shared-slice-read-if2 c = search needs
 
 returns-2 : tie.Need-returns-2
 unfolding boardNumber fromVersion
-returns-2 c = sym (rw (ne-eqb (length (c .before .before .before .before .args .board .now)) 0 (c .before .before .if1 .left), ne-eqb (getD (c .before .before .before .before .args .board .now) 0 0) 1 (c .if2 .taken)))
+returns-2 c =
+    let s = bytes (c .before .before .before .before) in
+    sym (rw (ne-eqb (length s) 0 (c .before .before .if1 .left), ne-eqb (getD s 0 0) 1 (c .if2 .taken)))
 
 misframed-requires : tie.Need-misframed-requires
 misframed-requires c κs = search needs
@@ -59,18 +109,20 @@ returns-4 : tie.Need-returns-4
 unfolding fromCount
 returns-4 c = sym (past-3 (c .before .before) ∙ rw (sym (c .before .too-many .ensures) ∙ c .if4 .taken))
 
-headers-wrong-requires : tie.Need-headers-wrong-requires
-headers-wrong-requires c κs = search needs
+any-breaks-requires : tie.Need-any-breaks-requires
+any-breaks-requires c κs = any-never (partsFrom (bytes (start-4 c)) 33)
 
 returns-5 : tie.Need-returns-5
 unfolding fromHeaders
-returns-5 c = sym (past-4 (c .before .before) ∙ rw (sym (c .before .headers-wrong .ensures) ∙ c .if5 .taken))
+returns-5 c = sym (past-4 (c .before .before) ∙ rw (sym (headers (c .before)) ∙ c .if5 .taken))
 
 part-at-requires : tie.Need-part-at-requires
-part-at-requires c κs = let s = (c .before .before .before .before .before .before .before .before .before .before .args .board .now) in fits-at s 1 30 (host-of-framed s (sym (c .before .before .before .before .before .misframed .ensures) ∙ c .before .before .before .before .if3 .left))
+part-at-requires c κs = let s = bytes (start-5 c) in fits-at s 1 30 (host-of-framed s (whole (c .before .before .before .before)))
 
 host-of-requires : tie.Need-host-of-requires
-host-of-requires c κs = let s = (c .before .before .before .before .before .before .before .before .before .before .before .args .board .now) in ap length (c .part-at .ensures) ∙ length-part s 1 30 (host-of-framed s (sym (c .before .before .before .before .before .before .misframed .ensures) ∙ c .before .before .before .before .before .if3 .left))
+host-of-requires c κs =
+    let s = bytes (start-5 (c .before)) in
+    ap length (c .part-at .ensures) ∙ length-part s 1 30 (host-of-framed s (whole (c .before .before .before .before .before)))
 
 host-wrong-requires : tie.Need-host-wrong-requires
 host-wrong-requires c κs = search needs
@@ -80,22 +132,22 @@ unfolding fromEdges
 returns-6 c = sym (past-5 (c .before .before .before .before) ∙ rw (sym (edges (c .before)) ∙ c .if6 .taken))
 
 misplaced-requires : tie.Need-misplaced-requires
-misplaced-requires c κs = sym (c .before .before .before .before .before .headers-wrong .ensures) ∙ c .before .before .before .before .if5 .left
+misplaced-requires c κs = sym (headers (c .before .before .before .before .before)) ∙ c .before .before .before .before .if5 .left
 
 returns-7 : tie.Need-returns-7
 unfolding fromOrder
 returns-7 c = sym (past-6 (c .before .before) ∙ rw (sym (c .before .misplaced .ensures) ∙ c .if7 .taken))
 
-readbacks-wrong-requires : tie.Need-readbacks-wrong-requires
-readbacks-wrong-requires c κs = sym (c .before .before .before .before .before .before .before .headers-wrong .ensures) ∙ c .before .before .before .before .before .before .if5 .left
+any-breaks-requires-2 : tie.Need-any-breaks-requires-2
+any-breaks-requires-2 c κs = sym (headers (c .before .before .before .before .before .before .before)) ∙ c .before .before .before .before .before .before .if5 .left
 
 returns-8 : tie.Need-returns-8
 unfolding fromReadbacks
-returns-8 c = sym (past-7 (c .before .before) ∙ rw (sym (c .before .readbacks-wrong .ensures) ∙ c .if8 .taken))
+returns-8 c = sym (past-7 (c .before .before) ∙ rw (sym (readbacks (c .before)) ∙ c .if8 .taken))
 
 returns-9 : tie.Need-returns-9
 unfolding fromReadbacks
-returns-9 c = sym (past-7 (c .before .before) ∙ rw (sym (c .before .readbacks-wrong .ensures) ∙ c .if8 .left))
+returns-9 c = sym (past-7 (c .before .before) ∙ rw (sym (readbacks (c .before)) ∙ c .if8 .left))
 
 pub check-spec : {M : Type 1} → statement M
 check-spec =
@@ -108,7 +160,7 @@ check-spec =
     returns-3
     too-many-requires
     returns-4
-    headers-wrong-requires
+    any-breaks-requires
     returns-5
     part-at-requires
     host-of-requires
@@ -116,6 +168,6 @@ check-spec =
     returns-6
     misplaced-requires
     returns-7
-    readbacks-wrong-requires
+    any-breaks-requires-2
     returns-8
     returns-9)

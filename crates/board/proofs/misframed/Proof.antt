@@ -3,6 +3,8 @@ use borrow.Author.Needs.{needs}
 use Rattle.board.proofs.misframed.Statement.{statement}
 use Rattle.board.proofs.misframed.Tie as tie
 use mathlib.Core.Path.{sym, _∙_}
+use Rattle.records.specs.Records.{partsFrom}
+use Rattle.board.specs.RulesLaws.{any-never}
 use Rattle.board.specs.BoardLaws.{misframed-end, misframed-broken, misframed-host, misframed-tail}
 
 next-at-requires : tie.Need-next-at-requires
@@ -23,8 +25,8 @@ returns c =
     let e = sym (c .before .before .before .before .next-at .ensures) ∙ c .before .before .n .given .1 in
     sym (misframed-host s _ e (c .if1 .taken))
 
-functions-misframed-requires : tie.Need-functions-misframed-requires
-functions-misframed-requires c κs = search needs
+any-breaks-requires : tie.Need-any-breaks-requires
+any-breaks-requires c κs = any-never (partsFrom (c .before .before .before .before .before .before .args .board .now) 33)
 
 returns-2 : tie.Need-returns-2
 returns-2 c =
@@ -42,7 +44,7 @@ returns-4 : tie.Need-returns-4
 returns-4 c =
     let s = c .before .before .before .before .before .before .before .args .board .now in
     let e = sym (c .before .before .before .before .before .next-at .ensures) ∙ c .before .before .before .n .given .1 in
-    c .functions-misframed .ensures ∙ sym (misframed-tail s _ e (c .before .if1 .left))
+    c .any-breaks .ensures ∙ sym (misframed-tail s _ e (c .before .if1 .left))
 
 pub misframed-spec : {M : Type 1} → statement M
 misframed-spec =
@@ -53,7 +55,7 @@ misframed-spec =
     enum-told-2
     enum-known-n
     returns
-    functions-misframed-requires
+    any-breaks-requires
     returns-2
     returns-3
     returns-4)
