@@ -16,7 +16,8 @@ use Rattle.walk.specs.TallyLaws.{rising-of-bridges}
 use Rattle.walk.specs.Walk.{Outcome, delivered, refused, settle, Rising}
 use Rattle.walk.specs.WalkLaws.{walk-step}
 use Rattle.walk.specs.IdsLaws.{rising-by-id}
-use Rattle.sheet_record.specs.Entry.{Entry, recordSize, entryOf, busOf}
+use Rattle.sheet_record.specs.Places.{recordSize}
+use Rattle.sheet_record.specs.Entry.{Entry, entryOf, busOf}
 use Rattle.sheet.specs.Sheet.{entriesOf, partAt, sheetNumber}
 use Rattle.sheet.specs.IndexLaws.{record-fits, length-part, entries-index}
 use Rattle.sheet.specs.SheetLaws.{Checked, checked-of-zero, zero-of-checked, passes-of-zero}
