@@ -1,5 +1,5 @@
--- What one record claims, slot by slot and window by window, in the words of the code: a slot or a window makes one claim if it holds the address.
--- Assumes nothing.
+-- What one record claims, slot by slot and window by window, in the words of the code: a slot or a window makes one claim if it holds the
+-- address. Assumes nothing.
 use mathlib.Core.Path.{_≡_, refl, sym, ap, _∙_}
 use mathlib.Core.Bool.{Bool, true, false, true≢false, false≢true}
 use mathlib.Core.List.{List, [], _∷_, _++_}
@@ -16,7 +16,7 @@ use Rattle.bar.specs.BarLaws.{any-bad-of-bad, any-bad-step}
 use Rattle.bar.specs.Values.{valueHere}
 use Rattle.window.specs.declared.Window.{Window}
 use Rattle.window.specs.Window as windows
-use Rattle.walk.specs.Registers.{Claim, window}
+use Rattle.walk.specs.Registers.{window, Claim}
 use Rattle.walk.specs.Tally as tallies
 use Rattle.walk.specs.Tally.{join, hitsOf}
 use Rattle.walk.specs.TallyLaws.{join-append, join-several}
@@ -27,32 +27,35 @@ use Rattle.sheet_record.specs.SpacesLaws.{barsAt, bars-step, bars-end, bar-hits
 use Rattle.claims.specs.declared.Tally.{Tally}
 use Rattle.claims.specs.declared.Tally.the-variants.{Nothing, One, Several}
 use Rattle.claims.specs.Claims.{tallyOf, isSeveral}
-use Rattle.claims.specs.Search.{windowClaims}
+use Rattle.claims.specs.Search.{windowClaim, windowClaims}
 
 pub join-nil : (t : tallies.Tally) → join t [] ≡ t
 unfolding join
 join-nil t = refl
 
 -- the second claim ends the search
-pub several-end : (u : Tally) (b : Bool) (cs : List Claim) (t : tallies.Tally) → b ≡ isSeveral u → b ≡ true → join (tallyOf u) cs ≡ t → tallyOf u ≡ t
+pub several-end : (u : Tally) (b : Bool) (cs : List Claim) (t : tallies.Tally) → b ≡ isSeveral u → b ≡ true → join (tallyOf u) cs ≡ t
+    → tallyOf u ≡ t
 several-end Nothing b cs t e y j = absurd (false≢true (sym e ∙ y))
 several-end (One x) b cs t e y j = absurd (false≢true (sym e ∙ y))
 several-end Several b cs t e y j = sym (join-several cs) ∙ j
 
 -- ## Windows, in the words of the code: w is the registers that were read, b the test of them
 
-module _ (t : tallies.Tally) (address : ℕ) (c : Claim) (q : Pool) (p : List ℕ) (w : Window) (b : Bool) (e : w ≡ windowOf q p)
+module _ (t : tallies.Tally) (address k : ℕ) (q : Pool) (p : List ℕ) (w : Window) (b : Bool) (e : w ≡ windowOf q p)
     (f : b ≡ windows.holds q w address) where
-  window-hits-are : hitsOf address c (openRange q (windowOf q p)) ≡ oneIf b c
-  window-hits-are =
-      window-hits q (windowOf q p) address c
-      ∙ ap (λ (x : Bool). oneIf x c) (sym (f ∙ ap (λ (x : Window). windows.holds q x address) e))
+  window-claim-is : (x : Bool) → b ≡ x → windowClaim q address k p ≡ oneIf x (window k (secondaryOf p))
+  window-claim-is x y =
+      window-hits q (windowOf q p) address (window k (secondaryOf p))
+      ∙ ap (λ (z : Bool). oneIf z (window k (secondaryOf p))) (sym (f ∙ ap (λ (z : Window). windows.holds q z address) e) ∙ y)
 
-  pub window-hit : b ≡ true → join t (c ∷ []) ≡ join t (hitsOf address c (openRange q (windowOf q p)))
-  window-hit y = sym (ap (join t) (window-hits-are ∙ ap (λ (x : Bool). oneIf x c) y))
+  pub window-hit : (u : tallies.Tally) (secondary : ℕ) → u ≡ join t (window k secondary ∷ []) → secondary ≡ secondaryOf p → b ≡ true
+      → u ≡ join t (windowClaim q address k p)
+  window-hit u secondary g h y =
+      g ∙ ap (λ (x : ℕ). join t (window k x ∷ [])) h ∙ sym (ap (join t) (window-claim-is true y))
 
-  pub window-miss : b ≡ false → t ≡ join t (hitsOf address c (openRange q (windowOf q p)))
-  window-miss n = sym (ap (join t) (window-hits-are ∙ ap (λ (x : Bool). oneIf x c) n) ∙ join-nil t)
+  pub window-miss : b ≡ false → t ≡ join t (windowClaim q address k p)
+  window-miss n = sym (ap (join t) (window-claim-is false n) ∙ join-nil t)
 
 -- the windows that a function has, low before high
 module _ (address k : ℕ) (p : List ℕ) (t : tallies.Tally) where
@@ -61,21 +64,20 @@ module _ (address k : ℕ) (p : List ℕ) (t : tallies.Tally) where
   windows-none space e = rw (e, hits-nil address (window k 0)) (sym (join-nil t))
 
   windows-memory-are : isBridge (headerOf p) ≡ true
-      → windowClaims Memory address k p
-      ≡ hitsOf address (window k (secondaryOf p)) (openRange Low (windowOf Low p)) ++ hitsOf address (window k (secondaryOf p)) (openRange High (windowOf High p))
+      → windowClaims Memory address k p ≡ windowClaim Low address k p ++ windowClaim High address k p
   unfolding entryOf
-  windows-memory-are e = rw e (hits-append address (window k (secondaryOf p)) (openRange Low (windowOf Low p)) (openRange High (windowOf High p)))
+  windows-memory-are e =
+      rw e (hits-append address (window k (secondaryOf p)) (openRange Low (windowOf Low p)) (openRange High (windowOf High p)))
 
   pub windows-memory : (low both : tallies.Tally) → isBridge (headerOf p) ≡ true
-      → low ≡ join t (hitsOf address (window k (secondaryOf p)) (openRange Low (windowOf Low p)))
-      → both ≡ join low (hitsOf address (window k (secondaryOf p)) (openRange High (windowOf High p)))
+      → low ≡ join t (windowClaim Low address k p) → both ≡ join low (windowClaim High address k p)
       → both ≡ join t (windowClaims Memory address k p)
   windows-memory low both e l h =
-      h ∙ ap (λ (u : tallies.Tally). join u (hitsOf address (window k (secondaryOf p)) (openRange High (windowOf High p)))) l
+      h ∙ ap (λ (u : tallies.Tally). join u (windowClaim High address k p)) l
       ∙ sym (ap (join t) (windows-memory-are e) ∙ join-append t _ _)
 
   pub windows-ports : (u : tallies.Tally) → isBridge (headerOf p) ≡ true
-      → u ≡ join t (hitsOf address (window k (secondaryOf p)) (openRange Io (windowOf Io p))) → u ≡ join t (windowClaims Ports address k p)
+      → u ≡ join t (windowClaim Io address k p) → u ≡ join t (windowClaims Ports address k p)
   unfolding entryOf
   windows-ports u e h = rw e h
 
@@ -85,7 +87,8 @@ abbrev pub LawfulFrom : List ℕ → ℕ → Type 0
 LawfulFrom rs i = anyBad (slots (drop i rs)) ≡ false
 
 -- x is the slot at i, n the places that it takes
-module _ (rs : List ℕ) (i : ℕ) (x : Slot) (n : ℕ) (h : i < length rs) (e : x ≡ slotHere (drop i rs)) (m : n ≡ span x) (lawful : LawfulFrom rs i) where
+module _ (rs : List ℕ) (i : ℕ) (x : Slot) (n : ℕ) (h : i < length rs) (e : x ≡ slotHere (drop i rs)) (m : n ≡ span x)
+    (lawful : LawfulFrom rs i) where
   not-bad : isBad x ≡ false
   not-bad = go (isBad x) refl
     where
@@ -102,7 +105,8 @@ module _ (rs : List ℕ) (i : ℕ) (x : Slot) (n : ℕ) (h : i < length rs) (e :
     hits-step : hitsOf address c (barsAt space rs vs i) ≡ oneIf b c ++ hitsOf address c (barsAt space rs vs (i + n))
     hits-step =
         let later = hitsOf address c (barsAt space rs vs (i + n)) in
-        ap (hitsOf address c) (bars-step space rs vs i x h e not-bad ∙ ap (λ (j : ℕ). barHere space x (drop i vs) ++ barsAt space rs vs (i + j)) (sym m))
+        ap (hitsOf address c) (bars-step space rs vs i x h e not-bad
+        ∙ ap (λ (j : ℕ). barHere space x (drop i vs) ++ barsAt space rs vs (i + j)) (sym m))
         ∙ hits-append address c (barHere space x (drop i vs)) (barsAt space rs vs (i + n))
         ∙ ap (λ (cs : List Claim). cs ++ later) (bar-hits space x (drop i vs) address c)
         ∙ ap (λ (y : Bool). oneIf y c ++ later) (ap (λ (u : ℕ). barHolds space x u address) (sym g) ∙ sym f)
@@ -113,7 +117,8 @@ module _ (rs : List ℕ) (i : ℕ) (x : Slot) (n : ℕ) (h : i < length rs) (e :
     bar-hit u w y =
         let cs = hitsOf address c (barsAt space rs vs (i + n)) in
         ap (λ (z : tallies.Tally). join z (cs ++ rest)) w
-        ∙ sym (ap (λ (ds : List Claim). join t (ds ++ rest)) (hits-step ∙ ap (λ (z : Bool). oneIf z c ++ cs) y) ∙ join-append t (c ∷ []) (cs ++ rest))
+        ∙ sym (ap (λ (ds : List Claim). join t (ds ++ rest)) (hits-step ∙ ap (λ (z : Bool). oneIf z c ++ cs) y)
+        ∙ join-append t (c ∷ []) (cs ++ rest))
 
     pub bar-miss : b ≡ false
         → join t (hitsOf address c (barsAt space rs vs (i + n)) ++ rest) ≡ join t (hitsOf address c (barsAt space rs vs i) ++ rest)
@@ -125,5 +130,6 @@ module _ (rs : List ℕ) (i : ℕ) (x : Slot) (n : ℕ) (h : i < length rs) (e :
 pub windows-turn : (space : Space) (address : ℕ) (c : Claim) (rs vs : List ℕ) (i : ℕ) (t u : tallies.Tally) (windows rest : List Claim)
     → length rs ≤ i → u ≡ join t windows → join u rest ≡ join t (hitsOf address c (barsAt space rs vs i) ++ (windows ++ rest))
 windows-turn space address c rs vs i t u windows rest h e =
+    let past = ap (hitsOf address c) (bars-end space rs vs i h) ∙ hits-nil address c in
     ap (λ (z : tallies.Tally). join z rest) e
-    ∙ sym (ap (λ (cs : List Claim). join t (cs ++ (windows ++ rest))) (ap (hitsOf address c) (bars-end space rs vs i h) ∙ hits-nil address c) ∙ join-append t windows rest)
+    ∙ sym (ap (λ (cs : List Claim). join t (cs ++ (windows ++ rest))) past ∙ join-append t windows rest)

@@ -11,8 +11,8 @@ use borrow.Author.Tests.{eq-eqb, ne-eqb, eqb-true}
 use Rattle.lists.specs.Lists.{keep}
 use Rattle.lists.specs.KeepLaws.{keep-nil, keep-yes, keep-no}
 use Rattle.walk.specs.Ranges.{buses, holds, holds-last}
-use Rattle.walk.specs.Registers.{Node, Claim, bar, window}
-use Rattle.walk.specs.Tally.{Tally, none, one, join}
+use Rattle.walk.specs.Registers.{window, Node, Claim, bar}
+use Rattle.walk.specs.Tally.{none, Tally, one, join}
 use Rattle.walk.specs.TallyLaws.{join-append}
 use Rattle.walk.specs.Good.{busRange}
 use Rattle.walk.specs.Ids.{hasId, leadsToward, bridgeClaim, firstOf, tallyById}
@@ -58,7 +58,8 @@ pub owner-start : (id : ℕ) (s : List ℕ) → ownerFrom id s 0 ≡ firstOf (ke
 unfolding ownerFrom
 owner-start id s = refl
 
-pub toward-start : (target b : ℕ) (s : List ℕ) → join none (towardFrom target b s 0) ≡ join none (map bridgeClaim (keep (leadsToward target b) (nodesOf s)))
+pub toward-start : (target b : ℕ) (s : List ℕ)
+    → join none (towardFrom target b s 0) ≡ join none (map bridgeClaim (keep (leadsToward target b) (nodesOf s)))
 unfolding towardFrom
 toward-start target b s = refl
 
@@ -123,7 +124,8 @@ module _ (s : List ℕ) (c : Checked s) (n k : ℕ) (count : n ≡ length (entri
       unfolding towardFrom
       toward-miss q =
           let leads = leadsToward target b in
-          sym (ap (λ (ns : List Node). join t (map bridgeClaim ns)) (ap (keep leads) nodes-step ∙ keep-no leads node (nodesLeft s (k + 1)) (leads-is ∙ q)))
+          let passed = ap (keep leads) nodes-step ∙ keep-no leads node (nodesLeft s (k + 1)) (leads-is ∙ q) in
+          sym (ap (λ (ns : List Node). join t (map bridgeClaim ns)) passed)
 
       secondary-is : y ≡ true → node .secondary ≡ secondaryOf p
       unfolding node entryOf
@@ -139,15 +141,17 @@ module _ (s : List ℕ) (c : Checked s) (n k : ℕ) (count : n ≡ length (entri
       toward-hit u secondary w m q =
           let leads = leadsToward target b in
           let cs = map bridgeClaim (keep leads (nodesLeft s (k + 1))) in
+          let kept = ap (keep leads) nodes-step ∙ keep-yes leads node (nodesLeft s (k + 1)) (leads-is ∙ q) in
           ap (λ (z : Tally). join z cs) w
           ∙ sym (join-append t (window (k + 1) secondary ∷ []) cs)
           ∙ ap (λ (x : ℕ). join t (window (k + 1) x ∷ cs)) (m ∙ sym (secondary-is q))
-          ∙ sym (ap (λ (ns : List Node). join t (map bridgeClaim ns)) (ap (keep leads) nodes-step ∙ keep-yes leads node (nodesLeft s (k + 1)) (leads-is ∙ q)))
+          ∙ sym (ap (λ (ns : List Node). join t (map bridgeClaim ns)) kept)
 
 -- ## The two searches
 
 module _ (s : List ℕ) (id b : ℕ) (t : Tally) where
-  pub tally-on-target : b ≡ id / 256 → t ≡ firstOf (keep (hasId (id / 256) (id % 256)) (nodesOf s)) → t ≡ tallyById (nodesOf s) (id / 256) (id % 256) b
+  pub tally-on-target : b ≡ id / 256 → t ≡ firstOf (keep (hasId (id / 256) (id % 256)) (nodesOf s))
+      → t ≡ tallyById (nodesOf s) (id / 256) (id % 256) b
   unfolding tallyById
   tally-on-target h e = rw (eq-eqb b (id / 256) h) e
 

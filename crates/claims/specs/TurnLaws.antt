@@ -1,5 +1,5 @@
--- One turn of a search by address over a checked sheet, in the words of the code: record k is passed over, or claims by its BARs and windows before
--- the records after it. Assumes nothing.
+-- One turn of a search by address over a checked sheet, in the words of the code: record k is passed over, or claims by its BARs and
+-- windows before the records after it. Assumes nothing.
 use mathlib.Core.Path.{_≡_, refl, sym, ap, _∙_}
 use mathlib.Core.Bool.{Bool, true, false, cond, _&&_}
 use mathlib.Core.List.{List, _++_, append-assoc}
@@ -13,7 +13,7 @@ use Rattle.records.specs.Limits.{mostFunctions}
 use Rattle.bar.specs.BarLaws.{length-first}
 use Rattle.walk.specs.Ranges.{Range}
 use Rattle.walk.specs.Registers.{Registers, Claim, bar}
-use Rattle.walk.specs.Tally.{Tally, none, join, hitsOf, claimsOf, claimsOn, tallyOn}
+use Rattle.walk.specs.Tally.{none, Tally, join, hitsOf, claimsOf, claimsOn, tallyOn}
 use Rattle.walk.specs.SearchLaws.{claims-nil, claims-cons, claims-of-here, claims-of-other}
 use Rattle.sheet_record.specs.EntryLaws.{bars-entry}
 use Rattle.sheet_record.specs.Spaces.{barsOf, functionOf}
@@ -22,8 +22,10 @@ use Rattle.sheet_record.specs.Entry.{dwords, headerOf, isBridge, slotCount, ent
 use Rattle.sheet.specs.Sheet.{entriesFrom, entriesOf, partAt, sheetLength}
 use Rattle.sheet.specs.IndexLaws.{length-part, record-fits, functions-index, functions-end, enabled-index}
 use Rattle.sheet.specs.SheetLaws.{Checked, lawful-index}
-use Rattle.sheet.specs.Spaces.{functionsFrom, registersOf, enabledOf}
+use Rattle.sheet.specs.Spaces.{functionsFrom, enabledOf}
 use Rattle.sheet_record.specs.SpacesLaws.{barsAt}
+use Rattle.claims.specs.declared.Aim.the-variants.{Address}
+use Rattle.claims.specs.Claims.{tallyFor}
 use Rattle.claims.specs.Search.{isLive, windowClaims}
 use Rattle.claims.specs.HitsLaws.{join-nil, LawfulFrom}
 
@@ -54,16 +56,22 @@ unfoldable pub claimsFrom : Space → List ℕ → ℕ → ℕ → ℕ → List 
 claimsFrom space s address bus k = claimsOn (enabledOf space s) (functionsFrom space (k + 1) (entriesFrom s (stride * k + 1))) address bus
 
 pub claims-start : (space : Space) (s : List ℕ) (address bus : ℕ)
-    → join none (claimsFrom space s address bus 0) ≡ tallyOn (enabledOf space s) (registersOf space s) address bus
+    → join none (claimsFrom space s address bus 0) ≡ tallyFor (Address space address) s bus
 unfolding tallyOn claimsFrom
 claims-start space s address bus = refl
+
+-- the claims of the record with this number, from place i of its set on, and of those after it
+abbrev pub recordClaims : Space → ℕ → ℕ → List ℕ → ℕ → List ℕ → List ℕ → List ℕ → ℕ → List Claim
+recordClaims space address bus s number p rs vs i =
+    hitsOf address (bar number) (barsAt space rs vs i) ++ (windowClaims space address number p ++ claimsFrom space s address bus number)
 
 -- n records in all
 module _ (s : List ℕ) (c : Checked s) (n k : ℕ) (count : n ≡ length (entriesOf s)) where
   pub claims-end : (space : Space) (address bus : ℕ) (t : Tally) → n ≤ k → t ≡ join t (claimsFrom space s address bus k)
   unfolding claimsFrom
   claims-end space address bus t h =
-      sym (ap (λ (fs : List Registers). join t (claimsOn (enabledOf space s) fs address bus)) (functions-end s (c .framed) space k (omega arith))
+      let past = functions-end s (c .framed) space k (omega arith) in
+      sym (ap (λ (fs : List Registers). join t (claimsOn (enabledOf space s) fs address bus)) past
       ∙ ap (join t) (claims-nil (enabledOf space s) address bus)
       ∙ join-nil t)
 
@@ -95,20 +103,22 @@ module _ (s : List ℕ) (c : Checked s) (n k : ℕ) (count : n ≡ length (entri
         unfolding function entryOf
         live-is = rw (enabled-index s (c .framed) space k inside, ← e) (sym live)
 
-        claims-step : claimsFrom space s address bus k ≡ claimsOf (enabledOf space s) address bus function ++ claimsFrom space s address bus (k + 1)
+        claims-step : claimsFrom space s address bus k
+            ≡ claimsOf (enabledOf space s) address bus function ++ claimsFrom space s address bus (k + 1)
         unfolding function claimsFrom
         claims-step =
             ap (λ (fs : List Registers). claimsOn (enabledOf space s) fs address bus) (functions-index s (c .framed) space k inside)
-            ∙ rw (← e) (claims-cons (enabledOf space s) address bus function (functionsFrom space (k + 1 + 1) (entriesFrom s (stride * (k + 1) + 1))))
+            ∙ rw (← e) (claims-cons (enabledOf space s) address bus function
+            (functionsFrom space (k + 1 + 1) (entriesFrom s (stride * (k + 1) + 1))))
 
         pub claims-other : b ≡ false → join t (claimsFrom space s address bus (k + 1)) ≡ join t (claimsFrom space s address bus k)
         claims-other off =
-            sym (ap (join t) (claims-step
-            ∙ ap (λ (cs : List Claim). cs ++ claimsFrom space s address bus (k + 1)) (claims-of-other (enabledOf space s) address bus function (live-is ∙ off))))
+            let none = claims-of-other (enabledOf space s) address bus function (live-is ∙ off) in
+            sym (ap (join t) (claims-step ∙ ap (λ (cs : List Claim). cs ++ claimsFrom space s address bus (k + 1)) none))
 
-        pub claims-here : (set values : List ℕ) (m : ℕ) → set ≡ dwords (be 4) 6 p readbacksAt → values ≡ dwords (le 4) 6 p valuesAt → m ≡ slotCount (headerOf p) → b ≡ true
-            → join t (hitsOf address (bar (k + 1)) (barsAt space (take m set) (take m values) 0) ++ (windowClaims space address (k + 1) p ++ claimsFrom space s address bus (k + 1)))
-            ≡ join t (claimsFrom space s address bus k)
+        pub claims-here : (set values : List ℕ) (m : ℕ)
+            → set ≡ dwords (be 4) 6 p readbacksAt → values ≡ dwords (le 4) 6 p valuesAt → m ≡ slotCount (headerOf p) → b ≡ true
+            → join t (recordClaims space address bus s (k + 1) p (take m set) (take m values) 0) ≡ join t (claimsFrom space s address bus k)
         unfolding function
         claims-here set values m r v q on =
             let rest = claimsFrom space s address bus (k + 1) in

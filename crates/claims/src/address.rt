@@ -1,64 +1,21 @@
 // The search by address: over a sheet's records, and over the BAR slots and windows of those that are on the bus and enabled.
 ghost use mathlib.Core.Path.{_≡_};
 ghost use lib.ListN.{length};
-ghost use Rattle.walk.specs.Tally.{join, hitsOf, tallyOn};
-ghost use Rattle.walk.specs.Registers.{window};
-ghost use Rattle.sheet_record.specs.Spaces.{openRange};
+ghost use Rattle.walk.specs.Tally.{join};
 ghost use Rattle.sheet_record.specs.Places.{recordSize};
-ghost use Rattle.sheet_record.specs.Entry.{secondaryOf, windowOf};
-ghost use Rattle.sheet.specs.Spaces.{registersOf, enabledOf};
 ghost use Rattle.sheet.specs.SheetLaws.{Checked};
-ghost use Rattle.claims.specs.Claims.{tallyOf};
-ghost use Rattle.claims.specs.Search.{isLive, windowClaims};
+ghost use Rattle.claims.specs.declared.Aim.the-variants.{Address};
+ghost use Rattle.claims.specs.Claims.{tallyOf, tallyFor};
+ghost use Rattle.claims.specs.Search.{isLive, windowClaim, windowClaims};
 use super::Claim;
 use super::Tally;
 use pools::Pool;
 use pools::Space;
 
-// A function of this bus whose space is enabled. The others are passed over.
-fn is_live(part: &[u8], space: Space, bus: u8) -> bool
-    requires { ⌜ length (now part) ≡ recordSize ⌝ }
-    ensures { λ r. ⌜ r ≡ isLive space bus (now (part .entry)) ⌝ }
-{
-    if sheet_record::bus_of(part) == bus {
-        sheet_record::is_enabled(part, space)
-    } else {
-        false
-    }
-}
-
-// The tally with the claim that a bridge's window of this pool makes, if it does.
-fn with_window(tally: Tally, part: &[u8], q: Pool, number: u16, address: u64) -> Tally
-    requires { ⌜ length (now part) ≡ recordSize ⌝ }
-    ensures { λ r. ⌜ tallyOf r ≡ join (tallyOf tally) (hitsOf address (window number (secondaryOf (now (part .entry)))) (openRange q (windowOf q (now (part .entry))))) ⌝ }
-{
-    if sheet_record::window_of(part, q).holds(q, address) {
-        return tally.with_claim(Claim::Window(number, sheet_record::secondary_of(part)));
-    }
-    tally
-}
-
-// The same of each window that the function has in the space.
-fn with_windows(tally: Tally, part: &[u8], space: Space, number: u16, address: u64) -> Tally
-    requires { ⌜ length (now part) ≡ recordSize ⌝ }
-    ensures { λ r. ⌜ tallyOf r ≡ join (tallyOf tally) (windowClaims space address number (now (part .entry))) ⌝ }
-{
-    if !sheet_record::is_bridge(part) {
-        return tally;
-    }
-    match space {
-        Space::Memory => {
-            let low = with_window(tally, part, Pool::Low, number, address);
-            with_window(low, part, Pool::High, number, address)
-        }
-        Space::Io => with_window(tally, part, Pool::Io, number, address),
-    }
-}
-
 // Every enabled BAR and open window of the bus that holds the address is one claim, and the second ends the search.
 pub fn claims_on(sheet: &[u8], space: Space, bus: u8, address: u64) -> Tally
     requires { ⌜ Checked (now sheet) ⌝ }
-    ensures { λ r. ⌜ tallyOf r ≡ tallyOn (enabledOf space (now (sheet .entry))) (registersOf space (now (sheet .entry))) address bus ⌝ }
+    ensures { λ r. ⌜ tallyOf r ≡ tallyFor (Address space address) (now (sheet .entry)) bus ⌝ }
 {
     let records = sheet::count(sheet);
     let mut tally = Tally::Nothing;
@@ -90,4 +47,46 @@ pub fn claims_on(sheet: &[u8], space: Space, bus: u8, address: u64) -> Tally
         }
     }
     tally
+}
+
+// ---- one record
+
+// A function of this bus whose space is enabled. The others are passed over.
+fn is_live(part: &[u8], space: Space, bus: u8) -> bool
+    requires { ⌜ length (now part) ≡ recordSize ⌝ }
+    ensures { λ r. ⌜ r ≡ isLive space bus (now (part .entry)) ⌝ }
+{
+    if sheet_record::bus_of(part) == bus {
+        sheet_record::is_enabled(part, space)
+    } else {
+        false
+    }
+}
+
+// The tally with the claim that a bridge's window of this pool makes, if it does.
+fn with_window(tally: Tally, part: &[u8], q: Pool, number: u16, address: u64) -> Tally
+    requires { ⌜ length (now part) ≡ recordSize ⌝ }
+    ensures { λ r. ⌜ tallyOf r ≡ join (tallyOf tally) (windowClaim q address number (now (part .entry))) ⌝ }
+{
+    if sheet_record::window_of(part, q).holds(q, address) {
+        return tally.with_claim(Claim::Window(number, sheet_record::secondary_of(part)));
+    }
+    tally
+}
+
+// The same of each window that the function has in the space.
+fn with_windows(tally: Tally, part: &[u8], space: Space, number: u16, address: u64) -> Tally
+    requires { ⌜ length (now part) ≡ recordSize ⌝ }
+    ensures { λ r. ⌜ tallyOf r ≡ join (tallyOf tally) (windowClaims space address number (now (part .entry))) ⌝ }
+{
+    if !sheet_record::is_bridge(part) {
+        return tally;
+    }
+    match space {
+        Space::Memory => {
+            let low = with_window(tally, part, Pool::Low, number, address);
+            with_window(low, part, Pool::High, number, address)
+        }
+        Space::Io => with_window(tally, part, Pool::Io, number, address),
+    }
 }

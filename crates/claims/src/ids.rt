@@ -5,15 +5,30 @@ ghost use Prim.Native.Nat.{_/_, _%_};
 ghost use lib.ListN.{length};
 ghost use Rattle.lists.specs.Lists.{keep};
 ghost use Rattle.walk.specs.Tally.{none, join};
-ghost use Rattle.walk.specs.Ids.{hasId, leadsToward, bridgeClaim, firstOf, tallyById};
-ghost use Rattle.sheet_record.specs.Spaces.{nodeOf};
+ghost use Rattle.walk.specs.Ids.{hasId, leadsToward, bridgeClaim, firstOf};
 ghost use Rattle.sheet_record.specs.Places.{recordSize};
 ghost use Rattle.sheet_record.specs.Entry.{entryOf};
 ghost use Rattle.sheet.specs.SheetLaws.{Checked};
+ghost use Rattle.sheet_record.specs.Spaces.{nodeOf};
 ghost use Rattle.sheet.specs.Spaces.{nodesOf};
-ghost use Rattle.claims.specs.Claims.{tallyOf};
+ghost use Rattle.claims.specs.declared.Aim.the-variants.{Id};
+ghost use Rattle.claims.specs.Claims.{tallyOf, tallyFor};
 use super::Claim;
 use super::Tally;
+
+// On the target's bus the function itself, on any other the bridges toward it.
+pub fn claims_on(sheet: &[u8], id: u16, bus: u8) -> Tally
+    requires { ⌜ Checked (now sheet) ⌝ }
+    ensures { λ r. ⌜ tallyOf r ≡ tallyFor (Id id) (now (sheet .entry)) bus ⌝ }
+{
+    let target = (id / 256) as u8;
+    if bus == target {
+        return owner_of(sheet, id);
+    }
+    bridges_toward(sheet, target, bus)
+}
+
+// ---- the two searches
 
 // The function with this ID, wherever it stands on its bus.
 fn owner_of(sheet: &[u8], id: u16) -> Tally
@@ -65,15 +80,4 @@ fn bridges_toward(sheet: &[u8], target: u8, bus: u8) -> Tally
         }
     }
     tally
-}
-
-pub fn claims_on(sheet: &[u8], id: u16, bus: u8) -> Tally
-    requires { ⌜ Checked (now sheet) ⌝ }
-    ensures { λ r. ⌜ tallyOf r ≡ tallyById (nodesOf (now (sheet .entry))) (id / 256) (id % 256) bus ⌝ }
-{
-    let target = (id / 256) as u8;
-    if bus == target {
-        return owner_of(sheet, id);
-    }
-    bridges_toward(sheet, target, bus)
 }

@@ -27,6 +27,19 @@ pub enum Tally {
     Several,
 }
 
+// The tally of a bus, by address or by ID.
+pub fn tally_on(sheet: &[u8], aim: Aim, bus: u8) -> Tally
+    requires { ⌜ Checked (now sheet) ⌝ }
+    ensures { λ r. ⌜ tallyOf r ≡ tallyFor aim (now (sheet .entry)) bus ⌝ }
+{
+    match aim {
+        Aim::Address(space, address) => address::claims_on(sheet, space, bus, address),
+        Aim::Id(id) => ids::claims_on(sheet, id, bus),
+    }
+}
+
+// ---- counting claims
+
 impl Tally {
     // With one claim more. The second makes it several, and no other changes that.
     fn with_claim(self, claim: Claim) -> Tally
@@ -47,16 +60,5 @@ impl Tally {
             Tally::One(_) => false,
             Tally::Several => true,
         }
-    }
-}
-
-// The tally of a bus, by address or by ID.
-pub fn tally_on(sheet: &[u8], aim: Aim, bus: u8) -> Tally
-    requires { ⌜ Checked (now sheet) ⌝ }
-    ensures { λ r. ⌜ tallyOf r ≡ tallyFor aim (now (sheet .entry)) bus ⌝ }
-{
-    match aim {
-        Aim::Address(space, address) => address::claims_on(sheet, space, bus, address),
-        Aim::Id(id) => ids::claims_on(sheet, id, bus),
     }
 }

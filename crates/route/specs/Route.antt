@@ -9,7 +9,6 @@ use Rattle.packet.specs.declared.Packet.{Packet}
 use Rattle.tlp.specs.declared.Reading.{Reading}
 use Rattle.tlp.specs.declared.Reading.the-variants.{Accepted, Refused as NotRead}
 use Rattle.tlp.specs.Reading.{readOf}
-use Rattle.pools.specs.declared.Space.the-variants.{Memory as InMemory, Io as InPorts}
 use Rattle.walk.specs.Registers.{rootOf}
 use Rattle.walk.specs.Walk.{Outcome, delivered, refused, noOwner, walkFrom}
 use Rattle.sheet.specs.Sheet.{sheetNumber}

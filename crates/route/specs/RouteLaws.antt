@@ -20,7 +20,7 @@ use Rattle.sheet_record.specs.Places.{recordSize}
 use Rattle.sheet_record.specs.Entry.{Entry, entryOf, busOf}
 use Rattle.sheet.specs.Sheet.{entriesOf, partAt, sheetNumber}
 use Rattle.sheet.specs.IndexLaws.{record-fits, length-part, entries-index}
-use Rattle.sheet.specs.SheetLaws.{Checked, checked-of-zero, zero-of-checked, passes-of-zero}
+use Rattle.sheet.specs.SheetLaws.{Checked, zero-of-checked, passes-of-zero}
 use Rattle.sheet.specs.Spaces.{nodesFrom, nodesOf, registersOf, enabledOf}
 use Rattle.claims.specs.declared.Aim.{Aim}
 use Rattle.claims.specs.declared.Aim.the-variants.{Address, Id}

@@ -70,7 +70,8 @@ returns-3 c =
     let entry = counted .before .before in
     walk-delivered (entry .args .p) _ _ (counted .count .ensures) (some .if1 .left) (checked-of-zero _ (entry .pre)) _
     (first .part .ensures) _ (top .bus-of .ensures) _ (typed .type-wrong .ensures) (aimed .aim-of .result)
-    (ended .walk .result) (right .if2 .left) (aimed .aim-of .ensures) (ended .walk .ensures) _ _ _ (c .before .before .number .given .1) (c .arrived .ensures)
+    (ended .walk .result) (right .if2 .left) (aimed .aim-of .ensures) (ended .walk .ensures) _ _ _ (c .before .before .number .given .1)
+    (c .arrived .ensures)
 
 returns-4 : tie.Need-returns-4
 returns-4 c =

@@ -1,4 +1,4 @@
--- `Tally::with_claim`: one return for each state. Assumes nothing.
+-- `claims::Tally::with_claim`: one return for each state. Assumes nothing.
 use borrow.Author.Needs.{needs}
 use Rattle.claims.proofs.Tally.with_claim.Statement.{statement}
 use Rattle.claims.proofs.Tally.with_claim.Tie as tie

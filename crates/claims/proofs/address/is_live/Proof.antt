@@ -1,9 +1,9 @@
--- `address::is_live`: the bus, then the command bit. Assumes nothing.
+-- `claims::address::is_live`: the bus, then the command bit. Assumes nothing.
+use mathlib.Core.Path.{sym, _∙_}
 use borrow.Author.Needs.{needs}
+use borrow.Author.Tests.{eq-eqb, ne-eqb}
 use Rattle.claims.proofs.address.is_live.Statement.{statement}
 use Rattle.claims.proofs.address.is_live.Tie as tie
-use mathlib.Core.Path.{sym, _∙_}
-use borrow.Author.Tests.{eq-eqb, ne-eqb}
 
 bus-of-requires : tie.Need-bus-of-requires
 bus-of-requires c κs = search needs

@@ -1,17 +1,20 @@
--- `address::with_windows`: none of an end function, low before high of a bridge. Assumes nothing.
-use borrow.Author.Needs.{needs}
-use Rattle.claims.proofs.address.with_windows.Statement.{statement}
-use Rattle.claims.proofs.address.with_windows.Tie as tie
+-- `claims::address::with_windows`: none of an end function, low before high of a bridge. Assumes nothing.
 use mathlib.Core.Path.{sym, _∙_}
+use borrow.Author.Needs.{needs}
 use borrow.Author.Tests.{not-true, not-false}
 use Rattle.claims.specs.HitsLaws.{windows-none, windows-memory, windows-ports}
 use Rattle.claims.specs.Claims.{tallyOf}
+use Rattle.claims.proofs.address.with_windows.Statement.{statement}
+use Rattle.claims.proofs.address.with_windows.Tie as tie
 
 is-bridge-requires : tie.Need-is-bridge-requires
 is-bridge-requires c κs = search needs
 
 returns : tie.Need-returns
-returns c = windows-none (c .before .before .before .args .address) (c .before .before .before .args .number) (c .before .before .before .args .part .now) (tallyOf (c .before .before .before .args .tally)) (c .before .before .before .args .space) (sym (c .before .is-bridge .ensures) ∙ not-true _ (c .if1 .taken))
+returns c =
+    let s = c .before .before .before .args in
+    windows-none (s .address) (s .number) (s .part .now) (tallyOf (s .tally)) (s .space)
+    (sym (c .before .is-bridge .ensures) ∙ not-true _ (c .if1 .taken))
 
 enum-told : tie.Need-enum-told
 enum-told c = search needs
@@ -29,10 +32,18 @@ with-window-requires-3 : tie.Need-with-window-requires-3
 with-window-requires-3 c κs = search needs
 
 returns-2 : tie.Need-returns-2
-returns-2 c = rw (c .before .before .enum-told .given .1) (windows-memory _ _ _ _ _ _ (sym (c .before .before .before .before .before .is-bridge .ensures) ∙ not-false _ (c .before .before .before .before .if1 .left)) (c .before .with-window .ensures) (c .with-window2 .ensures))
+returns-2 c =
+    let told = c .before .before in
+    let passed = told .before .before in
+    rw (told .enum-told .given .1) (windows-memory _ _ _ _ _ _ (sym (passed .before .is-bridge .ensures) ∙ not-false _ (passed .if1 .left))
+    (c .before .with-window .ensures) (c .with-window2 .ensures))
 
 returns-3 : tie.Need-returns-3
-returns-3 c = rw (c .before .enum-told2 .given .1) (windows-ports _ _ _ _ _ (sym (c .before .before .before .before .is-bridge .ensures) ∙ not-false _ (c .before .before .before .if1 .left)) (c .with-window3 .ensures))
+returns-3 c =
+    let told = c .before in
+    let passed = told .before .before in
+    rw (told .enum-told2 .given .1) (windows-ports _ _ _ _ _ (sym (passed .before .is-bridge .ensures) ∙ not-false _ (passed .if1 .left))
+    (c .with-window3 .ensures))
 
 pub with-windows-spec : {M : Type 1} → statement M
 with-windows-spec =

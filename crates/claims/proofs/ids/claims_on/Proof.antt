@@ -11,13 +11,15 @@ owner-of-requires : tie.Need-owner-of-requires
 owner-of-requires c κs = search needs
 
 returns : tie.Need-returns
-returns c = tally-on-target _ (c .before .before .before .args .id) (c .before .before .before .args .bus) _ (c .before .if1 .taken) (c .owner-of .ensures)
+returns c =
+    let s = c .before .before .before .args in tally-on-target _ (s .id) (s .bus) _ (c .before .if1 .taken) (c .owner-of .ensures)
 
 bridges-toward-requires : tie.Need-bridges-toward-requires
 bridges-toward-requires c κs = search needs
 
 returns-2 : tie.Need-returns-2
-returns-2 c = tally-off-target _ (c .before .before .before .args .id) (c .before .before .before .args .bus) _ (c .before .if1 .left) (c .bridges-toward .ensures)
+returns-2 c =
+    let s = c .before .before .before .args in tally-off-target _ (s .id) (s .bus) _ (c .before .if1 .left) (c .bridges-toward .ensures)
 
 pub claims-on-spec : {M : Type 1} → statement M
 claims-on-spec = tie.close (tie.spec cast-target owner-of-requires returns bridges-toward-requires returns-2)

@@ -16,7 +16,11 @@ is-bridge-requires : tie.Need-is-bridge-requires
 is-bridge-requires c κs = search needs
 
 returns-2 : tie.Need-returns-2
-returns-2 c = leads-end (c .before .before .before .before .before .args .target) _ _ (sym (c .before .before .before .bus-of .ensures) ∙ c .before .before .if1 .left) (sym (c .before .is-bridge .ensures) ∙ not-true _ (c .if2 .taken))
+returns-2 c =
+    let here = c .before .before in
+    let read = here .before in
+    leads-end (read .before .before .args .target) _ _ (sym (read .bus-of .ensures) ∙ here .if1 .left)
+    (sym (c .before .is-bridge .ensures) ∙ not-true _ (c .if2 .taken))
 
 secondary-of-requires : tie.Need-secondary-of-requires
 secondary-of-requires c κs = search needs
@@ -25,7 +29,21 @@ subordinate-of-requires : tie.Need-subordinate-of-requires
 subordinate-of-requires c κs = search needs
 
 returns-3 : tie.Need-returns-3
-returns-3 c = rw (c .before .secondary-of .ensures, c .subordinate-of .ensures) (leads-bridge (c .before .before .before .before .before .before .before .args .target) _ _ (sym (c .before .before .before .before .before .bus-of .ensures) ∙ c .before .before .before .before .if1 .left) (sym (c .before .before .before .is-bridge .ensures) ∙ not-false _ (c .before .before .if2 .left)))
+returns-3 c =
+    let leads = c .before .before in
+    let here = leads .before .before in
+    let read = here .before in
+    rw (c .before .secondary-of .ensures, c .subordinate-of .ensures) (leads-bridge (read .before .before .args .target) _ _
+    (sym (read .bus-of .ensures) ∙ here .if1 .left) (sym (leads .before .is-bridge .ensures) ∙ not-false _ (leads .if2 .left)))
 
 pub leads-toward-spec : {M : Type 1} → statement M
-leads-toward-spec = tie.close (tie.spec bus-of-requires returns is-bridge-requires returns-2 secondary-of-requires subordinate-of-requires returns-3)
+leads-toward-spec =
+    tie.close
+    (tie.spec
+    bus-of-requires
+    returns
+    is-bridge-requires
+    returns-2
+    secondary-of-requires
+    subordinate-of-requires
+    returns-3)
