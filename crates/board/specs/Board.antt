@@ -8,11 +8,11 @@ use lib.Dec.{eqb, ltb}
 use Rattle.lists.specs.Lists.{any}
 use Rattle.records.specs.Limits.{mostFunctions}
 use Rattle.records.specs.Records.{Parts, partsOf, anyPart}
-use Rattle.board.specs.declared.Host.{Host}
-use Rattle.board.specs.declared.Function.{Function}
-use Rattle.board.specs.Host.{hostLength, hostOfPart, hostWrong}
-use Rattle.board.specs.Function.{isShort, functionOfPart, headerWrong, readbacksWrong}
-use Rattle.board.specs.Order.{anyMisplaced}
+use Rattle.board_record.specs.declared.Host.{Host}
+use Rattle.board_record.specs.declared.Function.{Function}
+use Rattle.board_record.specs.Host.{hostLength, hostOfPart, hostWrong}
+use Rattle.board_record.specs.Function.{isShort, functionOfPart, headerWrong, readbacksWrong}
+use Rattle.board_order.specs.Order.{anyMisplaced}
 
 -- the most bytes of a lawful board: its version, its host and functions of 30 bytes, each after its own length
 abbrev pub mostBytes : ℕ

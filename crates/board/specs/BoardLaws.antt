@@ -13,14 +13,15 @@ use Rattle.records.specs.declared.Next.the-variants.{End, Record, Broken}
 use Rattle.records.specs.Records.{nextOf, Parts, partsOf, partsFrom, anyPart}
 use Rattle.records.specs.RecordsLaws.{length-part, parts-record, parts-end, parts-broken, pass-record, false-of-or}
 use Rattle.records.specs.Limits.{mostFunctions}
-use Rattle.board.specs.declared.Host.{Host}
-use Rattle.board.specs.declared.Function.{Function}
-use Rattle.board.specs.Host.{hostOfPart, hostWrong}
-use Rattle.board.specs.declared.Rule.{Rule}
-use Rattle.board.specs.declared.Rule.the-variants.{Length}
-use Rattle.board.specs.Function.{isShort, functionOfPart, headerWrong, readbacksWrong}
-use Rattle.board.specs.Rules.{breaks, anyBreaks}
-use Rattle.board.specs.Order.{anyMisplaced}
+use Rattle.board_record.specs.declared.Host.{Host}
+use Rattle.board_record.specs.declared.Function.{Function}
+use Rattle.board_record.specs.Host.{hostOfPart, hostWrong}
+use Rattle.board_record.specs.declared.Rule.{Rule}
+use Rattle.board_record.specs.declared.Rule.the-variants.{Length}
+use Rattle.board_record.specs.Function.{isShort, functionOfPart, headerWrong, readbacksWrong}
+use Rattle.board_record.specs.Rules.{breaks}
+use Rattle.board.specs.Pass.{anyBreaks}
+use Rattle.board_order.specs.Order.{anyMisplaced}
 use Rattle.board.specs.Board.{misframed, fromReadbacks, fromOrder, fromEdges, fromHeaders, fromCount, fromFrame, fromVersion, boardNumber, hostOf, functionsOf}
 
 pub any-map : {A : Type 0} (test : A → Bool) (f : List ℕ → A) (ps : List (List ℕ)) → any test (map f ps) ≡ anyPart (λ p. test (f p)) ps

@@ -17,9 +17,9 @@ use Rattle.placing.specs.Records as placing
 use Rattle.placing.specs.Preorder.{noFunction, parentOf}
 use Rattle.placing.specs.Above.{aboveWithin, aboveByParents, aboveBus}
 use Rattle.placing.specs.AboveLaws.{parent-before, above-host, above-on-bus}
-use Rattle.board.specs.declared.Function.{Function}
-use Rattle.board.specs.Order.{above, misplaced, anyMisplaced}
-use Rattle.board.specs.OrderLaws.{placed-of-not-misplaced, above-here, above-later}
+use Rattle.board_record.specs.declared.Function.{Function}
+use Rattle.board_order.specs.Order.{above, misplaced, anyMisplaced}
+use Rattle.board_order.specs.OrderLaws.{placed-of-not-misplaced, above-here, above-later}
 use Rattle.board.specs.Board.{boardNumber, functionsOf}
 use Rattle.board.specs.BoardLaws.{accepted-of-zero}
 use Rattle.board.specs.ToPlacing.{toFunction, toPlacing}

@@ -6,9 +6,9 @@ use Rattle.endian.specs.Endian.{be, beBytes}
 use Rattle.records.specs.Records.{nextOf, partsOver, partsOf, anyPart}
 use Rattle.lists.specs.Lists.{any}
 use Rattle.bar.specs.Bar.{sizeFrom, sized, ioSlot, narrowSlot, wideSlot, slotHere, slots, anyBad}
-use Rattle.board.specs.Host.{hostOfPart, poolWrong, hostWrong}
-use Rattle.board.specs.Function.{functionOfPart, headerWrong, readbacksWrong}
-use Rattle.board.specs.Order.{above, parents, lastSibling, misplaced, anyMisplaced}
+use Rattle.board_record.specs.Host.{hostOfPart, poolWrong, hostWrong}
+use Rattle.board_record.specs.Function.{functionOfPart, headerWrong, readbacksWrong}
+use Rattle.board_order.specs.Order.{above, parents, lastSibling, misplaced, anyMisplaced}
 use Rattle.board.specs.Board.{misframed, fromReadbacks, fromOrder, fromEdges, fromHeaders, fromCount, fromFrame, fromVersion, boardNumber}
 
 -- ## Records

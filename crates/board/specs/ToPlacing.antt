@@ -6,10 +6,10 @@ use lib.ListN.{getD, take}
 use Rattle.bar.specs.Bar.{slots}
 use Rattle.placing.specs.Pools.{Pool as PlacingPool, low, high, io}
 use Rattle.placing.specs.Records.{Host as PlacingHost, Function as PlacingFunction}
-use Rattle.board.specs.declared.Host.{Host}
-use Rattle.board.specs.declared.Span.{Span}
-use Rattle.board.specs.declared.Function.{Function}
-use Rattle.board.specs.Function.{isBridge, slotCount}
+use Rattle.board_record.specs.declared.Host.{Host}
+use Rattle.board_record.specs.declared.Span.{Span}
+use Rattle.board_record.specs.declared.Function.{Function}
+use Rattle.board_record.specs.Function.{isBridge, slotCount}
 unfoldable pub use Rattle.bar.specs.Bars.{barsFrom}
 
 abbrev pub poolSpan : Host → PlacingPool → Span

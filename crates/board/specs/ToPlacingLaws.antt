@@ -13,11 +13,11 @@ use Rattle.lists.specs.Lists.{any}
 use Rattle.lists.specs.ListLaws.{all-imp}
 use Rattle.placing.specs.Records.{parentsAfter, onlyHost, DepthFirst, Sized, Lawful}
 use Rattle.placing.specs.RecordLaws.{Subset, parent-new, parent-kept}
-use Rattle.board.specs.declared.Function.{Function}
-use Rattle.board.specs.Function.{isBridge, slotCount}
-use Rattle.board.specs.Order.{parents, misplaced, anyMisplaced}
-use Rattle.board.specs.OrderLaws.{placed-of-not-misplaced, upToHost, lt-up-to-host, fromOn, fromOn-parents, le-of-any, any-later, parents-bridge, parents-end}
-use Rattle.board.specs.StackLaws.{up-cons, outer}
+use Rattle.board_record.specs.declared.Function.{Function}
+use Rattle.board_record.specs.Function.{isBridge, slotCount}
+use Rattle.board_order.specs.Order.{parents, misplaced, anyMisplaced}
+use Rattle.board_order.specs.OrderLaws.{placed-of-not-misplaced, upToHost, lt-up-to-host, fromOn, fromOn-parents, le-of-any, any-later, parents-bridge, parents-end}
+use Rattle.board_order.specs.StackLaws.{up-cons, outer}
 use Rattle.board.specs.Board.{boardNumber, functionsOf}
 use Rattle.board.specs.BoardLaws.{accepted-of-zero}
 use Rattle.board.specs.ToPlacing.{toFunction, toPlacing}

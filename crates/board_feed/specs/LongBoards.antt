@@ -16,11 +16,11 @@ use Rattle.records.specs.Records.{partsOf, anyPart, total}
 use Rattle.records.specs.RecordsLaws.{length-of-whole, false-of-or}
 use Rattle.records.specs.Frame.{versionOf, stageAfter, stageOf, heardOf, endingOf, heardBytes, heardPart}
 use Rattle.records.specs.FrameLaws.{stage-append, heard-append, stage-other, heard-whole, ending-parts}
-use Rattle.board.specs.Host.{hostLength}
+use Rattle.board_record.specs.Host.{hostLength}
 use Rattle.records.specs.Limits.{mostFunctions}
 use Rattle.board.specs.Board.{noHost, misframed, boardNumber, fromVersion, fromFrame, fromCount, fromHeaders}
-use Rattle.board.specs.Function.{isShort, headerWrong}
-use Rattle.board.specs.FunctionLaws.{length-le}
+use Rattle.board_record.specs.Function.{isShort, headerWrong}
+use Rattle.board_record.specs.FunctionLaws.{length-le}
 use Rattle.board_feed.specs.declared.Feed.{Feed}
 use Rattle.board_feed.specs.declared.Tally.{Tally}
 use Rattle.board_feed.specs.Tally.{longestFunction, shortestFunction, mostBytes, mostCounted, fresh}

@@ -7,7 +7,7 @@ use Rattle.records.specs.declared.frame.Event.{Event}
 use Rattle.records.specs.declared.frame.Event.the-variants.{Version, Foreign, Passed, Half, Begins, Byte}
 use Rattle.records.specs.declared.frame.Ending.{Ending}
 use Rattle.records.specs.declared.frame.Ending.the-variants.{Empty, Unread, Whole, Cut}
-use Rattle.board.specs.Host.{hostLength}
+use Rattle.board_record.specs.Host.{hostLength}
 use Rattle.records.specs.Limits.{mostFunctions}
 use Rattle.board_feed.specs.declared.Tally.{Tally}
 

@@ -25,7 +25,8 @@ const SHORTEST_FUNCTION: u32 = 6;
 const LONGEST_FUNCTION: usize = 30;
 
 // What a lawful board can have at the most: the version and the host, then functions, each after its length.
-const LONGEST_BOARD: usize = board::FUNCTIONS + records::MOST_FUNCTIONS * (2 + LONGEST_FUNCTION);
+const LONGEST_BOARD: usize = board_record::FUNCTIONS
+    + records::MOST_FUNCTIONS * (2 + LONGEST_FUNCTION);
 
 // One byte more tells that an input is longer.
 pub const KEPT: usize = LONGEST_BOARD + 1;

@@ -10,9 +10,9 @@ use Rattle.endian.specs.BytesLaws.{bytes-take, bytes-drop}
 use Rattle.records.specs.Limits.{mostFunctions}
 use Rattle.records.specs.Records.{partsFrom}
 use Rattle.lists.specs.Lists.{All, any}
-use Rattle.board.specs.declared.Host.{Host}
-use Rattle.board.specs.Host.{hostOfPart, hostWrong}
-use Rattle.board.specs.Function.{functionOfPart, readbacksWrong}
+use Rattle.board_record.specs.declared.Host.{Host}
+use Rattle.board_record.specs.Host.{hostOfPart, hostWrong}
+use Rattle.board_record.specs.Function.{functionOfPart, readbacksWrong}
 use Rattle.board.specs.Board.{boardNumber, hostOf, functionsOf}
 use Rattle.board.specs.BoardLaws.{Accepted, accepted-of-zero}
 use Rattle.board.specs.ToPlacing.{toHost, toPlacing}

@@ -8,9 +8,9 @@ use Rattle.records.specs.Limits.{mostFunctions, mostAbove}
 use Rattle.bar.specs.Bar.{slots, anyBad}
 use Rattle.lists.specs.Lists.{All}
 use Rattle.placing.specs.Above.{aboveByParents}
-use Rattle.board.specs.declared.Host.{Host}
-use Rattle.board.specs.declared.Function.{Function}
-use Rattle.board.specs.Function.{slotCount}
+use Rattle.board_record.specs.declared.Host.{Host}
+use Rattle.board_record.specs.declared.Function.{Function}
+use Rattle.board_record.specs.Function.{slotCount}
 use Rattle.board.specs.ToPlacing.{toHost, toPlacing, devfnOf}
 use Rattle.sheet.specs.Sheet.{allZero}
 use Rattle.planned.specs.Boards.{Board}

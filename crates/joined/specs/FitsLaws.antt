@@ -19,10 +19,10 @@ use Rattle.records.specs.Records.{nextOf, step, partsOver, partsOf, anyPart}
 use Rattle.records.specs.RecordsLaws.{false-of-or}
 use Rattle.lists.specs.Lists.{All, any}
 use Rattle.bar.specs.Header.{headerType, isBridge as isBridgeHeader}
-use Rattle.board.specs.declared.Span.{Span}
-use Rattle.board.specs.declared.Function.{Function}
-use Rattle.board.specs.Host.{hostOfPart, isOpen, outside, offEdges, poolWrong, hostWrong}
-use Rattle.board.specs.Function.{lengthFor, readbacksFor, functionOfPart, headerWrong, readbacksWrong}
+use Rattle.board_record.specs.declared.Span.{Span}
+use Rattle.board_record.specs.declared.Function.{Function}
+use Rattle.board_record.specs.Host.{hostOfPart, isOpen, outside, offEdges, poolWrong, hostWrong}
+use Rattle.board_record.specs.Function.{lengthFor, readbacksFor, functionOfPart, headerWrong, readbacksWrong}
 use Rattle.board.specs.ToPlacing.{toHost, devfnOf}
 use Rattle.sheet.specs.Sheet.{allZero}
 use Rattle.planned.specs.Boards.{HostEdges}

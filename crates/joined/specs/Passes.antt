@@ -18,9 +18,9 @@ use Rattle.placing.specs.Placing.{placed}
 use Rattle.placing.specs.Numbering.{busNumber}
 use Rattle.placing.specs.Refusals.{refusalOf}
 use Rattle.placer.specs.Registers.{barStart}
-use Rattle.board.specs.declared.Host.{Host}
-use Rattle.board.specs.declared.Function.{Function}
-use Rattle.board.specs.Function.{isBridge}
+use Rattle.board_record.specs.declared.Host.{Host}
+use Rattle.board_record.specs.declared.Function.{Function}
+use Rattle.board_record.specs.Function.{isBridge}
 use Rattle.board.specs.ToPlacing.{toHost, toPlacing, devfnOf}
 use Rattle.walk.specs.Ids.{DistinctIds}
 use Rattle.sheet_record.specs.Spaces.{nodeOf}

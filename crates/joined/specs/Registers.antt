@@ -19,16 +19,15 @@ use Rattle.lists.specs.ListLaws.{drop-suc}
 use Rattle.lists.specs.KeepLaws.{keep-append, keep-elim, keep-nil}
 use Rattle.placing.specs.Pools.{low, high, io}
 use Rattle.placing.specs.Records as placing
-use Rattle.placing.specs.Layout.{Piece, Placed, endOf}
-use Rattle.placing.specs.Layout.{select}
+use Rattle.placing.specs.Layout.{Piece, Placed, endOf, select}
 use Rattle.placing.specs.Pieces.{windowOver, windowPieces, pieces}
 use Rattle.placing.specs.Placing.{placed}
 use Rattle.placing.specs.Numbering.{busNumber, rowOf, numberedFrom}
 use Rattle.placing.specs.Refusals.{refusalOf}
 use Rattle.placer.specs.Registers.{barStart}
-use Rattle.board.specs.declared.Host.{Host}
-use Rattle.board.specs.declared.Function.{Function}
-use Rattle.board.specs.Function.{isBridge}
+use Rattle.board_record.specs.declared.Host.{Host}
+use Rattle.board_record.specs.declared.Function.{Function}
+use Rattle.board_record.specs.Function.{isBridge}
 use Rattle.board.specs.ToPlacing.{toHost, toFunction, toPlacing, devfnOf}
 use Rattle.walk.specs.Registers.{Registers}
 use Rattle.sheet_record.specs.Spaces.{barsFrom as rangesFrom, nodeOf, functionOf, barsOf as sheetBars, windowsOf as sheetWindows}

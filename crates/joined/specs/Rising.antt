@@ -11,9 +11,9 @@ use Rattle.records.specs.RecordsLaws.{false-of-or}
 use Rattle.lists.specs.Lists.{All, Pairwise}
 use Rattle.lists.specs.ListLaws.{all-imp, all-imp₂}
 use Rattle.placing.specs.Preorder.{parentOf}
-use Rattle.board.specs.declared.Function.{Function}
-use Rattle.board.specs.Order.{lastSibling, misplaced, anyMisplaced}
-use Rattle.board.specs.OrderLaws.{placed-of-not-misplaced}
+use Rattle.board_record.specs.declared.Function.{Function}
+use Rattle.board_order.specs.Order.{lastSibling, misplaced, anyMisplaced}
+use Rattle.board_order.specs.OrderLaws.{placed-of-not-misplaced}
 use Rattle.board.specs.ToPlacing.{toFunction, toPlacing, devfnOf}
 use Rattle.planned.specs.Ids.{SiblingsRise}
 

@@ -24,9 +24,9 @@ use Rattle.placing.specs.Numbered.{Range, well-numbered}
 use Rattle.placing.specs.NumberingLaws.{bridges-split}
 use Rattle.placing.specs.Refusals.{refusalOf}
 use Rattle.placer.specs.Registers.{barStart, valuesFrom}
-use Rattle.board.specs.declared.Host.{Host}
-use Rattle.board.specs.declared.Function.{Function}
-use Rattle.board.specs.Function.{isBridge, slotCount}
+use Rattle.board_record.specs.declared.Host.{Host}
+use Rattle.board_record.specs.declared.Function.{Function}
+use Rattle.board_record.specs.Function.{isBridge, slotCount}
 use Rattle.board.specs.ToPlacing.{toHost, toFunction, toPlacing}
 use Rattle.layout.specs.Layout.{Dwords, NoBridge, Shaped, WellShaped}
 use Rattle.planned.specs.Kept.{AllKept, kept-of-planned}

@@ -14,8 +14,8 @@ use Rattle.bar.specs.BarLaws.{length-slots}
 use Rattle.bar.specs.Values.{valueOf, registersOf, placedValues}
 use Rattle.placing.specs.Layout.{Placed}
 use Rattle.placer.specs.Registers.{barStart, valuesFrom}
-use Rattle.board.specs.declared.Function.{Function}
-use Rattle.board.specs.Function.{isBridge, slotCount}
+use Rattle.board_record.specs.declared.Function.{Function}
+use Rattle.board_record.specs.Function.{isBridge, slotCount}
 use Rattle.planning.specs.Plan.{slotsOf}
 use Rattle.joined.specs.Fits.{FunctionFits}
 

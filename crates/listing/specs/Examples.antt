@@ -16,9 +16,9 @@ use Rattle.bar.specs.Bar.{sizeFrom, sized, ioSlot, narrowSlot, wideSlot, slotHe
 use Rattle.bar.specs.Bars.{barsFrom}
 use Rattle.bar.specs.Values.{isBarValue, valuesFit}
 use Rattle.window.specs.Window.{closed, opened, start, stop, isNibbled}
-use Rattle.board.specs.Host.{hostOfPart, poolWrong, hostWrong}
-use Rattle.board.specs.Function.{functionOfPart, headerWrong, readbacksWrong}
-use Rattle.board.specs.Order.{above, parents, lastSibling, misplaced, anyMisplaced}
+use Rattle.board_record.specs.Host.{hostOfPart, poolWrong, hostWrong}
+use Rattle.board_record.specs.Function.{functionOfPart, headerWrong, readbacksWrong}
+use Rattle.board_order.specs.Order.{above, parents, lastSibling, misplaced, anyMisplaced}
 use Rattle.board.specs.Board.{misframed, fromReadbacks, fromOrder, fromEdges, fromHeaders, fromCount, fromFrame, fromVersion, boardNumber, hostOf, functionsOf}
 use Rattle.board.specs.Examples.{p10 as p10-board}
 use Rattle.sheet_record.specs.Entry.{dwords, windowOf, entryOf}

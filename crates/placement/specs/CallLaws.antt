@@ -3,8 +3,8 @@ use mathlib.Core.Path.{_≡_, ap, ap₂, _∙_}
 use mathlib.Core.List.{List}
 use Prim.Native.Nat.{ℕ, suc, _*_}
 use lib.Seq.{sets}
-use Rattle.board.specs.declared.Function.{Function}
-use Rattle.board.specs.Function.{slotCount}
+use Rattle.board_record.specs.declared.Function.{Function}
+use Rattle.board_record.specs.Function.{slotCount}
 use Rattle.sizing.specs.Memo.{laidAt}
 use Rattle.placer.specs.declared.Cursors.{Cursors}
 use Rattle.placer.specs.declared.Extents.{Extents}

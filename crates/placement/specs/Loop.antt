@@ -10,8 +10,8 @@ use Rattle.placing.specs.Cap.{cap}
 use Rattle.placing.specs.Records.{Host as PlacingHost}
 use Rattle.records.specs.Limits.{mostFunctions}
 use Rattle.records.specs.Records.{partsFrom, anyPart}
-use Rattle.board.specs.declared.Host.{Host}
-use Rattle.board.specs.Function.{functionOfPart, headerWrong}
+use Rattle.board_record.specs.declared.Host.{Host}
+use Rattle.board_record.specs.Function.{functionOfPart, headerWrong}
 use Rattle.board.specs.Board.{boardNumber, hostOf, functionsOf}
 use Rattle.board.specs.ToPlacing.{toHost, toPlacing}
 use Rattle.placer.specs.declared.Cursors.{Cursors}

@@ -22,9 +22,9 @@ use Rattle.records.specs.RecordsLaws.{pass-record, pass-end, pass-broken, none-
 use Rattle.placing.specs.Records as placing
 use Rattle.placing.specs.Layout.{Placed}
 use Rattle.placing.specs.Placing.{placed}
-use Rattle.board.specs.declared.Host.{Host}
-use Rattle.board.specs.declared.Function.{Function}
-use Rattle.board.specs.Function.{isBridge, functionOfPart, headerWrong}
+use Rattle.board_record.specs.declared.Host.{Host}
+use Rattle.board_record.specs.declared.Function.{Function}
+use Rattle.board_record.specs.Function.{isBridge, functionOfPart, headerWrong}
 use Rattle.board.specs.Board.{hostOf, functionsOf}
 use Rattle.board.specs.BoardLaws.{accepted-of-zero}
 use Rattle.board.specs.ToPlacing.{toHost, toPlacing}

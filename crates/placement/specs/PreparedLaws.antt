@@ -9,9 +9,9 @@ use Rattle.records.specs.RecordsLaws.{false-of-or}
 use Rattle.bar.specs.Bar.{anyBad}
 use Rattle.lists.specs.Lists.{any}
 use Rattle.placing.specs.Numbering.{bridges}
-use Rattle.board.specs.declared.Function.{Function}
-use Rattle.board.specs.Function.{isBridge, functionOfPart, readbacksWrong}
-use Rattle.board.specs.FunctionLaws.{length-readbacks}
+use Rattle.board_record.specs.declared.Function.{Function}
+use Rattle.board_record.specs.Function.{isBridge, functionOfPart, readbacksWrong}
+use Rattle.board_record.specs.FunctionLaws.{length-readbacks}
 use Rattle.board.specs.Board.{boardNumber, functionsOf}
 use Rattle.board.specs.BoardLaws.{accepted-of-zero}
 use Rattle.board.specs.ToPlacing.{toPlacing}

@@ -12,8 +12,8 @@ use Rattle.pools.specs.Pools.{granule}
 use Rattle.bar.specs.Bar.{slots, anyBad}
 use Rattle.window.specs.Window.{closed}
 use Rattle.placing.specs.Align.{PowerOfTwo}
-use Rattle.board.specs.declared.Function.{Function}
-use Rattle.board.specs.Function.{isBridge, slotCount}
+use Rattle.board_record.specs.declared.Function.{Function}
+use Rattle.board_record.specs.Function.{isBridge, slotCount}
 use Rattle.sizing.specs.declared.Laid.{Laid}
 use Rattle.sizing.specs.Memo.{laidAt}
 use Rattle.placer.specs.declared.Cursors.{Cursors}

@@ -29,8 +29,8 @@ use Rattle.placing.specs.Numbered.{subordinate-laid}
 use Rattle.placing.specs.Sizing.{busLaid, laidFrom}
 use Rattle.placing.specs.SizingLaws.{next-le}
 use Rattle.placing.specs.Cap.{cap, capped}
-use Rattle.board.specs.declared.Function.{Function}
-use Rattle.board.specs.Function.{isBridge, slotCount}
+use Rattle.board_record.specs.declared.Function.{Function}
+use Rattle.board_record.specs.Function.{isBridge, slotCount}
 use Rattle.board.specs.ToPlacing.{toFunction, toPlacing}
 use Rattle.sizing.specs.declared.Laid.{Laid}
 use Rattle.sizing.specs.Memo.{laidAt, below}

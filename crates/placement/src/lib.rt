@@ -6,20 +6,19 @@ ghost use lib.ListN.{length, take, drop};
 ghost use lib.Seq.{sets};
 ghost use Rattle.pools.specs.declared.Pool.{Pool as PoolName};
 ghost use Rattle.bar.specs.Bar.{slots, anyBad};
-ghost use Rattle.board.specs.Function.{isBridge as isBridgeOf, slotCount as slotCountOf};
+ghost use Rattle.board_record.specs.Function.{isBridge as isBridgeOf, slotCount as slotCountOf, functionOfPart, headerWrong};
 ghost use Rattle.placing.specs.Align.{PowerOfTwo};
 ghost use Rattle.placing.specs.Pieces.{windowAlign};
 ghost use Rattle.records.specs.declared.Next.the-variants.{Record};
 ghost use Rattle.records.specs.Records.{nextOf};
-ghost use Rattle.board.specs.Function.{functionOfPart, headerWrong};
 ghost use Rattle.sheet.specs.Sheet.{sheetLength};
 ghost use Rattle.layout.specs.Layout.{plannedOf, recordBytes, sheetBytes};
 ghost use Rattle.placement.specs.Loop.{mostBuses, planOn, Ready, basesFor, Filled, Placing};
 ghost use Rattle.sizing.specs.Memo.{laidAt};
 ghost use Rattle.placer.specs.Kept.{extentIn, windowsPlaced};
 ghost use Rattle.placement.specs.Step.{cursorsIn, endsList, extentsIn, busIn, barsIn, leafWith, leafRegisters, bridgeWith, bridgeRegisters, registersOf, leafNext, bridgeNext, cursorsNext, Placeable, Bridged};
-use board::Function;
-use board::Host;
+use board_record::Function;
+use board_record::Host;
 use layout::Registers;
 use placer::BarsPlaced;
 use placer::Cursors;
@@ -56,7 +55,7 @@ pub fn place_records(
     requires { ⌜ Ready (now board) first (now counts) (now memo) (now cursors) (now sheet) ⌝ }
     ensures { λ _. ⌜ now (sheet .exit) ≡ sets (now (sheet .entry)) 0 (sheetBytes (planOn (now (board .entry)))) ⌝ }
 {
-    let mut at = board::FUNCTIONS;
+    let mut at = board_record::FUNCTIONS;
     let mut i: usize = 0;
     loop {
         match records::next_at(board, at) {
@@ -280,7 +279,7 @@ fn function_at(board: &[u8], at: usize, n: usize) -> Function
     requires { ⌜ (nextOf (drop at (now board)) ≡ Record n) × (headerWrong (take n (drop (at + 2) (now board))) ≡ false) ⌝ }
     ensures { λ r. ⌜ r ≡ functionOfPart (take n (drop (at + 2) (now (board .entry)))) ⌝ }
 {
-    board::function_of(records::part_at(board, at, n))
+    board_record::function_of(records::part_at(board, at, n))
 }
 
 // Record i + 1 placed, and written at its place in the sheet.

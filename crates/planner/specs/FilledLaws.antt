@@ -15,9 +15,9 @@ use Rattle.placing.specs.Numbering.{bridges}
 use Rattle.placing.specs.Sizing as laid
 use Rattle.placing.specs.Sizing.{busLaid, rootLaid}
 use Rattle.placing.specs.SizingLaws.{laid-ext}
-use Rattle.board.specs.declared.Host.{Host}
-use Rattle.board.specs.declared.Function.{Function}
-use Rattle.board.specs.Function.{isBridge}
+use Rattle.board_record.specs.declared.Host.{Host}
+use Rattle.board_record.specs.declared.Function.{Function}
+use Rattle.board_record.specs.Function.{isBridge}
 use Rattle.board.specs.Board.{boardNumber, hostOf, functionsOf}
 use Rattle.board.specs.ToPlacing.{toHost, toPlacing}
 use Rattle.sizing.specs.declared.Laid.{Laid}

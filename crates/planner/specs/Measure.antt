@@ -10,10 +10,10 @@ use Rattle.records.specs.Limits.{mostFunctions}
 use Rattle.placing.specs.Numbering.{bridges}
 use Rattle.placing.specs.declared.Extent.{Extent}
 use Rattle.placing.specs.Sizing.{busLaid, rootLaid, endsPast}
-use Rattle.board.specs.declared.Span.{Span}
-use Rattle.board.specs.declared.Host.{Host}
-use Rattle.board.specs.declared.Function.{Function}
-use Rattle.board.specs.Function.{isBridge}
+use Rattle.board_record.specs.declared.Span.{Span}
+use Rattle.board_record.specs.declared.Host.{Host}
+use Rattle.board_record.specs.declared.Function.{Function}
+use Rattle.board_record.specs.Function.{isBridge}
 use Rattle.board.specs.Board.{hostOf, functionsOf}
 use Rattle.board.specs.ToPlacing.{toHost, toPlacing}
 use Rattle.sizing.specs.Cut.{cut}

@@ -24,10 +24,10 @@ use Rattle.placing.specs.ExtentLaws.{extend-align}
 use Rattle.placing.specs.Cap.{capped, out-of-pool-capped}
 use Rattle.placing.specs.Refusals.{outOfPool, refusalOf}
 use Rattle.placing.specs.RefusalLaws.{out-of-pool-end}
-use Rattle.board.specs.declared.Host.{Host}
-use Rattle.board.specs.declared.Span.{Span}
+use Rattle.board_record.specs.declared.Host.{Host}
+use Rattle.board_record.specs.declared.Span.{Span}
 use Rattle.board.specs.Board.{boardNumber, hostOf, functionsOf}
-use Rattle.board.specs.Host.{spanOf}
+use Rattle.board_record.specs.Host.{spanOf}
 use Rattle.board.specs.ToPlacing.{toHost, toPlacing}
 use Rattle.sizing.specs.declared.Laid.{Laid}
 use Rattle.sizing.specs.Cut.{extentIn, cut}

@@ -14,10 +14,10 @@ use Rattle.records.specs.Limits.{mostFunctions}
 use Rattle.placing.specs.Records as placing
 use Rattle.placing.specs.Numbering.{bridges}
 use Rattle.placing.specs.Refusals.{refusalOf}
-use Rattle.board.specs.declared.Host.{Host}
-use Rattle.board.specs.declared.Function.{Function}
-use Rattle.board.specs.Host.{hostOfPart}
-use Rattle.board.specs.Function.{functionOfPart}
+use Rattle.board_record.specs.declared.Host.{Host}
+use Rattle.board_record.specs.declared.Function.{Function}
+use Rattle.board_record.specs.Host.{hostOfPart}
+use Rattle.board_record.specs.Function.{functionOfPart}
 use Rattle.board.specs.Board.{boardNumber, hostOf, functionsOf}
 use Rattle.board.specs.BoardLaws.{accepted-of-zero}
 use Rattle.board.specs.ToPlacing.{toHost, toFunction, toPlacing}

@@ -15,7 +15,7 @@ use Rattle.placing.specs.Records as placing
 use Rattle.placing.specs.Layout.{endOf}
 use Rattle.placing.specs.Placing.{placed}
 use Rattle.placing.specs.Refusals.{Kept, refusalOf}
-use Rattle.board.specs.declared.Host.{Host}
+use Rattle.board_record.specs.declared.Host.{Host}
 use Rattle.board.specs.Board.{boardNumber, hostOf, functionsOf}
 use Rattle.board.specs.ToPlacing.{toHost, toPlacing}
 use Rattle.placer.specs.JoinLaws.{Room}

@@ -6,8 +6,8 @@ ghost use Rattle.records.specs.Limits.{mostFunctions};
 ghost use Rattle.board.specs.Board.{boardNumber, hostOf, functionsOf};
 ghost use Rattle.planning.specs.Plan.{onBoard, planning, sheetAs, sheetAfter};
 ghost use Rattle.planner.specs.Measure.{runsOut, refusalBy, Measurable, CountedAndSized, IsMeasured};
-use board::Host;
-use board::Span;
+use board_record::Host;
+use board_record::Span;
 use placing::Extent;
 use planning::Planning;
 use records::MOST_FUNCTIONS;
@@ -40,7 +40,7 @@ fn plan_lawful(board: &[u8], sheet: &mut [u8]) -> Planning
 {
     let mut counts = [0u16; 1 + MOST_FUNCTIONS];
     let mut memo = [0u64; 8 * MOST_FUNCTIONS];
-    let host = board::host_of(records::part_at(board, 1, 30));
+    let host = board_record::host_of(records::part_at(board, 1, 30));
     let m = measure(board, host, &mut counts, &mut memo);
     let n = refusal(host, m);
     if n != 0 {

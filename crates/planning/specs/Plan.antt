@@ -14,9 +14,9 @@ use Rattle.placing.specs.Layout.{Placed}
 use Rattle.placing.specs.Placing.{placed}
 use Rattle.placing.specs.Numbering.{busNumber, subordinateOf}
 use Rattle.placing.specs.Refusals.{refusalOf}
-use Rattle.board.specs.declared.Host.{Host}
-use Rattle.board.specs.declared.Function.{Function}
-use Rattle.board.specs.Function.{isBridge, slotCount}
+use Rattle.board_record.specs.declared.Host.{Host}
+use Rattle.board_record.specs.declared.Function.{Function}
+use Rattle.board_record.specs.Function.{isBridge, slotCount}
 use Rattle.board.specs.Board.{boardNumber, hostOf, functionsOf}
 use Rattle.board.specs.ToPlacing.{toHost, toPlacing}
 use Rattle.sheet_record.specs.Entry.{Entry}

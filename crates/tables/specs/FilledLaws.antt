@@ -14,9 +14,9 @@ use Rattle.lists.specs.Lists.{All, any}
 use Rattle.placing.specs.Records as placing
 use Rattle.placing.specs.Records.{DepthFirst, onlyHost}
 use Rattle.placing.specs.Numbering.{bridges}
-use Rattle.board.specs.declared.Function.{Function}
-use Rattle.board.specs.Function.{functionOfPart, readbacksWrong}
-use Rattle.board.specs.FunctionLaws.{length-readbacks}
+use Rattle.board_record.specs.declared.Function.{Function}
+use Rattle.board_record.specs.Function.{functionOfPart, readbacksWrong}
+use Rattle.board_record.specs.FunctionLaws.{length-readbacks}
 use Rattle.board.specs.Board.{boardNumber, functionsOf}
 use Rattle.board.specs.BoardLaws.{accepted-of-zero}
 use Rattle.board.specs.ToPlacing.{toFunction, toPlacing}

@@ -7,8 +7,8 @@ use lib.ListN.{length, set}
 use lib.Seq.{sets}
 use Rattle.records.specs.Records.{partsFrom, anyPart}
 use Rattle.records.specs.Limits.{mostFunctions}
-use Rattle.board.specs.declared.Function.{Function}
-use Rattle.board.specs.Function.{functionOfPart, headerWrong}
+use Rattle.board_record.specs.declared.Function.{Function}
+use Rattle.board_record.specs.Function.{functionOfPart, headerWrong}
 use Rattle.board.specs.Board.{functionsOf}
 
 abbrev pub parentsOf : List Function → List ℕ

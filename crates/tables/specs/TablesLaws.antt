@@ -12,9 +12,9 @@ use Rattle.records.specs.declared.Next.the-variants.{End, Record, Broken}
 use Rattle.records.specs.Records.{nextOf, partsFrom}
 use Rattle.records.specs.RecordsLaws.{pass-record, pass-end, pass-broken, none-later}
 use Rattle.records.specs.Limits.{mostFunctions}
-use Rattle.board.specs.declared.Function.{Function}
-use Rattle.board.specs.Function.{functionOfPart, headerWrong}
-use Rattle.board.specs.FunctionLaws.{length-readbacks}
+use Rattle.board_record.specs.declared.Function.{Function}
+use Rattle.board_record.specs.Function.{functionOfPart, headerWrong}
+use Rattle.board_record.specs.FunctionLaws.{length-readbacks}
 use Rattle.board.specs.Board.{boardNumber, functionsOf}
 use Rattle.board.specs.BoardLaws.{accepted-of-zero}
 use Rattle.tables.specs.Tables.{parentsOf, headersOf, readbacksOf, Room, Put, Filled, functionsFrom, Filling}

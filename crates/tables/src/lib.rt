@@ -5,7 +5,7 @@ ghost use Prim.Native.Nat.{_+_, _≤_, _<_};
 ghost use lib.ListN.{length};
 ghost use lib.Seq.{sets};
 ghost use Rattle.records.specs.Limits.{mostFunctions};
-ghost use Rattle.board.specs.Function.{functionOfPart, headerWrong};
+ghost use Rattle.board_record.specs.Function.{functionOfPart, headerWrong};
 ghost use Rattle.board.specs.Board.{boardNumber, functionsOf};
 ghost use Rattle.tables.specs.Tables.{Room, Put, Filled};
 ghost use Rattle.tables.specs.Counts.{weightOf, countsOf};
@@ -16,7 +16,7 @@ pub fn fill(board: &[u8], parents: &mut [u16], headers: &mut [u8], readbacks: &m
     requires { ⌜ (boardNumber (now board) ≡ 0) × Room mostFunctions (now parents) (now headers) (now readbacks) ⌝ }
     ensures { λ r. ⌜ Filled (functionsOf (now (board .entry))) (now (parents .entry)) (now (headers .entry)) (now (readbacks .entry)) (now (parents .exit)) (now (headers .exit)) (now (readbacks .exit)) r ⌝ }
 {
-    let mut at = board::FUNCTIONS;
+    let mut at = board_record::FUNCTIONS;
     let mut i: usize = 0;
     loop {
         match records::next_at(board, at) {
@@ -56,7 +56,7 @@ fn put(part: &[u8], i: usize, parents: &mut [u16], headers: &mut [u8], readbacks
     requires { ⌜ (headerWrong (now part) ≡ false) × Room (i + 1) (now parents) (now headers) (now readbacks) ⌝ }
     ensures { λ _. ⌜ Put (functionOfPart (now (part .entry))) i (now (parents .entry)) (now (headers .entry)) (now (readbacks .entry)) (now (parents .exit)) (now (headers .exit)) (now (readbacks .exit)) ⌝ }
 {
-    parents[i] = board::parent_of(part);
+    parents[i] = board_record::parent_of(part);
     headers[i] = part[3];
     put_set(readbacks, 6 * i, part);
 }
@@ -67,7 +67,7 @@ fn put_set(readbacks: &mut [u32], at: usize, part: &[u8])
 {
     let mut j: usize = 0;
     while j < 6 {
-        readbacks[at + j] = board::readback_at(part, j);
+        readbacks[at + j] = board_record::readback_at(part, j);
         j += 1;
     }
 }

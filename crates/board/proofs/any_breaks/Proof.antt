@@ -12,8 +12,9 @@ use lib.ListN.{length, drop}
 use Rattle.records.specs.declared.Next.the-variants.{Record}
 use Rattle.records.specs.Records.{nextOf, partsOf, partsFrom, anyPart}
 use Rattle.records.specs.RecordsLaws.{fits-at, none-here, none-later}
-use Rattle.board.specs.Rules.{breaks, tooEarly, anyBreaks}
-use Rattle.board.specs.RulesLaws.{breaks-end, breaks-broken, breaks-hit, breaks-miss}
+use Rattle.board_record.specs.Rules.{breaks, tooEarly}
+use Rattle.board.specs.Pass.{anyBreaks}
+use Rattle.board.specs.PassLaws.{breaks-end, breaks-broken, breaks-hit, breaks-miss}
 
 abbrev Inv-loop : tie.InvT-loop
 Inv-loop rule board at₀ at =
@@ -50,7 +51,8 @@ enum-told c = search needs
 returns : tie.Need-returns Inv-loop μ-loop
 returns c =
     let e = sym (c .before .before .next-at .ensures) ∙ c .enum-told .given .1 in
-    sym (breaks-end (c .before .before .before .before .before .args .rule) (c .before .before .before .before .before .args .board .now) (c .before .before .before .loop .at) e) ∙ c .before .before .before .loop .inv .1
+    let start = c .before .before .before .before .before in
+    sym (breaks-end (start .args .rule) (start .args .board .now) (c .before .before .before .loop .at) e) ∙ c .before .before .before .loop .inv .1
 
 enum-told-2 : tie.Need-enum-told-2 Inv-loop μ-loop
 enum-told-2 c = search needs
@@ -58,7 +60,8 @@ enum-told-2 c = search needs
 returns-2 : tie.Need-returns-2 Inv-loop μ-loop
 returns-2 c =
     let e = sym (c .before .before .next-at .ensures) ∙ c .enum-told2 .given .1 in
-    sym (breaks-broken (c .before .before .before .before .before .args .rule) (c .before .before .before .before .before .args .board .now) (c .before .before .before .loop .at) e) ∙ c .before .before .before .loop .inv .1
+    let start = c .before .before .before .before .before in
+    sym (breaks-broken (start .args .rule) (start .args .board .now) (c .before .before .before .loop .at) e) ∙ c .before .before .before .loop .inv .1
 
 enum-known-n : tie.Need-enum-known-n Inv-loop μ-loop
 enum-known-n c = search needs

@@ -11,12 +11,12 @@ use borrow.Author.Tests.{eq-eqb, ne-eqb}
 use Rattle.lists.specs.Lists.{any}
 use Rattle.records.specs.Records.{partsOf, partsFrom, anyPart}
 use Rattle.records.specs.RecordsLaws.{fits-at, length-part}
-use Rattle.board.specs.declared.Host.{Host}
-use Rattle.board.specs.declared.Function.{Function}
-use Rattle.board.specs.declared.Rule.the-variants.{Header, ReadBacks}
-use Rattle.board.specs.Host.{hostOfPart, hostWrong}
-use Rattle.board.specs.Function.{functionOfPart, headerWrong, readbacksWrong}
-use Rattle.board.specs.RulesLaws.{any-never}
+use Rattle.board_record.specs.declared.Host.{Host}
+use Rattle.board_record.specs.declared.Function.{Function}
+use Rattle.board_record.specs.declared.Rule.the-variants.{Header, ReadBacks}
+use Rattle.board_record.specs.Host.{hostOfPart, hostWrong}
+use Rattle.board_record.specs.Function.{functionOfPart, headerWrong, readbacksWrong}
+use Rattle.board.specs.PassLaws.{any-never}
 use Rattle.board.specs.Board.{misframed, fromReadbacks, fromOrder, fromEdges, fromHeaders, fromCount, fromFrame, fromVersion, boardNumber}
 use Rattle.board.specs.BoardLaws.{any-map, host-of-framed, breaks-of-framed, framed, past-version, past-count, past-headers, past-edges, past-order}
 

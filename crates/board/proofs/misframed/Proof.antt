@@ -4,7 +4,7 @@ use Rattle.board.proofs.misframed.Statement.{statement}
 use Rattle.board.proofs.misframed.Tie as tie
 use mathlib.Core.Path.{sym, _∙_}
 use Rattle.records.specs.Records.{partsFrom}
-use Rattle.board.specs.RulesLaws.{any-never}
+use Rattle.board.specs.PassLaws.{any-never}
 use Rattle.board.specs.BoardLaws.{misframed-end, misframed-broken, misframed-host, misframed-tail}
 
 next-at-requires : tie.Need-next-at-requires

@@ -1,7 +1,7 @@
 -- `placement::function_at` meets its contract. Assumes nothing.
 use mathlib.Core.Path.{ap, _∙_}
 use Rattle.records.specs.RecordsLaws.{fits-at}
-use Rattle.board.specs.Function.{functionOfPart, headerWrong}
+use Rattle.board_record.specs.Function.{functionOfPart, headerWrong}
 use Rattle.placement.proofs.function_at.Statement.{statement}
 use Rattle.placement.proofs.function_at.Tie as tie
 

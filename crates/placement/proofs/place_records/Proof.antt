@@ -7,8 +7,8 @@ use lib.ListN.{length}
 use lib.Seq.{sets}
 use borrow.Author.Needs.{needs}
 use Rattle.records.specs.RecordsLaws.{fits-at}
-use Rattle.board.specs.declared.Function.{Function}
-use Rattle.board.specs.Function.{isBridge}
+use Rattle.board_record.specs.declared.Function.{Function}
+use Rattle.board_record.specs.Function.{isBridge}
 use Rattle.sheet.specs.Sheet.{sheetLength}
 use Rattle.layout.specs.Layout.{plannedOf, recordBytes}
 use Rattle.placement.specs.Step.{registersOf, cursorsNext, Placeable}

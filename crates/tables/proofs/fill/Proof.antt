@@ -6,7 +6,7 @@ use Prim.Native.Nat.{_-_}
 use native.Mathlib.Omega.{arith}
 use lib.ListN.{length}
 use Rattle.records.specs.RecordsLaws.{fits-at, none-here}
-use Rattle.board.specs.Function.{functionOfPart, headerWrong}
+use Rattle.board_record.specs.Function.{functionOfPart, headerWrong}
 use Rattle.tables.specs.Tables.{Filling}
 use Rattle.tables.specs.TablesLaws.{filling-start, filling-parents, filling-headers, filling-readbacks, filled-end, filled-broken, filling-lt, filling-room, filling-record}
 use Rattle.tables.proofs.fill.Statement.{statement}

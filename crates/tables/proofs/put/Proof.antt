@@ -3,8 +3,8 @@ use borrow.Author.Needs.{needs}
 use mathlib.Core.Path.{refl, ap}
 use native.Mathlib.Omega.{arith}
 use lib.ListN.{set}
-use Rattle.board.specs.Function.{functionOfPart}
-use Rattle.board.specs.FunctionLaws.{le-length}
+use Rattle.board_record.specs.Function.{functionOfPart}
+use Rattle.board_record.specs.FunctionLaws.{le-length}
 use Rattle.tables.proofs.put.Statement.{statement}
 use Rattle.tables.proofs.put.Tie as tie
 

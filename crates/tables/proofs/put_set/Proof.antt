@@ -7,8 +7,8 @@ use native.Mathlib.Nat.{add-zero}
 use native.Mathlib.Omega.{arith}
 use lib.ListN.{length, drop, length-set}
 use lib.Seq.{sets}
-use Rattle.board.specs.Function.{functionOfPart}
-use Rattle.board.specs.FunctionLaws.{length-readbacks}
+use Rattle.board_record.specs.Function.{functionOfPart}
+use Rattle.board_record.specs.FunctionLaws.{length-readbacks}
 use Rattle.tables.specs.TablesLaws.{run-turn, run-end}
 use Rattle.tables.proofs.put_set.Statement.{statement}
 use Rattle.tables.proofs.put_set.Tie as tie
