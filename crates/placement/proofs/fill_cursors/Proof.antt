@@ -1,4 +1,5 @@
--- `placement::fill_cursors` meets its contract. Assumes nothing.
+-- `placement::fill_cursors` meets its contract. The invariant: the buses before this one have their cursors. The measure is the buses left.
+-- Assumes nothing.
 use mathlib.Core.Path.{_≡_, refl}
 use Prim.Native.Nat.{_-_, _≤_}
 use native.Mathlib.Numerals.{add-one}

@@ -1,4 +1,5 @@
--- `placement::place_records` meets its contract. Assumes nothing.
+-- `placement::place_records` meets its contract. The invariant is `Standing`: the records before the cursor are placed and written, and the
+-- cursors hold what is left for the rest. The measure is the bytes left. Assumes nothing.
 use mathlib.Core.Path.{sym, ap, subst, _∙_}
 use Prim.Native.Nat.{_+_, _-_, _*_}
 use native.Mathlib.Numerals.{add-one}
