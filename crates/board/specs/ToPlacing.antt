@@ -1,5 +1,5 @@
--- A board's host and functions as numbering and placing see them: the pools' bases and lasts, each function's BARs by their slots, and device/function
--- bytes by record number. Assumes nothing.
+-- A board's host and functions as numbering and placing see them: the pools' bases and lasts, each function's BARs by their slots, and
+-- device/function bytes by record number. Assumes nothing.
 use mathlib.Core.List.{List, map}
 use Prim.Native.Nat.{ℕ, pred}
 use lib.ListN.{getD, take}

@@ -3,7 +3,7 @@
 use mathlib.Core.Path.{_≡_, refl, sym, ap, _∙_}
 use mathlib.Core.Bool.{Bool, true, false, _&&_, and-eq-true-iff}
 use mathlib.Core.List.{List, [], _∷_, map}
-use Prim.Native.Nat.{ℕ, _+_, _*_, _/_, _%_, _≤_, _<_}
+use Prim.Native.Nat.{ℕ, _+_, _/_, _%_, _≤_, _<_}
 use native.Mathlib.Omega.{arith}
 use lib.ListN.{length}
 use lib.Dec.{eqb, leb}
@@ -17,9 +17,8 @@ use Rattle.walk.specs.TallyLaws.{join-append}
 use Rattle.walk.specs.Good.{busRange}
 use Rattle.walk.specs.Ids.{hasId, leadsToward, bridgeClaim, firstOf, tallyById}
 use Rattle.sheet_record.specs.Spaces.{nodeOf}
-use Rattle.sheet_record.specs.Places.{stride}
 use Rattle.sheet_record.specs.Entry.{idOf, busOf, headerOf, isBridge, secondaryOf, subordinateOf, entryOf}
-use Rattle.sheet.specs.Sheet.{entriesFrom, entriesOf, partAt}
+use Rattle.sheet.specs.Sheet.{entriesFrom, entriesOf, partAt, recordAt}
 use Rattle.sheet.specs.CheckLaws.{entries-past, count-entries}
 use Rattle.sheet.specs.IndexLaws.{entries-index}
 use Rattle.sheet.specs.SheetLaws.{Checked}
@@ -45,14 +44,14 @@ module _ (target b : ℕ) (p : List ℕ) where
 -- ## What is left
 
 abbrev nodesLeft : List ℕ → ℕ → List Node
-nodesLeft s k = nodesFrom (k + 1) (entriesFrom s (stride * k + 1))
+nodesLeft s k = nodesFrom (k + 1) (entriesFrom s (recordAt k))
 
 -- the function with the ID from record k on, and the claims of the bridges toward the target from there on
 unfoldable pub ownerFrom : ℕ → List ℕ → ℕ → Tally
-ownerFrom id s k = firstOf (keep (hasId (id / 256) (id % 256)) (nodesFrom (k + 1) (entriesFrom s (stride * k + 1))))
+ownerFrom id s k = firstOf (keep (hasId (id / 256) (id % 256)) (nodesFrom (k + 1) (entriesFrom s (recordAt k))))
 
 unfoldable pub towardFrom : ℕ → ℕ → List ℕ → ℕ → List Claim
-towardFrom target b s k = map bridgeClaim (keep (leadsToward target b) (nodesFrom (k + 1) (entriesFrom s (stride * k + 1))))
+towardFrom target b s k = map bridgeClaim (keep (leadsToward target b) (nodesFrom (k + 1) (entriesFrom s (recordAt k))))
 
 pub owner-start : (id : ℕ) (s : List ℕ) → ownerFrom id s 0 ≡ firstOf (keep (hasId (id / 256) (id % 256)) (nodesOf s))
 unfolding ownerFrom
@@ -68,7 +67,7 @@ module _ (s : List ℕ) (c : Checked s) (n k : ℕ) (count : n ≡ length (entri
   module _ (h : n ≤ k) where
     nodes-end : nodesLeft s k ≡ []
     unfolding nodesFrom
-    nodes-end = ap (nodesFrom (k + 1)) (entries-past s (stride * k + 1) (omega (arith, count-entries s (c .framed))))
+    nodes-end = ap (nodesFrom (k + 1)) (entries-past s (recordAt k) (omega (arith, count-entries s (c .framed))))
 
     pub owner-end : (id : ℕ) → none ≡ ownerFrom id s k
     unfolding ownerFrom

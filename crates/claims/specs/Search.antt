@@ -3,6 +3,7 @@ use mathlib.Core.Bool.{Bool, _&&_}
 use mathlib.Core.List.{List}
 use Prim.Native.Nat.{ℕ}
 use lib.Dec.{eqb}
+use Rattle.pools.specs.declared.Pool.{Pool}
 use Rattle.pools.specs.declared.Space.{Space}
 use Rattle.walk.specs.Registers.{window, Claim, openWindows}
 use Rattle.walk.specs.Tally.{hitsOf}

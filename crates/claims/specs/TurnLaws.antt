@@ -3,7 +3,7 @@
 use mathlib.Core.Path.{_≡_, refl, sym, ap, _∙_}
 use mathlib.Core.Bool.{Bool, true, false, cond, _&&_}
 use mathlib.Core.List.{List, _++_, append-assoc}
-use Prim.Native.Nat.{ℕ, _+_, _*_, _≤_, _<_}
+use Prim.Native.Nat.{ℕ, _+_, _≤_, _<_}
 use native.Mathlib.Omega.{arith}
 use lib.ListN.{length, take}
 use lib.Dec.{eqb}
@@ -17,9 +17,9 @@ use Rattle.walk.specs.Tally.{none, Tally, join, hitsOf, claimsOf, claimsOn, tal
 use Rattle.walk.specs.SearchLaws.{claims-nil, claims-cons, claims-of-here, claims-of-other}
 use Rattle.sheet_record.specs.EntryLaws.{bars-entry}
 use Rattle.sheet_record.specs.Spaces.{barsOf, functionOf}
-use Rattle.sheet_record.specs.Places.{valuesAt, readbacksAt, recordSize, stride}
+use Rattle.sheet_record.specs.Places.{valuesAt, readbacksAt, recordSize}
 use Rattle.sheet_record.specs.Entry.{dwords, headerOf, isBridge, slotCount, entryOf}
-use Rattle.sheet.specs.Sheet.{entriesFrom, entriesOf, partAt, sheetLength}
+use Rattle.sheet.specs.Sheet.{entriesFrom, entriesOf, partAt, sheetLength, recordAt}
 use Rattle.sheet.specs.IndexLaws.{length-part, record-fits, functions-index, functions-end, enabled-index}
 use Rattle.sheet.specs.SheetLaws.{Checked, lawful-index}
 use Rattle.sheet.specs.Spaces.{functionsFrom, enabledOf}
@@ -53,7 +53,7 @@ module _ (set p : List ℕ) (count i : ℕ) (r : set ≡ dwords (be 4) 6 p readb
 
 -- the claims of record k and of those after it
 unfoldable pub claimsFrom : Space → List ℕ → ℕ → ℕ → ℕ → List Claim
-claimsFrom space s address bus k = claimsOn (enabledOf space s) (functionsFrom space (k + 1) (entriesFrom s (stride * k + 1))) address bus
+claimsFrom space s address bus k = claimsOn (enabledOf space s) (functionsFrom space (k + 1) (entriesFrom s (recordAt k))) address bus
 
 pub claims-start : (space : Space) (s : List ℕ) (address bus : ℕ)
     → join none (claimsFrom space s address bus 0) ≡ tallyFor (Address space address) s bus
@@ -109,7 +109,7 @@ module _ (s : List ℕ) (c : Checked s) (n k : ℕ) (count : n ≡ length (entri
         claims-step =
             ap (λ (fs : List Registers). claimsOn (enabledOf space s) fs address bus) (functions-index s (c .framed) space k inside)
             ∙ rw (← e) (claims-cons (enabledOf space s) address bus function
-            (functionsFrom space (k + 1 + 1) (entriesFrom s (stride * (k + 1) + 1))))
+            (functionsFrom space (k + 1 + 1) (entriesFrom s (recordAt (k + 1)))))
 
         pub claims-other : b ≡ false → join t (claimsFrom space s address bus (k + 1)) ≡ join t (claimsFrom space s address bus k)
         claims-other off =

@@ -78,9 +78,6 @@ unfolding flatMap
 of-records [] w = none
 of-records (p ∷ ps) w = both (of-record p (w .0 .entry)) (of-records ps (w .1))
 
-pub bytes-recordBytes : (p : Planned) → Shaped (p .entry) → Bytes (recordBytes p)
-bytes-recordBytes p w = of-record p w .bytes
-
 pub bytes-sheetBytes : (ps : List Planned) → All WellShaped ps → Bytes (sheetBytes ps)
 unfolding sheetBytes
 bytes-sheetBytes ps w = bytes-cons 1 (flatMap recordBytes ps) (omega arith) (of-records ps w .bytes)

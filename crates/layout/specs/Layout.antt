@@ -1,5 +1,5 @@
--- Document 01, "The sheet", as bytes: version byte 1, then for each function a length-first record: ID, the 64-byte configuration header (little-endian),
--- six read-backs (big-endian). A record has all its bytes whatever is planned. Assumes nothing.
+-- Document 01, "The sheet", as bytes: version byte 1, then for each function a length-first record: ID, the 64-byte configuration header
+-- (little-endian), six read-backs (big-endian). A record has all its bytes whatever is planned. Assumes nothing.
 use mathlib.Core.Path.{_≡_}
 use Prim.Native.Nat.{ℕ, zero, suc, _+_, _-_, _*_, _^_, _<_}
 use mathlib.Core.Bool.{false, cond}
@@ -82,6 +82,14 @@ unfoldable pub sheetBytes : List Planned → List ℕ
 sheetBytes ps = 1 ∷ flatMap recordBytes ps
 
 -- ## What the writer is handed: room for six values, and a bridge's own, which count for a bridge only
+
+-- a bridge's body
+abbrev pub bridgeBody : Registers → List ℕ
+bridgeBody r =
+    dwordBytes (leBytes 4) 2 (r .values) 0
+    ++ numberBytes (r .primary) (r .secondary) (r .subordinate) (r .io)
+    ++ memoryBytes (r .low) (r .high)
+    ++ gap (upperLimitAt + 4) readbacksAt
 
 unfoldable pub plannedOf : Registers → Planned
 plannedOf r =

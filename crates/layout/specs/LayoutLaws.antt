@@ -6,7 +6,7 @@ use Prim.Native.Nat.{ℕ, zero, suc, _+_, _*_, _/_, _%_, _≤_, _<_}
 use native.Mathlib.Nat.{zero-add, zero-mul, suc-mul}
 use native.Mathlib.Omega.{arith}
 use lib.ListN.{length, getD, take, drop, length-append}
-use lib.Seq.{sets, sets-eq, getD-take}
+use lib.Seq.{sets, getD-take}
 use Rattle.endian.specs.Endian.{beBytes, leBytes}
 use Rattle.endian.specs.SetsLaws.{sets-append}
 use Rattle.endian.specs.EndianLaws.{length-beBytes}
@@ -14,7 +14,7 @@ use Rattle.sheet_record.specs.Places.{recordSize, stride}
 use Rattle.sheet_record.specs.Entry.{Entry, isBridge}
 use Rattle.sheet.specs.Sheet.{sheetLength}
 use Rattle.layout.specs.declared.Registers.{Registers}
-use Rattle.layout.specs.Layout.{Planned, zeros, dwordBytes, endBytes, numberBytes, memoryBytes, bridgeBytes, bodyBytes, commonBytes, configBytes, partBytes, recordBytes, sheetBytes, plannedOf}
+use Rattle.layout.specs.Layout.{Planned, zeros, dwordBytes, endBytes, bridgeBytes, bridgeBody, bodyBytes, commonBytes, configBytes, partBytes, recordBytes, sheetBytes, plannedOf}
 
 -- ## Numbers in rows
 
@@ -61,12 +61,7 @@ leBytes-of-byte x h =
 -- ## A bridge's body, and another function's
 
 module _ (r : Registers) where
-  pub body-of-bridge : isBridge (r .header) ≡ true
-      → dwordBytes (leBytes 4) 2 (r .values) 0
-      ++ numberBytes (r .primary) (r .secondary) (r .subordinate) (r .io)
-      ++ memoryBytes (r .low) (r .high)
-      ++ zeros 16
-      ≡ bodyBytes (plannedOf r .entry)
+  pub body-of-bridge : isBridge (r .header) ≡ true → bridgeBody r ≡ bodyBytes (plannedOf r .entry)
   unfolding bodyBytes bridgeBytes plannedOf
   body-of-bridge h = rw (h, dwordBytes-take (leBytes 4) 2 2 (r .values) 0 (omega arith))
 
@@ -148,9 +143,3 @@ sets-sheetBytes-snoc {o₁} o ps p e f =
     rw (sheetBytes-snoc ps p)
     (sets-append o 0 (sheetLength (length ps)) (sheetBytes ps) (recordBytes p) (length-sheetBytes ps) e
     (f ∙ ap (λ (i : ℕ). sets o₁ i (recordBytes p)) (sym (zero-add (sheetLength (length ps))))))
-
--- and the room that is left stays as it was
-pub sets-sheetBytes : (room : List ℕ) (ps : List Planned) → sheetLength (length ps) ≤ length room
-    → sets room 0 (sheetBytes ps) ≡ sheetBytes ps ++ drop (sheetLength (length ps)) room
-sets-sheetBytes room ps h =
-    sets-eq (sheetBytes ps) room 0 (omega (arith, length-sheetBytes ps)) ∙ rw (length-sheetBytes ps, zero-add (sheetLength (length ps)))

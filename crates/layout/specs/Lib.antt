@@ -3,4 +3,3 @@ pub mod Layout
 pub mod LayoutLaws
 pub mod AllBytes
 pub mod ReadBack
-pub mod Rewritten

@@ -6,7 +6,8 @@ ghost use lib.ListN.{length};
 ghost use lib.Seq.{sets};
 ghost use Rattle.endian.specs.Endian.{beBytes, leBytes};
 ghost use Rattle.sheet_record.specs.Places.{recordSize, stride};
-ghost use Rattle.layout.specs.Layout.{zeros, dwordBytes, numberBytes, memoryBytes, windowBytes, bodyBytes, commonBytes, recordBytes, plannedOf};
+ghost use Rattle.layout.specs.Layout.{zeros, dwordBytes, numberBytes, memoryBytes, windowBytes, bridgeBody, bodyBytes, commonBytes};
+ghost use Rattle.layout.specs.Layout.{recordBytes, plannedOf};
 use sheet_record::places;
 use window::Window;
 
@@ -137,7 +138,7 @@ fn put_values(out: &mut [u8], at: usize, values: [u32; 6])
 
 fn put_bridge(out: &mut [u8], at: usize, r: Registers)
     requires { ⌜ (at + 48 ≤ length (now out)) × (r .io .base < 256) × (r .io .limit < 256) ⌝ }
-    ensures { λ _. ⌜ now (out .exit) ≡ sets (now (out .entry)) at (dwordBytes (leBytes 4) 2 (r .values) 0 ++ numberBytes (r .primary) (r .secondary) (r .subordinate) (r .io) ++ memoryBytes (r .low) (r .high) ++ zeros 16) ⌝ }
+    ensures { λ _. ⌜ now (out .exit) ≡ sets (now (out .entry)) at (bridgeBody r) ⌝ }
 {
     put_le_pair(out, at, r.values[0], r.values[1]);
     put_numbers(out, at + BUSES, r);

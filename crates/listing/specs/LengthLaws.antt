@@ -1,11 +1,12 @@
--- How long an answer is: a count or a number has three digits at the most, and each line 83 bytes. In that room it is put whole. Assumes nothing.
+-- How long an answer is: a count or a number has three digits at the most, and each line 83 bytes. In that room it is put whole.
+-- Assumes nothing.
 use mathlib.Core.Path.{_≡_, refl, sym, ap, _∙_}
 use mathlib.Core.Bool.{Bool, true, false, cond}
 use mathlib.Core.List.{List, [], _∷_, _++_, map, flatMap}
 use Prim.Native.Nat.{ℕ, zero, suc, _+_, _*_, _/_, _%_, _≤_, _<_}
 use native.Mathlib.Nat.{zero-add, zero-mul, suc-mul}
 use native.Mathlib.Omega.{arith}
-use lib.ListN.{length, getD, take, drop, length-append}
+use lib.ListN.{length, getD, drop, length-append}
 use lib.Seq.{sets-eq}
 use lib.Dec.{eqb, ltb}
 use borrow.Author.Tests.{ltb-true, ltb-false, eqb-true, eqb-false}
@@ -19,10 +20,7 @@ use Rattle.sheet_record.specs.Entry.{Entry, dwords, idOf, headerOf, isBridge, s
 use Rattle.sheet.specs.Sheet.{isFramed, partsIn, entriesFrom, entriesOf, anyBreaks, idTwice, from29, from25, from28, from27, from24, from22, from20, from21, sheetNumber}
 use Rattle.sheet.specs.IndexLaws.{length-entries}
 use Rattle.sheet.specs.SheetLaws.{checked-of-zero}
-use Rattle.planning.specs.declared.Planning.{Planning}
-use Rattle.planning.specs.declared.Planning.the-variants.{Planned, Refused}
-use Rattle.planning.specs.Plan.{numberOf}
-use Rattle.listing.specs.Listing.{newline, words, buses, edges, uppers, windowText, bridgeText, endText, lineOf, countText, planText, refusalText, sheetText, planningText, longest}
+use Rattle.listing.specs.Listing.{newline, words, buses, edges, uppers, windowText, bridgeText, endText, lineOf, countText, planText, refusalText, sheetText, longest}
 use Rattle.listing.specs.ListingLaws.{lineOf-bridge, lineOf-end, sheetText-good, sheetText-bad}
 
 -- ## Digits
@@ -191,10 +189,6 @@ sheet-le s = go (eqb (sheetNumber s) 0) refl
         omega (arith, ap length (sheetText-good s (sheetNumber s) refl z), plan-le s (checked-of-zero s z .count))
     go false e =
         omega (arith, ap length (sheetText-bad s (sheetNumber s) refl (eqb-false (sheetNumber s) 0 e)), refusal-le (sheetNumber s) (number-lt s))
-
-pub answer-le : (p : Planning) (room : List ℕ) → numberOf p < 1000 → length (planningText p room) ≤ longest
-answer-le (Planned n) room h = sheet-le (take n room)
-answer-le (Refused n) room h = refusal-le n h
 
 -- a text that fits from the start on is put whole, and what follows it stays
 pub put-whole : {o text after : List ℕ} {r : ℕ} → length text ≤ length o → Put o 0 text after r

@@ -66,6 +66,6 @@ abbrev pub planningText : Planning → List ℕ → List ℕ
 planningText (Planned n) room = sheetText (take n room)
 planningText (Refused n) room = refusalText n
 
--- the most bytes that an answer has: a count, and a bridge's line for each function (`answer-le` of LengthLaws)
+-- the most bytes that an answer has: a count, and a bridge's line for each function (`sheet-le` of LengthLaws)
 abbrev pub longest : ℕ
 longest = 9 + 83 * mostFunctions

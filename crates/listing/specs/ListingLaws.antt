@@ -58,7 +58,8 @@ put-nothing {o} {o₁} {vs} {at} {r} p =
 -- ## A line, in the words of the code: what was read of the record's part
 
 module _ (p : List ℕ) (b : isBridge (headerOf p) ≡ true) where
-  pub buses-of-bridge : (primary secondary subordinate : ℕ) → primary ≡ primaryOf p → secondary ≡ secondaryOf p → subordinate ≡ subordinateOf p
+  pub buses-of-bridge : (primary secondary subordinate : ℕ)
+      → primary ≡ primaryOf p → secondary ≡ secondaryOf p → subordinate ≡ subordinateOf p
       → buses (entryOf p) ≡ primary ∷ secondary ∷ subordinate ∷ []
   unfolding entryOf
   buses-of-bridge primary secondary subordinate d e f = rw (b, d, e, f)

@@ -9,7 +9,8 @@ ghost use Rattle.text.specs.Text.{Put, hexadecimal};
 ghost use Rattle.sheet_record.specs.Places.{recordSize};
 ghost use Rattle.sheet_record.specs.Entry.{headerOf, isBridge, entryOf};
 ghost use Rattle.sheet.specs.Sheet.{Framed, entriesOf};
-ghost use Rattle.listing.specs.Listing.{buses, words, windowText, bridgeText, endText, lineOf, countText, planText, refusalText, sheetText, planningText, longest};
+ghost use Rattle.listing.specs.Listing.{buses, words, windowText, bridgeText, endText, lineOf};
+ghost use Rattle.listing.specs.Listing.{countText, planText, refusalText, sheetText, planningText, longest};
 use planning::Planning;
 use pools::Pool;
 use text::put_byte;
@@ -21,7 +22,8 @@ pub const LONGEST: usize = 9 + 83 * records::MOST_FUNCTIONS;
 
 // The planner's answer: the sheet that it left in the room, or its number.
 pub fn put_planning(out: &mut [u8], at: usize, planning: Planning, room: &[u8]) -> usize
-    ensures { λ r. ⌜ Put (now (out .entry)) at (planningText planning (now (room .entry))) (now (out .exit)) r × (length (planningText planning (now (room .entry))) ≤ longest) ⌝ }
+    ensures put { λ r. ⌜ Put (now (out .entry)) at (planningText planning (now (room .entry))) (now (out .exit)) r ⌝ }
+    ensures fits { λ _. ⌜ length (planningText planning (now (room .entry))) ≤ longest ⌝ }
 {
     match planning {
         Planning::Planned(n) => put_sheet(out, at, text::front(room, n)),

@@ -22,6 +22,7 @@ use Rattle.placer.specs.declared.BarsPlaced.{BarsPlaced}
 use Rattle.placer.specs.declared.WindowsPlaced.{WindowsPlaced}
 use Rattle.placer.specs.Kept.{endsOf, extentIn, barsPlaced, windowsPlaced}
 use Rattle.layout.specs.declared.Registers.{Registers}
+use Rattle.layout.specs.Layout.{plannedOf, recordBytes}
 
 abbrev pub cursorsIn : List ℕ → ℕ → Cursors
 cursorsIn c b = record { low = getD c (3 * b) 0; high = getD c (3 * b + 1) 0; io = getD c (3 * b + 2) 0 }
@@ -92,6 +93,10 @@ module _ (first : ℕ) (counts memo c : List ℕ) (i : ℕ) (f : Function) where
 
   abbrev pub registersOf : Registers
   registersOf = cond (isBridge f) bridgeRegisters (leafRegisters first counts c f)
+
+  -- as bytes of the sheet
+  abbrev pub recordOf : List ℕ
+  recordOf = recordBytes (plannedOf registersOf)
 
 module _ (memo c : List ℕ) (i : ℕ) (f : Function) where
   unfoldable pub bridgeNext : List ℕ

@@ -12,11 +12,11 @@ ghost use Rattle.placing.specs.Pieces.{windowAlign};
 ghost use Rattle.records.specs.declared.Next.the-variants.{Record};
 ghost use Rattle.records.specs.Records.{nextOf};
 ghost use Rattle.sheet.specs.Sheet.{sheetLength};
-ghost use Rattle.layout.specs.Layout.{plannedOf, recordBytes, sheetBytes};
+ghost use Rattle.layout.specs.Layout.{sheetBytes};
 ghost use Rattle.placement.specs.Loop.{mostBuses, planOn, Ready, basesFor, Filled, Placing};
 ghost use Rattle.sizing.specs.Memo.{laidAt};
 ghost use Rattle.placer.specs.Kept.{extentIn, windowsPlaced};
-ghost use Rattle.placement.specs.Step.{cursorsIn, endsList, extentsIn, busIn, barsIn, leafWith, leafRegisters, bridgeWith, bridgeRegisters, registersOf, leafNext, bridgeNext, cursorsNext, Placeable, Bridged};
+ghost use Rattle.placement.specs.Step.{cursorsIn, endsList, extentsIn, busIn, barsIn, leafWith, leafRegisters, bridgeWith, bridgeRegisters, registersOf, recordOf, leafNext, bridgeNext, cursorsNext, Placeable, Bridged};
 use board_record::Function;
 use board_record::Host;
 use layout::Registers;
@@ -292,8 +292,10 @@ fn write_next(
     cursors: &mut [u64],
     sheet: &mut [u8],
 )
-    requires { ⌜ Placeable first (now counts) (now cursors) f × (isBridgeOf f ≡ true → Bridged first (now counts) (now memo) (now cursors) i) × (sheetLength (suc i) ≤ length (now sheet)) ⌝ }
-    ensures { λ _. ⌜ (now (cursors .exit) ≡ cursorsNext (now (memo .entry)) (now (cursors .entry)) i f) × (now (sheet .exit) ≡ sets (now (sheet .entry)) (sheetLength i) (recordBytes (plannedOf (registersOf first (now (counts .entry)) (now (memo .entry)) (now (cursors .entry)) i f)))) ⌝ }
+    requires { ⌜ Placeable first (now counts) (now cursors) f × (isBridgeOf f ≡ true → Bridged first (now counts) (now memo) (now cursors) i) ⌝ }
+    requires { ⌜ sheetLength (suc i) ≤ length (now sheet) ⌝ }
+    ensures cursors { λ _. ⌜ now (cursors .exit) ≡ cursorsNext (now (memo .entry)) (now (cursors .entry)) i f ⌝ }
+    ensures sheet { λ _. ⌜ now (sheet .exit) ≡ sets (now (sheet .entry)) (sheetLength i) (recordOf first (now (counts .entry)) (now (memo .entry)) (now (cursors .entry)) i f) ⌝ }
 {
     let at = 1 + STRIDE * i;
     let r = place_record(f, i, first, counts, memo, cursors);

@@ -56,7 +56,8 @@ fn plan_lawful(board: &[u8], sheet: &mut [u8]) -> Planning
 
 // One pass fills the arrays, one counts the bridges before each function, one sizes every bus.
 fn measure(board: &[u8], host: Host, counts: &mut [u16], memo: &mut [u64]) -> Measured
-    requires { ⌜ (boardNumber (now board) ≡ 0) × (host ≡ hostOf (now board)) × (mostFunctions < length (now counts)) × (8 * mostFunctions ≤ length (now memo)) ⌝ }
+    requires { ⌜ (boardNumber (now board) ≡ 0) × (host ≡ hostOf (now board)) ⌝ }
+    requires { ⌜ (mostFunctions < length (now counts)) × (8 * mostFunctions ≤ length (now memo)) ⌝ }
     ensures { λ r. ⌜ IsMeasured (now (board .entry)) (now (counts .exit)) (now (memo .exit)) r ⌝ }
 {
     let mut parents = [0u16; MOST_FUNCTIONS];

@@ -1,5 +1,5 @@
--- The three address pools, each a value with its granule and its refusal number, so that nothing is said three times; and the two address spaces that
--- they lie in. Assumes nothing.
+-- The three address pools, each a value with its granule and its refusal number, so that nothing is said three times; and the two address
+-- spaces that they lie in. Assumes nothing.
 use mathlib.Core.Bool.{Bool, true, false}
 use Prim.Native.Nat.{ℕ}
 use Rattle.pools.specs.declared.Pool.{Pool}

@@ -20,7 +20,7 @@ use Rattle.sheet.specs.declared.Lookup.{Lookup}
 use Rattle.sheet.specs.declared.Lookup.the-variants.{Registers, Refused}
 use Rattle.sheet_record.specs.Places.{idAt, registersAt, commandAt, headerTypeAt, valuesAt, primaryAt, secondaryAt, subordinateAt, ioBaseAt, ioLimitAt, lowBaseAt, lowLimitAt, highBaseAt, highLimitAt, upperBaseAt, upperLimitAt, readbacksAt, recordSize, stride}
 use Rattle.sheet_record.specs.Entry.{dwords, headerOf, slotCount, windowOf, Entry, entryOf}
-use Rattle.sheet.specs.Sheet.{isFramed, Framed, entriesFrom, entriesOf, commandsOf, from20, from21, from22, sheetNumber}
+use Rattle.sheet.specs.Sheet.{isFramed, Framed, entriesFrom, entriesOf, commandsOf, from20, from21, from22, sheetNumber, recordAt, commandPlace}
 use Rattle.sheet.specs.Lookup.{lookupOf, commandFrom, withCommand}
 use Rattle.sheet.specs.Spaces.{functionsFrom, nodesFrom, registersOf, nodesOf}
 use Rattle.sheet.specs.Commands.{InCommand, SameButCommands}
@@ -44,7 +44,8 @@ module _ (p q : List ℕ) (h : (i : ℕ) → (i / 2 ≡ commandAt / 2 → ⊥) �
   le-past : (n i : ℕ) → commandAt + 2 ≤ i → le n p i ≡ le n q i
   le-past n i l = le-agree n p q i i (λ k m. h (i + k) (λ e. omega arith))
 
-  dwords-past : (read : List ℕ → ℕ → ℕ) → ((i : ℕ) → commandAt + 2 ≤ i → read p i ≡ read q i) → (n i : ℕ) → commandAt + 2 ≤ i → dwords read n p i ≡ dwords read n q i
+  dwords-past : (read : List ℕ → ℕ → ℕ) → ((i : ℕ) → commandAt + 2 ≤ i → read p i ≡ read q i) → (n i : ℕ) → commandAt + 2 ≤ i
+      → dwords read n p i ≡ dwords read n q i
   unfolding dwords
   dwords-past read same zero i l = refl
   dwords-past read same (suc n) i l = ap₂ _∷_ (same i l) (dwords-past read same n (i + 4) (omega arith))
@@ -55,7 +56,13 @@ module _ (p q : List ℕ) (h : (i : ℕ) → (i / 2 ≡ commandAt / 2 → ⊥) �
   window-same : (w : Pool) → windowOf w p ≡ windowOf w q
   unfolding windowOf
   window-same Low = cc (le-past 2 lowBaseAt (omega arith), le-past 2 lowLimitAt (omega arith))
-  window-same High = cc (le-past 2 highBaseAt (omega arith), le-past 2 highLimitAt (omega arith), le-past 4 upperBaseAt (omega arith), le-past 4 upperLimitAt (omega arith))
+  window-same High =
+      cc (
+        le-past 2 highBaseAt (omega arith),
+        le-past 2 highLimitAt (omega arith),
+        le-past 4 upperBaseAt (omega arith),
+        le-past 4 upperLimitAt (omega arith),
+      )
   window-same Io = cc (byte-past ioBaseAt (omega arith), byte-past ioLimitAt (omega arith))
 
   pub entry-same : entryOf p ≡ entryOf q
@@ -98,11 +105,11 @@ next-same s t at l n = go (leb (length s) at) refl (eqb (length s) (at + 1)) ref
 
 module _ {s t : List ℕ} (same : SameButCommands s t) where
   -- what stands at the place of record k
-  next-at-record : (k at : ℕ) → at ≡ 1 + stride * k → nextOf (drop at t) ≡ nextOf (drop at s)
+  next-at-record : (k at : ℕ) → at ≡ recordAt k → nextOf (drop at t) ≡ nextOf (drop at s)
   next-at-record k at e =
       next-same s t at (same .same-length) (be-agree 2 t s at at (λ j l. same .same-bytes (at + j) (λ c. omega arith)))
 
-  framed-from : (n k at : ℕ) → length s ≤ at + n → at ≡ 1 + stride * k → at ≤ length s → isFramed (drop at t) ≡ isFramed (drop at s)
+  framed-from : (n k at : ℕ) → length s ≤ at + n → at ≡ recordAt k → at ≤ length s → isFramed (drop at t) ≡ isFramed (drop at s)
   framed-from zero k at m e h =
       framed-end t at (next-end t at (omega (arith, same .same-length))) ∙ sym (framed-end s at (next-end s at (omega arith)))
   framed-from (suc n) k at m e h = go (nextOf (drop at s)) refl (λ d. framed-from n (suc k) (at + stride) (omega arith) (omega arith) d)
@@ -126,7 +133,7 @@ module _ {s t : List ℕ} (same : SameButCommands s t) where
 
   -- ## The records
 
-  part-same : (k at : ℕ) → at ≡ 1 + stride * k → (i : ℕ) → (i / 2 ≡ commandAt / 2 → ⊥) → getD (partFrom t at) i 0 ≡ getD (partFrom s at) i 0
+  part-same : (k at : ℕ) → at ≡ recordAt k → (i : ℕ) → (i / 2 ≡ commandAt / 2 → ⊥) → getD (partFrom t at) i 0 ≡ getD (partFrom s at) i 0
   part-same k at e i c = go (ltb i recordSize) refl
     where
       size : at + stride - (at + 2) ≡ recordSize
@@ -142,7 +149,7 @@ module _ {s t : List ℕ} (same : SameButCommands s t) where
           rw size (List·getD-eq-default (take recordSize (drop (at + 2) t)) 0 (omega (arith, length-take recordSize (drop (at + 2) t)))
           ∙ sym (List·getD-eq-default (take recordSize (drop (at + 2) s)) 0 (omega (arith, length-take recordSize (drop (at + 2) s)))))
 
-  entries-from : (k at : ℕ) (es : List Entry) → at ≡ 1 + stride * k → Framed at s → Framed at t → entriesFrom s at ≡ es → entriesFrom t at ≡ es
+  entries-from : (k at : ℕ) (es : List Entry) → at ≡ recordAt k → Framed at s → Framed at t → entriesFrom s at ≡ es → entriesFrom t at ≡ es
   entries-from k at [] e f g q = entries-past t at (omega (arith, same .same-length, past-of-nil s at f q))
   entries-from k at (x ∷ es) e f g q =
       let r = first-at s at x es f q in
@@ -193,7 +200,8 @@ same-of-command s id command = go (lookupOf s id) refl
     stored : (a : ℕ) → LookedUp s id a → (i : ℕ) → (InCommand i → ⊥) → getD (sets s (commandFrom a) (leBytes 2 command)) i 0 ≡ getD s i 0
     stored a l i c = by (ltb i (commandFrom a)) refl (ltb i (commandFrom a + 2)) refl
       where
-        by : (b : Bool) → ltb i (commandFrom a) ≡ b → (d : Bool) → ltb i (commandFrom a + 2) ≡ d → getD (sets s (commandFrom a) (leBytes 2 command)) i 0 ≡ getD s i 0
+        by : (b : Bool) → ltb i (commandFrom a) ≡ b → (d : Bool) → ltb i (commandFrom a + 2) ≡ d
+            → getD (sets s (commandFrom a) (leBytes 2 command)) i 0 ≡ getD s i 0
         by true q d r = getD-sets-before s (commandFrom a) (leBytes 2 command) i 0 (ltb-true i (commandFrom a) q)
         by false q true r =
             absurd (c (omega (arith, ltb-false i (commandFrom a) q, ltb-true i (commandFrom a + 2) r, l .place, l .found .place)))
@@ -225,11 +233,13 @@ commands-rewritten s id command a small l =
     framed′ : Framed 1 t
     framed′ = framed-keeps (same-of-command s id command) framed
 
-    place : a ≡ stride * k + (3 + registersAt)
+    place : a ≡ recordAt k + (2 + registersAt)
     place = omega (arith, looked-up s id a l .place, looked-up s id a l .found .place)
 
-    t-is : t ≡ sets s (stride * k + (3 + commandAt)) (leBytes 2 command)
-    t-is = let e : commandFrom a ≡ stride * k + (3 + commandAt) = omega (arith, place) in ap (λ (x : Lookup). withCommand x s command) l ∙ ap (λ (i : ℕ). sets s i (leBytes 2 command)) e
+    t-is : t ≡ sets s (commandPlace k) (leBytes 2 command)
+    t-is =
+        let e : commandFrom a ≡ commandPlace k = omega (arith, place) in
+        ap (λ (x : Lookup). withCommand x s command) l ∙ ap (λ (i : ℕ). sets s i (leBytes 2 command)) e
 
     count : length (commandsOf t) ≡ length (commandsOf s)
     count =
@@ -245,24 +255,24 @@ commands-rewritten s id command a small l =
     same-count : length (commandsOf t) ≡ length (set (commandsOf s) k command)
     same-count = count ∙ sym (length-set (commandsOf s) k command)
 
-    word : (j : ℕ) → j < length (commandsOf t) → getD (commandsOf t) j 0 ≡ le 2 (sets s (stride * k + (3 + commandAt)) (leBytes 2 command)) (stride * j + (3 + commandAt))
-    word j h = command-index t j framed′ h ∙ ap (λ (x : List ℕ). le 2 x (stride * j + (3 + commandAt))) t-is
+    word : (j : ℕ) → j < length (commandsOf t) → getD (commandsOf t) j 0 ≡ le 2 (sets s (commandPlace k) (leBytes 2 command)) (commandPlace j)
+    word j h = command-index t j framed′ h ∙ ap (λ (x : List ℕ). le 2 x (commandPlace j)) t-is
 
     by : (j : ℕ) → j < length (commandsOf t) → (b : Bool) → eqb j k ≡ b → getD (commandsOf t) j 0 ≡ getD (set (commandsOf s) k command) j 0
     by j h true q =
         let e : j ≡ k = eqb-true j k q in
-        let fits : stride * k + (3 + commandAt) + 2 ≤ length s = omega (arith, looked-up s id a l .found .fits, looked-up s id a l .found .place) in
+        let fits : commandPlace k + 2 ≤ length s = omega (arith, looked-up s id a l .found .fits, looked-up s id a l .found .place) in
         word j h
-        ∙ ap (λ (i : ℕ). le 2 (sets s (stride * k + (3 + commandAt)) (leBytes 2 command)) (stride * i + (3 + commandAt))) e
-        ∙ le-sets 2 s (stride * k + (3 + commandAt)) command fits small
+        ∙ ap (λ (i : ℕ). le 2 (sets s (commandPlace k) (leBytes 2 command)) (commandPlace i)) e
+        ∙ le-sets 2 s (commandPlace k) command fits small
         ∙ sym (getD-set-same (commandsOf s) k command 0 (omega (arith, count)))
         ∙ ap (λ (i : ℕ). getD (set (commandsOf s) k command) i 0) (sym e)
     by j h false q =
         let other : j ≡ k → ⊥ = eqb-false j k q in
         word j h ∙ kept (ltb j k) refl ∙ sym (command-index s j framed (omega (arith, count))) ∙ sym (getD-set-other (commandsOf s) k j command 0 other)
       where
-        kept : (c : Bool) → ltb j k ≡ c → le 2 (sets s (stride * k + (3 + commandAt)) (leBytes 2 command)) (stride * j + (3 + commandAt)) ≡ le 2 s (stride * j + (3 + commandAt))
-        kept true c = le-sets-before 2 s (stride * k + (3 + commandAt)) (leBytes 2 command) (stride * j + (3 + commandAt)) (omega (arith, ltb-true j k c))
+        kept : (c : Bool) → ltb j k ≡ c → le 2 (sets s (commandPlace k) (leBytes 2 command)) (commandPlace j) ≡ le 2 s (commandPlace j)
+        kept true c = le-sets-before 2 s (commandPlace k) (leBytes 2 command) (commandPlace j) (omega (arith, ltb-true j k c))
         kept false c =
-            le-sets-after 2 s (stride * k + (3 + commandAt)) (leBytes 2 command) (stride * j + (3 + commandAt))
+            le-sets-after 2 s (commandPlace k) (leBytes 2 command) (commandPlace j)
             (omega (arith, length-leBytes 2 command, ltb-false j k c, eqb-false j k q))

@@ -14,7 +14,7 @@ use Rattle.records.specs.declared.Next.the-variants.{End, Record, Broken}
 use Rattle.records.specs.Records.{nextOf, Parts, partsOf, partsFrom}
 use Rattle.records.specs.RecordsLaws.{empty-of-end, fits-at, length-part, next-end, next-broken, next-record, parts-record, parts-end, parts-broken}
 use Rattle.sheet_record.specs.Places.{recordSize, stride}
-use Rattle.sheet.specs.Sheet.{allSized, isFramed, Framed, partsIn, partAt, sheetLength}
+use Rattle.sheet.specs.Sheet.{allSized, isFramed, Framed, partsIn, partAt, sheetLength, recordAt}
 
 -- ## One turn of the pass that checks the frame
 
@@ -117,4 +117,4 @@ pub length-framed : (s : List ℕ) → Framed 1 s → length s ≡ sheetLength (
 length-framed s f = count-from s 1 (partsIn s) refl (f .sized) (f .inside)
 
 pub part-index : (s : List ℕ) (k : ℕ) → Framed 1 s → k < length (partsIn s) → getD (partsIn s) k [] ≡ partAt s k
-part-index s k f h = let n : stride * k + 1 + 2 ≡ stride * k + 3 = omega arith in part-from s 1 k (f .sized) h ∙ rw n
+part-index s k f h = let n : stride * k + 1 + 2 ≡ recordAt k + 2 = omega arith in part-from s 1 k (f .sized) h ∙ rw n

@@ -1,7 +1,7 @@
 -- A framed sheet by record index, from 0: what a search that counts records goes by. Assumes nothing.
 use mathlib.Core.Path.{_≡_, sym, ap, _∙_}
 use mathlib.Core.List.{List, [], _∷_, map}
-use Prim.Native.Nat.{ℕ, zero, suc, _+_, _-_, _*_, _/_, _≤_, _<_}
+use Prim.Native.Nat.{ℕ, zero, suc, _+_, _-_, _/_, _≤_, _<_}
 use native.Mathlib.Numerals.{add-one}
 use native.Mathlib.Omega.{arith}
 use lib.Seq.{length-take-le}
@@ -14,19 +14,18 @@ use Rattle.walk.specs.Registers.{enabledIn}
 use Rattle.sheet_record.specs.Spaces.{functionOf, enables}
 use Rattle.sheet_record.specs.Places.{commandAt, recordSize, stride}
 use Rattle.sheet_record.specs.Entry.{commandOf, entryOf}
-use Rattle.sheet.specs.Sheet.{Framed, entriesFrom, entriesOf, commandsOf, partsIn, partAt, sheetLength}
+use Rattle.sheet.specs.Sheet.{Framed, entriesFrom, entriesOf, commandsOf, partsIn, partAt, sheetLength, recordAt, commandPlace}
 use Rattle.sheet.specs.Spaces.{functionsFrom, enabledOf}
 use Rattle.sheet.specs.FrameLaws.{framed-at, part-index}
 use Rattle.sheet.specs.CheckLaws.{partFrom, entries-on, entries-past, count-entries}
 
-part-from-index : (s : List ℕ) (k : ℕ) → partFrom s (stride * k + 1) ≡ partAt s k
+part-from-index : (s : List ℕ) (k : ℕ) → partFrom s (recordAt k) ≡ partAt s k
 part-from-index s k =
-    let n : stride * k + 1 + stride - (stride * k + 1 + 2) ≡ recordSize = omega arith in
-    let m : stride * k + 1 + 2 ≡ stride * k + 3 = omega arith in
-    rw (n, m)
+    let n : recordAt k + stride - (recordAt k + 2) ≡ recordSize = omega arith in
+    rw n
 
 pub length-part : (s : List ℕ) (k : ℕ) → sheetLength (k + 1) ≤ length s → length (partAt s k) ≡ recordSize
-length-part s k h = length-take-le recordSize (drop (stride * k + 3) s) (omega (arith, length-drop (stride * k + 3) s))
+length-part s k h = length-take-le recordSize (drop (recordAt k + 2) s) (omega (arith, length-drop (recordAt k + 2) s))
 
 -- the bit of the record with number k + 1
 enabled-map : (space : Space) (cs : List ℕ) (k : ℕ) → enabledIn (map (enables space) cs) (k + 1) ≡ enables space (getD cs k 0)
@@ -45,12 +44,12 @@ unfolding commandsOf
 length-commands s = length-map (partsIn s) commandOf
 
 -- record k's, by its place in the sheet
-command-of-place : (s : List ℕ) (k : ℕ) → commandOf (partAt s k) ≡ le 2 s (stride * k + (3 + commandAt))
+command-of-place : (s : List ℕ) (k : ℕ) → commandOf (partAt s k) ≡ le 2 s (commandPlace k)
 command-of-place s k =
-    let e : stride * k + 3 + commandAt ≡ stride * k + (3 + commandAt) = omega arith in
-    le-take 2 recordSize (drop (stride * k + 3) s) commandAt (omega arith) ∙ le-drop 2 (stride * k + 3) s commandAt ∙ ap (le 2 s) e
+    let e : recordAt k + 2 + commandAt ≡ commandPlace k = omega arith in
+    le-take 2 recordSize (drop (recordAt k + 2) s) commandAt (omega arith) ∙ le-drop 2 (recordAt k + 2) s commandAt ∙ ap (le 2 s) e
 
-pub command-index : (s : List ℕ) (k : ℕ) → Framed 1 s → k < length (commandsOf s) → getD (commandsOf s) k 0 ≡ le 2 s (stride * k + (3 + commandAt))
+pub command-index : (s : List ℕ) (k : ℕ) → Framed 1 s → k < length (commandsOf s) → getD (commandsOf s) k 0 ≡ le 2 s (commandPlace k)
 unfolding commandsOf le
 command-index s k f h =
     List·getD-map commandOf (partsIn s) k []
@@ -60,35 +59,35 @@ command-index s k f h =
 -- ## Records and functions
 
 module _ (s : List ℕ) (f : Framed 1 s) where
-  lt-of-index : (k : ℕ) → k < length (entriesOf s) → stride * k + 1 < length s
+  lt-of-index : (k : ℕ) → k < length (entriesOf s) → recordAt k < length s
   lt-of-index k h = omega (arith, count-entries s f)
 
-  pub framed-index : (k : ℕ) → k ≤ length (entriesOf s) → Framed (stride * k + 1) s
+  pub framed-index : (k : ℕ) → k ≤ length (entriesOf s) → Framed (recordAt k) s
   framed-index zero h = f
   framed-index (suc k) h =
-      let a = framed-at s (stride * k + 1) (framed-index k (omega arith) .sized) (lt-of-index k h) in
-      let e : stride * suc k + 1 ≡ stride * k + 1 + stride = omega arith in
+      let a = framed-at s (recordAt k) (framed-index k (omega arith) .sized) (lt-of-index k h) in
+      let e : recordAt (suc k) ≡ recordAt k + stride = omega arith in
       rw e (record { inside = a .fits; sized = a .rest })
 
   pub record-fits : (k : ℕ) → k < length (entriesOf s) → sheetLength (k + 1) ≤ length s
   record-fits k h = omega (arith, count-entries s f)
 
-  pub entries-index : (k : ℕ) → k < length (entriesOf s) → entriesFrom s (stride * k + 1) ≡ entryOf (partAt s k) ∷ entriesFrom s (stride * (k + 1) + 1)
+  pub entries-index : (k : ℕ) → k < length (entriesOf s) → entriesFrom s (recordAt k) ≡ entryOf (partAt s k) ∷ entriesFrom s (recordAt (k + 1))
   entries-index k h =
-      let a = framed-at s (stride * k + 1) (framed-index k (omega arith) .sized) (lt-of-index k h) in
-      let e : stride * k + 1 + stride ≡ stride * (k + 1) + 1 = omega arith in
-      entries-on s (stride * k + 1) a ∙ rw (part-from-index s k, e)
+      let a = framed-at s (recordAt k) (framed-index k (omega arith) .sized) (lt-of-index k h) in
+      let e : recordAt k + stride ≡ recordAt (k + 1) = omega arith in
+      entries-on s (recordAt k) a ∙ rw (part-from-index s k, e)
 
   -- what a search in record order has left
   pub functions-index : (space : Space) (k : ℕ) → k < length (entriesOf s)
-      → functionsFrom space (k + 1) (entriesFrom s (stride * k + 1))
-      ≡ functionOf space (k + 1) (entryOf (partAt s k)) ∷ functionsFrom space (k + 1 + 1) (entriesFrom s (stride * (k + 1) + 1))
+      → functionsFrom space (k + 1) (entriesFrom s (recordAt k))
+      ≡ functionOf space (k + 1) (entryOf (partAt s k)) ∷ functionsFrom space (k + 1 + 1) (entriesFrom s (recordAt (k + 1)))
   unfolding functionsFrom
   functions-index space k h = ap (functionsFrom space (k + 1)) (entries-index k h)
 
-  pub functions-end : (space : Space) (k : ℕ) → length (entriesOf s) ≤ k → functionsFrom space (k + 1) (entriesFrom s (stride * k + 1)) ≡ []
+  pub functions-end : (space : Space) (k : ℕ) → length (entriesOf s) ≤ k → functionsFrom space (k + 1) (entriesFrom s (recordAt k)) ≡ []
   unfolding functionsFrom
-  functions-end space k h = ap (functionsFrom space (k + 1)) (entries-past s (stride * k + 1) (omega (arith, count-entries s f)))
+  functions-end space k h = ap (functionsFrom space (k + 1)) (entries-past s (recordAt k) (omega (arith, count-entries s f)))
 
   -- in the words of the code
   pub count-index : (length s - 1) / stride ≡ length (entriesOf s)

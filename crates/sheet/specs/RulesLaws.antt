@@ -2,7 +2,7 @@
 use mathlib.Core.Path.{_≡_, sym, ap, _∙_}
 use mathlib.Core.Bool.{false, and-eq-true-iff}
 use mathlib.Core.List.{List}
-use Prim.Native.Nat.{ℕ, zero, suc, _+_, _*_, _≤_, _<_}
+use Prim.Native.Nat.{ℕ, zero, suc, _+_, _≤_, _<_}
 use native.Mathlib.Omega.{arith}
 use lib.ListN.{length, take, drop}
 use borrow.Author.Tests.{not-false}
@@ -12,14 +12,13 @@ use Rattle.bar.specs.Values.{valuesLawful}
 use Rattle.bar.specs.ValuesLaws.{lawful-of-values}
 use Rattle.sheet.specs.declared.Rule.{Rule}
 use Rattle.sheet.specs.declared.Rule.the-variants.{ReadBacks}
-use Rattle.sheet_record.specs.Places.{stride}
 use Rattle.sheet_record.specs.Entry.{slotCount, Entry, entryOf}
-use Rattle.sheet.specs.Sheet.{Framed, partAt, entriesFrom, entriesOf, allZero, readBacksWrong, breaks, anyBreaks}
+use Rattle.sheet.specs.Sheet.{Framed, partAt, entriesFrom, entriesOf, allZero, readBacksWrong, breaks, anyBreaks, recordAt}
 use Rattle.sheet_record.specs.Spaces.{slotsOf}
 use Rattle.sheet.specs.IndexLaws.{entries-index}
 
-breaks-from : (rule : Rule) (s : List ℕ) (f : Framed 1 s) (k : ℕ) → k < length (entriesOf s) → anyBreaks rule (entriesFrom s (stride * k + 1)) ≡ false
-    → (breaks rule (entryOf (partAt s k)) ≡ false) × (anyBreaks rule (entriesFrom s (stride * (k + 1) + 1)) ≡ false)
+breaks-from : (rule : Rule) (s : List ℕ) (f : Framed 1 s) (k : ℕ) → k < length (entriesOf s) → anyBreaks rule (entriesFrom s (recordAt k)) ≡ false
+    → (breaks rule (entryOf (partAt s k)) ≡ false) × (anyBreaks rule (entriesFrom s (recordAt (k + 1))) ≡ false)
 unfolding anyBreaks
 breaks-from rule s f k h e = false-of-or _ _ (sym (ap (anyBreaks rule) (entries-index s f k h)) ∙ e)
 
@@ -27,7 +26,7 @@ pub breaks-index : (rule : Rule) (s : List ℕ) (f : Framed 1 s) → anyBreaks r
     → breaks rule (entryOf (partAt s k)) ≡ false
 breaks-index rule s f e k h = breaks-from rule s f k h (left k (omega arith)) .0
   where
-    left : (j : ℕ) → j ≤ k → anyBreaks rule (entriesFrom s (stride * j + 1)) ≡ false
+    left : (j : ℕ) → j ≤ k → anyBreaks rule (entriesFrom s (recordAt j)) ≡ false
     left zero l = e
     left (suc j) l = let i : suc j ≡ j + 1 = omega arith in rw i (breaks-from rule s f j (omega arith) (left j (omega arith)) .1)
 

@@ -15,14 +15,18 @@ use Rattle.sheet.specs.declared.Found.{Found}
 use Rattle.sheet.specs.declared.Found.the-variants.{At, Nothing}
 use Rattle.sheet.specs.declared.Rule.{Rule}
 use Rattle.sheet.specs.declared.Rule.the-variants.{HeaderType, Buses, ReadBacks, Nibbles}
-use Rattle.sheet_record.specs.Places.{recordSize, stride}
+use Rattle.sheet_record.specs.Places.{commandAt, recordSize, stride}
 use Rattle.sheet_record.specs.Entry.{Entry, entryOf, commandOf, bus, bridges, slotCount}
 
 -- ## The frame: version byte 1, then records of 90 bytes
 
--- the bytes of a sheet with so many records, which are also those before the next record
+-- the bytes of a sheet with so many records
 abbrev pub sheetLength : ℕ → ℕ
 sheetLength n = 1 + stride * n
+
+-- where record k, from 0, starts: after the version and k records
+abbrev pub recordAt : ℕ → ℕ
+recordAt k = sheetLength k
 
 -- "At most 23,553 bytes"
 abbrev pub fullSheet : ℕ
@@ -50,9 +54,13 @@ entriesFrom s at = map entryOf (partsFrom s at)
 abbrev pub partsIn : List ℕ → List (List ℕ)
 partsIn s = partsFrom s 1
 
--- the part of record k, from 0, of a sheet whose records have 90 bytes: after the version, k records and its own length
+-- the part of record k, of a sheet whose records have 90 bytes: after its own length
 abbrev pub partAt : List ℕ → ℕ → List ℕ
-partAt s k = take recordSize (drop (stride * k + 3) s)
+partAt s k = take recordSize (drop (recordAt k + 2) s)
+
+-- where its command word stands
+abbrev pub commandPlace : ℕ → ℕ
+commandPlace k = recordAt k + (2 + commandAt)
 
 abbrev pub entriesOf : List ℕ → List Entry
 entriesOf s = entriesFrom s 1

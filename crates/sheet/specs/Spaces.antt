@@ -1,5 +1,5 @@
--- Document 01, "The walk": what the walk reads of a sheet in one address space: its functions, numbered from 1, and apart from these which of them are
--- enabled. Assumes nothing.
+-- Document 01, "The walk": what the walk reads of a sheet in one address space: its functions, numbered from 1, and apart from these which
+-- of them are enabled. Assumes nothing.
 use Prim.Native.Nat.{ℕ, _+_}
 use mathlib.Core.Bool.{Bool}
 use mathlib.Core.List.{List, [], _∷_, map}

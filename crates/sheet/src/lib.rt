@@ -1,12 +1,13 @@
-// The register sheet: its checks, by number, and what its records say. A sheet is the version byte 1 and then a record for each function, each after its
-// own two-byte length.
+// The register sheet: its checks, by number, and the lookup. A sheet is the version byte 1 and then a record for each function, each after
+// its own two-byte length.
 mod rules;
 
 ghost use mathlib.Core.Path.{_≡_};
 ghost use Prim.Native.Nat.{_+_, _≤_};
 ghost use lib.ListN.{length, drop};
 ghost use Rattle.sheet.specs.Lookup.{lookupOf, lookupNumber, registerBytes, withCommand};
-ghost use Rattle.sheet.specs.Sheet.{isFramed, Framed, sheetLength, partAt, entriesOf, entriesFrom, anyBreaks, findFrom, idTwice, from24, sheetNumber};
+ghost use Rattle.sheet.specs.Sheet.{isFramed, Framed, sheetLength, partAt, entriesOf, entriesFrom, anyBreaks, findFrom, idTwice};
+ghost use Rattle.sheet.specs.Sheet.{from24, sheetNumber};
 use records::Next;
 use sheet_record::id_of;
 use sheet_record::places;

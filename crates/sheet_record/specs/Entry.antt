@@ -91,8 +91,3 @@ devfn e = e .id % 256
 
 abbrev pub bridges : Entry → Bool
 bridges e = isBridge (e .header)
-
-abbrev pub window : Pool → Entry → Window
-window Low e = e .low
-window High e = e .high
-window Io e = e .io

@@ -1,44 +1,18 @@
--- A record's fields as the code reads them from the record's bytes. Assumes nothing.
+-- A record's BARs as the code reads them from the record's bytes: the first of six slots. Assumes nothing.
 use mathlib.Core.Path.{_≡_, refl}
 use mathlib.Core.Bool.{Bool, true, false, cond}
 use mathlib.Core.List.{List}
 use Prim.Native.Nat.{ℕ}
 use lib.ListN.{take}
 use Rattle.endian.specs.Endian.{be, le}
-use Rattle.pools.specs.declared.Pool.{Pool}
-use Rattle.pools.specs.declared.Pool.the-variants.{Low, High, Io}
 use Rattle.pools.specs.declared.Space.{Space}
 use Rattle.bar.specs.Bar.{slots}
 use Rattle.sheet_record.specs.Places.{valuesAt, readbacksAt}
-use Rattle.sheet_record.specs.Entry.{dwords, headerOf, isBridge, slotCount, secondaryOf, subordinateOf, windowOf, entryOf, bus, busOf, bridges, window}
+use Rattle.sheet_record.specs.Entry.{dwords, headerOf, isBridge, slotCount, entryOf}
 use Rattle.sheet_record.specs.Spaces.{slotsOf, barsOf}
 use Rattle.sheet_record.specs.SpacesLaws.{barsAt}
 
--- ## Fields
-
 module _ (p : List ℕ) where
-  pub bus-entry : bus (entryOf p) ≡ busOf p
-  unfolding entryOf
-  bus-entry = refl
-
-  pub bridges-entry : bridges (entryOf p) ≡ isBridge (headerOf p)
-  unfolding entryOf
-  bridges-entry = refl
-
-  pub secondary-entry : isBridge (headerOf p) ≡ true → entryOf p .secondary ≡ secondaryOf p
-  unfolding entryOf
-  secondary-entry b = rw b
-
-  pub subordinate-entry : isBridge (headerOf p) ≡ true → entryOf p .subordinate ≡ subordinateOf p
-  unfolding entryOf
-  subordinate-entry b = rw b
-
-  pub window-entry : (q : Pool) → isBridge (headerOf p) ≡ true → window q (entryOf p) ≡ windowOf q p
-  unfolding entryOf
-  window-entry Low b = rw b
-  window-entry High b = rw b
-  window-entry Io b = rw b
-
   -- the first read-backs and values of the six that the code reads
   abbrev firstOf : List ℕ → List ℕ
   firstOf xs = take (slotCount (headerOf p)) xs

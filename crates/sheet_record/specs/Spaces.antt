@@ -1,5 +1,5 @@
--- Document 01, "The walk": what the walk reads of a record in one address space: the function's BARs and open windows as ranges, and apart from these
--- the command bits that enable them. Assumes nothing.
+-- Document 01, "The walk": what the walk reads of a record in one address space: the function's BARs and open windows as ranges, and apart
+-- from these the command bits that enable them. Assumes nothing.
 use Prim.Native.Nat.{ℕ, _+_, _/_, _%_}
 use mathlib.Core.Bool.{Bool, false, cond, _&&_}
 use mathlib.Core.List.{List, [], _∷_, _++_}

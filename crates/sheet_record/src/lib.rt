@@ -1,5 +1,5 @@
-// One record of a sheet, field by field. Every function here gets the record's part, the bytes after its own length: the ID, the configuration header and the six
-// read-backs.
+// One record of a sheet, field by field. Every function here gets the record's part, the bytes after its own length: the ID, the
+// configuration header and the six read-backs.
 pub mod places;
 pub mod spaces;
 
@@ -7,7 +7,8 @@ ghost use mathlib.Core.Path.{_≡_};
 ghost use lib.ListN.{length};
 ghost use Rattle.endian.specs.Endian.{be, le};
 ghost use Rattle.sheet_record.specs.Places.{valuesAt, readbacksAt, recordSize};
-ghost use Rattle.sheet_record.specs.Entry.{idOf, busOf, commandOf, headerOf, isBridge, slotCount, primaryOf, secondaryOf, subordinateOf, windowOf, dwords};
+ghost use Rattle.sheet_record.specs.Entry.{idOf, busOf, commandOf, headerOf, isBridge, slotCount, dwords};
+ghost use Rattle.sheet_record.specs.Entry.{primaryOf, secondaryOf, subordinateOf, windowOf};
 ghost use Rattle.sheet_record.specs.Spaces.{enables};
 use pools::Pool;
 use pools::Space;

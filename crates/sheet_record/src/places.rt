@@ -1,4 +1,5 @@
-// Where everything stands in a record's part: the ID, the 64-byte configuration header, whose registers have PCI's offsets, and the six read-backs.
+// Where everything stands in a record's part: the ID, the 64-byte configuration header, whose registers have PCI's offsets, and the six
+// read-backs.
 pub const ID: usize = 0;
 
 pub const REGISTERS: usize = 2;

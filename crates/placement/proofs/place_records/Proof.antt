@@ -61,7 +61,7 @@ function-at-requires : tie.Need-function-at-requires Inv-loop μ-loop
 function-at-requires c κs = let e = sym (c .before .before .before .next-at .ensures) ∙ c .before .n .given .1 in (e, header-right (c .before .before .before .before .before .before .before .before .before .before .pre) (c .before .before .before .before .loop .inv) _ e)
 
 write-next-requires : tie.Need-write-next-requires Inv-loop μ-loop
-write-next-requires c κs = let e = sym (c .before .before .before .before .before .before .next-at .ensures) ∙ c .before .before .before .before .n .given .1 in (subst (λ (f : Function). Placeable (c .before .before .before .before .before .before .before .before .before .before .before .before .before .args .first) (c .before .before .before .before .before .before .before .before .before .before .before .before .before .args .counts .now) (c .before .before .before .before .before .before .before .loop .cursors) f) (sym (c .before .before .function-at .ensures)) (turn-placeable (c .before .before .before .before .before .before .before .before .before .before .before .before .before .pre) (c .before .before .before .before .before .before .before .loop .inv) _ e), λ h. turn-bridged (c .before .before .before .before .before .before .before .before .before .before .before .before .before .pre) (c .before .before .before .before .before .before .before .loop .inv) _ e (sym (ap isBridge (c .before .before .function-at .ensures)) ∙ h), turn-room (c .before .before .before .before .before .before .before .before .before .before .before .before .before .pre) (c .before .before .before .before .before .before .before .loop .inv) _ e)
+write-next-requires c κs = let e = sym (c .before .before .before .before .before .before .next-at .ensures) ∙ c .before .before .before .before .n .given .1 in ((subst (λ (f : Function). Placeable (c .before .before .before .before .before .before .before .before .before .before .before .before .before .args .first) (c .before .before .before .before .before .before .before .before .before .before .before .before .before .args .counts .now) (c .before .before .before .before .before .before .before .loop .cursors) f) (sym (c .before .before .function-at .ensures)) (turn-placeable (c .before .before .before .before .before .before .before .before .before .before .before .before .before .pre) (c .before .before .before .before .before .before .before .loop .inv) _ e), λ h. turn-bridged (c .before .before .before .before .before .before .before .before .before .before .before .before .before .pre) (c .before .before .before .before .before .before .before .loop .inv) _ e (sym (ap isBridge (c .before .before .function-at .ensures)) ∙ h)), turn-room (c .before .before .before .before .before .before .before .before .before .before .before .before .before .pre) (c .before .before .before .before .before .before .before .loop .inv) _ e)
 
 add-at : tie.Need-add-at Inv-loop μ-loop
 add-at c = let e = sym (c .before .before .before .before .before .before .before .before .before .before .before .next-at .ensures) ∙ c .before .before .before .before .before .before .before .before .before .n .given .1 in omega (arith, fits-at (c .before .before .before .before .before .before .before .before .before .before .before .before .before .before .before .before .before .before .args .board .now) (c .before .before .before .before .before .before .before .before .before .before .before .before .loop .at) _ e)

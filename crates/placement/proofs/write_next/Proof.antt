@@ -21,7 +21,7 @@ place-record-requires : tie.Need-place-record-requires
 place-record-requires c κs = search needs
 
 write-record-requires : tie.Need-write-record-requires
-write-record-requires c κs = let io = io-bytes (c .before .before .before .before .before .before .before .before .before .args .first) (c .before .before .before .before .before .before .before .before .before .args .counts .now) (c .before .before .before .before .before .before .before .before .before .args .memo .now) (c .before .before .before .before .before .before .before .before .before .args .cursors .now) (c .before .before .before .before .before .before .before .before .before .args .i) (c .before .before .before .before .before .before .before .before .before .args .f) _ (c .before .before .before .place-record .ensures .0) in (omega (arith, c .before .before .before .before .before .before .before .before .before .pre .2), io .0, io .1)
+write-record-requires c κs = let io = io-bytes (c .before .before .before .before .before .before .before .before .before .args .first) (c .before .before .before .before .before .before .before .before .before .args .counts .now) (c .before .before .before .before .before .before .before .before .before .args .memo .now) (c .before .before .before .before .before .before .before .before .before .args .cursors .now) (c .before .before .before .before .before .before .before .before .before .args .i) (c .before .before .before .before .before .before .before .before .before .args .f) _ (c .before .before .before .place-record .ensures .0) in (omega (arith, c .before .before .before .before .before .before .before .before .before .pre .1), io .0, io .1)
 
 same-length : tie.Need-same-length
 same-length c = search needs

@@ -22,7 +22,7 @@ slice-aggregate-measure-2 : tie.Need-slice-aggregate-measure-2
 slice-aggregate-measure-2 c = search needs
 
 measure-requires : tie.Need-measure-requires
-measure-requires c κs = (c .before .before .before .before .before .before .pre, (host-read-is (c .before .before .before .before .before .before .args .board .now) (c .before .before .before .before .before .before .pre) (c .before .before .before .part-at .ensures) (c .before .before .host-of .ensures)), omega arith, omega arith)
+measure-requires c κs = ((c .before .before .before .before .before .before .pre, (host-read-is (c .before .before .before .before .before .before .args .board .now) (c .before .before .before .before .before .before .pre) (c .before .before .before .part-at .ensures) (c .before .before .host-of .ensures))), (omega arith, omega arith))
 
 refusal-requires : tie.Need-refusal-requires
 refusal-requires c κs = few-bridges _ (c .before .before .before .before .before .before .before .before .before .pre) (c .before .before .measure .ensures)

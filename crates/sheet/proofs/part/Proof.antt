@@ -6,6 +6,7 @@ use native.Mathlib.Omega.{arith}
 use Rattle.sheet_record.specs.Places.{recordSize, stride}
 use Rattle.sheet.proofs.part.Statement.{statement}
 use Rattle.sheet.proofs.part.Tie as tie
+use Rattle.sheet.specs.Sheet.{recordAt}
 
 mul-start : tie.Need-mul-start
 mul-start c = search needs
@@ -29,7 +30,8 @@ returns : tie.Need-returns
 returns c =
     let at = stride * c .before .args .k + 3 in
     let n : at + recordSize - at ≡ recordSize = omega arith in
-    rw n
+    let place : stride * c .before .args .k + 3 ≡ recordAt (c .before .args .k) + 2 = omega arith in
+    rw (n, place)
 
 pub part-spec : {M : Type 1} → statement M
 part-spec =
