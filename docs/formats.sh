@@ -29,8 +29,8 @@ awk -v parts="$parts" '
 answer() {
     case $1 in
     plan) printf "$(tr -d ' \n' | sed 's/../\\x&/g')" | target/bin/plan ;;
-    headers) target/bin/vectors ;;
-    routes) sed -e ':all' -e 'N; $!b all' -e 's/\n  */ /g' | target/bin/routes ;;
+    headers) target/bin/test_headers ;;
+    routes) sed -e ':all' -e 'N; $!b all' -e 's/\n  */ /g' | target/bin/test_routes ;;
     esac
 }
 

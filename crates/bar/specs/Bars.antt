@@ -1,7 +1,7 @@
 -- The BARs that a set's slots hold, as the placing rule takes them. Assumes nothing.
 use Prim.Native.Nat.{ℕ, suc}
 use mathlib.Core.List.{List, [], _∷_}
-use Rattle.placing.specs.Records as placing
+use Rattle.plan_rule.specs.Records as placing
 use Rattle.bar.specs.declared.Slot.{Slot}
 use Rattle.bar.specs.declared.Slot.the-variants.{Unused, Bar, Upper, Bad}
 

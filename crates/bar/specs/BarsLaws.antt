@@ -3,8 +3,8 @@ use mathlib.Core.List.{List, [], _∷_}
 use Prim.Native.Nat.{ℕ, suc}
 use lib.ListN.{getD}
 use Rattle.lists.specs.Lists.{All}
-use Rattle.placing.specs.Align.{PowerOfTwo}
-use Rattle.placing.specs.Records as placing
+use Rattle.plan_rule.specs.Align.{PowerOfTwo}
+use Rattle.plan_rule.specs.Records as placing
 use Rattle.bar.specs.declared.Slot.{Slot}
 use Rattle.bar.specs.declared.Slot.the-variants.{Unused, Bar, Upper, Bad}
 use Rattle.bar.specs.Bar.{slots, SizedSlot}

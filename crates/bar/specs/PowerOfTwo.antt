@@ -6,8 +6,8 @@ use native.Mathlib.Omega.{arith}
 use lib.Arith.{bin-ind}
 use lib.Bits.{bitAnd, and-step, and-self}
 use lib.Pow.{pow-lt}
-use Rattle.placing.specs.Align.{PowerOfTwo}
-use Rattle.placing.specs.AlignLaws.{and-pred-power}
+use Rattle.plan_rule.specs.Align.{PowerOfTwo}
+use Rattle.plan_rule.specs.AlignLaws.{and-pred-power}
 
 pub le-of-pow-le : {j k : ℕ} → 2 ^ j ≤ 2 ^ k → j ≤ k
 le-of-pow-le h = le-of-suc-le-suc (lt-of-not-le (λ g. not-le-of-lt (pow-lt g) h))

@@ -10,7 +10,7 @@ use lib.Arith.{lt-of-le-ne}
 use lib.Bits.{bitAnd}
 use lib.Dec.{eqb}
 use lib.Pow.{pow-pos, pow-lt, pow-mono}
-use Rattle.placing.specs.AlignLaws.{lt-of-pow-lt}
+use Rattle.plan_rule.specs.AlignLaws.{lt-of-pow-lt}
 use Rattle.bar.specs.Bar.{onesFrom, sizeFrom, sizeOf}
 use Rattle.bar.specs.PowerOfTwo.{power-of-and-pred-zero, and-pred-zero-of-power, le-of-pow-le}
 

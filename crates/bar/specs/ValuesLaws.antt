@@ -16,8 +16,8 @@ use lib.Seq.{drop-drop, getD-drop, getD-take}
 use Rattle.pools.specs.declared.Pool.{Pool}
 use Rattle.pools.specs.declared.Pool.the-variants.{Low, High, Io}
 use Rattle.pools.specs.Pools.{isIo}
-use Rattle.placing.specs.Align.{PowerOfTwo}
-use Rattle.placing.specs.AlignLaws.{and-pred-power}
+use Rattle.plan_rule.specs.Align.{PowerOfTwo}
+use Rattle.plan_rule.specs.AlignLaws.{and-pred-power}
 use Rattle.bar.specs.declared.Slot.{Slot}
 use Rattle.bar.specs.declared.Slot.the-variants.{Unused, Bar, Upper, Bad}
 use Rattle.bar.specs.Bar.{typeBits, leastBit, width, typeOf, withoutType, joined, slotHere, slots, isBad, anyBad, takesNext, span, BarSize}

@@ -11,12 +11,12 @@ use lib.Dec.{eqb}
 use borrow.Author.Tests.{eqb-true, eqb-false}
 use Rattle.records.specs.Limits.{mostAbove}
 use Rattle.records.specs.RecordsLaws.{false-of-or}
-use Rattle.placing.specs.Order.{le-or-lt}
-use Rattle.placing.specs.Records.{Lawful}
-use Rattle.placing.specs.Records as placing
-use Rattle.placing.specs.Preorder.{noFunction, parentOf}
-use Rattle.placing.specs.Above.{aboveWithin, aboveByParents, aboveBus}
-use Rattle.placing.specs.AboveLaws.{parent-before, above-host, above-on-bus}
+use Rattle.plan_rule.specs.Order.{le-or-lt}
+use Rattle.plan_rule.specs.Records.{Lawful}
+use Rattle.plan_rule.specs.Records as placing
+use Rattle.plan_rule.specs.Preorder.{noFunction, parentOf}
+use Rattle.plan_rule.specs.Above.{aboveWithin, aboveByParents, aboveBus}
+use Rattle.plan_rule.specs.AboveLaws.{parent-before, above-host, above-on-bus}
 use Rattle.board_record.specs.declared.Function.{Function}
 use Rattle.board_order.specs.Order.{above, misplaced, anyMisplaced}
 use Rattle.board_order.specs.OrderLaws.{placed-of-not-misplaced, above-here, above-later}

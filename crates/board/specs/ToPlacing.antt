@@ -4,8 +4,8 @@ use mathlib.Core.List.{List, map}
 use Prim.Native.Nat.{ℕ, pred}
 use lib.ListN.{getD, take}
 use Rattle.bar.specs.Bar.{slots}
-use Rattle.placing.specs.Pools.{Pool as PlacingPool, low, high, io}
-use Rattle.placing.specs.Records.{Host as PlacingHost, Function as PlacingFunction}
+use Rattle.plan_rule.specs.Pools.{Pool as PlacingPool, low, high, io}
+use Rattle.plan_rule.specs.Records.{Host as PlacingHost, Function as PlacingFunction}
 use Rattle.board_record.specs.declared.Host.{Host}
 use Rattle.board_record.specs.declared.Span.{Span}
 use Rattle.board_record.specs.declared.Function.{Function}

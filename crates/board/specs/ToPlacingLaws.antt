@@ -11,8 +11,8 @@ use Rattle.records.specs.RecordsLaws.{false-of-or}
 use Rattle.bar.specs.BarsLaws.{bars-from-sized}
 use Rattle.lists.specs.Lists.{any}
 use Rattle.lists.specs.ListLaws.{all-imp}
-use Rattle.placing.specs.Records.{parentsAfter, onlyHost, DepthFirst, Sized, Lawful}
-use Rattle.placing.specs.RecordLaws.{Subset, parent-new, parent-kept}
+use Rattle.plan_rule.specs.Records.{parentsAfter, onlyHost, DepthFirst, Sized, Lawful}
+use Rattle.plan_rule.specs.RecordLaws.{Subset, parent-new, parent-kept}
 use Rattle.board_record.specs.declared.Function.{Function}
 use Rattle.board_record.specs.Function.{isBridge, slotCount}
 use Rattle.board_order.specs.Order.{parents, misplaced, anyMisplaced}

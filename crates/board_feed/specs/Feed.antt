@@ -8,10 +8,10 @@ use lib.Dec.{ltb}
 use lib.Seq.{sets}
 use Rattle.records.specs.declared.frame.Stage.the-variants.{Start}
 use Rattle.records.specs.Frame.{stageOf, heardOf, endingOf}
-use Rattle.planning.specs.declared.Planning.{Planning}
-use Rattle.planning.specs.declared.Planning.the-variants.{Refused}
-use Rattle.planning.specs.Plan.{planning, sheetAfter}
-use Rattle.listing.specs.Listing.{planningText}
+use Rattle.plan_answer.specs.declared.Planning.{Planning}
+use Rattle.plan_answer.specs.declared.Planning.the-variants.{Refused}
+use Rattle.plan_answer.specs.Plan.{planning, sheetAfter}
+use Rattle.sheet_text.specs.Listing.{planningText}
 use Rattle.board_feed.specs.declared.Feed.{Feed}
 use Rattle.board_feed.specs.Tally.{mostBytes, fresh, heardBy, numberAt}
 

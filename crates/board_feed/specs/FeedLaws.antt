@@ -19,10 +19,10 @@ use Rattle.records.specs.Frame.{stageOf, heardOf, endingOf}
 use Rattle.records.specs.FrameLaws.{stage-append, heard-append}
 use Rattle.records.specs.Limits.{mostFunctions}
 use Rattle.board.specs.Board.{boardNumber}
-use Rattle.planning.specs.declared.Planning.{Planning}
-use Rattle.planning.specs.declared.Planning.the-variants.{Refused}
-use Rattle.planning.specs.Plan.{planning, sheetAs, sheetAfter}
-use Rattle.listing.specs.BoardText.{boardText, planner-prints}
+use Rattle.plan_answer.specs.declared.Planning.{Planning}
+use Rattle.plan_answer.specs.declared.Planning.the-variants.{Refused}
+use Rattle.plan_answer.specs.Plan.{planning, sheetAs, sheetAfter}
+use Rattle.sheet_text.specs.BoardText.{boardText, planner-prints}
 use Rattle.board_feed.specs.declared.Feed.{Feed}
 use Rattle.board_feed.specs.declared.Tally.{Tally}
 use Rattle.board_feed.specs.Tally.{mostBytes, fresh, heardBy, wholeNumber, numberAt}

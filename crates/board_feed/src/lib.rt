@@ -7,12 +7,12 @@ ghost use lib.ListN.{length, drop};
 ghost use lib.Seq.{sets};
 ghost use Rattle.board_feed.specs.Feed.{started, fedOf, isLong, frameNumber, planningOf, sheetOf, answerOf};
 ghost use Rattle.board_feed.specs.Tally.{misfitsOf, countedOf, begunOf, heardBy, wholeNumber};
-use listing::LONGEST;
-use planning::Planning;
+use plan_answer::Planning;
 use records::frame;
 use records::frame::Ending;
 use records::frame::Event;
 use records::frame::Stage;
+use sheet_text::LONGEST;
 
 // The functions, and the host before them.
 const MOST_RECORDS: usize = 1 + records::MOST_FUNCTIONS;
@@ -107,7 +107,7 @@ impl Feed {
             ⌝ }
     {
         let planning = self.plan(kept, sheet);
-        listing::put_planning(answer, 0, planning, sheet)
+        sheet_text::put_planning(answer, 0, planning, sheet)
     }
 
     fn is_long(self) -> bool

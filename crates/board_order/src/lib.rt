@@ -1,5 +1,5 @@
-// 23: depth-first order, by one pass over the functions with the buses that are open. Level 0 is the host's bus; a bridge opens the level after its
-// own, and a function closes the levels below its parent's.
+// 23: depth-first order, by one pass over the functions with the buses that are open. Level 0 is the host's bus; a bridge opens the level
+// after its own, and a function closes the levels below its parent's.
 ghost use mathlib.Core.Path.{_≡_};
 ghost use mathlib.Core.Bool.{false};
 ghost use mathlib.Core.List.{[], map};
@@ -26,8 +26,8 @@ pub fn misplaced(board: &[u8]) -> bool
     requires { ⌜ anyPart headerWrong (partsFrom (now board) 33) ≡ false ⌝ }
     ensures { λ r. ⌜ r ≡ anyMisplaced 0 [] (map functionOfPart (partsFrom (now (board .entry)) 33)) ⌝ }
 {
-    // of each level: the record that it is the bus of, one more than the device/function of its last function, and than the device of its last
-    // function 0 that is not alone
+    // of each level: the record that it is the bus of, one more than the device/function of its last function, and than the device of its
+    // last function 0 that is not alone
     let mut buses = [0usize; LEVELS];
     let mut nexts = [0usize; LEVELS];
     let mut shared = [0usize; LEVELS];

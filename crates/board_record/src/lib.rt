@@ -1,11 +1,12 @@
-// One record of a board, as the part after its own length: the host's and its edges (26), a function's fields, and the checks of a function by
-// itself.
+// One record of a board, as the part after its own length: the host's and its edges (26), a function's fields, and the checks of a function
+// by itself.
 ghost use mathlib.Core.Path.{_≡_};
 ghost use mathlib.Core.Bool.{false};
 ghost use Prim.Native.Nat.{_<_};
 ghost use lib.ListN.{length, getD};
 ghost use Rattle.board_record.specs.Host.{hostLength, hostOfPart, offEdges, outside as isOutside, poolWrong, hostWrong};
-ghost use Rattle.board_record.specs.Function.{readbacksFor, functionOfPart, wrongFor, headerWrong, isBridge, slotCount, readbacksWrong};
+ghost use Rattle.board_record.specs.Function.{readbacksFor, functionOfPart, wrongFor, headerWrong, isBridge, slotCount};
+ghost use Rattle.board_record.specs.Function.{readbacksWrong};
 ghost use Rattle.board_record.specs.Rules.{breaks as breaksOf, tooEarly};
 use pools::Pool;
 

@@ -5,10 +5,10 @@ use mathlib.Core.Bool.{cond}
 use mathlib.Core.List.{List, [], _∷_}
 use lib.ListN.{length}
 use lib.Dec.{ltb, eqb}
-use Rattle.numbers.specs.declared.Parsed.{Parsed}
-use Rattle.numbers.specs.declared.Parsed.the-variants.{Accepted as Taken, Refused as NotTaken}
-use Rattle.numbers.specs.Numbers.{numbersOf}
-use Rattle.numbers.specs.Parsing.{packetOf}
+use Rattle.packet_numbers.specs.declared.Parsed.{Parsed}
+use Rattle.packet_numbers.specs.declared.Parsed.the-variants.{Accepted as Taken, Refused as NotTaken}
+use Rattle.packet_numbers.specs.Numbers.{numbersOf}
+use Rattle.packet_numbers.specs.Parsing.{packetOf}
 use Rattle.tlp.specs.declared.Reading.{Reading}
 use Rattle.tlp.specs.declared.Reading.the-variants.{Accepted, Refused as NotRead}
 use Rattle.tlp.specs.declared.Writing.{Writing}
@@ -22,9 +22,9 @@ use Rattle.sheet.specs.Lookup.{lookupOf, lookupNumber, withCommand}
 use Rattle.route.specs.declared.Routing.{Routing}
 use Rattle.route.specs.declared.Routing.the-variants.{Delivered, Refused as NotDelivered}
 use Rattle.route.specs.Route.{routeOf}
-use Rattle.planning.specs.declared.Planning.{Planning}
-use Rattle.planning.specs.declared.Planning.the-variants.{Planned, Refused as NotPlanned}
-use Rattle.planning.specs.Plan.{planning, sheetAfter}
+use Rattle.plan_answer.specs.declared.Planning.{Planning}
+use Rattle.plan_answer.specs.declared.Planning.the-variants.{Planned, Refused as NotPlanned}
+use Rattle.plan_answer.specs.Plan.{planning, sheetAfter}
 use Rattle.capi.specs.Answers.{Answer, refuses, gives}
 
 -- ## Reading: the packet's twenty numbers

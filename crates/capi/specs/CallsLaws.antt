@@ -20,10 +20,10 @@ use Rattle.packet.specs.declared.Verdict.{Verdict}
 use Rattle.packet.specs.declared.Verdict.the-variants.{Lawful, Refused as Unlawful}
 use Rattle.packet.specs.Fields.{kindOf, headOf}
 use Rattle.packet.specs.Verdict.{verdictOf}
-use Rattle.numbers.specs.declared.Parsed.{Parsed}
-use Rattle.numbers.specs.declared.Parsed.the-variants.{Accepted as Taken, Refused as NotTaken}
-use Rattle.numbers.specs.Parsing.{onPair, packetOf}
-use Rattle.numbers.specs.Fields.{fieldsOf, checked, checked-fields}
+use Rattle.packet_numbers.specs.declared.Parsed.{Parsed}
+use Rattle.packet_numbers.specs.declared.Parsed.the-variants.{Accepted as Taken, Refused as NotTaken}
+use Rattle.packet_numbers.specs.Parsing.{onPair, packetOf}
+use Rattle.packet_numbers.specs.Fields.{fieldsOf, checked, checked-fields}
 use Rattle.tlp.specs.declared.Writing.{Writing}
 use Rattle.tlp.specs.declared.Writing.the-variants.{Written, Refused as NotWritten}
 use Rattle.tlp_layout.specs.Layout.{size}
@@ -38,12 +38,12 @@ use Rattle.sheet.specs.SheetLaws.{checked-of-zero}
 use Rattle.sheet.specs.Lookup.{placed, lookupOf, lookupNumber, withCommand}
 use Rattle.sheet.specs.LookupLaws.{found-at}
 use Rattle.sheet.specs.CheckLaws.{partFrom}
-use Rattle.placing.specs.Refusals.{refusalOf}
+use Rattle.plan_rule.specs.Refusals.{refusalOf}
 use Rattle.board.specs.Board.{boardNumber, hostOf, functionsOf}
 use Rattle.board.specs.ToPlacing.{toHost, toPlacing}
-use Rattle.planning.specs.declared.Planning.{Planning}
-use Rattle.planning.specs.declared.Planning.the-variants.{Planned, Refused as NotPlanned}
-use Rattle.planning.specs.Plan.{onRoom, onBoard, planning, numberOf as planningNumber, sheetAfter}
+use Rattle.plan_answer.specs.declared.Planning.{Planning}
+use Rattle.plan_answer.specs.declared.Planning.the-variants.{Planned, Refused as NotPlanned}
+use Rattle.plan_answer.specs.Plan.{onRoom, onBoard, planning, numberOf as planningNumber, sheetAfter}
 use Rattle.capi.specs.Answers.{Answer, refuses, gives, returned, filled}
 use Rattle.capi.specs.Calls.{onWriting, onParsed, roomOf, unownedOf, word, commandNumber, commandLeft, onPlanning, planAnswer, sheetLeft}
 

@@ -8,8 +8,8 @@ use Rattle.pairs.specs.Pairs.{table, first, findPair, findKind, pairOf, rowOf}
 use Rattle.packet.specs.Widths.{lengthFits, bodyFits, fieldsFit}
 use Rattle.packet.specs.Rules.{reservedSet, fixedWrong, upperZero, enablesWrong, crossesPage, statusWrong, fromRule5, fromRule6, fromRule7, fromRule8, fromRule9, ruleNumber}
 use Rattle.packet.specs.Verdict.{onRules, onFields, verdictOf}
-use Rattle.numbers.specs.Numbers.{numbersOf}
-use Rattle.numbers.specs.Parsing.{kinds, kindAt, anyAbove, headFrom, enablesFrom, onKind, fromKind, packetOf}
+use Rattle.packet_numbers.specs.Numbers.{numbersOf}
+use Rattle.packet_numbers.specs.Parsing.{kinds, kindAt, anyAbove, headFrom, enablesFrom, onKind, fromKind, packetOf}
 use Rattle.tlp_layout.specs.Layout.{frontBytes, requestBytes, addressBytes, layout}
 use Rattle.tlp_fields.specs.Fields.{headAt, enablesAt, addressAt, unnamed}
 use Rattle.tlp.specs.Reading.{judged, readOf}

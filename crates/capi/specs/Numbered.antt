@@ -20,9 +20,9 @@ use Rattle.packet.specs.Fields.{kindOf, headOf}
 use Rattle.packet.specs.Widths.{fieldsFit}
 use Rattle.packet.specs.Rules.{ruleNumber}
 use Rattle.packet.specs.Verdict.{onRules, onFields, onPair as verdictFrom, verdictOf}
-use Rattle.numbers.specs.declared.Parsed.{Parsed}
-use Rattle.numbers.specs.declared.Parsed.the-variants.{Accepted as Taken, Refused as NotTaken}
-use Rattle.numbers.specs.Parsing.{kindAt, byAddress, byTarget, completing, anyAbove, packetAs, onPair, onKind, fromKind, packetOf}
+use Rattle.packet_numbers.specs.declared.Parsed.{Parsed}
+use Rattle.packet_numbers.specs.declared.Parsed.the-variants.{Accepted as Taken, Refused as NotTaken}
+use Rattle.packet_numbers.specs.Parsing.{kindAt, byAddress, byTarget, completing, anyAbove, packetAs, onPair, onKind, fromKind, packetOf}
 use Rattle.tlp.specs.declared.Reading.{Reading}
 use Rattle.tlp.specs.declared.Reading.the-variants.{Accepted, Refused as NotRead}
 use Rattle.tlp_fields.specs.Fields.{unnamed, unnamedTarget, unnamedLower}
@@ -44,12 +44,12 @@ use Rattle.route_arrival.specs.Arrival.{aimOf, typeWrong}
 use Rattle.route.specs.declared.Routing.{Routing}
 use Rattle.route.specs.declared.Routing.the-variants.{Refused as NotDelivered}
 use Rattle.route.specs.Route.{answer, walked, root, from42, routePacket, fromSheet, fromReading, routeOf}
-use Rattle.placing.specs.Refusals.{refusalOf}
+use Rattle.plan_rule.specs.Refusals.{refusalOf}
 use Rattle.board.specs.Board.{boardNumber, hostOf, functionsOf}
 use Rattle.board.specs.ToPlacing.{toHost, toPlacing}
-use Rattle.planning.specs.declared.Planning.{Planning}
-use Rattle.planning.specs.declared.Planning.the-variants.{Planned, Refused as NotPlanned}
-use Rattle.planning.specs.Plan.{onRoom, onBoard, planning}
+use Rattle.plan_answer.specs.declared.Planning.{Planning}
+use Rattle.plan_answer.specs.declared.Planning.the-variants.{Planned, Refused as NotPlanned}
+use Rattle.plan_answer.specs.Plan.{onRoom, onBoard, planning}
 use Rattle.capi.specs.Answers.{Answer, refuses, gives, returned, filled}
 use Rattle.capi.specs.Calls.{onReading, readAnswer, onWriting, onParsed, writeAnswer, onLookup, onRouting, routeAnswer, onPlanning, planAnswer}
 

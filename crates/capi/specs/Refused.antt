@@ -8,18 +8,18 @@ use lib.ListN.{length, drop}
 use lib.Dec.{ltb, eqb}
 use borrow.Author.Tests.{le-ltb, eqb-false}
 use Rattle.packet.specs.declared.Packet.{Packet}
-use Rattle.numbers.specs.declared.Parsed.{Parsed}
-use Rattle.numbers.specs.declared.Parsed.the-variants.{Accepted as Taken, Refused as NotTaken}
-use Rattle.numbers.specs.Parsing.{packetOf}
+use Rattle.packet_numbers.specs.declared.Parsed.{Parsed}
+use Rattle.packet_numbers.specs.declared.Parsed.the-variants.{Accepted as Taken, Refused as NotTaken}
+use Rattle.packet_numbers.specs.Parsing.{packetOf}
 use Rattle.tlp.specs.declared.Writing.{Writing}
 use Rattle.tlp.specs.declared.Writing.the-variants.{Written, Refused as NotWritten}
 use Rattle.tlp.specs.Writing.{writeOf, roomAs, roomAfter}
 use Rattle.sheet.specs.declared.Lookup.{Lookup}
 use Rattle.sheet.specs.declared.Lookup.the-variants.{Registers, Refused as NotFound}
 use Rattle.sheet.specs.Lookup.{lookupOf, lookupNumber, withCommand}
-use Rattle.planning.specs.declared.Planning.{Planning}
-use Rattle.planning.specs.declared.Planning.the-variants.{Planned, Refused as NotPlanned}
-use Rattle.planning.specs.Plan.{planning, sheetAs, sheetAfter}
+use Rattle.plan_answer.specs.declared.Planning.{Planning}
+use Rattle.plan_answer.specs.declared.Planning.the-variants.{Planned, Refused as NotPlanned}
+use Rattle.plan_answer.specs.Plan.{planning, sheetAs, sheetAfter}
 use Rattle.capi.specs.Answers.{Answer, refuses, gives, returned, filled}
 use Rattle.capi.specs.Calls.{onWriting, onParsed, writeAnswer, roomOf, roomLeft, word, commandNumber, commandLeft, onPlanning, planAnswer, sheetLeft}
 

@@ -1,21 +1,22 @@
-// The C boundary. Each call returns 0 or document 01's number, and a refused call changes nothing that it was lent. A slice passes as a pointer and then
-// a length. An answer slice too short is 11, tried last; numbers past the answer's own are left as they were.
+// The C boundary. Each call returns 0 or document 01's number, and a refused call changes nothing that it was lent. A slice passes as a
+// pointer and then a length. An answer slice too short is 11, tried last; numbers past the answer's own are left as they were.
 ghost use mathlib.Core.Path.{_≡_};
 ghost use Prim.Native.Nat.{_≤_};
 ghost use mathlib.Core.List.{[], _∷_};
 ghost use mathlib.Core.Bool.{cond};
 ghost use lib.ListN.{length};
 ghost use lib.Dec.{eqb};
-ghost use Rattle.numbers.specs.Numbers.{numbersOf};
+ghost use Rattle.packet_numbers.specs.Numbers.{numbersOf};
 ghost use Rattle.tlp.specs.Writing.{writeOf, roomAfter};
 ghost use Rattle.sheet.specs.Sheet.{sheetNumber};
 ghost use Rattle.sheet.specs.Lookup.{lookupOf};
-ghost use Rattle.planning.specs.Plan.{numberOf as planningNumber, planning};
+ghost use Rattle.plan_answer.specs.Plan.{numberOf as planningNumber, planning};
 ghost use Rattle.capi.specs.Answers.{gives, returned, filled};
-ghost use Rattle.capi.specs.Calls.{readAnswer, onWriting, writeAnswer, roomLeft, onLookup, unownedOf, commandNumber, commandLeft, routeAnswer, planAnswer, sheetLeft};
-use numbers::Parsed;
+ghost use Rattle.capi.specs.Calls.{readAnswer, onWriting, writeAnswer, roomLeft, onLookup, unownedOf, commandNumber, commandLeft};
+ghost use Rattle.capi.specs.Calls.{routeAnswer, planAnswer, sheetLeft};
 use packet::Packet;
-use planning::Planning;
+use packet_numbers::Parsed;
+use plan_answer::Planning;
 use route::Routing;
 use sheet::Lookup;
 use tlp::Reading;
@@ -24,7 +25,10 @@ use tlp::Writing;
 // Reads a header's packet as twenty numbers.
 #[no_mangle]
 pub extern "C" fn cartsundial_read(header: &[u8], packet: &mut [u64]) -> u32
-    ensures { λ r. ⌜ (r ≡ returned (readAnswer (now (header .entry))) (now (packet .entry))) × (now (packet .exit) ≡ filled (readAnswer (now (header .entry))) (now (packet .entry))) ⌝ }
+    ensures { λ r. ⌜
+        (r ≡ returned (readAnswer (now (header .entry))) (now (packet .entry)))
+        × (now (packet .exit) ≡ filled (readAnswer (now (header .entry))) (now (packet .entry)))
+        ⌝ }
 {
     match tlp::read(header) {
         Reading::Accepted(p) => give_packet(p, packet),
@@ -32,13 +36,17 @@ pub extern "C" fn cartsundial_read(header: &[u8], packet: &mut [u64]) -> u32
     }
 }
 
-// Writes the packet that twenty numbers are, and its number of bytes. Numbers that are no packet are refused before the room is looked at: fewer than
-// twenty 11, a kind and form not carried 2, a number too large for its field or in a field that the kind does not have 10.
+// Writes the packet that twenty numbers are, and its number of bytes. Numbers that are no packet are refused before the room is looked at:
+// fewer than twenty 11, a kind and form not carried 2, a number too large for its field or in a field that the kind does not have 10.
 #[no_mangle]
 pub extern "C" fn cartsundial_write(packet: &[u64], room: &mut [u8], written: &mut [u64]) -> u32
-    ensures { λ r. ⌜ (r ≡ returned (writeAnswer (now (packet .entry)) (length (now (room .entry)))) (now (written .entry))) × (now (room .exit) ≡ roomLeft (now (packet .entry)) (now (room .entry)) (now (written .entry))) × (now (written .exit) ≡ filled (writeAnswer (now (packet .entry)) (length (now (room .entry)))) (now (written .entry))) ⌝ }
+    ensures { λ r. ⌜
+        (r ≡ returned (writeAnswer (now (packet .entry)) (length (now (room .entry)))) (now (written .entry)))
+        × (now (room .exit) ≡ roomLeft (now (packet .entry)) (now (room .entry)) (now (written .entry)))
+        × (now (written .exit) ≡ filled (writeAnswer (now (packet .entry)) (length (now (room .entry)))) (now (written .entry)))
+        ⌝ }
 {
-    match numbers::fields_of(packet) {
+    match packet_numbers::fields_of(packet) {
         Parsed::Accepted(p) => write_packet(p, room, written),
         Parsed::Refused(n) => n as u32,
     }
@@ -47,7 +55,11 @@ pub extern "C" fn cartsundial_write(packet: &[u64], room: &mut [u8], written: &m
 // Plans a board: its sheet, and the sheet's length.
 #[no_mangle]
 pub extern "C" fn cartsundial_plan(board: &[u8], sheet: &mut [u8], written: &mut [u64]) -> u32
-    ensures { λ r. ⌜ (r ≡ returned (planAnswer (now (board .entry)) (length (now (sheet .entry)))) (now (written .entry))) × (now (sheet .exit) ≡ sheetLeft (now (board .entry)) (now (sheet .entry)) (now (written .entry))) × (now (written .exit) ≡ filled (planAnswer (now (board .entry)) (length (now (sheet .entry)))) (now (written .entry))) ⌝ }
+    ensures { λ r. ⌜
+        (r ≡ returned (planAnswer (now (board .entry)) (length (now (sheet .entry)))) (now (written .entry)))
+        × (now (sheet .exit) ≡ sheetLeft (now (board .entry)) (now (sheet .entry)) (now (written .entry)))
+        × (now (written .exit) ≡ filled (planAnswer (now (board .entry)) (length (now (sheet .entry)))) (now (written .entry)))
+        ⌝ }
 {
     if written.len() == 0 {
         return plan_refusal(board);
@@ -69,7 +81,10 @@ pub extern "C" fn cartsundial_check(sheet: &[u8]) -> u32
 // Where the 64 register bytes of the function with an ID start in the sheet.
 #[no_mangle]
 pub extern "C" fn cartsundial_lookup(sheet: &[u8], id: u32, offset: &mut [u64]) -> u32
-    ensures { λ r. ⌜ (r ≡ returned (onLookup (lookupOf (now (sheet .entry)) id)) (now (offset .entry))) × (now (offset .exit) ≡ filled (onLookup (lookupOf (now (sheet .entry)) id)) (now (offset .entry))) ⌝ }
+    ensures { λ r. ⌜
+        (r ≡ returned (onLookup (lookupOf (now (sheet .entry)) id)) (now (offset .entry)))
+        × (now (offset .exit) ≡ filled (onLookup (lookupOf (now (sheet .entry)) id)) (now (offset .entry)))
+        ⌝ }
 {
     match find(sheet, id) {
         Lookup::Registers(at) => give_one(at as u64, offset),
@@ -80,7 +95,10 @@ pub extern "C" fn cartsundial_lookup(sheet: &[u8], id: u32, offset: &mut [u64]) 
 // Rewrites the command word of the function with an ID, and no other byte. A value above FFFFh is 10, tried before the sheet is read.
 #[no_mangle]
 pub extern "C" fn cartsundial_command(sheet: &mut [u8], id: u32, command: u32) -> u32
-    ensures { λ r. ⌜ (r ≡ commandNumber (now (sheet .entry)) id command) × (now (sheet .exit) ≡ commandLeft (now (sheet .entry)) id command) ⌝ }
+    ensures { λ r. ⌜
+        (r ≡ commandNumber (now (sheet .entry)) id command)
+        × (now (sheet .exit) ≡ commandLeft (now (sheet .entry)) id command)
+        ⌝ }
 {
     if WORD < command {
         return 10;
@@ -94,7 +112,10 @@ pub extern "C" fn cartsundial_command(sheet: &mut [u8], id: u32, command: u32) -
 // Walks a header over a sheet: the record that gets the packet, the bridges crossed, and the packet as it arrives, 22 numbers.
 #[no_mangle]
 pub extern "C" fn cartsundial_route(header: &[u8], sheet: &[u8], answer: &mut [u64]) -> u32
-    ensures { λ r. ⌜ (r ≡ returned (routeAnswer (now (header .entry)) (now (sheet .entry))) (now (answer .entry))) × (now (answer .exit) ≡ filled (routeAnswer (now (header .entry)) (now (sheet .entry))) (now (answer .entry))) ⌝ }
+    ensures { λ r. ⌜
+        (r ≡ returned (routeAnswer (now (header .entry)) (now (sheet .entry))) (now (answer .entry)))
+        × (now (answer .exit) ≡ filled (routeAnswer (now (header .entry)) (now (sheet .entry))) (now (answer .entry)))
+        ⌝ }
 {
     match route::route(header, sheet) {
         Routing::Delivered(d) => {
@@ -112,7 +133,11 @@ const WORD: u32 = 65535;
 
 // With no room for its length the packet is written into an empty room, which is 11 after the packet's own number.
 fn write_packet(p: Packet, room: &mut [u8], written: &mut [u64]) -> u32
-    ensures { λ r. ⌜ (r ≡ returned (onWriting (writeOf p (length (now (room .entry))))) (now (written .entry))) × (now (room .exit) ≡ cond (eqb (length (now (written .entry))) 0) (now (room .entry)) (roomAfter p (now (room .entry)))) × (now (written .exit) ≡ filled (onWriting (writeOf p (length (now (room .entry))))) (now (written .entry))) ⌝ }
+    ensures { λ r. ⌜
+        (r ≡ returned (onWriting (writeOf p (length (now (room .entry))))) (now (written .entry)))
+        × (now (room .exit) ≡ cond (eqb (length (now (written .entry))) 0) (now (room .entry)) (roomAfter p (now (room .entry))))
+        × (now (written .exit) ≡ filled (onWriting (writeOf p (length (now (room .entry))))) (now (written .entry)))
+        ⌝ }
 {
     let space = space_for(written.len(), room.len());
     match tlp::write(p, &mut room[..space]) {
@@ -128,7 +153,8 @@ fn space_for(answers: usize, room: usize) -> usize
     if answers == 0 { 0 } else { room }
 }
 
-// The board's own number, or else 11: every sheet has its version byte, so with an empty one the planner ends at its last check and writes nothing.
+// The board's own number, or else 11: every sheet has its version byte, so with an empty one the planner ends at its last check and writes
+// nothing.
 fn plan_refusal(board: &[u8]) -> u32
     ensures { λ r. ⌜ r ≡ planningNumber (planning (now (board .entry)) 0) ⌝ }
 {
@@ -158,24 +184,30 @@ fn unowned(sheet: &[u8]) -> u8
 }
 
 fn give_packet(p: Packet, out: &mut [u64]) -> u32
-    ensures { λ r. ⌜ (r ≡ returned (gives (numbersOf p)) (now (out .entry))) × (now (out .exit) ≡ filled (gives (numbersOf p)) (now (out .entry))) ⌝ }
+    ensures { λ r. ⌜
+        (r ≡ returned (gives (numbersOf p)) (now (out .entry)))
+        × (now (out .exit) ≡ filled (gives (numbersOf p)) (now (out .entry)))
+        ⌝ }
 {
-    if out.len() < numbers::SIZE {
+    if out.len() < packet_numbers::SIZE {
         return 11;
     }
-    numbers::put_packet(out, 0, p);
+    packet_numbers::put_packet(out, 0, p);
     0
 }
 
 fn give_delivery(number: u16, bridges: u8, p: Packet, out: &mut [u64]) -> u32
-    ensures { λ r. ⌜ (r ≡ returned (gives (number ∷ bridges ∷ numbersOf p)) (now (out .entry))) × (now (out .exit) ≡ filled (gives (number ∷ bridges ∷ numbersOf p)) (now (out .entry))) ⌝ }
+    ensures { λ r. ⌜
+        (r ≡ returned (gives (number ∷ bridges ∷ numbersOf p)) (now (out .entry)))
+        × (now (out .exit) ≡ filled (gives (number ∷ bridges ∷ numbersOf p)) (now (out .entry)))
+        ⌝ }
 {
-    if out.len() < 2 + numbers::SIZE {
+    if out.len() < 2 + packet_numbers::SIZE {
         return 11;
     }
     out[0] = number as u64;
     out[1] = bridges as u64;
-    numbers::put_packet(out, 2, p);
+    packet_numbers::put_packet(out, 2, p);
     0
 }
 

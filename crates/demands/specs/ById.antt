@@ -11,7 +11,7 @@ use Rattle.packet.specs.declared.Packet.{Packet}
 use Rattle.packet.specs.declared.Packet.the-variants.{Memory, Io, Config, Completion}
 use Rattle.records.specs.Limits.{mostAbove}
 use Rattle.board.specs.Board.{functionsOf}
-use Rattle.planned.specs.ById.{HasIdAsNumbered}
+use Rattle.plan_good.specs.ById.{HasIdAsNumbered}
 use Rattle.board.specs.ToPlacing.{devfnOf}
 use Rattle.route.specs.declared.Delivery.{Delivery}
 use Rattle.route.specs.declared.Routing.the-variants.{Delivered}

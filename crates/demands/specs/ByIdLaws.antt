@@ -17,7 +17,7 @@ use Rattle.packet.specs.declared.Packet.{Packet}
 use Rattle.packet.specs.declared.Packet.the-variants.{Memory, Io, Config, Completion}
 use Rattle.tlp.specs.declared.Reading.the-variants.{Accepted}
 use Rattle.tlp.specs.Reading.{readOf}
-use Rattle.placing.specs.Order.{eq-or-ne, true-or-false}
+use Rattle.plan_rule.specs.Order.{eq-or-ne, true-or-false}
 use Rattle.board.specs.Board.{hostOf, functionsOf}
 use Rattle.walk.specs.Walk.{Outcome, delivered, refused}
 use Rattle.walk.specs.WalkLaws.{trail-unique}
@@ -26,12 +26,12 @@ use Rattle.sheet.specs.Spaces.{nodesOf}
 use Rattle.sheet.specs.Commands.{SameButCommands}
 use Rattle.pools.specs.declared.Space.{Space}
 use Rattle.pools.specs.declared.Space.the-variants.{Memory as memorySpace, Io as ioSpace}
-use Rattle.planned.specs.ById.{DeliversAsNumbered}
-use Rattle.planning.specs.declared.Planning.the-variants.{Planned}
-use Rattle.planning.specs.Plan.{planning, sheetAfter}
+use Rattle.plan_good.specs.ById.{DeliversAsNumbered}
+use Rattle.plan_answer.specs.declared.Planning.the-variants.{Planned}
+use Rattle.plan_answer.specs.Plan.{planning, sheetAfter}
 use Rattle.board.specs.ToPlacing.{devfnOf}
-use Rattle.joined.specs.Delivery.{PlannedSheet}
-use Rattle.joined.specs.Answer.{planned-sheet-of-answer}
+use Rattle.plan_sheet.specs.Delivery.{PlannedSheet}
+use Rattle.plan_sheet.specs.Answer.{planned-sheet-of-answer}
 use Rattle.claims.specs.declared.Aim.{Aim}
 use Rattle.claims.specs.declared.Aim.the-variants.{Id}
 use Rattle.route_arrival.specs.Arrival.{aimOf, kindWrong, typeWrong, arrived}

@@ -14,11 +14,11 @@ use Rattle.lists.specs.Lists.{Some}
 use Rattle.pools.specs.declared.Space.{Space}
 use Rattle.pools.specs.declared.Space.the-variants.{Memory as memorySpace, Io as ioSpace}
 use Rattle.records.specs.Limits.{mostAbove}
-use Rattle.placing.specs.Pools.{Pool, low, high, io}
-use Rattle.placing.specs.Records.{Host, Function}
-use Rattle.placing.specs.Placing.{placed}
-use Rattle.placing.specs.Placed.{WellPlaced}
-use Rattle.placing.specs.Above.{aboveByParents}
+use Rattle.plan_rule.specs.Pools.{Pool, low, high, io}
+use Rattle.plan_rule.specs.Records.{Host, Function}
+use Rattle.plan_rule.specs.Placing.{placed}
+use Rattle.plan_rule.specs.Placed.{WellPlaced}
+use Rattle.plan_rule.specs.Above.{aboveByParents}
 use Rattle.board.specs.Board.{boardNumber, hostOf, functionsOf}
 use Rattle.board.specs.ToPlacing.{toHost, toPlacing, devfnOf}
 use Rattle.walk.specs.Good.{Good}
@@ -26,12 +26,12 @@ use Rattle.walk.specs.Walk.{Trail}
 use Rattle.sheet.specs.Sheet.{sheetNumber, sheetLength}
 use Rattle.sheet.specs.Spaces.{registersOf, enabledOf}
 use Rattle.sheet.specs.Commands.{SameButCommands}
-use Rattle.planned.specs.Registers.{planRegisters, planHost}
-use Rattle.planned.specs.RefusedExactly.{BusesRunOut, PoolRunsOut}
-use Rattle.planned.specs.NestedAndApart.{NestedAndApart}
-use Rattle.planned.specs.Delivery.{BarHolds, OwnsAsPlaced}
-use Rattle.planning.specs.declared.Planning.the-variants.{Planned, Refused}
-use Rattle.planning.specs.Plan.{numberOf as planningNumber, planning, sheetAfter}
+use Rattle.plan_good.specs.Registers.{planRegisters, planHost}
+use Rattle.plan_good.specs.RefusedExactly.{BusesRunOut, PoolRunsOut}
+use Rattle.plan_good.specs.NestedAndApart.{NestedAndApart}
+use Rattle.plan_good.specs.Delivery.{BarHolds, OwnsAsPlaced}
+use Rattle.plan_answer.specs.declared.Planning.the-variants.{Planned, Refused}
+use Rattle.plan_answer.specs.Plan.{numberOf as planningNumber, planning, sheetAfter}
 use Rattle.claims.specs.Claims.{tallyFor}
 use Rattle.route_arrival.specs.Arrival.{aimOf}
 use Rattle.route.specs.declared.Delivery.{Delivery}

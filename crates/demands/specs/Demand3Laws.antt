@@ -15,11 +15,11 @@ use Rattle.packet.specs.declared.Packet.the-variants.{Memory, Io, Config, Compl
 use Rattle.tlp.specs.declared.Reading.the-variants.{Accepted}
 use Rattle.tlp.specs.Reading.{readOf}
 use Rattle.pools.specs.declared.Space.{Space}
-use Rattle.placing.specs.Pools.{low, high, io}
+use Rattle.plan_rule.specs.Pools.{low, high, io}
 use Rattle.lists.specs.ListLaws.{all-of}
-use Rattle.placing.specs.Order.{eq-or-ne, le-or-lt}
-use Rattle.placing.specs.Placed.{well-placed}
-use Rattle.placing.specs.Refusals.{refusalOf}
+use Rattle.plan_rule.specs.Order.{eq-or-ne, le-or-lt}
+use Rattle.plan_rule.specs.Placed.{well-placed}
+use Rattle.plan_rule.specs.Refusals.{refusalOf}
 use Rattle.board.specs.Board.{boardNumber, hostOf, functionsOf}
 use Rattle.board.specs.ToPlacing.{devfnOf}
 use Rattle.board.specs.ToPlacingLaws.{lawful-of-accepted}
@@ -33,18 +33,18 @@ use Rattle.sheet.specs.Sheet.{entriesOf}
 use Rattle.sheet.specs.SheetLaws.{nodes-functions}
 use Rattle.sheet.specs.Spaces.{registersOf, enabledOf}
 use Rattle.sheet.specs.Commands.{SameButCommands}
-use Rattle.layout.specs.Layout.{sheetBytes}
-use Rattle.planned.specs.RefusedExactly.{RefusedExactly, refused-exactly}
-use Rattle.planned.specs.NestedAndApart.{NestedAndApart, planned-nested-and-apart}
-use Rattle.planned.specs.Delivery.{OwnsAsPlaced, DeliversAsPlaced}
-use Rattle.planned.specs.DeliveryLaws.{crosses-above, planned-delivers}
-use Rattle.planning.specs.declared.Planning.{Planning}
-use Rattle.planning.specs.declared.Planning.the-variants.{Planned, Refused}
-use Rattle.planning.specs.Plan.{planOf, onRoom, onBoard, planning, numberOf as planningNumber, sheetAs, sheetAfter}
-use Rattle.joined.specs.Fits.{BoardFits}
-use Rattle.joined.specs.Accepted.{fits-of-accepted}
-use Rattle.joined.specs.Delivery.{PlannedSheet}
-use Rattle.joined.specs.Answer.{AnswersPlanned, planned-of-answer, planned-sheet-of-answer}
+use Rattle.sheet_bytes.specs.Layout.{sheetBytes}
+use Rattle.plan_good.specs.RefusedExactly.{RefusedExactly, refused-exactly}
+use Rattle.plan_good.specs.NestedAndApart.{NestedAndApart, planned-nested-and-apart}
+use Rattle.plan_good.specs.Delivery.{OwnsAsPlaced, DeliversAsPlaced}
+use Rattle.plan_good.specs.DeliveryLaws.{crosses-above, planned-delivers}
+use Rattle.plan_answer.specs.declared.Planning.{Planning}
+use Rattle.plan_answer.specs.declared.Planning.the-variants.{Planned, Refused}
+use Rattle.plan_answer.specs.Plan.{planOf, onRoom, onBoard, planning, numberOf as planningNumber, sheetAs, sheetAfter}
+use Rattle.plan_sheet.specs.Fits.{BoardFits}
+use Rattle.plan_sheet.specs.Accepted.{fits-of-accepted}
+use Rattle.plan_sheet.specs.Delivery.{PlannedSheet}
+use Rattle.plan_sheet.specs.Answer.{AnswersPlanned, planned-of-answer, planned-sheet-of-answer}
 use Rattle.claims.specs.declared.Aim.the-variants.{Address}
 use Rattle.claims.specs.Claims.{tallyFor}
 use Rattle.route_arrival.specs.Arrival.{aimOf}

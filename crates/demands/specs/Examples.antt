@@ -15,12 +15,12 @@ use Rattle.tlp_fields.specs.Fields.{headAt, enablesAt, addressAt, unnamed}
 use Rattle.tlp.specs.Reading.{numberOf as readingNumber, judged, readOf}
 use Rattle.records.specs.Records.{nextOf, partsOver, partsOf, anyPart}
 use Rattle.lists.specs.Lists.{keep, any}
-use Rattle.placing.specs.Align.{alignUp}
-use Rattle.placing.specs.Layout.{layoutEnd, largestAlign}
-use Rattle.placing.specs.Pieces.{barPieces, windowPieces, ownPieces, pieces}
-use Rattle.placing.specs.Placing.{place, placed}
-use Rattle.placing.specs.Numbering.{bridges, busNumber, greatestBelow, subordinateOf}
-use Rattle.placing.specs.Refusals.{outOfPool, refusalOf}
+use Rattle.plan_rule.specs.Align.{alignUp}
+use Rattle.plan_rule.specs.Layout.{layoutEnd, largestAlign}
+use Rattle.plan_rule.specs.Pieces.{barPieces, windowPieces, ownPieces, pieces}
+use Rattle.plan_rule.specs.Placing.{place, placed}
+use Rattle.plan_rule.specs.Numbering.{bridges, busNumber, greatestBelow, subordinateOf}
+use Rattle.plan_rule.specs.Refusals.{outOfPool, refusalOf}
 use Rattle.bar.specs.Bar.{sizeFrom, sized, ioSlot, narrowSlot, wideSlot, slotHere, slots, anyBad}
 use Rattle.bar.specs.Bars.{barsFrom}
 use Rattle.bar.specs.Values.{isBarValue, valuesFit}
@@ -36,14 +36,14 @@ use Rattle.sheet.specs.Sheet.{allSized, isFramed, entriesFrom, commandsOf, allZ
 use Rattle.sheet.specs.Sheet.{from29, from25, from28, from27, from24, from22, from20, from21, sheetNumber}
 use Rattle.sheet.specs.Spaces.{functionsFrom, nodesFrom}
 use Rattle.sheet.specs.Examples.{p10 as p10-sheet}
-use Rattle.layout.specs.Layout.{dwordBytes, endBytes, bridgeBytes, bodyBytes, commonBytes, configBytes, partBytes, recordBytes, sheetBytes}
+use Rattle.sheet_bytes.specs.Layout.{dwordBytes, endBytes, bridgeBytes, bodyBytes, commonBytes, configBytes, partBytes, recordBytes, sheetBytes}
 use Rattle.walk.specs.Registers.{itemsOf, items, enabledIn}
 use Rattle.walk.specs.Tally.{join, tallyOn}
 use Rattle.walk.specs.Walk.{walkOver, walkFrom}
-use Rattle.planning.specs.declared.Planning.the-variants.{Planned}
-use Rattle.planning.specs.Plan.{barStart, windowFor, valuesFrom, plannedFrom, planOf, onRoom, onBoard, planning, numberOf as planningNumber, sheetAfter}
-use Rattle.listing.specs.Listing.{words, windowText, bridgeText, endText, lineOf, countText, planText}
-use Rattle.listing.specs.BoardText.{boardText}
+use Rattle.plan_answer.specs.declared.Planning.the-variants.{Planned}
+use Rattle.plan_answer.specs.Plan.{barStart, windowFor, valuesFrom, plannedFrom, planOf, onRoom, onBoard, planning, numberOf as planningNumber, sheetAfter}
+use Rattle.sheet_text.specs.Listing.{words, windowText, bridgeText, endText, lineOf, countText, planText}
+use Rattle.sheet_text.specs.BoardText.{boardText}
 use Rattle.route.specs.declared.Routing.{Routing}
 use Rattle.route.specs.declared.Routing.the-variants.{Delivered, Refused as NotDelivered}
 use Rattle.route.specs.Route.{numberOf as routingNumber, routeOf, fromSheet, routePacket, from42}

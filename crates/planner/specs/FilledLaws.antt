@@ -10,26 +10,26 @@ use Rattle.pools.specs.declared.Pool.{Pool}
 use Rattle.pools.specs.declared.Pool.the-variants.{Low, High, Io}
 use Rattle.bar.specs.Header.{isBridge as isBridgeHeader}
 use Rattle.records.specs.Limits.{mostFunctions}
-use Rattle.placing.specs.Records as placing
-use Rattle.placing.specs.Numbering.{bridges}
-use Rattle.placing.specs.Sizing as laid
-use Rattle.placing.specs.Sizing.{busLaid, rootLaid}
-use Rattle.placing.specs.SizingLaws.{laid-ext}
+use Rattle.plan_rule.specs.Records as placing
+use Rattle.plan_rule.specs.Numbering.{bridges}
+use Rattle.plan_rule.specs.Sizing as laid
+use Rattle.plan_rule.specs.Sizing.{busLaid, rootLaid}
+use Rattle.plan_rule.specs.SizingLaws.{laid-ext}
 use Rattle.board_record.specs.declared.Host.{Host}
 use Rattle.board_record.specs.declared.Function.{Function}
 use Rattle.board_record.specs.Function.{isBridge}
 use Rattle.board.specs.Board.{boardNumber, hostOf, functionsOf}
 use Rattle.board.specs.ToPlacing.{toHost, toPlacing}
-use Rattle.sizing.specs.declared.Laid.{Laid}
-use Rattle.sizing.specs.Cut.{cut}
-use Rattle.sizing.specs.Functions.{functionsIn}
-use Rattle.sizing.specs.Memo.{laidAt, below, memoFrom}
-use Rattle.sizing.specs.Board.{basesOf, rootFrom}
-use Rattle.sizing.specs.BoardLaws.{stored-below}
-use Rattle.tables.specs.Tables.{headersOf, Room, Filled}
-use Rattle.tables.specs.Counts.{countsOf}
-use Rattle.tables.specs.FilledLaws.{filled-few, room-filled, length-take-parents, take-headers, functions-filled, board-filled, bridges-filled}
-use Rattle.placement.specs.StepLaws.{RecordAt}
+use Rattle.plan_sizing.specs.declared.Laid.{Laid}
+use Rattle.plan_sizing.specs.Cut.{cut}
+use Rattle.plan_sizing.specs.Functions.{functionsIn}
+use Rattle.plan_sizing.specs.Memo.{laidAt, below, memoFrom}
+use Rattle.plan_sizing.specs.Board.{basesOf, rootFrom}
+use Rattle.plan_sizing.specs.BoardLaws.{stored-below}
+use Rattle.plan_tables.specs.Tables.{headersOf, Room, Filled}
+use Rattle.plan_tables.specs.Counts.{countsOf}
+use Rattle.plan_tables.specs.FilledLaws.{filled-few, room-filled, length-take-parents, take-headers, functions-filled, board-filled, bridges-filled}
+use Rattle.plan_pass.specs.StepLaws.{RecordAt}
 use Rattle.planner.specs.declared.Measured.{Measured}
 use Rattle.planner.specs.Measure.{Measurable, CountedAndSized, IsMeasured}
 

@@ -7,22 +7,22 @@ use lib.Dec.{ltb}
 use lib.ListN.{length, getD, take}
 use lib.Seq.{sets}
 use Rattle.records.specs.Limits.{mostFunctions}
-use Rattle.placing.specs.Numbering.{bridges}
-use Rattle.placing.specs.declared.Extent.{Extent}
-use Rattle.placing.specs.Sizing.{busLaid, rootLaid, endsPast}
+use Rattle.plan_rule.specs.Numbering.{bridges}
+use Rattle.plan_rule.specs.declared.Extent.{Extent}
+use Rattle.plan_rule.specs.Sizing.{busLaid, rootLaid, endsPast}
 use Rattle.board_record.specs.declared.Span.{Span}
 use Rattle.board_record.specs.declared.Host.{Host}
 use Rattle.board_record.specs.declared.Function.{Function}
 use Rattle.board_record.specs.Function.{isBridge}
 use Rattle.board.specs.Board.{hostOf, functionsOf}
 use Rattle.board.specs.ToPlacing.{toHost, toPlacing}
-use Rattle.sizing.specs.Cut.{cut}
-use Rattle.sizing.specs.Functions.{functionsIn}
-use Rattle.sizing.specs.Memo.{laidAt, below}
-use Rattle.sizing.specs.Board.{Board, basesOf, BoardSized}
-use Rattle.tables.specs.Tables.{Room}
-use Rattle.tables.specs.Counts.{countsOf}
-use Rattle.placement.specs.StepLaws.{RecordAt}
+use Rattle.plan_sizing.specs.Cut.{cut}
+use Rattle.plan_sizing.specs.Functions.{functionsIn}
+use Rattle.plan_sizing.specs.Memo.{laidAt, below}
+use Rattle.plan_sizing.specs.Board.{Board, basesOf, BoardSized}
+use Rattle.plan_tables.specs.Tables.{Room}
+use Rattle.plan_tables.specs.Counts.{countsOf}
+use Rattle.plan_pass.specs.StepLaws.{RecordAt}
 use Rattle.planner.specs.declared.Measured.{Measured}
 
 -- what the root bus comes to in a pool, held against the pool

@@ -12,27 +12,27 @@ use Rattle.pools.specs.declared.Pool.the-variants.{Low, High, Io}
 use Rattle.lists.specs.Lists.{All}
 use Rattle.lists.specs.ListLaws.{all-imp}
 use Rattle.lists.specs.KeepLaws.{all-keep}
-use Rattle.placing.specs.Records as placing
-use Rattle.placing.specs.Records.{Lawful}
-use Rattle.placing.specs.Layout.{Piece, isOn, select, layoutEnd, largestAlign, endAt}
-use Rattle.placing.specs.LayoutLaws.{HasAlign, le-end-at, le-layout-end}
-use Rattle.placing.specs.Pieces.{pieces}
-use Rattle.placing.specs.PieceLaws.{Shaped, has-align, pieces-shaped}
-use Rattle.placing.specs.declared.Extent.{Extent}
-use Rattle.placing.specs.Sizing.{extend, busLaid, rootLaid, endsPast}
-use Rattle.placing.specs.ExtentLaws.{extend-align}
-use Rattle.placing.specs.Cap.{capped, out-of-pool-capped}
-use Rattle.placing.specs.Refusals.{outOfPool, refusalOf}
-use Rattle.placing.specs.RefusalLaws.{out-of-pool-end}
+use Rattle.plan_rule.specs.Records as placing
+use Rattle.plan_rule.specs.Records.{Lawful}
+use Rattle.plan_rule.specs.Layout.{Piece, isOn, select, layoutEnd, largestAlign, endAt}
+use Rattle.plan_rule.specs.LayoutLaws.{HasAlign, le-end-at, le-layout-end}
+use Rattle.plan_rule.specs.Pieces.{pieces}
+use Rattle.plan_rule.specs.PieceLaws.{Shaped, has-align, pieces-shaped}
+use Rattle.plan_rule.specs.declared.Extent.{Extent}
+use Rattle.plan_rule.specs.Sizing.{extend, busLaid, rootLaid, endsPast}
+use Rattle.plan_rule.specs.ExtentLaws.{extend-align}
+use Rattle.plan_rule.specs.Cap.{capped, out-of-pool-capped}
+use Rattle.plan_rule.specs.Refusals.{outOfPool, refusalOf}
+use Rattle.plan_rule.specs.RefusalLaws.{out-of-pool-end}
 use Rattle.board_record.specs.declared.Host.{Host}
 use Rattle.board_record.specs.declared.Span.{Span}
 use Rattle.board.specs.Board.{boardNumber, hostOf, functionsOf}
 use Rattle.board_record.specs.Host.{spanOf}
 use Rattle.board.specs.ToPlacing.{toHost, toPlacing}
-use Rattle.sizing.specs.declared.Laid.{Laid}
-use Rattle.sizing.specs.Cut.{extentIn, cut}
-use Rattle.planned.specs.Boards.{HostEdges}
-use Rattle.joined.specs.Accepted.{board-of-accepted}
+use Rattle.plan_sizing.specs.declared.Laid.{Laid}
+use Rattle.plan_sizing.specs.Cut.{extentIn, cut}
+use Rattle.plan_good.specs.Boards.{HostEdges}
+use Rattle.plan_sheet.specs.Accepted.{board-of-accepted}
 use Rattle.planner.specs.declared.Measured.{Measured}
 use Rattle.planner.specs.Measure.{runsOut, refusalBy, IsMeasured}
 

@@ -11,9 +11,9 @@ use borrow.Author.Tests.{lt-ltb, le-ltb, eq-eqb, ne-eqb}
 use Rattle.endian.specs.Endian.{Bytes}
 use Rattle.records.specs.Records.{partsFrom}
 use Rattle.records.specs.Limits.{mostFunctions}
-use Rattle.placing.specs.Records as placing
-use Rattle.placing.specs.Numbering.{bridges}
-use Rattle.placing.specs.Refusals.{refusalOf}
+use Rattle.plan_rule.specs.Records as placing
+use Rattle.plan_rule.specs.Numbering.{bridges}
+use Rattle.plan_rule.specs.Refusals.{refusalOf}
 use Rattle.board_record.specs.declared.Host.{Host}
 use Rattle.board_record.specs.declared.Function.{Function}
 use Rattle.board_record.specs.Host.{hostOfPart}
@@ -22,13 +22,13 @@ use Rattle.board.specs.Board.{boardNumber, hostOf, functionsOf}
 use Rattle.board.specs.BoardLaws.{accepted-of-zero}
 use Rattle.board.specs.ToPlacing.{toHost, toFunction, toPlacing}
 use Rattle.sheet.specs.Sheet.{sheetLength}
-use Rattle.layout.specs.Layout.{sheetBytes}
-use Rattle.layout.specs.LayoutLaws.{length-sheetBytes}
-use Rattle.planning.specs.declared.Planning.{Planning}
-use Rattle.planning.specs.declared.Planning.the-variants.{Planned, Refused}
-use Rattle.planning.specs.Plan.{planOf, onRoom, onBoard, planning, sheetAs, sheetAfter}
-use Rattle.placement.specs.Loop.{Placing}
-use Rattle.joined.specs.Passes.{length-plan}
+use Rattle.sheet_bytes.specs.Layout.{sheetBytes}
+use Rattle.sheet_bytes.specs.LayoutLaws.{length-sheetBytes}
+use Rattle.plan_answer.specs.declared.Planning.{Planning}
+use Rattle.plan_answer.specs.declared.Planning.the-variants.{Planned, Refused}
+use Rattle.plan_answer.specs.Plan.{planOf, onRoom, onBoard, planning, sheetAs, sheetAfter}
+use Rattle.plan_pass.specs.Loop.{Placing}
+use Rattle.plan_sheet.specs.Passes.{length-plan}
 use Rattle.planner.specs.declared.Measured.{Measured}
 use Rattle.planner.specs.Measure.{refusalBy, IsMeasured}
 use Rattle.planner.specs.MeasureLaws.{refusal-by-is}

@@ -11,21 +11,21 @@ use Rattle.endian.specs.Endian.{Bytes}
 use Rattle.pools.specs.declared.Pool.{Pool}
 use Rattle.pools.specs.declared.Pool.the-variants.{Low, High, Io}
 use Rattle.window.specs.Window.{bound}
-use Rattle.placing.specs.Records as placing
-use Rattle.placing.specs.Layout.{endOf}
-use Rattle.placing.specs.Placing.{placed}
-use Rattle.placing.specs.Refusals.{Kept, refusalOf}
+use Rattle.plan_rule.specs.Records as placing
+use Rattle.plan_rule.specs.Layout.{endOf}
+use Rattle.plan_rule.specs.Placing.{placed}
+use Rattle.plan_rule.specs.Refusals.{Kept, refusalOf}
 use Rattle.board_record.specs.declared.Host.{Host}
 use Rattle.board.specs.Board.{boardNumber, hostOf, functionsOf}
 use Rattle.board.specs.ToPlacing.{toHost, toPlacing}
-use Rattle.placer.specs.JoinLaws.{Room}
+use Rattle.plan_function.specs.JoinLaws.{Room}
 use Rattle.lists.specs.ListLaws.{all-intro}
 use Rattle.sheet.specs.Sheet.{sheetLength}
-use Rattle.planned.specs.Boards.{Board, IsOpen}
-use Rattle.planned.specs.Kept.{AllKept, kept-of-planned, placed-in-pool, pool-open}
-use Rattle.placement.specs.Loop.{withLast, Placing}
-use Rattle.placement.specs.PreparedLaws.{prepared-of-accepted}
-use Rattle.joined.specs.Accepted.{board-of-accepted}
+use Rattle.plan_good.specs.Boards.{Board, IsOpen}
+use Rattle.plan_good.specs.Kept.{AllKept, kept-of-planned, placed-in-pool, pool-open}
+use Rattle.plan_pass.specs.Loop.{withLast, Placing}
+use Rattle.plan_pass.specs.PreparedLaws.{prepared-of-accepted}
+use Rattle.plan_sheet.specs.Accepted.{board-of-accepted}
 use Rattle.planner.specs.declared.Measured.{Measured}
 use Rattle.planner.specs.Measure.{IsMeasured}
 

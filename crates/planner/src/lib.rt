@@ -1,22 +1,26 @@
-// The planner: a board's bytes to its register sheet, or the number of the first check that the board fails. Any bytes may be given, and any room.
+// The planner: a board's bytes to its register sheet, or the number of the first check that the board fails. Any bytes may be given, and
+// any room.
 ghost use mathlib.Core.Path.{_≡_};
 ghost use Prim.Native.Nat.{_*_, _≤_, _<_};
 ghost use lib.ListN.{length};
 ghost use Rattle.records.specs.Limits.{mostFunctions};
 ghost use Rattle.board.specs.Board.{boardNumber, hostOf, functionsOf};
-ghost use Rattle.planning.specs.Plan.{onBoard, planning, sheetAs, sheetAfter};
+ghost use Rattle.plan_answer.specs.Plan.{onBoard, planning, sheetAs, sheetAfter};
 ghost use Rattle.planner.specs.Measure.{runsOut, refusalBy, Measurable, CountedAndSized, IsMeasured};
 use board_record::Host;
 use board_record::Span;
-use placing::Extent;
-use planning::Planning;
+use plan_answer::Planning;
+use plan_rule::Extent;
+use plan_sizing::Laid;
 use records::MOST_FUNCTIONS;
 use sheet_record::places::STRIDE;
-use sizing::Laid;
 
 // The sheet's length, or the number. The sheet is written up to its length and nothing past it; a refused board leaves it as it was.
 pub fn plan(board: &[u8], sheet: &mut [u8]) -> Planning
-    ensures { λ r. ⌜ (r ≡ planning (now (board .entry)) (length (now (sheet .entry)))) × (now (sheet .exit) ≡ sheetAfter (now (board .entry)) (now (sheet .entry))) ⌝ }
+    ensures { λ r. ⌜
+        (r ≡ planning (now (board .entry)) (length (now (sheet .entry))))
+        × (now (sheet .exit) ≡ sheetAfter (now (board .entry)) (now (sheet .entry)))
+        ⌝ }
 {
     let n = board::check(board);
     if n != 0 {
@@ -36,7 +40,10 @@ pub struct Measured {
 // 30 to 33, then short room, then the sheet.
 fn plan_lawful(board: &[u8], sheet: &mut [u8]) -> Planning
     requires { ⌜ boardNumber (now board) ≡ 0 ⌝ }
-    ensures { λ r. ⌜ (r ≡ onBoard (hostOf (now (board .entry))) (functionsOf (now (board .entry))) (length (now (sheet .entry)))) × (now (sheet .exit) ≡ sheetAs r (now (board .entry)) (now (sheet .entry))) ⌝ }
+    ensures { λ r. ⌜
+        (r ≡ onBoard (hostOf (now (board .entry))) (functionsOf (now (board .entry))) (length (now (sheet .entry))))
+        × (now (sheet .exit) ≡ sheetAs r (now (board .entry)) (now (sheet .entry)))
+        ⌝ }
 {
     let mut counts = [0u16; 1 + MOST_FUNCTIONS];
     let mut memo = [0u64; 8 * MOST_FUNCTIONS];
@@ -50,7 +57,7 @@ fn plan_lawful(board: &[u8], sheet: &mut [u8]) -> Planning
     if sheet.len() < size {
         return Planning::Refused(11);
     }
-    placement::place_all(board, host, &counts, &memo, sheet);
+    plan_pass::place_all(board, host, &counts, &memo, sheet);
     Planning::Planned(size)
 }
 
@@ -63,7 +70,7 @@ fn measure(board: &[u8], host: Host, counts: &mut [u16], memo: &mut [u64]) -> Me
     let mut parents = [0u16; MOST_FUNCTIONS];
     let mut headers = [0u8; MOST_FUNCTIONS];
     let mut readbacks = [0u32; 6 * MOST_FUNCTIONS];
-    let n = tables::fill(board, &mut parents, &mut headers, &mut readbacks);
+    let n = plan_tables::fill(board, &mut parents, &mut headers, &mut readbacks);
     count_and_size(&parents, &headers, &readbacks, n, host, counts, memo)
 }
 
@@ -78,16 +85,19 @@ fn count_and_size(
     memo: &mut [u64],
 ) -> Measured
     requires { ⌜ Measurable (now parents) (now headers) (now readbacks) n (now counts) (now memo) ⌝ }
-    ensures { λ r. ⌜ CountedAndSized (now (parents .entry)) (now (headers .entry)) (now (readbacks .entry)) n host (now (counts .entry)) (now (memo .entry)) (now (counts .exit)) (now (memo .exit)) r ⌝ }
+    ensures { λ r. ⌜
+        CountedAndSized (now (parents .entry)) (now (headers .entry)) (now (readbacks .entry)) n host (now (counts .entry))
+        (now (memo .entry)) (now (counts .exit)) (now (memo .exit)) r
+        ⌝ }
 {
     let hs = &headers[..n];
-    tables::count_bridges(hs, counts);
+    plan_tables::count_bridges(hs, counts);
     let low = host.low;
     let high = host.high;
     let io = host.io;
     let ps = &parents[..n];
     let sets = &readbacks[..6 * n];
-    let root = sizing::size_board(ps, hs, sets, memo, low.base, high.base, io.base);
+    let root = plan_sizing::size_board(ps, hs, sets, memo, low.base, high.base, io.base);
     Measured {
         functions: n,
         bridges: counts[n],
@@ -123,5 +133,5 @@ fn runs_out(pool: Span, e: Extent) -> bool
     if pool.last < pool.base {
         return 0 < e.align;
     }
-    sizing::ends_past(pool.last, e)
+    plan_sizing::ends_past(pool.last, e)
 }

@@ -1,7 +1,7 @@
 // The plan of a board that was fed, on standard output: what the two programs that plan share.
 use board_feed::Feed;
 use board_feed::KEPT;
-use listing::LONGEST;
+use sheet_text::LONGEST;
 
 // The plan, or `refused N`, and whether all of it was written.
 pub fn print(input: Feed, kept: &[u8; KEPT]) -> bool {

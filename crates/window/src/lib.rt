@@ -1,7 +1,9 @@
 // A bridge's windows: the registers of one window, the range they stand for, and the one spelling of a closed window of each pool.
 ghost use mathlib.Core.Path.{_≡_};
 ghost use Prim.Native.Nat.{_+_, _-_, _<_, _≤_};
-ghost use Rattle.window.specs.Window.{closed as closedOf, fields as fieldsOf, nibble as nibbleOf, field as fieldOf, register as registerOf, upper as upperOf, opened as openedOf, address as addressOf, start as startOf, stop as stopOf, holds as holdsOf, isNibbled};
+ghost use Rattle.window.specs.Window.{closed as closedOf, fields as fieldsOf, nibble as nibbleOf, field as fieldOf};
+ghost use Rattle.window.specs.Window.{register as registerOf, upper as upperOf, opened as openedOf, address as addressOf};
+ghost use Rattle.window.specs.Window.{start as startOf, stop as stopOf, holds as holdsOf, isNibbled};
 use pools::Pool;
 
 // Base and limit registers as written. Only a high window has upper halves; the others' are 0.

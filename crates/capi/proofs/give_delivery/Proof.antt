@@ -5,8 +5,8 @@ use lib.ListN.{set}
 use mathlib.Core.List.{_∷_}
 use native.Mathlib.Omega.{arith}
 use Rattle.capi.specs.CallsLaws.{answered-short, answered-filled}
-use Rattle.numbers.specs.Numbers.{numbersOf}
-use Rattle.numbers.specs.NumbersLaws.{length-numbersOf}
+use Rattle.packet_numbers.specs.Numbers.{numbersOf}
+use Rattle.packet_numbers.specs.NumbersLaws.{length-numbersOf}
 use Rattle.capi.proofs.give_delivery.Statement.{statement}
 use Rattle.capi.proofs.give_delivery.Tie as tie
 

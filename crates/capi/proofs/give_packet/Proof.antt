@@ -2,8 +2,8 @@
 use borrow.Author.Needs.{needs}
 use native.Mathlib.Omega.{arith}
 use Rattle.capi.specs.CallsLaws.{answered-short, answered-filled}
-use Rattle.numbers.specs.Numbers.{numbersOf}
-use Rattle.numbers.specs.NumbersLaws.{length-numbersOf}
+use Rattle.packet_numbers.specs.Numbers.{numbersOf}
+use Rattle.packet_numbers.specs.NumbersLaws.{length-numbersOf}
 use Rattle.capi.proofs.give_packet.Statement.{statement}
 use Rattle.capi.proofs.give_packet.Tie as tie
 

@@ -3,7 +3,7 @@ use borrow.Author.Needs.{needs}
 use Rattle.planner.proofs.plan.Statement.{statement}
 use Rattle.planner.proofs.plan.Tie as tie
 use mathlib.Core.Path.{refl, sym, ap, _∙_}
-use Rattle.planning.specs.declared.Planning.the-variants.{Refused}
+use Rattle.plan_answer.specs.declared.Planning.the-variants.{Refused}
 use Rattle.planner.specs.PlanLaws.{planning-unlawful, planning-lawful, sheet-after-is}
 
 check-requires : tie.Need-check-requires

@@ -1,6 +1,6 @@
 -- `board_feed::Feed::plan` meets its contract: the number by the frame, or the planner's answer on the bytes kept. Assumes nothing.
 use mathlib.Core.Path.{refl, sym, ap, _∙_}
-use Rattle.planning.specs.declared.Planning.the-variants.{Refused}
+use Rattle.plan_answer.specs.declared.Planning.the-variants.{Refused}
 use Rattle.board_feed.specs.Feed.{planningOf, sheetOf}
 use borrow.Author.Needs.{needs}
 use Rattle.board_feed.proofs.Feed.plan.Statement.{statement}

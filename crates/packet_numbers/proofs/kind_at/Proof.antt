@@ -1,0 +1,86 @@
+-- `packet_numbers::kind_at` meets its contract: each arm is its place in the list of `specs/`, computed. Assumes nothing.
+use Prim.Native.Nat.{ℕ, zero, suc, _≤_}
+use mathlib.Core.Path.{_≡_}
+use native.Mathlib.Omega.{arith}
+use Rattle.packet_numbers.specs.Parsing.{kinds, kindAt}
+use Rattle.packet_numbers.proofs.kind_at.Statement.{statement}
+use Rattle.packet_numbers.proofs.kind_at.Tie as tie
+
+returns : tie.Need-returns
+unfolding kindAt kinds
+returns c = rw (c .match .keys1)
+
+returns-2 : tie.Need-returns-2
+unfolding kindAt kinds
+returns-2 c = rw (c .match .keys2)
+
+returns-3 : tie.Need-returns-3
+unfolding kindAt kinds
+returns-3 c = rw (c .match .keys3)
+
+returns-4 : tie.Need-returns-4
+unfolding kindAt kinds
+returns-4 c = rw (c .match .keys4)
+
+returns-5 : tie.Need-returns-5
+unfolding kindAt kinds
+returns-5 c = rw (c .match .keys5)
+
+returns-6 : tie.Need-returns-6
+unfolding kindAt kinds
+returns-6 c = rw (c .match .keys6)
+
+returns-7 : tie.Need-returns-7
+unfolding kindAt kinds
+returns-7 c = rw (c .match .keys7)
+
+returns-8 : tie.Need-returns-8
+unfolding kindAt kinds
+returns-8 c = rw (c .match .keys8)
+
+returns-9 : tie.Need-returns-9
+unfolding kindAt kinds
+returns-9 c = rw (c .match .keys9)
+
+returns-10 : tie.Need-returns-10
+unfolding kindAt kinds
+returns-10 c = rw (c .match .keys10)
+
+returns-11 : tie.Need-returns-11
+unfolding kindAt kinds
+returns-11 c = rw (c .match .keys11)
+
+returns-12 : tie.Need-returns-12
+unfolding kindAt kinds
+returns-12 c = rw (c .match .keys12)
+
+-- n is none of the first k numbers
+abbrev NoneOf : ℕ → ℕ → Type 0
+NoneOf zero n = Unit
+NoneOf (suc k) n = NoneOf k n × (n ≡ k → ⊥)
+
+le-of-none : (k n : ℕ) → NoneOf k n → k ≤ n
+le-of-none zero n none = omega arith
+le-of-none (suc k) n none = let l = le-of-none k n (none .0) in let d = none .1 in omega (arith, l, d)
+
+returns-13 : tie.Need-returns-13
+unfolding kindAt kinds
+returns-13 c = let e : c .before .args .n ≡ 12 = omega (arith, le-of-none 12 (c .before .args .n) (c .match .rest), c .before .pre) in rw e
+
+pub kind-at-spec : {M : Type 1} → statement M
+kind-at-spec =
+    tie.close
+    (tie.spec
+    returns
+    returns-2
+    returns-3
+    returns-4
+    returns-5
+    returns-6
+    returns-7
+    returns-8
+    returns-9
+    returns-10
+    returns-11
+    returns-12
+    returns-13)

@@ -1,0 +1,430 @@
+// A packet as twenty numbers, for callers that have no enums: kind, form, TC, Attr, TD, EP, AT, Length, requester, tag, last enables,
+// first enables, address, target, register, completer, status, BCM, byte count, lower address. A field that the kind does not have is 0.
+ghost use mathlib.Core.Path.{_≡_};
+ghost use mathlib.Core.Bool.{false};
+ghost use mathlib.Core.List.{[], _∷_, _++_};
+ghost use Prim.Native.Nat.{_+_, _≤_};
+ghost use lib.ListN.{length, getD};
+ghost use lib.Seq.{sets};
+ghost use Rattle.packet_numbers.specs.Numbers.{bit as bitOf, headNumbers, requestNumbers, outcomeNumbers, absent, numbersOf};
+ghost use Rattle.packet_numbers.specs.Parsing.{byte, word, lastKind, headMost, requestMost, outcomeMost, byAddress, byTarget};
+ghost use Rattle.packet_numbers.specs.Parsing.{completing};
+ghost use Rattle.packet_numbers.specs.Parsing.{kindAt, anyAbove, Within, headFrom, enablesFrom, targetFrom, outcomeFrom};
+ghost use Rattle.packet_numbers.specs.Fields.{orAbove, tooLarge, fieldsAs, fieldsOf};
+use packet::Enables;
+use packet::Head;
+use packet::Outcome;
+use packet::Packet;
+use packet::Target;
+use pairs::CompletionKind;
+use pairs::ConfigKind;
+use pairs::IoKind;
+use pairs::Kind;
+use pairs::MemoryKind;
+use pairs::Pair;
+
+// Numbers that were taken for a packet, or the number of the first check that they fail.
+pub enum Parsed {
+    Accepted(Packet),
+    Refused(u8),
+}
+
+// How many numbers a packet has.
+pub const SIZE: usize = 20;
+
+const LAST_KIND: u64 = 12;
+
+// The greatest number that each type of field holds.
+const FLAG: u64 = 1;
+
+const BYTE: u64 = 255;
+
+const WORD: u64 = 65535;
+
+const QWORD: u64 = 18446744073709551615;
+
+// ---- numbers to a packet
+
+// The packet that the first twenty numbers are, for the writer, which looks at the kind and form itself: 11 for fewer, 2 for a kind or
+// a form outside the list, 10 for a number too large for its field or in a field that the kind does not have. Later numbers are not
+// looked at.
+pub fn fields_of(numbers: &[u64]) -> Parsed
+    ensures { λ r. ⌜ r ≡ fieldsOf (now (numbers .entry)) ⌝ }
+{
+    if numbers.len() < SIZE {
+        return Parsed::Refused(11);
+    }
+    if (LAST_KIND < numbers[0]) | (4 < numbers[1]) {
+        return Parsed::Refused(2);
+    }
+    fields_as(kind_at(numbers[0] as usize), numbers)
+}
+
+// The kinds in the order of their numbers.
+fn kind_at(n: usize) -> Kind
+    requires { ⌜ n ≤ 12 ⌝ }
+    ensures { λ r. ⌜ r ≡ kindAt n ⌝ }
+{
+    match n {
+        0 => Kind::Memory(MemoryKind::MRd),
+        1 => Kind::Memory(MemoryKind::MRdLk),
+        2 => Kind::Memory(MemoryKind::MWr),
+        3 => Kind::Io(IoKind::IORd),
+        4 => Kind::Io(IoKind::IOWr),
+        5 => Kind::Config(ConfigKind::CfgRd0),
+        6 => Kind::Config(ConfigKind::CfgWr0),
+        7 => Kind::Config(ConfigKind::CfgRd1),
+        8 => Kind::Config(ConfigKind::CfgWr1),
+        9 => Kind::Completion(CompletionKind::Cpl),
+        10 => Kind::Completion(CompletionKind::CplD),
+        11 => Kind::Completion(CompletionKind::CplLk),
+        _ => Kind::Completion(CompletionKind::CplDLk),
+    }
+}
+
+fn fields_as(kind: Kind, numbers: &[u64]) -> Parsed
+    requires { ⌜ (20 ≤ length (now numbers)) × (getD (now numbers) 1 0 ≤ 4) ⌝ }
+    ensures { λ r. ⌜ r ≡ fieldsAs kind (now (numbers .entry)) ⌝ }
+{
+    match kind {
+        Kind::Memory(k) => {
+            if above_by_address(numbers) {
+                return too_large(kind, numbers);
+            }
+            Parsed::Accepted(Packet::Memory(
+                k,
+                head_from(numbers),
+                enables_from(numbers),
+                numbers[12],
+            ))
+        }
+        Kind::Io(k) => {
+            if above_by_address(numbers) {
+                return too_large(kind, numbers);
+            }
+            Parsed::Accepted(Packet::Io(k, head_from(numbers), enables_from(numbers), numbers[12]))
+        }
+        Kind::Config(k) => {
+            if above_by_target(numbers) {
+                return too_large(kind, numbers);
+            }
+            Parsed::Accepted(Packet::Config(
+                k,
+                head_from(numbers),
+                enables_from(numbers),
+                target_from(numbers),
+            ))
+        }
+        Kind::Completion(k) => {
+            if above_completing(numbers) {
+                return too_large(kind, numbers);
+            }
+            Parsed::Accepted(Packet::Completion(k, head_from(numbers), outcome_from(numbers)))
+        }
+        Kind::Msg => Parsed::Refused(2),
+        Kind::MsgD => Parsed::Refused(2),
+        Kind::FetchAdd => Parsed::Refused(2),
+        Kind::Swap => Parsed::Refused(2),
+        Kind::Cas => Parsed::Refused(2),
+    }
+}
+
+// A kind and form not carried come before a number too large.
+fn too_large(kind: Kind, numbers: &[u64]) -> Parsed
+    requires { ⌜ (20 ≤ length (now numbers)) × (getD (now numbers) 1 0 ≤ 4) ⌝ }
+    ensures { λ r. ⌜ r ≡ tooLarge kind (now (numbers .entry)) ⌝ }
+{
+    match pairs::row_of(kind, numbers[1] as u8) {
+        Pair::Carried(_) => Parsed::Refused(10),
+        Pair::NotCarried => Parsed::Refused(2),
+        Pair::Unknown => Parsed::Refused(2),
+    }
+}
+
+// ---- some number is greater than its field's greatest, which is 0 where the kind has no such field
+
+fn above_by_address(numbers: &[u64]) -> bool
+    requires { ⌜ 20 ≤ length (now numbers) ⌝ }
+    ensures { λ r. ⌜ r ≡ anyAbove byAddress (now (numbers .entry)) ⌝ }
+{
+    head_above(numbers) | request_above(numbers, QWORD, 0, 0) | outcome_given(numbers)
+}
+
+fn above_by_target(numbers: &[u64]) -> bool
+    requires { ⌜ 20 ≤ length (now numbers) ⌝ }
+    ensures { λ r. ⌜ r ≡ anyAbove byTarget (now (numbers .entry)) ⌝ }
+{
+    head_above(numbers) | request_above(numbers, 0, WORD, WORD) | outcome_given(numbers)
+}
+
+fn above_completing(numbers: &[u64]) -> bool
+    requires { ⌜ 20 ≤ length (now numbers) ⌝ }
+    ensures { λ r. ⌜ r ≡ anyAbove completing (now (numbers .entry)) ⌝ }
+{
+    head_above(numbers) | request_given(numbers) | outcome_above(numbers)
+}
+
+// The tests are joined with no branch between them.
+fn head_above(numbers: &[u64]) -> bool
+    requires { ⌜ 20 ≤ length (now numbers) ⌝ }
+    ensures { λ r. ⌜ r ≡ orAbove false 0 (lastKind ∷ 4 ∷ headMost) (now (numbers .entry)) ⌝ }
+{
+    (LAST_KIND < numbers[0])
+        | (4 < numbers[1])
+        | (BYTE < numbers[2])
+        | (BYTE < numbers[3])
+        | (FLAG < numbers[4])
+        | (FLAG < numbers[5])
+        | (BYTE < numbers[6])
+        | (WORD < numbers[7])
+        | (WORD < numbers[8])
+        | (WORD < numbers[9])
+}
+
+fn request_above(numbers: &[u64], address: u64, target: u64, register: u64) -> bool
+    requires { ⌜ 20 ≤ length (now numbers) ⌝ }
+    ensures { λ r. ⌜ r ≡ orAbove false 10 (requestMost address target register) (now (numbers .entry)) ⌝ }
+{
+    (BYTE < numbers[10])
+        | (BYTE < numbers[11])
+        | (address < numbers[12])
+        | (target < numbers[13])
+        | (register < numbers[14])
+}
+
+fn request_given(numbers: &[u64]) -> bool
+    requires { ⌜ 20 ≤ length (now numbers) ⌝ }
+    ensures { λ r. ⌜ r ≡ orAbove false 10 absent (now (numbers .entry)) ⌝ }
+{
+    (0 < numbers[10])
+        | (0 < numbers[11])
+        | (0 < numbers[12])
+        | (0 < numbers[13])
+        | (0 < numbers[14])
+}
+
+fn outcome_above(numbers: &[u64]) -> bool
+    requires { ⌜ 20 ≤ length (now numbers) ⌝ }
+    ensures { λ r. ⌜ r ≡ orAbove false 15 outcomeMost (now (numbers .entry)) ⌝ }
+{
+    (WORD < numbers[15])
+        | (BYTE < numbers[16])
+        | (FLAG < numbers[17])
+        | (WORD < numbers[18])
+        | (BYTE < numbers[19])
+}
+
+fn outcome_given(numbers: &[u64]) -> bool
+    requires { ⌜ 20 ≤ length (now numbers) ⌝ }
+    ensures { λ r. ⌜ r ≡ orAbove false 15 absent (now (numbers .entry)) ⌝ }
+{
+    (0 < numbers[15])
+        | (0 < numbers[16])
+        | (0 < numbers[17])
+        | (0 < numbers[18])
+        | (0 < numbers[19])
+}
+
+// ---- the fields, at their places
+
+fn head_from(numbers: &[u64]) -> Head
+    requires { ⌜ (20 ≤ length (now numbers)) × Within 1 (4 ∷ headMost) (now numbers) ⌝ }
+    ensures { λ r. ⌜ r ≡ headFrom (now (numbers .entry)) ⌝ }
+{
+    Head {
+        form: numbers[1] as u8,
+        tc: numbers[2] as u8,
+        attr: numbers[3] as u8,
+        td: numbers[4] == 1,
+        ep: numbers[5] == 1,
+        at: numbers[6] as u8,
+        length: numbers[7] as u16,
+        requester: numbers[8] as u16,
+        tag: numbers[9] as u16,
+    }
+}
+
+fn enables_from(numbers: &[u64]) -> Enables
+    requires { ⌜ (20 ≤ length (now numbers)) × Within 10 (byte ∷ byte ∷ []) (now numbers) ⌝ }
+    ensures { λ r. ⌜ r ≡ enablesFrom (now (numbers .entry)) ⌝ }
+{
+    Enables {
+        last: numbers[10] as u8,
+        first: numbers[11] as u8,
+    }
+}
+
+fn target_from(numbers: &[u64]) -> Target
+    requires { ⌜ (20 ≤ length (now numbers)) × Within 13 (word ∷ word ∷ []) (now numbers) ⌝ }
+    ensures { λ r. ⌜ r ≡ targetFrom (now (numbers .entry)) ⌝ }
+{
+    Target {
+        id: numbers[13] as u16,
+        register: numbers[14] as u16,
+    }
+}
+
+fn outcome_from(numbers: &[u64]) -> Outcome
+    requires { ⌜ (20 ≤ length (now numbers)) × Within 15 outcomeMost (now numbers) ⌝ }
+    ensures { λ r. ⌜ r ≡ outcomeFrom (now (numbers .entry)) ⌝ }
+{
+    Outcome {
+        completer: numbers[15] as u16,
+        status: numbers[16] as u8,
+        bcm: numbers[17] == 1,
+        count: numbers[18] as u16,
+        lower: numbers[19] as u8,
+    }
+}
+
+// ---- a packet to numbers
+
+// Stores the packet's twenty numbers from a place on. The kind is looked at once.
+pub fn put_packet(out: &mut [u64], at: usize, p: Packet)
+    requires { ⌜ at + 20 ≤ length (now out) ⌝ }
+    ensures { λ _. ⌜ now (out .exit) ≡ sets (now (out .entry)) at (numbersOf p) ⌝ }
+{
+    match p {
+        Packet::Memory(k, h, e, a) => put_request(
+            out,
+            at,
+            pairs::kind_number(Kind::Memory(k)),
+            h,
+            e,
+            a,
+            0,
+            0,
+        ),
+        Packet::Io(k, h, e, a) => put_request(
+            out,
+            at,
+            pairs::kind_number(Kind::Io(k)),
+            h,
+            e,
+            a,
+            0,
+            0,
+        ),
+        Packet::Config(k, h, e, t) => put_request(
+            out,
+            at,
+            pairs::kind_number(Kind::Config(k)),
+            h,
+            e,
+            0,
+            t.id as u64,
+            t.register as u64,
+        ),
+        Packet::Completion(k, h, o) => put_completion(
+            out,
+            at,
+            pairs::kind_number(Kind::Completion(k)),
+            h,
+            o,
+        ),
+    }
+}
+
+fn put_head(out: &mut [u64], at: usize, kind: u8, h: Head)
+    requires { ⌜ at + 10 ≤ length (now out) ⌝ }
+    ensures { λ _. ⌜ now (out .exit) ≡ sets (now (out .entry)) at (headNumbers kind h) ⌝ }
+{
+    let td = bit(h.td);
+    let ep = bit(h.ep);
+    put_five(
+        out,
+        at,
+        kind as u64,
+        h.form as u64,
+        h.tc as u64,
+        h.attr as u64,
+        td,
+    );
+    put_five(
+        out,
+        at + 5,
+        ep,
+        h.at as u64,
+        h.length as u64,
+        h.requester as u64,
+        h.tag as u64,
+    );
+}
+
+fn put_request(
+    out: &mut [u64],
+    at: usize,
+    kind: u8,
+    h: Head,
+    e: Enables,
+    address: u64,
+    target: u64,
+    register: u64,
+)
+    requires { ⌜ at + 20 ≤ length (now out) ⌝ }
+    ensures { λ _. ⌜
+        now (out .exit) ≡ sets (now (out .entry)) at (headNumbers kind h ++ (requestNumbers e address target register ++ absent))
+        ⌝ }
+{
+    put_head(out, at, kind, h);
+    put_target(out, at + 10, e, address, target, register);
+}
+
+fn put_completion(out: &mut [u64], at: usize, kind: u8, h: Head, o: Outcome)
+    requires { ⌜ at + 20 ≤ length (now out) ⌝ }
+    ensures { λ _. ⌜ now (out .exit) ≡ sets (now (out .entry)) at (headNumbers kind h ++ (absent ++ outcomeNumbers o)) ⌝ }
+{
+    put_head(out, at, kind, h);
+    put_outcome(out, at + 10, o);
+}
+
+// Enables, address, target and register of a request.
+fn put_target(out: &mut [u64], at: usize, e: Enables, address: u64, target: u64, register: u64)
+    requires { ⌜ at + 10 ≤ length (now out) ⌝ }
+    ensures { λ _. ⌜ now (out .exit) ≡ sets (now (out .entry)) at (requestNumbers e address target register ++ absent) ⌝ }
+{
+    put_five(
+        out,
+        at,
+        e.last as u64,
+        e.first as u64,
+        address,
+        target,
+        register,
+    );
+    put_five(out, at + 5, 0, 0, 0, 0, 0);
+}
+
+fn put_outcome(out: &mut [u64], at: usize, o: Outcome)
+    requires { ⌜ at + 10 ≤ length (now out) ⌝ }
+    ensures { λ _. ⌜ now (out .exit) ≡ sets (now (out .entry)) at (absent ++ outcomeNumbers o) ⌝ }
+{
+    let bcm = bit(o.bcm);
+    put_five(out, at, 0, 0, 0, 0, 0);
+    put_five(
+        out,
+        at + 5,
+        o.completer as u64,
+        o.status as u64,
+        bcm,
+        o.count as u64,
+        o.lower as u64,
+    );
+}
+
+fn put_five(out: &mut [u64], at: usize, a: u64, b: u64, c: u64, d: u64, e: u64)
+    requires { ⌜ at + 5 ≤ length (now out) ⌝ }
+    ensures { λ _. ⌜ now (out .exit) ≡ sets (now (out .entry)) at (a ∷ b ∷ c ∷ d ∷ e ∷ []) ⌝ }
+{
+    out[at] = a;
+    out[at + 1] = b;
+    out[at + 2] = c;
+    out[at + 3] = d;
+    out[at + 4] = e;
+}
+
+fn bit(b: bool) -> u64
+    ensures { λ r. ⌜ r ≡ bitOf b ⌝ }
+{
+    if b { 1 } else { 0 }
+}

@@ -1,0 +1,104 @@
+-- `plan_pass::place_records` meets its contract. The invariant is `Standing`: the records before the cursor are placed and written, and the
+-- cursors hold what is left for the rest. The measure is the bytes left. Assumes nothing.
+use mathlib.Core.Path.{sym, ap, subst, _∙_}
+use Prim.Native.Nat.{_+_, _-_, _*_}
+use native.Mathlib.Numerals.{add-one}
+use native.Mathlib.Omega.{arith}
+use lib.ListN.{length}
+use lib.Seq.{sets}
+use borrow.Author.Needs.{needs}
+use Rattle.records.specs.RecordsLaws.{fits-at}
+use Rattle.board_record.specs.declared.Function.{Function}
+use Rattle.board_record.specs.Function.{isBridge}
+use Rattle.sheet.specs.Sheet.{sheetLength}
+use Rattle.sheet_bytes.specs.Layout.{plannedOf, recordBytes}
+use Rattle.plan_pass.specs.Step.{registersOf, cursorsNext, Placeable}
+use Rattle.plan_pass.specs.Loop.{Standing}
+use Rattle.plan_pass.specs.LoopLaws.{standing-start, header-right, turn-placeable, turn-bridged, turn-room, standing-turn, finished-end, finished-broken}
+use Rattle.plan_pass.proofs.place_records.Statement.{statement}
+use Rattle.plan_pass.proofs.place_records.Tie as tie
+
+abbrev Inv-loop : tie.InvT-loop
+Inv-loop board first counts memo cursors₀ sheet₀ at₀ i₀ cursors sheet at i = Standing board cursors₀ sheet₀ cursors sheet at i
+
+abbrev μ-loop : tie.MeasureT-loop
+μ-loop board first counts memo cursors₀ sheet₀ at₀ i₀ cursors sheet at i = length board - at
+
+loop-holds : tie.Need-loop-holds Inv-loop μ-loop
+loop-holds c = standing-start (c .before .before .before .before .before .args .board .now) (c .before .before .before .before .before .pre)
+
+next-at-requires : tie.Need-next-at-requires Inv-loop μ-loop
+next-at-requires c κs = search needs
+
+enum-told : tie.Need-enum-told Inv-loop μ-loop
+enum-told c = search needs
+
+same-length : tie.Need-same-length Inv-loop μ-loop
+same-length c = c .before .before .before .loop .inv .cursors-length
+
+same-length-2 : tie.Need-same-length-2 Inv-loop μ-loop
+same-length-2 c = c .before .before .before .loop .inv .sheet-length
+
+returns : tie.Need-returns Inv-loop μ-loop
+returns c = finished-end (c .before .before .before .before .before .before .before .before .before .pre) (c .before .before .before .loop .inv) (sym (c .before .before .next-at .ensures) ∙ c .enum-told .given .1)
+
+enum-told-2 : tie.Need-enum-told-2 Inv-loop μ-loop
+enum-told-2 c = search needs
+
+same-length-3 : tie.Need-same-length-3 Inv-loop μ-loop
+same-length-3 c = c .before .before .before .loop .inv .cursors-length
+
+same-length-4 : tie.Need-same-length-4 Inv-loop μ-loop
+same-length-4 c = c .before .before .before .loop .inv .sheet-length
+
+returns-2 : tie.Need-returns-2 Inv-loop μ-loop
+returns-2 c = finished-broken (c .before .before .before .before .before .before .before .before .before .pre) (c .before .before .before .loop .inv) (sym (c .before .before .next-at .ensures) ∙ c .enum-told2 .given .1)
+
+enum-known-n : tie.Need-enum-known-n Inv-loop μ-loop
+enum-known-n c = search needs
+
+function-at-requires : tie.Need-function-at-requires Inv-loop μ-loop
+function-at-requires c κs = let e = sym (c .before .before .before .next-at .ensures) ∙ c .before .n .given .1 in (e, header-right (c .before .before .before .before .before .before .before .before .before .before .pre) (c .before .before .before .before .loop .inv) _ e)
+
+write-next-requires : tie.Need-write-next-requires Inv-loop μ-loop
+write-next-requires c κs = let e = sym (c .before .before .before .before .before .before .next-at .ensures) ∙ c .before .before .before .before .n .given .1 in ((subst (λ (f : Function). Placeable (c .before .before .before .before .before .before .before .before .before .before .before .before .before .args .first) (c .before .before .before .before .before .before .before .before .before .before .before .before .before .args .counts .now) (c .before .before .before .before .before .before .before .loop .cursors) f) (sym (c .before .before .function-at .ensures)) (turn-placeable (c .before .before .before .before .before .before .before .before .before .before .before .before .before .pre) (c .before .before .before .before .before .before .before .loop .inv) _ e), λ h. turn-bridged (c .before .before .before .before .before .before .before .before .before .before .before .before .before .pre) (c .before .before .before .before .before .before .before .loop .inv) _ e (sym (ap isBridge (c .before .before .function-at .ensures)) ∙ h)), turn-room (c .before .before .before .before .before .before .before .before .before .before .before .before .before .pre) (c .before .before .before .before .before .before .before .loop .inv) _ e)
+
+add-at : tie.Need-add-at Inv-loop μ-loop
+add-at c = let e = sym (c .before .before .before .before .before .before .before .before .before .before .before .next-at .ensures) ∙ c .before .before .before .before .before .before .before .before .before .n .given .1 in omega (arith, fits-at (c .before .before .before .before .before .before .before .before .before .before .before .before .before .before .before .before .before .before .args .board .now) (c .before .before .before .before .before .before .before .before .before .before .before .before .loop .at) _ e)
+
+add-at-2 : tie.Need-add-at-2 Inv-loop μ-loop
+add-at-2 c = let e = sym (c .before .before .before .before .before .before .before .before .before .before .before .next-at .ensures) ∙ c .before .before .before .before .before .before .before .before .before .n .given .1 in omega (arith, fits-at (c .before .before .before .before .before .before .before .before .before .before .before .before .before .before .before .before .before .before .args .board .now) (c .before .before .before .before .before .before .before .before .before .before .before .before .loop .at) _ e)
+
+add-i : tie.Need-add-i Inv-loop μ-loop
+add-i c = let e = sym (c .before .before .before .before .before .before .before .before .before .before .before .next-at .ensures) ∙ c .before .before .before .before .before .before .before .before .before .n .given .1 in omega (arith, turn-room (c .before .before .before .before .before .before .before .before .before .before .before .before .before .before .before .before .before .before .pre) (c .before .before .before .before .before .before .before .before .before .before .before .before .loop .inv) _ e)
+
+loop-less : tie.Need-loop-less Inv-loop μ-loop
+loop-less c = let e = sym (c .before .before .before .before .before .before .before .before .before .before .before .next-at .ensures) ∙ c .before .before .before .before .before .before .before .before .before .n .given .1 in omega (arith, fits-at (c .before .before .before .before .before .before .before .before .before .before .before .before .before .before .before .before .before .before .args .board .now) (c .before .before .before .before .before .before .before .before .before .before .before .before .loop .at) _ e)
+
+loop-again : tie.Need-loop-again Inv-loop μ-loop
+loop-again c = let e = sym (c .before .before .before .before .before .before .before .before .before .before .before .next-at .ensures) ∙ c .before .before .before .before .before .before .before .before .before .n .given .1 in rw (add-one (c .before .before .before .before .before .before .before .before .before .before .before .before .loop .i)) (standing-turn (c .before .before .before .before .before .before .before .before .before .before .before .before .before .before .before .before .before .before .pre) (c .before .before .before .before .before .before .before .before .before .before .before .before .loop .inv) _ e (c .before .before .before .before .write-next .ensures .0 ∙ ap (λ (f : Function). cursorsNext (c .before .before .before .before .before .before .before .before .before .before .before .before .before .before .before .before .before .before .args .memo .now) (c .before .before .before .before .before .before .before .before .before .before .before .before .loop .cursors) (c .before .before .before .before .before .before .before .before .before .before .before .before .loop .i) f) (c .before .before .before .before .before .before .before .function-at .ensures)) (c .before .before .before .before .write-next .ensures .1 ∙ ap (λ (f : Function). sets (c .before .before .before .before .before .before .before .before .before .before .before .before .loop .sheet) (sheetLength (c .before .before .before .before .before .before .before .before .before .before .before .before .loop .i)) (recordBytes (plannedOf (registersOf (c .before .before .before .before .before .before .before .before .before .before .before .before .before .before .before .before .before .before .args .first) (c .before .before .before .before .before .before .before .before .before .before .before .before .before .before .before .before .before .before .args .counts .now) (c .before .before .before .before .before .before .before .before .before .before .before .before .before .before .before .before .before .before .args .memo .now) (c .before .before .before .before .before .before .before .before .before .before .before .before .loop .cursors) (c .before .before .before .before .before .before .before .before .before .before .before .before .loop .i) f)))) (c .before .before .before .before .before .before .before .function-at .ensures)) (omega (arith, c .before .before .before .before .write-next .kept .1 .1 .1 .1 .1 .0)))
+
+pub place-records-spec : {M : Type 1} → statement M
+place-records-spec =
+    tie.close
+    (tie.spec
+    Inv-loop
+    μ-loop
+    loop-holds
+    next-at-requires
+    enum-told
+    same-length
+    same-length-2
+    returns
+    enum-told-2
+    same-length-3
+    same-length-4
+    returns-2
+    enum-known-n
+    function-at-requires
+    write-next-requires
+    add-at
+    add-at-2
+    add-i
+    loop-less
+    loop-again)

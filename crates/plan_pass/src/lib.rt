@@ -1,0 +1,361 @@
+// The placing pass: where each function of a lawful board lies, record by record, and its registers.
+ghost use mathlib.Core.Path.{_≡_};
+ghost use mathlib.Core.Bool.{false, true};
+ghost use Prim.Native.Nat.{suc, _+_, _*_, _≤_, _<_};
+ghost use lib.ListN.{length, take, drop};
+ghost use lib.Seq.{sets};
+ghost use Rattle.pools.specs.declared.Pool.{Pool as PoolName};
+ghost use Rattle.bar.specs.Bar.{slots, anyBad};
+ghost use Rattle.board_record.specs.Function.{isBridge as isBridgeOf, slotCount as slotCountOf, functionOfPart, headerWrong};
+ghost use Rattle.plan_rule.specs.Align.{PowerOfTwo};
+ghost use Rattle.plan_rule.specs.Pieces.{windowAlign};
+ghost use Rattle.records.specs.declared.Next.the-variants.{Record};
+ghost use Rattle.records.specs.Records.{nextOf};
+ghost use Rattle.sheet.specs.Sheet.{sheetLength};
+ghost use Rattle.sheet_bytes.specs.Layout.{sheetBytes};
+ghost use Rattle.plan_pass.specs.Loop.{mostBuses, planOn, Ready, basesFor, Filled, Placing};
+ghost use Rattle.plan_sizing.specs.Memo.{laidAt};
+ghost use Rattle.plan_function.specs.Kept.{extentIn, windowsPlaced};
+ghost use Rattle.plan_pass.specs.Step.{cursorsIn, endsList, extentsIn, busIn, barsIn, leafWith, leafRegisters, bridgeWith};
+ghost use Rattle.plan_pass.specs.Step.{bridgeRegisters, registersOf, recordOf, leafNext, bridgeNext, cursorsNext, Placeable, Bridged};
+use board_record::Function;
+use board_record::Host;
+use plan_function::BarsPlaced;
+use plan_function::Cursors;
+use plan_function::Extents;
+use plan_function::WindowsPlaced;
+use pools::Pool;
+use records::Next;
+use sheet_bytes::Registers;
+use sheet_record::places::STRIDE;
+use window::Window;
+
+// The root bus, and a bus below each record.
+const BUSES: usize = 1 + records::MOST_FUNCTIONS;
+
+// The whole pass over a planned board: the sheet's bytes, and past them nothing.
+pub fn place_all(board: &[u8], host: Host, counts: &[u16], memo: &[u64], sheet: &mut [u8])
+    requires { ⌜ Placing (now board) host (now counts) (now memo) (now sheet) ⌝ }
+    ensures { λ _. ⌜ now (sheet .exit) ≡ sets (now (sheet .entry)) 0 (sheetBytes (planOn (now (board .entry)))) ⌝ }
+{
+    let mut cursors = [0u64; 3 * BUSES];
+    fill_cursors(&mut cursors, bases_of(host));
+    sheet[0] = 1;
+    place_records(board, host.first_bus, counts, memo, &mut cursors, sheet);
+}
+
+// Every record, from cursors at the pools' bases and a sheet that has its version byte.
+pub fn place_records(
+    board: &[u8],
+    first: u8,
+    counts: &[u16],
+    memo: &[u64],
+    cursors: &mut [u64],
+    sheet: &mut [u8],
+)
+    requires { ⌜ Ready (now board) first (now counts) (now memo) (now cursors) (now sheet) ⌝ }
+    ensures { λ _. ⌜ now (sheet .exit) ≡ sets (now (sheet .entry)) 0 (sheetBytes (planOn (now (board .entry)))) ⌝ }
+{
+    let mut at = board_record::FUNCTIONS;
+    let mut i: usize = 0;
+    loop {
+        match records::next_at(board, at) {
+            Next::End => {
+                return;
+            }
+            Next::Broken => {
+                return;
+            }
+            Next::Record(n) => {
+                let f = function_at(board, at, n);
+                write_next(f, i, first, counts, memo, cursors, sheet);
+                at = at + 2 + n;
+                i += 1;
+            }
+        }
+    }
+}
+
+// Record i + 1: its registers, and the cursors after it. Its BARs are placed here for both kinds: one call is inlined, two are not.
+pub fn place_record(
+    f: Function,
+    i: usize,
+    first: u8,
+    counts: &[u16],
+    memo: &[u64],
+    cursors: &mut [u64],
+) -> Registers
+    requires { ⌜
+        Placeable first (now counts) (now cursors) f
+        × (isBridgeOf f ≡ true → Bridged first (now counts) (now memo) (now cursors) i)
+        ⌝ }
+    ensures { λ r. ⌜
+        (r ≡ registersOf first (now (counts .entry)) (now (memo .entry)) (now (cursors .entry)) i f)
+        × (now (cursors .exit) ≡ cursorsNext (now (memo .entry)) (now (cursors .entry)) i f)
+        ⌝ }
+{
+    let bars = own_bars(f, cursors);
+    if bar::is_bridge(f.header) {
+        return place_bridge(f, bars, i, first, counts, memo, cursors);
+    }
+    place_leaf(f, bars, first, counts, cursors)
+}
+
+// The cursors of bus b: three numbers at 3 * b.
+fn cursors_at(cursors: &[u64], b: usize) -> Cursors
+    requires { ⌜ 3 * b + 3 ≤ length (now cursors) ⌝ }
+    ensures { λ r. ⌜ r ≡ cursorsIn (now (cursors .entry)) b ⌝ }
+{
+    let at = 3 * b;
+    Cursors {
+        low: cursors[at],
+        high: cursors[at + 1],
+        io: cursors[at + 2],
+    }
+}
+
+fn store_cursors(cursors: &mut [u64], b: usize, c: Cursors)
+    requires { ⌜ 3 * b + 3 ≤ length (now cursors) ⌝ }
+    ensures { λ _. ⌜ now (cursors .exit) ≡ sets (now (cursors .entry)) (3 * b) (endsList c) ⌝ }
+{
+    let at = 3 * b;
+    cursors[at] = c.low;
+    cursors[at + 1] = c.high;
+    cursors[at + 2] = c.io;
+}
+
+// The record after which the bus below record i + 1 ends.
+fn last_below(memo: &[u64], i: usize) -> usize
+    requires { ⌜ 8 * i + 8 ≤ length (now memo) ⌝ }
+    ensures { λ r. ⌜ r ≡ laidAt (now (memo .entry)) i .next ⌝ }
+{
+    let l = plan_sizing::stored_at(memo, i);
+    l.next
+}
+
+// What sizing stored of the bus below record i + 1.
+fn extents_at(memo: &[u64], i: usize) -> Extents
+    requires { ⌜ 8 * i + 8 ≤ length (now memo) ⌝ }
+    ensures { λ r. ⌜ r ≡ extentsIn (laidAt (now (memo .entry)) i) ⌝ }
+{
+    let l = plan_sizing::stored_at(memo, i);
+    let low = l.low;
+    let high = l.high;
+    let io = l.io;
+    Extents { low, high, io }
+}
+
+// ---- one record
+
+// The number of record k's own bus.
+fn bus_at(first: u8, counts: &[u16], k: usize) -> u8
+    requires { ⌜ (k < length (now counts)) × (busIn first (now counts) k < 256) ⌝ }
+    ensures { λ r. ⌜ (r ≡ busIn first (now (counts .entry)) k) × (r < 256) ⌝ }
+{
+    (first as u16 + counts[k]) as u8
+}
+
+fn id_of(bus: u8, devfn: u8) -> u16
+    ensures { λ r. ⌜ r ≡ bus * 256 + devfn ⌝ }
+{
+    bus as u16 * 256 + devfn as u16
+}
+
+// Its BARs, from the cursors of the bus it is on.
+fn own_bars(f: Function, cursors: &[u64]) -> BarsPlaced
+    requires { ⌜ (3 * f .parent + 3 ≤ length (now cursors)) × (anyBad (slots (take (slotCountOf f) (f .readbacks))) ≡ false) ⌝ }
+    ensures { λ r. ⌜ r ≡ barsIn (now (cursors .entry)) f ⌝ }
+{
+    let readbacks = f.readbacks;
+    plan_function::place_bars(
+        readbacks,
+        bar::slot_count(f.header),
+        cursors_at(cursors, f.parent as usize),
+    )
+}
+
+fn leaf_registers(f: Function, first: u8, counts: &[u16], values: [u32; 6]) -> Registers
+    requires { ⌜ (f .parent < length (now counts)) × (busIn first (now counts) (f .parent) < 256) ⌝ }
+    ensures { λ r. ⌜ r ≡ leafWith first (now (counts .entry)) f values ⌝ }
+{
+    let bus = bus_at(first, counts, f.parent as usize);
+    let readbacks = f.readbacks;
+    Registers {
+        id: id_of(bus, f.devfn),
+        command: f.command,
+        header: f.header,
+        values,
+        readbacks,
+        primary: 0,
+        secondary: 0,
+        subordinate: 0,
+        low: Window::closed(Pool::Low),
+        high: Window::closed(Pool::High),
+        io: Window::closed(Pool::Io),
+    }
+}
+
+fn place_leaf(
+    f: Function,
+    bars: BarsPlaced,
+    first: u8,
+    counts: &[u16],
+    cursors: &mut [u64],
+) -> Registers
+    requires { ⌜ Placeable first (now counts) (now cursors) f × (bars ≡ barsIn (now cursors) f) ⌝ }
+    ensures { λ r. ⌜
+        (r ≡ leafRegisters first (now (counts .entry)) (now (cursors .entry)) f)
+        × (now (cursors .exit) ≡ leafNext (now (cursors .entry)) f)
+        ⌝ }
+{
+    let values = bars.values;
+    let r = leaf_registers(f, first, counts, values);
+    let after = bars.cursors;
+    store_cursors(cursors, f.parent as usize, after);
+    r
+}
+
+// A bridge's windows follow its BARs.
+fn own_windows(i: usize, memo: &[u64], cursors: &[u64], after: Cursors) -> WindowsPlaced
+    requires { ⌜
+        (8 * i + 8 ≤ length (now memo))
+        × (3 * suc i + 3 ≤ length (now cursors))
+        × ((q : PoolName) → PowerOfTwo (windowAlign q (extentIn (extentsIn (laidAt (now memo) i)) q .align)))
+        ⌝ }
+    ensures { λ r. ⌜ r ≡ windowsPlaced (extentsIn (laidAt (now (memo .entry)) i)) after (cursorsIn (now (cursors .entry)) (suc i)) ⌝ }
+{
+    plan_function::place_windows(extents_at(memo, i), after, cursors_at(cursors, i + 1))
+}
+
+fn bridge_registers(
+    f: Function,
+    i: usize,
+    first: u8,
+    counts: &[u16],
+    last: usize,
+    values: [u32; 6],
+    w: WindowsPlaced,
+) -> Registers
+    requires { ⌜
+        (f .parent < length (now counts))
+        × (busIn first (now counts) (f .parent) < 256)
+        × (suc i < length (now counts))
+        × (busIn first (now counts) (suc i) < 256)
+        × (last < length (now counts))
+        × (busIn first (now counts) last < 256)
+        ⌝ }
+    ensures { λ r. ⌜ r ≡ bridgeWith first (now (counts .entry)) i f last values w ⌝ }
+{
+    let primary = bus_at(first, counts, f.parent as usize);
+    let secondary = bus_at(first, counts, i + 1);
+    let subordinate = bus_at(first, counts, last);
+    let readbacks = f.readbacks;
+    let low = w.low;
+    let high = w.high;
+    let io = w.io;
+    Registers {
+        id: id_of(primary, f.devfn),
+        command: f.command,
+        header: f.header,
+        values,
+        readbacks,
+        primary,
+        secondary,
+        subordinate,
+        low,
+        high,
+        io,
+    }
+}
+
+// A bridge starts the bus below it.
+fn place_bridge(
+    f: Function,
+    bars: BarsPlaced,
+    i: usize,
+    first: u8,
+    counts: &[u16],
+    memo: &[u64],
+    cursors: &mut [u64],
+) -> Registers
+    requires { ⌜
+        Placeable first (now counts) (now cursors) f
+        × Bridged first (now counts) (now memo) (now cursors) i
+        × (bars ≡ barsIn (now cursors) f)
+        ⌝ }
+    ensures { λ r. ⌜
+        (r ≡ bridgeRegisters first (now (counts .entry)) (now (memo .entry)) (now (cursors .entry)) i f)
+        × (now (cursors .exit) ≡ bridgeNext (now (memo .entry)) (now (cursors .entry)) i f)
+        ⌝ }
+{
+    let k = i + 1;
+    let after = bars.cursors;
+    let w = own_windows(i, memo, cursors, after);
+    let values = bars.values;
+    let r = bridge_registers(f, i, first, counts, last_below(memo, i), values, w);
+    let own = w.cursors;
+    store_cursors(cursors, f.parent as usize, own);
+    let below = w.below;
+    store_cursors(cursors, k, below);
+    r
+}
+
+// ---- all records
+
+// The function at a place where a record stands.
+fn function_at(board: &[u8], at: usize, n: usize) -> Function
+    requires { ⌜ (nextOf (drop at (now board)) ≡ Record n) × (headerWrong (take n (drop (at + 2) (now board))) ≡ false) ⌝ }
+    ensures { λ r. ⌜ r ≡ functionOfPart (take n (drop (at + 2) (now (board .entry)))) ⌝ }
+{
+    board_record::function_of(records::part_at(board, at, n))
+}
+
+// Record i + 1 placed, and written at its place in the sheet.
+fn write_next(
+    f: Function,
+    i: usize,
+    first: u8,
+    counts: &[u16],
+    memo: &[u64],
+    cursors: &mut [u64],
+    sheet: &mut [u8],
+)
+    requires { ⌜
+        Placeable first (now counts) (now cursors) f
+        × (isBridgeOf f ≡ true → Bridged first (now counts) (now memo) (now cursors) i)
+        ⌝ }
+    requires { ⌜ sheetLength (suc i) ≤ length (now sheet) ⌝ }
+    ensures cursors { λ _. ⌜ now (cursors .exit) ≡ cursorsNext (now (memo .entry)) (now (cursors .entry)) i f ⌝ }
+    ensures sheet { λ _. ⌜ now (sheet .exit) ≡ sets (now (sheet .entry)) (sheetLength i) (recordOf first (now (counts .entry)) (now (memo .entry)) (now (cursors .entry)) i f) ⌝ }
+{
+    let at = 1 + STRIDE * i;
+    let r = place_record(f, i, first, counts, memo, cursors);
+    sheet_bytes::write_record(sheet, at, r);
+}
+
+// ---- the pass
+
+fn bases_of(host: Host) -> Cursors
+    ensures { λ r. ⌜ r ≡ basesFor host ⌝ }
+{
+    let low = host.low;
+    let high = host.high;
+    let io = host.io;
+    Cursors {
+        low: plan_rule::cap(low.base),
+        high: plan_rule::cap(high.base),
+        io: plan_rule::cap(io.base),
+    }
+}
+
+// The same cursors for every bus.
+fn fill_cursors(cursors: &mut [u64], base: Cursors)
+    requires { ⌜ 3 * mostBuses ≤ length (now cursors) ⌝ }
+    ensures { λ _. ⌜ Filled base mostBuses (now (cursors .exit)) ⌝ }
+{
+    let mut b: usize = 0;
+    while b < BUSES {
+        store_cursors(cursors, b, base);
+        b += 1;
+    }
+}

@@ -1,0 +1,110 @@
+-- `plan_tables::fill` meets its contract. The loop's invariant: storing the functions that are left fills the arrays. The measure is what is left of the board.
+-- Assumes nothing.
+use borrow.Author.Needs.{needs}
+use mathlib.Core.Path.{sym, ap, _∙_}
+use Prim.Native.Nat.{_-_}
+use native.Mathlib.Omega.{arith}
+use lib.ListN.{length}
+use Rattle.records.specs.RecordsLaws.{fits-at, none-here}
+use Rattle.board_record.specs.Function.{functionOfPart, headerWrong}
+use Rattle.plan_tables.specs.Tables.{Filling}
+use Rattle.plan_tables.specs.TablesLaws.{filling-start, filling-parents, filling-headers, filling-readbacks, filled-end, filled-broken, filling-lt, filling-room, filling-record}
+use Rattle.plan_tables.proofs.fill.Statement.{statement}
+use Rattle.plan_tables.proofs.fill.Tie as tie
+
+abbrev Inv-loop : tie.InvT-loop
+Inv-loop board parents₀ headers₀ readbacks₀ at₀ i₀ parents headers readbacks at i = Filling board parents₀ headers₀ readbacks₀ at i parents headers readbacks
+
+abbrev μ-loop : tie.MeasureT-loop
+μ-loop board parents₀ headers₀ readbacks₀ at₀ i₀ parents headers readbacks at i = length board - at
+
+loop-holds : tie.Need-loop-holds Inv-loop μ-loop
+loop-holds c = let a = c .before .before .before .before .args in filling-start (a .board .now) (a .parents .now) (a .headers .now) (a .readbacks .now) (c .before .before .before .before .pre .0) (c .before .before .before .before .pre .1)
+
+next-at-requires : tie.Need-next-at-requires Inv-loop μ-loop
+next-at-requires c κs = search needs
+
+enum-told : tie.Need-enum-told Inv-loop μ-loop
+enum-told c = search needs
+
+same-length : tie.Need-same-length Inv-loop μ-loop
+same-length c = filling-parents (c .before .before .before .loop .inv)
+
+same-length-2 : tie.Need-same-length-2 Inv-loop μ-loop
+same-length-2 c = filling-headers (c .before .before .before .loop .inv)
+
+same-length-3 : tie.Need-same-length-3 Inv-loop μ-loop
+same-length-3 c = filling-readbacks (c .before .before .before .loop .inv)
+
+returns : tie.Need-returns Inv-loop μ-loop
+returns c = filled-end (c .before .before .before .loop .inv) (sym (c .before .before .next-at .ensures) ∙ c .enum-told .given .1)
+
+enum-told-2 : tie.Need-enum-told-2 Inv-loop μ-loop
+enum-told-2 c = search needs
+
+same-length-4 : tie.Need-same-length-4 Inv-loop μ-loop
+same-length-4 c = filling-parents (c .before .before .before .loop .inv)
+
+same-length-5 : tie.Need-same-length-5 Inv-loop μ-loop
+same-length-5 c = filling-headers (c .before .before .before .loop .inv)
+
+same-length-6 : tie.Need-same-length-6 Inv-loop μ-loop
+same-length-6 c = filling-readbacks (c .before .before .before .loop .inv)
+
+returns-2 : tie.Need-returns-2 Inv-loop μ-loop
+returns-2 c = filled-broken (c .before .before .before .loop .inv) (sym (c .before .before .next-at .ensures) ∙ c .enum-told2 .given .1)
+
+enum-known-n : tie.Need-enum-known-n Inv-loop μ-loop
+enum-known-n c = search needs
+
+part-at-requires : tie.Need-part-at-requires Inv-loop μ-loop
+part-at-requires c κs = fits-at (c .before .before .before .before .before .before .before .before .before .args .board .now) (c .before .before .before .before .loop .at) _ (sym (c .before .before .before .next-at .ensures) ∙ c .before .n .given .1)
+
+put-requires : tie.Need-put-requires Inv-loop μ-loop
+put-requires c κs =
+    let e = sym (c .before .before .before .before .before .before .before .next-at .ensures) ∙ c .before .before .before .before .before .n .given .1 in
+    (ap headerWrong (c .before .before .before .part-at .ensures) ∙ none-here headerWrong (c .before .before .before .before .before .before .before .before .before .before .before .before .before .args .board .now) (c .before .before .before .before .before .before .before .before .loop .at) _ e (c .before .before .before .before .before .before .before .before .loop .inv .lawful), filling-room (c .before .before .before .before .before .before .before .before .loop .inv) _ e)
+
+add-i : tie.Need-add-i Inv-loop μ-loop
+add-i c = omega (arith, filling-lt (c .before .before .before .before .before .before .before .before .before .before .before .before .before .before .before .loop .inv) _ (sym (c .before .before .before .before .before .before .before .before .before .before .before .before .before .before .next-at .ensures) ∙ c .before .before .before .before .before .before .before .before .before .before .before .before .n .given .1))
+
+add-at : tie.Need-add-at Inv-loop μ-loop
+add-at c = omega (arith, fits-at (c .before .before .before .before .before .before .before .before .before .before .before .before .before .before .before .before .before .before .before .before .args .board .now) (c .before .before .before .before .before .before .before .before .before .before .before .before .before .before .before .loop .at) _ (sym (c .before .before .before .before .before .before .before .before .before .before .before .before .before .before .next-at .ensures) ∙ c .before .before .before .before .before .before .before .before .before .before .before .before .n .given .1))
+
+add-at-2 : tie.Need-add-at-2 Inv-loop μ-loop
+add-at-2 c = omega (arith, fits-at (c .before .before .before .before .before .before .before .before .before .before .before .before .before .before .before .before .before .before .before .before .args .board .now) (c .before .before .before .before .before .before .before .before .before .before .before .before .before .before .before .loop .at) _ (sym (c .before .before .before .before .before .before .before .before .before .before .before .before .before .before .next-at .ensures) ∙ c .before .before .before .before .before .before .before .before .before .before .before .before .n .given .1))
+
+loop-less : tie.Need-loop-less Inv-loop μ-loop
+loop-less c = omega (arith, fits-at (c .before .before .before .before .before .before .before .before .before .before .before .before .before .before .before .before .before .before .before .before .args .board .now) (c .before .before .before .before .before .before .before .before .before .before .before .before .before .before .before .loop .at) _ (sym (c .before .before .before .before .before .before .before .before .before .before .before .before .before .before .next-at .ensures) ∙ c .before .before .before .before .before .before .before .before .before .before .before .before .n .given .1))
+
+loop-again : tie.Need-loop-again Inv-loop μ-loop
+loop-again c =
+    let e = sym (c .before .before .before .before .before .before .before .before .before .before .before .before .before .before .next-at .ensures) ∙ c .before .before .before .before .before .before .before .before .before .before .before .before .n .given .1 in
+    filling-record (c .before .before .before .before .before .before .before .before .before .before .before .before .before .before .before .loop .inv) _ e (ap functionOfPart (c .before .before .before .before .before .before .before .before .before .before .part-at .ensures)) (c .before .before .before .before .before .before .put .ensures)
+
+pub fill-spec : {M : Type 1} → statement M
+fill-spec =
+    tie.close
+    (tie.spec
+    Inv-loop
+    μ-loop
+    loop-holds
+    next-at-requires
+    enum-told
+    same-length
+    same-length-2
+    same-length-3
+    returns
+    enum-told-2
+    same-length-4
+    same-length-5
+    same-length-6
+    returns-2
+    enum-known-n
+    part-at-requires
+    put-requires
+    add-i
+    add-at
+    add-at-2
+    loop-less
+    loop-again)

@@ -1,0 +1,199 @@
+-- How long an answer is: a count or a number has three digits at the most, and each line 83 bytes. In that room it is put whole.
+-- Assumes nothing.
+use mathlib.Core.Path.{_≡_, refl, sym, ap, _∙_}
+use mathlib.Core.Bool.{Bool, true, false, cond}
+use mathlib.Core.List.{List, [], _∷_, _++_, map, flatMap}
+use Prim.Native.Nat.{ℕ, zero, suc, _+_, _*_, _/_, _%_, _≤_, _<_}
+use native.Mathlib.Nat.{zero-add, zero-mul, suc-mul}
+use native.Mathlib.Omega.{arith}
+use lib.ListN.{length, getD, drop, length-append}
+use lib.Seq.{sets-eq}
+use lib.Dec.{eqb, ltb}
+use borrow.Author.Tests.{ltb-true, ltb-false, eqb-true, eqb-false}
+use Rattle.endian.specs.Endian.{le}
+use Rattle.text.specs.Text.{ascii, Put, digit, hexadecimal, decimal}
+use Rattle.text.specs.TextLaws.{decimal-one, decimal-more}
+use Rattle.records.specs.Limits.{mostFunctions}
+use Rattle.sheet.specs.declared.Rule.the-variants.{HeaderType, Buses, ReadBacks, Nibbles}
+use Rattle.sheet_record.specs.Places.{valuesAt}
+use Rattle.sheet_record.specs.Entry.{Entry, dwords, idOf, headerOf, isBridge, slotCount, entryOf}
+use Rattle.sheet.specs.Sheet.{isFramed, partsIn, entriesFrom, entriesOf, anyBreaks, idTwice, from29, from25, from28, from27, from24, from22, from20, from21, sheetNumber}
+use Rattle.sheet.specs.IndexLaws.{length-entries}
+use Rattle.sheet.specs.SheetLaws.{checked-of-zero}
+use Rattle.sheet_text.specs.Listing.{newline, words, buses, edges, uppers, windowText, bridgeText, endText, lineOf, countText, planText, refusalText, sheetText, longest}
+use Rattle.sheet_text.specs.ListingLaws.{lineOf-bridge, lineOf-end, sheetText-good, sheetText-bad}
+
+-- ## Digits
+
+length-hexadecimal : (width n : ℕ) → length (hexadecimal width n) ≡ width
+unfolding hexadecimal
+length-hexadecimal zero n = refl
+length-hexadecimal (suc width) n =
+    omega (arith, length-append (hexadecimal width (n / 16)) (digit (n % 16) ∷ []), length-hexadecimal width (n / 16))
+
+length-words : (width : ℕ) (ns : List ℕ) → length (words width ns) ≡ length ns * suc width
+unfolding words
+length-words width [] = sym (zero-mul (suc width))
+length-words width (n ∷ ns) =
+    let word : List ℕ = 32 ∷ hexadecimal width n in
+    omega (arith, length-append word (words width ns), length-hexadecimal width n, length-words width ns, suc-mul (length ns) (suc width))
+
+digits-more : (k n : ℕ) → 10 ≤ n → length (decimal (n / 10)) ≤ k → length (decimal n) ≤ suc k
+digits-more k n h l = omega (arith, l, ap length (decimal-more n h), length-append (decimal (n / 10)) (digit (n % 10) ∷ []))
+
+-- fewer than ten, a hundred, a thousand
+digits : (k bound : ℕ) → ((n : ℕ) → n < bound → length (decimal n) ≤ suc k) → (n : ℕ) → n < 10 * bound → length (decimal n) ≤ suc (suc k)
+digits k bound fewer n h = go (ltb n 10) refl
+  where
+    go : (b : Bool) → ltb n 10 ≡ b → length (decimal n) ≤ suc (suc k)
+    go true e = omega (arith, ap length (decimal-one n (ltb-true n 10 e)))
+    go false e = digits-more (suc k) n (ltb-false n 10 e) (fewer (n / 10) (omega arith))
+
+one-digit : (n : ℕ) → n < 10 → length (decimal n) ≤ 1
+one-digit n h = omega (arith, ap length (decimal-one n h))
+
+three-digits : (n : ℕ) → n < 1000 → length (decimal n) ≤ 3
+three-digits = digits 1 100 (digits 0 10 one-digit)
+
+-- ## Lines
+
+length-windowText : (e : Entry) → length (windowText e) ≡ 44
+unfolding windowText
+length-windowText e =
+    let i = words 2 (edges (e .io)) in
+    let l = words 4 (edges (e .low)) in
+    let h = words 4 (edges (e .high)) in
+    let u = words 8 (uppers (e .high)) in
+    omega (
+      arith,
+      length-append (i ++ l ++ h) u,
+      length-append (i ++ l) h,
+      length-append i l,
+      length-words 2 (edges (e .io)),
+      length-words 4 (edges (e .low)),
+      length-words 4 (edges (e .high)),
+      length-words 8 (uppers (e .high)),
+    )
+
+length-bridgeText : (e : Entry) → length (e .values) ≡ 2 → length (bridgeText e) ≡ 79
+unfolding bridgeText ascii
+length-bridgeText e two =
+    let n : List ℕ = ascii " bridge" in
+    let v = words 8 (e .values) in
+    let b = words 2 (buses e) in
+    let w = windowText e in
+    omega (
+      arith,
+      length-append (n ++ v ++ b ++ w) newline,
+      length-append (n ++ v ++ b) w,
+      length-append (n ++ v) b,
+      length-append n v,
+      length-words 8 (e .values),
+      length-words 2 (buses e),
+      length-windowText e,
+    )
+
+length-endText : (e : Entry) → length (e .values) ≡ 6 → length (endText e) ≡ 59
+unfolding endText ascii
+length-endText e six =
+    let n : List ℕ = ascii " end" in
+    let v = words 8 (e .values) in
+    omega (arith, length-append (n ++ v) newline, length-append n v, length-words 8 (e .values))
+
+length-dwords : (read : List ℕ → ℕ → ℕ) (n : ℕ) (p : List ℕ) (at : ℕ) → length (dwords read n p at) ≡ n
+unfolding dwords
+length-dwords read zero p at = refl
+length-dwords read (suc n) p at = ap suc (length-dwords read n p (at + 4))
+
+length-values : (p : List ℕ) → length (entryOf p .values) ≡ slotCount (headerOf p)
+unfolding entryOf
+length-values p = length-dwords (le 4) (slotCount (headerOf p)) p valuesAt
+
+line-le : (p : List ℕ) → length (lineOf (entryOf p)) ≤ 83
+line-le p = go (isBridge (headerOf p)) refl
+  where
+    id : ℕ
+    id = idOf p
+
+    digits-of-id : length (hexadecimal 4 id) ≡ 4
+    digits-of-id = length-hexadecimal 4 id
+
+    go : (b : Bool) → isBridge (headerOf p) ≡ b → length (lineOf (entryOf p)) ≤ 83
+    go true e =
+        let two : length (entryOf p .values) ≡ 2 = length-values p ∙ ap (λ (b : Bool). cond b 2 6) e in
+        omega (arith, ap length (lineOf-bridge p e id refl), length-append (hexadecimal 4 id) (bridgeText (entryOf p)), digits-of-id, length-bridgeText (entryOf p) two)
+    go false e =
+        let six : length (entryOf p .values) ≡ 6 = length-values p ∙ ap (λ (b : Bool). cond b 2 6) e in
+        omega (arith, ap length (lineOf-end p e id refl), length-append (hexadecimal 4 id) (endText (entryOf p)), digits-of-id, length-endText (entryOf p) six)
+
+lines-le : (ps : List (List ℕ)) → length (flatMap lineOf (map entryOf ps)) ≤ 83 * length ps
+unfolding flatMap
+lines-le [] = omega arith
+lines-le (p ∷ ps) =
+    omega (arith, length-append (lineOf (entryOf p)) (flatMap lineOf (map entryOf ps)), line-le p, lines-le ps)
+
+-- ## The whole
+
+module _ (n : ℕ) (few : n < 1000) where
+  count-le : length (countText n) ≤ 9
+  unfolding countText ascii
+  count-le =
+      let word : List ℕ = ascii "plan " in
+      omega (arith, length-append (word ++ decimal n) newline, length-append word (decimal n), three-digits n few)
+
+  pub refusal-le : length (refusalText n) ≤ longest
+  unfolding refusalText ascii
+  refusal-le =
+      let word : List ℕ = ascii "refused " in
+      omega (arith, length-append (word ++ decimal n) newline, length-append word (decimal n), three-digits n few)
+
+plan-le : (s : List ℕ) → length (entriesOf s) ≤ mostFunctions → length (planText (entriesOf s)) ≤ longest
+unfolding planText entriesFrom
+plan-le s few =
+    let n = length (entriesOf s) in
+    omega (
+      arith,
+      length-append (countText n) (flatMap lineOf (entriesOf s)),
+      count-le n (omega arith),
+      lines-le (partsIn s),
+      length-entries s,
+    )
+
+chosen-lt : (b : Bool) (x y : ℕ) → x < 1000 → y < 1000 → cond b x y < 1000
+chosen-lt true x y h k = h
+chosen-lt false x y h k = k
+
+from24-lt : (es : List Entry) → from24 es < 1000
+unfolding from24 from27 from28 from25 from29
+from24-lt es =
+    chosen-lt (anyBreaks HeaderType es) 24 (from27 es) (omega arith)
+    (chosen-lt (anyBreaks Buses es) 27 (from28 es) (omega arith)
+    (chosen-lt (idTwice es) 28 (from25 es) (omega arith)
+    (chosen-lt (anyBreaks ReadBacks es) 25 (from29 es) (omega arith) (chosen-lt (anyBreaks Nibbles es) 29 0 (omega arith) (omega arith)))))
+
+number-lt : (s : List ℕ) → sheetNumber s < 1000
+unfolding sheetNumber from21 from20 from22
+number-lt s =
+    let es = entriesOf s in
+    chosen-lt (eqb (length s) 0) 20 (from21 s) (omega arith)
+    (chosen-lt (eqb (getD s 0 0) 1) (from20 s) 21
+    (chosen-lt (isFramed (drop 1 s)) (from22 es) 20 (chosen-lt (ltb mostFunctions (length es)) 22 (from24 es) (omega arith) (from24-lt es)) (omega arith))
+    (omega arith))
+
+pub sheet-le : (s : List ℕ) → length (sheetText s) ≤ longest
+sheet-le s = go (eqb (sheetNumber s) 0) refl
+  where
+    go : (b : Bool) → eqb (sheetNumber s) 0 ≡ b → length (sheetText s) ≤ longest
+    go true e =
+        let z = eqb-true (sheetNumber s) 0 e in
+        omega (arith, ap length (sheetText-good s (sheetNumber s) refl z), plan-le s (checked-of-zero s z .count))
+    go false e =
+        omega (arith, ap length (sheetText-bad s (sheetNumber s) refl (eqb-false (sheetNumber s) 0 e)), refusal-le (sheetNumber s) (number-lt s))
+
+-- a text that fits from the start on is put whole, and what follows it stays
+pub put-whole : {o text after : List ℕ} {r : ℕ} → length text ≤ length o → Put o 0 text after r
+    → (r ≡ length text) × (after ≡ text ++ drop (length text) o)
+put-whole {o} {text} {after} {r} h p = (
+  omega (arith, p .place),
+  p .stored ∙ sets-eq text o 0 (omega arith) ∙ ap (λ (k : ℕ). text ++ drop k o) (zero-add (length text)),
+)
