@@ -1,5 +1,5 @@
--- Document 01, "Read-backs": a set of read-backs as slots, each unused, a BAR with its pool and size, the upper half of the BAR before, or unlawful (25).
--- Assumes nothing.
+-- Document 01, "Read-backs": a set of read-backs as slots, each unused, a BAR with its pool and size, the upper half of the BAR before, or
+-- unlawful (25). Assumes nothing.
 use mathlib.Core.Path.{_≡_}
 use Prim.Native.Nat.{ℕ, zero, suc, _+_, _-_, _*_, _/_, _%_, _^_, _≤_, _<_}
 use mathlib.Core.Bool.{Bool, true, false, cond, not, _&&_, _||_}

@@ -14,7 +14,8 @@ use Rattle.pools.specs.declared.Pool.{Pool}
 use Rattle.pools.specs.declared.Pool.the-variants.{Low, Io}
 use Rattle.bar.specs.declared.Slot.{Slot}
 use Rattle.bar.specs.declared.Slot.the-variants.{Unused, Bar, Upper, Bad}
-use Rattle.bar.specs.Bar.{sizeOf, leastBit, width, withoutType, sized, barOf, isIoBar, ioSlot, ioWrong, widePool, isWide, joined, narrowSlot, wideSlot, slotHere, slots, isBad, anyBad, takesNext, span, SizedSlot}
+use Rattle.bar.specs.Bar.{sizeOf, leastBit, width, withoutType, sized, barOf, isIoBar, ioSlot, ioWrong, widePool, isWide, joined}
+use Rattle.bar.specs.Bar.{narrowSlot, wideSlot, slotHere, slots, isBad, anyBad, takesNext, span, SizedSlot}
 use Rattle.bar.specs.SizeLaws.{size-cases}
 
 -- what holds of both slots holds of the one that a test picks
@@ -174,7 +175,8 @@ length-slots [] = refl
 length-slots (r ∷ []) = refl
 length-slots (r ∷ u ∷ us) = ap suc (go (isWide r) (length-slots us) (length-slots (u ∷ us)))
   where
-    go : (b : Bool) → length (slots us) ≡ length us → length (slots (u ∷ us)) ≡ suc (length us) → length (cond b (Upper ∷ slots us) (slots (u ∷ us))) ≡ suc (length us)
+    go : (b : Bool) → length (slots us) ≡ length us → length (slots (u ∷ us)) ≡ suc (length us)
+        → length (cond b (Upper ∷ slots us) (slots (u ∷ us))) ≡ suc (length us)
     go true p q = ap suc p
     go false p q = q
 

@@ -28,13 +28,15 @@ rows =
     ∷ (0x00008001 ∷ 0xFFFF8001 ∷ 0xFFFFFFFD ∷ [] says Bar Io false (2 ^ 15) ∷ Bar Io false (2 ^ 15) ∷ Bar Io false 4 ∷ [])
     ∷ (0xFFFF0001 ∷ 0x0001FF01 ∷ 0xFFFFFF03 ∷ [] says Bad ∷ Bad ∷ Bad ∷ [])
     -- memory of 32 bits is low, prefetchable or not
-    ∷ (0xFFFFFFF0 ∷ 0x80000000 ∷ 0xFFF00008 ∷ 0xFFF00002 ∷ [] says Bar Low false 16 ∷ Bar Low false (2 ^ 31) ∷ Bar Low false (2 ^ 20) ∷ Bad ∷ [])
+    ∷ (0xFFFFFFF0 ∷ 0x80000000 ∷ 0xFFF00008 ∷ 0xFFF00002 ∷ [] says Bar Low false 16 ∷ Bar Low false (2 ^ 31) ∷ Bar Low false (2 ^ 20)
+    ∷ Bad ∷ [])
     -- 64-bit BARs: judged on the joined bits, low unless prefetchable, none left
     ∷ (0x0000000C ∷ 0xFFFFFFFF ∷ 0xFFF0000C ∷ 0x00000000 ∷ [] says Bar High true (2 ^ 32) ∷ Upper ∷ Bad ∷ Upper ∷ [])
     ∷ (0x00000004 ∷ 0x80000000 ∷ [] says Bar Low true (2 ^ 63) ∷ Upper ∷ [])
     ∷ (0x00000000 ∷ 0xFFF0000C ∷ [] says Unused ∷ Bad ∷ [])
     -- P10's endpoint
-    ∷ (0xFFFFF000 ∷ 0xFC00000C ∷ 0xFFFFFFFF ∷ 0xFFFFFF01 ∷ 0 ∷ 0 ∷ [] says Bar Low false 4096 ∷ Bar High true (2 ^ 26) ∷ Upper ∷ Bar Io false 256 ∷ Unused ∷ Unused ∷ [])
+    ∷ (0xFFFFF000 ∷ 0xFC00000C ∷ 0xFFFFFFFF ∷ 0xFFFFFF01 ∷ 0 ∷ 0 ∷ [] says Bar Low false 4096 ∷ Bar High true (2 ^ 26) ∷ Upper ∷ Bar Io
+    false 256 ∷ Unused ∷ Unused ∷ [])
     ∷ []
 
 -- ## Values, against the read-backs of P10's endpoint

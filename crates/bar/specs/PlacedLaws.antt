@@ -1,4 +1,5 @@
--- A set whose BARs are placed: each slot's registers hold the value of its base, so the values are lawful and say the bases again. Assumes nothing.
+-- A set whose BARs are placed: each slot's registers hold the value of its base, so the values are lawful and say the bases again. Assumes
+-- nothing.
 use mathlib.Core.Path.{_≡_, refl, ap, _∙_, subst}
 use mathlib.Core.Bool.{Bool, true, false, true≢false, cond, _||_}
 use mathlib.Core.List.{List, [], _∷_}
@@ -14,7 +15,8 @@ use Rattle.pools.specs.declared.Pool.{Pool}
 use Rattle.pools.specs.declared.Pool.the-variants.{Low, High, Io}
 use Rattle.bar.specs.declared.Slot.{Slot}
 use Rattle.bar.specs.declared.Slot.the-variants.{Unused, Bar, Upper, Bad}
-use Rattle.bar.specs.Bar.{width, sized, isIoBar, ioWrong, ioSlot, widePool, isWide, narrowSlot, wideSlot, slotHere, slots, isBad, anyBad, takesNext, SizedSlot}
+use Rattle.bar.specs.Bar.{width, sized, isIoBar, ioWrong, ioSlot, widePool, isWide, narrowSlot, wideSlot, slotHere, slots, isBad}
+use Rattle.bar.specs.Bar.{anyBad, takesNext, SizedSlot}
 use Rattle.bar.specs.BarLaws.{cond-intro, sized-narrow, sized-wide, sized-slots, narrow-takes-one, wide-takes-next}
 use Rattle.bar.specs.Values.{valueHere, isValue, valuesLawful, baseOf, valueOf, slotRegisters, placedValues}
 use Rattle.bar.specs.ValuesLaws.{Placed, base-value, value-lt, is-value-of-placed, values-fit-intro}
@@ -171,7 +173,8 @@ whole-slots base (r ∷ u ∷ us) l f = go (isWide r) l f (whole-slots (λ j. ba
     go : (b : Bool) → anyBad (cond b (wideSlot r u) (narrowSlot r) ∷ cond b (Upper ∷ slots us) (slots (u ∷ us))) ≡ false
         → AllPlaced base (cond b (wideSlot r u) (narrowSlot r) ∷ cond b (Upper ∷ slots us) (slots (u ∷ us)))
         → (anyBad (slots us) ≡ false → AllPlaced (λ j. base (suc (suc j))) (slots us) → Whole (λ j. base (suc (suc j))) (slots us) us)
-        → (anyBad (slots (u ∷ us)) ≡ false → AllPlaced (λ j. base (suc j)) (slots (u ∷ us)) → Whole (λ j. base (suc j)) (slots (u ∷ us)) (u ∷ us))
+        → (anyBad (slots (u ∷ us)) ≡ false → AllPlaced (λ j. base (suc j)) (slots (u ∷ us))
+        → Whole (λ j. base (suc j)) (slots (u ∷ us)) (u ∷ us))
         → Whole base (cond b (wideSlot r u) (narrowSlot r) ∷ cond b (Upper ∷ slots us) (slots (u ∷ us))) (r ∷ u ∷ us)
     go true m q after next =
         let (w, n) = or-false-elim (isBad (wideSlot r u)) (anyBad (slots us)) m in
@@ -185,9 +188,11 @@ module _ (base : ℕ → ℕ) (rs : List ℕ) (lawful : anyBad (slots rs) ≡ fa
   pub placed-values-lawful : valuesLawful rs (placedValues base (slots rs) rs) ≡ true
   placed-values-lawful =
       values-fit-intro (slots rs) rs (placedValues base (slots rs) rs)
-      (λ i h. go (getD (slots rs) i Unused) _ _ _ (sized-slots rs i) (fits i) (not-bad-at (slots rs) lawful i) (kept-slots base rs lawful i))
+      (λ i h. go (getD (slots rs) i Unused) _ _ _ (sized-slots rs i) (fits i) (not-bad-at (slots rs) lawful i)
+      (kept-slots base rs lawful i))
     where
-      go : (x : Slot) (r v b : ℕ) → SizedSlot x → PlacedSlot x b → isBad x ≡ false → (isUpper x ≡ false → v ≡ valueOf x r b) → isValue x r v ≡ true
+      go : (x : Slot) (r v b : ℕ) → SizedSlot x → PlacedSlot x b → isBad x ≡ false → (isUpper x ≡ false → v ≡ valueOf x r b)
+          → isValue x r v ≡ true
       go Unused r v b z p l k = eq-eqb v 0 (k refl)
       go (Bar pool wide size) r v b z p l k = ap (isValue (Bar pool wide size) r) (k refl) ∙ is-value-of-placed pool wide size z r b p
       go Upper r v b z p l k = refl
@@ -198,7 +203,8 @@ module _ (base : ℕ → ℕ) (rs : List ℕ) (lawful : anyBad (slots rs) ≡ fa
   base-placed j pool wide size e =
       let z = subst SizedSlot e (sized-slots rs j) in
       let p = subst (λ (x : Slot). PlacedSlot x (base j)) e (fits j) in
-      let k = subst (λ (x : Slot). isUpper x ≡ false → valueHere x (drop j (placedValues base (slots rs) rs)) ≡ valueOf x (getD rs j 0) (base j)) e (kept-slots base rs lawful j) in
+      let k = subst (λ (x : Slot). isUpper x ≡ false → valueHere x (drop j (placedValues base (slots rs) rs))
+      ≡ valueOf x (getD rs j 0) (base j)) e (kept-slots base rs lawful j) in
       ap (baseOf (Bar pool wide size)) (k refl) ∙ base-value pool wide size z (getD rs j 0) (base j) p
 
   pub length-placed-values : length (placedValues base (slots rs) rs) ≡ length rs

@@ -1,5 +1,5 @@
--- Sizes, once over width w and least size bit k: a mask has a size exactly when it is ones from a bit j with k ≤ j < w to the top, and then it is 2 ^ j.
--- Assumes nothing.
+-- Sizes, once over width w and least size bit k: a mask has a size exactly when it is ones from a bit j with k ≤ j < w to the top, and then
+-- it is 2 ^ j. Assumes nothing.
 use mathlib.Core.Path.{_≡_, refl, sym, ap, _∙_}
 use mathlib.Core.Bool.{Bool, true, false, cond}
 use mathlib.Core.Logic.{_⊎_, inl, inr, ⊎-elim}
@@ -30,7 +30,8 @@ sized-from w k (suc n) mask f = go (eqb mask (onesFrom w k)) refl (sized-from w 
     later : ℕ
     later = sizeFrom w (suc k) n mask
 
-    go : (b : Bool) → eqb mask (onesFrom w k) ≡ b → (later ≡ 0) ⊎ SizeBit w (suc k) mask later → (cond b (2 ^ k) later ≡ 0) ⊎ SizeBit w k mask (cond b (2 ^ k) later)
+    go : (b : Bool) → eqb mask (onesFrom w k) ≡ b → (later ≡ 0) ⊎ SizeBit w (suc k) mask later → (cond b (2 ^ k) later ≡ 0)
+        ⊎ SizeBit w k mask (cond b (2 ^ k) later)
     go true e i = inr (record { bit = k; least = omega arith; most = omega arith; ones = eqb-true _ _ e; power = refl })
     go false e (inl z) = inl z
     go false e (inr s) = inr (record { bit = s .bit; least = omega arith; most = s .most; ones = s .ones; power = s .power })
@@ -88,7 +89,8 @@ module _ (w k ones least mask : ℕ) (width : ones + 1 ≡ 2 ^ w) (bottom : leas
       size-zero-of-none w k mask
       (λ s. h (and-pred-zero-of-power (ones - mask + 1) (s .bit, omega (arith, pow-lt (s .most), pow-pos (s .bit)))))
 
-  pub size-of-complement : 0 < mask → mask ≤ ones → least ≤ ones - mask + 1 → bitAnd (ones - mask + 1) (ones - mask + 1 - 1) ≡ 0 → sizeOf w k mask ≡ ones - mask + 1
+  pub size-of-complement : 0 < mask → mask ≤ ones → least ≤ ones - mask + 1 → bitAnd (ones - mask + 1) (ones - mask + 1 - 1) ≡ 0
+      → sizeOf w k mask ≡ ones - mask + 1
   size-of-complement p f l e =
       let (j, q) = power-of-and-pred-zero (ones - mask + 1) (omega arith) e in
       let o : mask ≡ onesFrom w j = omega arith in

@@ -3,7 +3,8 @@ use mathlib.Core.Path.{_≡_, refl, sym, ap, ap₂, _∙_, transport}
 use mathlib.Core.Bool.{Bool, true, false, false≢true, cond, not, _&&_, _||_, and-eq-true-iff}
 use mathlib.Core.List.{List, [], _∷_, _++_}
 use Prim.Native.Nat.{ℕ, zero, suc, _+_, _-_, _*_, _/_, _%_, _^_, _<_, _≤_, min}
-use native.Mathlib.Nat.{add-zero, mod-lt, div-add-mod', div-mul-le-self, div-lt-iff-lt-mul, mul-div-cancel, zero-mod, le-trans, le-of-lt, lt-of-le-of-lt}
+use native.Mathlib.Nat.{add-zero, mod-lt, div-add-mod', div-mul-le-self, div-lt-iff-lt-mul, mul-div-cancel, zero-mod, le-trans, le-of-lt}
+use native.Mathlib.Nat.{lt-of-le-of-lt}
 use native.Mathlib.Numerals.{one-add}
 use native.Mathlib.Omega.{arith}
 use borrow.Author.Tests.{eqb-true, eq-eqb, leb-true, le-leb}
@@ -20,7 +21,8 @@ use Rattle.plan_rule.specs.Align.{PowerOfTwo}
 use Rattle.plan_rule.specs.AlignLaws.{and-pred-power}
 use Rattle.bar.specs.declared.Slot.{Slot}
 use Rattle.bar.specs.declared.Slot.the-variants.{Unused, Bar, Upper, Bad}
-use Rattle.bar.specs.Bar.{typeBits, leastBit, width, typeOf, withoutType, joined, slotHere, slots, isBad, anyBad, takesNext, span, BarSize}
+use Rattle.bar.specs.Bar.{typeBits, leastBit, width, typeOf, withoutType, joined, slotHere, slots, isBad, anyBad, takesNext, span}
+use Rattle.bar.specs.Bar.{BarSize}
 use Rattle.bar.specs.BarLaws.{length-first, slots-head, slots-at-step}
 use Rattle.bar.specs.Values.{valueHere, isBarValue, isValue, valuesFit, baseOf, valueOf, registersOf}
 
@@ -73,7 +75,12 @@ module _ (pool : Pool) (wide : Bool) (size : ℕ) (z : BarSize pool wide size) (
 
   without-type-base : withoutType pool base ≡ base
   without-type-base =
-      omega (arith, div-add-mod' base (2 ^ typeBits pool), multiple-of-le (typeBits pool) (z .bit) base (le-trans (types-le-least pool) (z .least)) base-multiple)
+      omega (
+        arith,
+        div-add-mod' base (2 ^ typeBits pool),
+        multiple-of-le (typeBits pool) (z .bit) base
+            (le-trans (types-le-least pool) (z .least)) base-multiple,
+      )
 
   pub base-value : baseOf (Bar pool wide size) (valueOf (Bar pool wide size) r base) ≡ base
   base-value = ap (λ (x : ℕ). x * 2 ^ typeBits pool) (digits-div (base / 2 ^ typeBits pool) typed-lt) ∙ without-type-base
@@ -118,7 +125,8 @@ unfolding isBarValue
 is-bar-value-masked pool size r v t u w io p e f g h = rw (and-pred-power w size p, e, f, g, h)
 
 -- the base written again gives the value back
-pub value-base : (pool : Pool) (wide : Bool) (size r v : ℕ) → BarValue pool size r v → valueOf (Bar pool wide size) r (baseOf (Bar pool wide size) v) ≡ v
+pub value-base : (pool : Pool) (wide : Bool) (size r v : ℕ) → BarValue pool size r v
+    → valueOf (Bar pool wide size) r (baseOf (Bar pool wide size) v) ≡ v
 value-base pool wide size r v b =
     ap₂ (λ (x y : ℕ). x * 2 ^ typeBits pool + y) (mul-div-cancel (v / 2 ^ typeBits pool) (pow-pos (typeBits pool))) (sym (b .typed))
     ∙ div-add-mod' v (2 ^ typeBits pool)
@@ -135,7 +143,9 @@ end-le-of-value pool wide size r v z b h =
 pub value-registers : (x : Slot) (v : ℕ) (rest : List ℕ) → valueHere x (registersOf x v ++ rest) ≡ v
 value-registers x v rest = go (takesNext x)
   where
-    go : (b : Bool) → cond b (joined (getD (cond b (v % 4294967296 ∷ v / 4294967296 ∷ []) (v ∷ []) ++ rest) 0 0) (getD (cond b (v % 4294967296 ∷ v / 4294967296 ∷ []) (v ∷ []) ++ rest) 1 0))
+    go : (b : Bool) → cond b
+        (joined (getD (cond b (v % 4294967296 ∷ v / 4294967296 ∷ []) (v ∷ []) ++ rest) 0 0)
+        (getD (cond b (v % 4294967296 ∷ v / 4294967296 ∷ []) (v ∷ []) ++ rest) 1 0))
         (getD (cond b (v % 4294967296 ∷ v / 4294967296 ∷ []) (v ∷ []) ++ rest) 0 0) ≡ v
     go true = div-add-mod' v 4294967296
     go false = refl
@@ -146,7 +156,8 @@ pub head-at : (s : List ℕ) (i : ℕ) → getD (drop i s) 0 0 ≡ getD s i 0
 head-at s i = getD-drop i s 0 0 ∙ ap (λ (k : ℕ). getD s k 0) (add-zero i)
 
 -- the number in the registers at a place
-pub value-here-at : (x : Slot) (vs : List ℕ) (i : ℕ) → valueHere x (drop i vs) ≡ cond (takesNext x) (joined (getD vs i 0) (getD vs (i + 1) 0)) (getD vs i 0)
+pub value-here-at : (x : Slot) (vs : List ℕ) (i : ℕ) → valueHere x (drop i vs)
+    ≡ cond (takesNext x) (joined (getD vs i 0) (getD vs (i + 1) 0)) (getD vs i 0)
 value-here-at x vs i = rw (head-at vs i, getD-drop i vs 1 0)
 
 -- lawful values are of lawful slots
@@ -181,8 +192,11 @@ pub values-fit-intro : (xs : List Slot) (rs vs : List ℕ) → ((i : ℕ) → i 
 unfolding valuesFit
 values-fit-intro [] rs vs f = refl
 values-fit-intro (x ∷ xs) rs vs f =
-    and-eq-true-iff _ _ .1
-    (f 0 (omega arith), values-fit-intro xs (drop 1 rs) (drop 1 vs) (λ i h. transport (sym (value-at-suc x xs rs vs i)) (f (suc i) (omega arith))))
+    and-eq-true-iff _ _ .1 (
+      f 0 (omega arith),
+      values-fit-intro xs (drop 1 rs) (drop 1 vs)
+          (λ i h. transport (sym (value-at-suc x xs rs vs i)) (f (suc i) (omega arith))),
+    )
 
 -- lawful values stand beside lawful read-backs
 pub lawful-of-values : (xs : List Slot) (rs vs : List ℕ) → valuesFit xs rs vs ≡ true → anyBad xs ≡ false
@@ -203,7 +217,8 @@ unfolding valuesFit
 values-head rs vs i x h e =
     let p : 0 < length (drop i rs) = simp length-drop (omega arith) in
     ap (λ (xs : List Slot). valuesFit xs (drop i rs) (drop i vs)) (slots-head (drop i rs) p)
-    ∙ ap₂ (λ (y : Slot) (r : ℕ). isValue y r (valueHere y (drop i vs)) && valuesFit (drop 1 (slots (drop i rs))) (drop 1 (drop i rs)) (drop 1 (drop i vs))) (sym e) (head-at rs i)
+    ∙ ap₂ (λ (y : Slot) (r : ℕ). isValue y r (valueHere y (drop i vs)) && valuesFit (drop 1 (slots (drop i rs))) (drop 1 (drop i rs))
+    (drop 1 (drop i vs))) (sym e) (head-at rs i)
 
 pub values-from-off : (rs vs : List ℕ) (i : ℕ) (x : Slot) → i < length rs → x ≡ slotHere (drop i rs)
     → isValue x (getD rs i 0) (valueHere x (drop i vs)) ≡ false → valuesFrom rs vs i ≡ false
@@ -215,13 +230,15 @@ unfolding valuesFit
 values-from-step rs vs i x h e t =
     let l = not-bad-of-value x _ _ t in
     go (takesNext x)
-    ∙ ap (λ (xs : List Slot). valuesFit xs (drop 1 (drop i rs)) (drop 1 (drop i vs))) (sym (ap (λ (xs : List Slot). drop 1 xs) (slots-at-step rs i x h e l)))
+    ∙ ap (λ (xs : List Slot). valuesFit xs (drop 1 (drop i rs)) (drop 1 (drop i vs)))
+    (sym (ap (λ (xs : List Slot). drop 1 xs) (slots-at-step rs i x h e l)))
     ∙ sym (values-head rs vs i x h e ∙ rw t)
   where
     two : i + 1 + 1 ≡ i + 2
     two = omega arith
 
-    go : (b : Bool) → valuesFrom rs vs (i + cond b 2 1) ≡ valuesFit (cond b (Upper ∷ slots (drop (i + 2) rs)) (slots (drop (i + 1) rs))) (drop 1 (drop i rs)) (drop 1 (drop i vs))
+    go : (b : Bool) → valuesFrom rs vs (i + cond b 2 1)
+        ≡ valuesFit (cond b (Upper ∷ slots (drop (i + 2) rs)) (slots (drop (i + 1) rs))) (drop 1 (drop i rs)) (drop 1 (drop i vs))
     go true = rw (drop-drop 1 i rs, drop-drop 1 i vs, drop-drop 1 (i + 1) rs, drop-drop 1 (i + 1) vs, two)
     go false = rw (drop-drop 1 i rs, drop-drop 1 i vs)
 
@@ -237,7 +254,8 @@ pub entry-within : (set : List ℕ) (n i : ℕ) → i < min n 6 → getD (take n
 entry-within set n i h = getD-take n set i 0 (omega arith)
 
 -- x is the slot at i, v the number in its registers, b the test of it
-module _ (set values : List ℕ) (n i : ℕ) (x : Slot) (v : ℕ) (b : Bool) (six : length set ≡ 6) (h : i < min n 6) (e : x ≡ slotHere (drop i (take n set)))
+module _ (set values : List ℕ) (n i : ℕ) (x : Slot) (v : ℕ) (b : Bool) (six : length set ≡ 6) (h : i < min n 6)
+    (e : x ≡ slotHere (drop i (take n set)))
     (f : v ≡ valueHere x (drop i (take n values))) (t : b ≡ isValue x (getD set i 0) v) where
   test : isValue x (getD (take n set) i 0) (valueHere x (drop i (take n values))) ≡ b
   test = ap₂ (isValue x) (entry-within set n i h) (sym f) ∙ sym t

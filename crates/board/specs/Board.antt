@@ -1,5 +1,5 @@
--- Document 01, "The board" and "Numbers given back": the number of the first check that a board's bytes fail, 0 where they are lawful, and what a
--- lawful board says. Each check covers all records before the next starts. Assumes nothing.
+-- Document 01, "The board" and "Numbers given back": the number of the first check that a board's bytes fail, 0 where they are lawful, and
+-- what a lawful board says. Each check covers all records before the next starts. Assumes nothing.
 use Prim.Native.Nat.{ℕ, _+_, _*_}
 use mathlib.Core.Bool.{Bool, true, cond, not, _||_}
 use mathlib.Core.List.{List, [], _∷_, map}

@@ -22,7 +22,8 @@ use Rattle.board_record.specs.Function.{isShort, functionOfPart, headerWrong, r
 use Rattle.board_record.specs.Rules.{breaks}
 use Rattle.board.specs.Pass.{anyBreaks}
 use Rattle.board_order.specs.Order.{anyMisplaced}
-use Rattle.board.specs.Board.{misframed, fromReadbacks, fromOrder, fromEdges, fromHeaders, fromCount, fromFrame, fromVersion, boardNumber, hostOf, functionsOf}
+use Rattle.board.specs.Board.{misframed, fromReadbacks, fromOrder, fromEdges, fromHeaders, fromCount, fromFrame, fromVersion}
+use Rattle.board.specs.Board.{boardNumber, hostOf, functionsOf}
 
 pub any-map : {A : Type 0} (test : A → Bool) (f : List ℕ → A) (ps : List (List ℕ)) → any test (map f ps) ≡ anyPart (λ p. test (f p)) ps
 unfolding any anyPart
@@ -53,7 +54,8 @@ module _ (s : List ℕ) where
       ∙ rw (ne-eqb n 30 h)
       (ap (λ (t : Bool). t || anyPart isShort (partsFrom s (1 + 2 + n))) (or-true (not (partsOf (drop (1 + 2 + n) s) .whole))))
 
-  pub misframed-tail : (n : ℕ) → nextOf (drop 1 s) ≡ Record n → n ≡ 30 → misframed (partsOf (drop 1 s)) ≡ anyBreaks Length (partsOf (drop 33 s))
+  pub misframed-tail : (n : ℕ) → nextOf (drop 1 s) ≡ Record n → n ≡ 30 → misframed (partsOf (drop 1 s))
+      ≡ anyBreaks Length (partsOf (drop 33 s))
   misframed-tail n e h =
       let e₃₀ : nextOf (drop 1 s) ≡ Record 30 = e ∙ ap Record h in
       misframed-record 30 e₃₀ ∙ go (partsOf (drop 33 s) .whole)
@@ -85,7 +87,8 @@ module _ (s : List ℕ) where
       → anyBreaks rule (partsOf (drop 33 s)) ≡ anyPart (breaks rule) (partsFrom s 33)
   breaks-of-framed rule h = ap (λ (w : Bool). not w || anyPart (breaks rule) (partsFrom s 33)) (whole-of-framed h)
 
-  pub framed : misframed (partsOf (drop 1 s)) ≡ false → fromFrame (partsOf (drop 1 s)) ≡ fromCount (hostOfPart (take 30 (drop 3 s))) (partsFrom s 33)
+  pub framed : misframed (partsOf (drop 1 s)) ≡ false → fromFrame (partsOf (drop 1 s))
+      ≡ fromCount (hostOfPart (take 30 (drop 3 s))) (partsFrom s 33)
   unfolding fromFrame
   framed h =
       let p = parts-record s 1 30 (host-of-framed h) in

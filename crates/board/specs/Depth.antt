@@ -35,7 +35,8 @@ parent-onto : (before : List Function) (f : Function) (fs : List Function)
 parent-onto before f fs =
     ap (λ (i : ℕ). getD (toPlacing (onto before (f ∷ fs))) i noFunction .parent) (sym (add-zero (length before))) ∙ go before (f ∷ fs) 0
   where
-    go : (b gs : List Function) (i : ℕ) → getD (toPlacing (onto b gs)) (length b + i) noFunction .parent ≡ getD (toPlacing gs) i noFunction .parent
+    go : (b gs : List Function) (i : ℕ) → getD (toPlacing (onto b gs)) (length b + i) noFunction .parent
+        ≡ getD (toPlacing gs) i noFunction .parent
     go [] gs i = ap (λ (k : ℕ). getD (toPlacing gs) k noFunction .parent) (omega arith)
     go (g ∷ b) gs i =
         let place : suc (length b) + i ≡ length b + suc i = omega arith in

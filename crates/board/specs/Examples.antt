@@ -9,13 +9,15 @@ use Rattle.bar.specs.Bar.{sizeFrom, sized, ioSlot, narrowSlot, wideSlot, slotHe
 use Rattle.board_record.specs.Host.{hostOfPart, poolWrong, hostWrong}
 use Rattle.board_record.specs.Function.{functionOfPart, headerWrong, readbacksWrong}
 use Rattle.board_order.specs.Order.{above, parents, lastSibling, misplaced, anyMisplaced}
-use Rattle.board.specs.Board.{misframed, fromReadbacks, fromOrder, fromEdges, fromHeaders, fromCount, fromFrame, fromVersion, boardNumber}
+use Rattle.board.specs.Board.{misframed, fromReadbacks, fromOrder, fromEdges, fromHeaders, fromCount, fromFrame, fromVersion}
+use Rattle.board.specs.Board.{boardNumber}
 
 -- ## Records
 
 abbrev pub host : List ℕ
 host =
-    0 ∷ 30 ∷ 0 ∷ 255 ∷ beBytes 4 0xF9000000 ++ beBytes 4 0xF9FFFFFF ++ beBytes 8 0x240000000 ++ beBytes 8 0x27FFFFFFF ++ 0x40 ∷ 0 ∷ 0x4F ∷ 0xFF ∷ []
+    0 ∷ 30 ∷ 0 ∷ 255 ∷ beBytes 4 0xF9000000 ++ beBytes 4 0xF9FFFFFF ++ beBytes 8 0x240000000 ++ beBytes 8 0x27FFFFFFF ++ 0x40 ∷ 0 ∷ 0x4F
+    ∷ 0xFF ∷ []
 
 -- with a low pool of its own
 abbrev pub hostWith : ℕ → ℕ → List ℕ
@@ -29,7 +31,8 @@ end parent devfn header = 0 ∷ 30 ∷ beBytes 2 parent ++ devfn ∷ header ∷ 
 
 -- with one read-back
 abbrev pub card : ℕ → ℕ → ℕ → List ℕ
-card parent devfn readback = 0 ∷ 30 ∷ beBytes 2 parent ++ devfn ∷ 0 ∷ 0 ∷ 3 ∷ beBytes 4 readback ++ beBytes 4 0 ++ beBytes 8 0 ++ beBytes 8 0
+card parent devfn readback =
+    0 ∷ 30 ∷ beBytes 2 parent ++ devfn ∷ 0 ∷ 0 ∷ 3 ∷ beBytes 4 readback ++ beBytes 4 0 ++ beBytes 8 0 ++ beBytes 8 0
 
 -- n bridges, each below the one before, from record k + 1 on
 unfoldable pub chain : ℕ → ℕ → List ℕ
@@ -95,5 +98,7 @@ pub record Worked (rs : List Row) : Type 0 where
   pub numbers : map (λ r. boardNumber (r .board)) rs ≡ map (λ r. r .number) rs
 
 pub examples : Worked rows
-unfolding be beBytes nextOf partsOver partsOf anyPart any sizeFrom sized ioSlot narrowSlot wideSlot slotHere slots anyBad hostOfPart poolWrong hostWrong functionOfPart headerWrong readbacksWrong above parents lastSibling misplaced anyMisplaced misframed fromReadbacks fromOrder fromEdges fromHeaders fromCount fromFrame fromVersion boardNumber chain row
+unfolding be beBytes nextOf partsOver partsOf anyPart any sizeFrom sized ioSlot narrowSlot wideSlot slotHere slots anyBad hostOfPart
+    poolWrong hostWrong functionOfPart headerWrong readbacksWrong above parents lastSibling misplaced anyMisplaced misframed fromReadbacks
+    fromOrder fromEdges fromHeaders fromCount fromFrame fromVersion boardNumber chain row
 examples = record { numbers = refl }

@@ -16,7 +16,8 @@ use Rattle.plan_rule.specs.RecordLaws.{Subset, parent-new, parent-kept}
 use Rattle.board_record.specs.declared.Function.{Function}
 use Rattle.board_record.specs.Function.{isBridge, slotCount}
 use Rattle.board_order.specs.Order.{parents, misplaced, anyMisplaced}
-use Rattle.board_order.specs.OrderLaws.{placed-of-not-misplaced, upToHost, lt-up-to-host, fromOn, fromOn-parents, le-of-any, any-later, parents-bridge, parents-end}
+use Rattle.board_order.specs.OrderLaws.{placed-of-not-misplaced, upToHost, lt-up-to-host, fromOn, fromOn-parents, le-of-any, any-later}
+use Rattle.board_order.specs.OrderLaws.{parents-bridge, parents-end}
 use Rattle.board_order.specs.StackLaws.{up-cons, outer}
 use Rattle.board.specs.Board.{boardNumber, functionsOf}
 use Rattle.board.specs.BoardLaws.{accepted-of-zero}
@@ -51,14 +52,17 @@ module _ (before : List Function) (f : Function) (ok : ℕ → Bool)
       → parentsAfter ok (suc (length before)) (toFunction f) j ≡ true
   kept j m =
       parent-kept ok (suc (length before)) (toFunction f) j
-      (h j (any-of-fromOn j (f .parent) (parents (length before) before) (ap (any (eqb j)) (fromOn-parents (length before) (f .parent) before e) ∙ m)))
+      (h j (any-of-fromOn j (f .parent) (parents (length before) before)
+      (ap (any (eqb j)) (fromOn-parents (length before) (f .parent) before e) ∙ m)))
       (le-of-any (f .parent) j (f .parent ∷ outer (f .parent) before) (
         omega arith,
-        all-imp (λ b. b < f .parent) (λ b. b ≤ f .parent) (outer (f .parent) before) (lt-up-to-host (length before) (f .parent) before) (λ b l. omega arith),
+        all-imp (λ b. b < f .parent) (λ b. b ≤ f .parent) (outer (f .parent) before) (lt-up-to-host (length before) (f .parent) before)
+            (λ b l. omega arith),
       )
       (sym (ap (any (eqb j)) (up-cons (f .parent) before e)) ∙ m))
 
-  subset-step : Subset (λ (j : ℕ). any (eqb j) (parents (suc (length before)) (f ∷ before))) (parentsAfter ok (suc (length before)) (toFunction f))
+  subset-step : Subset (λ (j : ℕ). any (eqb j) (parents (suc (length before)) (f ∷ before)))
+      (parentsAfter ok (suc (length before)) (toFunction f))
   subset-step j m = go (isBridge f) refl
     where
       new : isBridge f ≡ true → (t : Bool) → eqb j (suc (length before)) ≡ t
@@ -79,7 +83,8 @@ depth-first-of (f ∷ fs) before ok h e =
     let both = false-of-or (misplaced (length before) before f) (anyMisplaced (suc (length before)) (f ∷ before) fs) e in
     let open-parent = placed-of-not-misplaced (length before) before f (both .0) .parent-open in (
       h (f .parent) open-parent,
-      depth-first-of fs (f ∷ before) (parentsAfter ok (suc (length before)) (toFunction f)) (subset-step before f ok h open-parent) (both .1),
+      depth-first-of fs (f ∷ before) (parentsAfter ok (suc (length before)) (toFunction f)) (subset-step before f ok h open-parent)
+          (both .1),
     )
 
 -- no function misplaced is depth-first order

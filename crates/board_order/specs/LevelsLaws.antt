@@ -90,12 +90,14 @@ module _ (b n s : List ℕ) (k number : ℕ) (f : Function) (fs : List Function)
 
 -- ---- what a function in its place changes
 
-deepest-agree : (b n s b′ n′ s′ : List ℕ) (k : ℕ) → ((i : ℕ) → i < k → levelAt b n s i ≡ levelAt b′ n′ s′ i) → deepest b n s k ≡ deepest b′ n′ s′ k
+deepest-agree : (b n s b′ n′ s′ : List ℕ) (k : ℕ) → ((i : ℕ) → i < k → levelAt b n s i ≡ levelAt b′ n′ s′ i) → deepest b n s k
+    ≡ deepest b′ n′ s′ k
 unfolding deepest
 deepest-agree b n s b′ n′ s′ zero h = refl
 deepest-agree b n s b′ n′ s′ (suc k) h = ap₂ _∷_ (h k (omega arith)) (deepest-agree b n s b′ n′ s′ k (λ i l. h i (omega arith)))
 
-module _ (b n s : List ℕ) (i number x y : ℕ) (f : Function) (in-b : i + 1 < length b) (in-n : i + 1 < length n) (in-s : i + 1 < length s) where
+module _ (b n s : List ℕ) (i number x y : ℕ) (f : Function) (in-b : i + 1 < length b) (in-n : i + 1 < length n)
+    (in-s : i + 1 < length s) where
   abbrev pub busesAfter : List ℕ
   busesAfter = set b (i + 1) number
 
@@ -174,7 +176,8 @@ openAfter-le i f = go (isBridge f)
 
 pub order-turn : (s : List ℕ) (at n : ℕ) (f : Function) → nextOf (drop at s) ≡ Record n → f ≡ functionOfPart (take n (drop (at + 2) s))
     → (number : ℕ) (ls : List Level)
-    → unplacedFrom number ls (map functionOfPart (partsFrom s at)) ≡ unplacedFrom number ls (f ∷ map functionOfPart (partsFrom s (at + 2 + n)))
+    → unplacedFrom number ls (map functionOfPart (partsFrom s at))
+    ≡ unplacedFrom number ls (f ∷ map functionOfPart (partsFrom s (at + 2 + n)))
 order-turn s at n f e h number ls =
     pass-record (λ (ps : List (List ℕ)). unplacedFrom number ls (map functionOfPart ps)) s at n e
     ∙ ap (λ (g : Function). unplacedFrom number ls (g ∷ map functionOfPart (partsFrom s (at + 2 + n)))) (sym h)

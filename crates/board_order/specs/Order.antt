@@ -24,7 +24,8 @@ parents zero before = 0 ∷ []
 parents (suc n) [] = 0 ∷ []
 parents (suc n) (g ∷ before) = let rest = above n (g .parent) before ++ 0 ∷ [] in cond (isBridge g) (suc n ∷ rest) rest
 
--- siblings have one parent; "in rising device/function order": each above the sibling just before it, told by one more than its device/function
+-- siblings have one parent; "in rising device/function order": each above the sibling just before it, told by one more than its
+-- device/function
 unfoldable pub lastSibling : ℕ → List Function → ℕ
 lastSibling p [] = 0
 lastSibling p (g ∷ before) = let earlier = lastSibling p before in cond (eqb (g .parent) p) (suc (g .devfn)) earlier

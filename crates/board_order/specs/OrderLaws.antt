@@ -96,7 +96,8 @@ lt-up-to-host (suc n) p (g ∷ before) = go (eqb p (suc n)) refl (lt-up-to-host 
         → All (λ b. b < p) (drop 1 (upToHost (suc n) p (g ∷ before)))
     go true e on =
         rw (above-here n p g before e)
-        (all-imp (λ b. b ≤ n) (λ b. b < p) (upToHost n (g .parent) before) (le-up-to-host n (g .parent) before) (λ b l. omega (arith, eqb-true p (suc n) e)))
+        (all-imp (λ b. b ≤ n) (λ b. b < p) (upToHost n (g .parent) before) (le-up-to-host n (g .parent) before)
+        (λ b l. omega (arith, eqb-true p (suc n) e)))
     go false e on = rw (above-later n p g before e) on
 
 -- ---- a list of numbers from p on
@@ -196,7 +197,8 @@ unfolding parents
 parents-end n g before e = rw e
 
 -- what may be a parent still, once p is one: p, the bridges above it, and the host
-pub fromOn-parents : (n p : ℕ) (before : List Function) → any (eqb p) (parents n before) ≡ true → fromOn p (parents n before) ≡ upToHost n p before
+pub fromOn-parents : (n p : ℕ) (before : List Function) → any (eqb p) (parents n before) ≡ true → fromOn p (parents n before)
+    ≡ upToHost n p before
 unfolding parents above
 fromOn-parents zero p before e = fromOn-host p e
 fromOn-parents (suc n) p [] e = fromOn-host p e

@@ -1,5 +1,5 @@
--- What 23 leaves true of all functions of a board together: each is placed after those before it, and siblings rise, so that no two of a bus have one
--- device/function. Assumes nothing.
+-- What 23 leaves true of all functions of a board together: each is placed after those before it, and siblings rise, so that no two of a
+-- bus have one device/function. Assumes nothing.
 use mathlib.Core.Path.{_≡_, refl}
 use mathlib.Core.Bool.{Bool, true, false}
 use mathlib.Core.List.{List, [], _∷_}

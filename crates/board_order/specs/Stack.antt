@@ -9,7 +9,8 @@ use Rattle.board_record.specs.declared.Function.{Function}
 use Rattle.board_record.specs.Function.{isBridge}
 use Rattle.board_order.specs.Order.{isShared}
 
--- the bus below record `bus`: one more than the device/function of its last function, and than the device of its last shared function 0; 0 for none
+-- the bus below record `bus`: one more than the device/function of its last function, and than the device of its last shared function 0; 0
+-- for none
 pub record Level : Type 0 where
   pub bus : ℕ
   pub next : ℕ

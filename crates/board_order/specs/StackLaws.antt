@@ -12,7 +12,8 @@ use Rattle.records.specs.Limits.{mostAbove}
 use Rattle.board_record.specs.declared.Function.{Function}
 use Rattle.board_record.specs.Function.{isBridge}
 use Rattle.board_order.specs.Order.{above, parents, lastSibling, isShared, isFunctionZero, hasFunctionZero, misplaced, anyMisplaced}
-use Rattle.board_order.specs.OrderLaws.{Placed, placed-of-not-misplaced, Ordered, upToHost, lt-up-to-host, fromOn, fromOn-none, fromOn-parents, le-of-parent, parents-bridge, parents-end}
+use Rattle.board_order.specs.OrderLaws.{Placed, placed-of-not-misplaced, Ordered, upToHost, lt-up-to-host, fromOn, fromOn-none}
+use Rattle.board_order.specs.OrderLaws.{fromOn-parents, le-of-parent, parents-bridge, parents-end}
 use Rattle.board_order.specs.Stack.{Level, fresh, closeTo, unplacedAt, unplaced, entered, opened, enter, sharedAfter, unplacedFrom}
 
 -- ---- what the records before say of a bus
@@ -59,7 +60,8 @@ closeTo-levels p before (b ∷ bs) = go (eqb p b) refl (closeTo-levels p before 
 
 -- ---- function 0: among rising siblings only the last shared one can be of the last device
 
-zero-test : (p d : ℕ) (g : Function) (before : List Function) (a b c : Bool) → eqb (g .parent) p ≡ a → eqb (g .devfn / 8) d ≡ b → isShared g ≡ c
+zero-test : (p d : ℕ) (g : Function) (before : List Function) (a b c : Bool) → eqb (g .parent) p ≡ a → eqb (g .devfn / 8) d ≡ b
+    → isShared g ≡ c
     → any (isFunctionZero p d) (g ∷ before) ≡ (a && b && c || any (isFunctionZero p d) before)
 unfolding any
 zero-test p d g before a b c e h k = rw (e, h, k)
@@ -67,11 +69,13 @@ zero-test p d g before a b c e h k = rw (e, h, k)
 pub sibling-same : (p : ℕ) (g : Function) (before : List Function) → eqb (g .parent) p ≡ true → lastSibling p (g ∷ before) ≡ suc (g .devfn)
 sibling-same p g before e = ap (λ (l : Level). l .next) (level-same p g before e)
 
-pub sibling-other : (p : ℕ) (g : Function) (before : List Function) → eqb (g .parent) p ≡ false → lastSibling p (g ∷ before) ≡ lastSibling p before
+pub sibling-other : (p : ℕ) (g : Function) (before : List Function) → eqb (g .parent) p ≡ false → lastSibling p (g ∷ before)
+    ≡ lastSibling p before
 sibling-other p g before e = ap (λ (l : Level). l .next) (level-other p g before e)
 
 -- none of a device above all siblings
-no-zero : (p d y : ℕ) (before : List Function) → Ordered before → lastSibling p before ≤ y → y / 8 < d → any (isFunctionZero p d) before ≡ false
+no-zero : (p d y : ℕ) (before : List Function) → Ordered before → lastSibling p before ≤ y → y / 8 < d
+    → any (isFunctionZero p d) before ≡ false
 unfolding any
 no-zero p d y [] o l h = refl
 no-zero p d y (g ∷ before) o l h = go (eqb (g .parent) p) refl (no-zero p d y before (o .1))
@@ -204,7 +208,8 @@ enter-levels before f o h =
         ∙ level-fresh (suc (length before)) before o (omega arith)
 
     go : (t : Bool) → isBridge f ≡ t
-        → opened (suc (length before)) f (entered f (levelOf before (f .parent)) ∷ map (levelOf before) (outer (f .parent) before)) ≡ levels (f ∷ before)
+        → opened (suc (length before)) f (entered f (levelOf before (f .parent)) ∷ map (levelOf before) (outer (f .parent) before))
+        ≡ levels (f ∷ before)
     go true e = rw e (sym (ap (map (levelOf (f ∷ before))) (parents-bridge (length before) f before e) ∙ ap₂ _∷_ new kept))
     go false e = rw e (sym (ap (map (levelOf (f ∷ before))) (parents-end (length before) f before e) ∙ kept))
 
@@ -220,7 +225,8 @@ unplacedFrom-agree (f ∷ fs) before o = go (misplaced (length before) before f)
     rest ls = unplacedFrom (suc (length before)) (enter (suc (length before)) f ls) fs
 
     go : (t : Bool) → misplaced (length before) before f ≡ t
-        → (Ordered (f ∷ before) → unplacedFrom (suc (length before)) (levels (f ∷ before)) fs ≡ anyMisplaced (suc (length before)) (f ∷ before) fs)
+        → (Ordered (f ∷ before) → unplacedFrom (suc (length before)) (levels (f ∷ before)) fs
+        ≡ anyMisplaced (suc (length before)) (f ∷ before) fs)
         → unplacedFrom (length before) (levels before) (f ∷ fs) ≡ anyMisplaced (length before) before (f ∷ fs)
     go true e on = rw (unplaced-agree before f o, e)
     go false e on =

@@ -1,4 +1,5 @@
--- What a function record whose header type passed its check keeps, and both checks of one function by what the code looks at. Assumes nothing.
+-- What a function record whose header type passed its check keeps, and both checks of one function by what the code looks at. Assumes
+-- nothing.
 use mathlib.Core.Path.{_≡_, refl, sym, ap, ap₂, _∙_}
 use mathlib.Core.Bool.{Bool, true, false, cond, not, _&&_, _||_, and-true, and-false, and-eq-true-iff}
 use mathlib.Core.List.{List, [], _∷_}
@@ -11,7 +12,8 @@ use Rattle.endian.specs.Endian.{be}
 use Rattle.lists.specs.BoolLaws.{false-of-or}
 use Rattle.bar.specs.Bar.{slots, anyBad}
 use Rattle.bar.specs.Header.{headerType, isBridge as isBridgeHeader}
-use Rattle.board_record.specs.Function.{lengthFor, readbacksFor, functionOfPart, wrongFor, headerWrong, isBridge, slotCount, readbacksWrong}
+use Rattle.board_record.specs.Function.{lengthFor, readbacksFor, functionOfPart, wrongFor, headerWrong, isBridge, slotCount}
+use Rattle.board_record.specs.Function.{readbacksWrong}
 
 pub length-of-header : (p : List ℕ) → headerWrong p ≡ false → length p ≡ lengthFor (getD p 3 0)
 unfolding headerWrong
@@ -44,7 +46,8 @@ unfolding functionOfPart
 length-readbacks p = go (isBridgeHeader (getD p 3 0))
   where
     go : (t : Bool)
-        → length (cond t (be 4 p 6 ∷ be 4 p 10 ∷ 0 ∷ 0 ∷ 0 ∷ 0 ∷ []) (be 4 p 6 ∷ be 4 p 10 ∷ be 4 p 14 ∷ be 4 p 18 ∷ be 4 p 22 ∷ be 4 p 26 ∷ [])) ≡ 6
+        → length (cond t (be 4 p 6 ∷ be 4 p 10 ∷ 0 ∷ 0 ∷ 0 ∷ 0 ∷ [])
+        (be 4 p 6 ∷ be 4 p 10 ∷ be 4 p 14 ∷ be 4 p 18 ∷ be 4 p 22 ∷ be 4 p 26 ∷ [])) ≡ 6
     go true = refl
     go false = refl
 
@@ -68,7 +71,8 @@ module _ (n header : ℕ) where
 pub readbacks-wrong : (p : List ℕ) (set : List ℕ) (n : ℕ) (r : Bool) → set ≡ readbacksFor (getD p 3 0) p → n ≡ slotCount (functionOfPart p)
     → r ≡ not (anyBad (slots (take n set))) → not r ≡ readbacksWrong (functionOfPart p)
 unfolding readbacksWrong functionOfPart
-readbacks-wrong p set n r s e h = ap not h ∙ twice (anyBad (slots (take n set))) ∙ ap₂ (λ (k : ℕ) (l : List ℕ). anyBad (slots (take k l))) e s
+readbacks-wrong p set n r s e h =
+    ap not h ∙ twice (anyBad (slots (take n set))) ∙ ap₂ (λ (k : ℕ) (l : List ℕ). anyBad (slots (take k l))) e s
   where
     twice : (t : Bool) → not (not t) ≡ t
     twice true = refl

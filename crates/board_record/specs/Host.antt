@@ -11,7 +11,8 @@ use Rattle.pools.specs.Pools.{granule}
 use Rattle.board_record.specs.declared.Span.{Span}
 use Rattle.board_record.specs.declared.Host.{Host}
 
--- "Record 0, host, 30 bytes: first bus, last bus (1 each); low pool base, last (4 each); high pool base, last (8 each); I/O pool base, last (2 each)"
+-- "Record 0, host, 30 bytes: first bus, last bus (1 each); low pool base, last (4 each); high pool base, last (8 each); I/O pool base, last
+-- (2 each)"
 abbrev pub hostLength : ℕ
 hostLength = 30
 

@@ -1,4 +1,5 @@
--- The edges of pools: one past the last address is a multiple exactly where the last is one short of the edge, once over the edge. Assumes nothing.
+-- The edges of pools: one past the last address is a multiple exactly where the last is one short of the edge, once over the edge. Assumes
+-- nothing.
 use mathlib.Core.Path.{_≡_, refl, sym, ap, _∙_}
 use mathlib.Core.Bool.{Bool, true, false}
 use Prim.Native.Nat.{ℕ, _+_, _-_, _%_, _<_}

@@ -1,5 +1,5 @@
--- A call's answer: document 01's number, or numbers for the answer slice. An answer slice too short is 11, tried last; numbers past the answer's own are
--- left as they were. Assumes nothing.
+-- A call's answer: document 01's number, or numbers for the answer slice. An answer slice too short is 11, tried last; numbers past the
+-- answer's own are left as they were. Assumes nothing.
 use Prim.Native.Nat.{ℕ}
 use mathlib.Core.Bool.{cond}
 use mathlib.Core.List.{List, _++_}

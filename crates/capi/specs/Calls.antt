@@ -1,5 +1,5 @@
--- What each call of the C boundary answers, from document 01's definitions, and what a room or a sheet that it was lent to write then holds.
--- Assumes nothing.
+-- What each call of the C boundary answers, from document 01's definitions, and what a room or a sheet that it was lent to write then
+-- holds. Assumes nothing.
 use Prim.Native.Nat.{ℕ}
 use mathlib.Core.Bool.{cond}
 use mathlib.Core.List.{List, [], _∷_}

@@ -45,7 +45,8 @@ use Rattle.plan_answer.specs.declared.Planning.{Planning}
 use Rattle.plan_answer.specs.declared.Planning.the-variants.{Planned, Refused as NotPlanned}
 use Rattle.plan_answer.specs.Plan.{onRoom, onBoard, planning, numberOf as planningNumber, sheetAfter}
 use Rattle.capi.specs.Answers.{Answer, refuses, gives, returned, filled}
-use Rattle.capi.specs.Calls.{onWriting, onParsed, roomOf, unownedOf, word, commandNumber, commandLeft, onPlanning, planAnswer, sheetLeft}
+use Rattle.capi.specs.Calls.{onWriting, onParsed, roomOf, unownedOf, word, commandNumber, commandLeft, onPlanning, planAnswer}
+use Rattle.capi.specs.Calls.{sheetLeft}
 
 -- what was returned and what the slice holds after, together
 abbrev pub Answered : Answer → List ℕ → ℕ → List ℕ → Type 0
@@ -63,8 +64,11 @@ module _ (ns slice : List ℕ) where
   answered-short h = (rw (lt-ltb (length slice) (length ns) h), rw (lt-ltb (length slice) (length ns) h))
 
   pub answered-filled : {after : List ℕ} → length ns ≤ length slice → after ≡ sets slice 0 ns → Answered (gives ns) slice 0 after
-  answered-filled h e =
-      (rw (le-ltb (length slice) (length ns) h), rw (le-ltb (length slice) (length ns) h) (e ∙ sets-eq ns slice 0 (omega arith) ∙ rw zero-add))
+  answered-filled h e = (
+    rw (le-ltb (length slice) (length ns) h),
+    rw (le-ltb (length slice) (length ns) h)
+        (e ∙ sets-eq ns slice 0 (omega arith) ∙ rw zero-add),
+  )
 
 -- ## Writing
 
@@ -100,8 +104,10 @@ module _ (p : Packet) (room written : List ℕ) where
   room-empty = rw (write-empty (verdictOf p) refl)
 
   -- the writer was lent so much of the room and left a part in its place
-  module _ (space : ℕ) (lent : space ≡ cond (eqb (length written) 0) 0 (length room)) (w : Writing) (e : w ≡ writeOf p (length (take space room))) (part : List ℕ) (f : part ≡ roomAfter p (take space room)) where
-    pub wrote : (r : ℕ) (slice : List ℕ) → Answered (onWriting w) written r slice → WroteFor p room written r (part ++ drop space room) slice
+  module _ (space : ℕ) (lent : space ≡ cond (eqb (length written) 0) 0 (length room)) (w : Writing)
+      (e : w ≡ writeOf p (length (take space room))) (part : List ℕ) (f : part ≡ roomAfter p (take space room)) where
+    pub wrote : (r : ℕ) (slice : List ℕ) → Answered (onWriting w) written r slice
+        → WroteFor p room written r (part ++ drop space room) slice
     wrote r slice a = go (eqb (length written) 0) refl
       where
         go : (b : Bool) → eqb (length written) 0 ≡ b → WroteFor p room written r (part ++ drop space room) slice
@@ -154,7 +160,8 @@ lookup-wide s id bytes wide = go (eqb (sheetNumber s) 0) refl
         let part = bytes-take (at + stride - (at + 2)) (drop (at + 2) s) (bytes-drop (at + 2) s bytes) in
         absurd (omega (arith, found-at s 1 id at f e .id-is, be-lt 2 (partFrom s at) 0 part))
 
-    go : (b : Bool) → eqb (sheetNumber s) 0 ≡ b → NotFound (cond b 40 (sheetNumber s)) ≡ cond b (placed (findFrom id 1 (entriesOf s))) (NotFound (sheetNumber s))
+    go : (b : Bool) → eqb (sheetNumber s) 0 ≡ b → NotFound (cond b 40 (sheetNumber s))
+        ≡ cond b (placed (findFrom id 1 (entriesOf s))) (NotFound (sheetNumber s))
     go true z = found (checked-of-zero s (eqb-true (sheetNumber s) 0 z) .framed) (findFrom id 1 (entriesOf s)) refl
     go false z = refl
 
@@ -169,7 +176,8 @@ module _ (s : List ℕ) (id command : ℕ) where
   command-too-wide h = (rw (lt-ltb word command h), rw (lt-ltb word command h))
 
   module _ (fits : command ≤ word) where
-    pub commanded : (r : ℕ) (after : List ℕ) → (r ≡ lookupNumber (lookupOf s id)) × (after ≡ withCommand (lookupOf s id) s command) → Commanded r after
+    pub commanded : (r : ℕ) (after : List ℕ) → (r ≡ lookupNumber (lookupOf s id)) × (after ≡ withCommand (lookupOf s id) s command)
+        → Commanded r after
     unfolding commandNumber commandLeft
     commanded r after e = (rw (le-ltb word command fits) (e .0), rw (le-ltb word command fits) (e .1))
 
@@ -181,7 +189,8 @@ module _ (s : List ℕ) (id command : ℕ) where
 -- the sheet, the answer and the length's slice after, together
 abbrev pub PlannedFor : List ℕ → List ℕ → List ℕ → ℕ → List ℕ → List ℕ → Type 0
 PlannedFor board sheet written r after slice =
-    (r ≡ returned (planAnswer board (length sheet)) written) × (after ≡ sheetLeft board sheet written) × (slice ≡ filled (planAnswer board (length sheet)) written)
+    (r ≡ returned (planAnswer board (length sheet)) written) × (after ≡ sheetLeft board sheet written)
+    × (slice ≡ filled (planAnswer board (length sheet)) written)
 
 -- the number with no room for the answer
 abbrev unplannedOf : Planning → ℕ
@@ -213,12 +222,18 @@ module _ (board sheet written : List ℕ) where
       let out = refusalOf (toHost (hostOf board)) (toPlacing fs) in
       without-room (eqb (boardNumber board) 0) (eqb out 0) (boardNumber board) out (sheetLength (length fs)) room (omega arith)
 
-  pub planned-nothing : (r : ℕ) → r ≡ planningNumber (planning board 0) → length written ≡ 0 → PlannedFor board sheet written r sheet written
+  pub planned-nothing : (r : ℕ) → r ≡ planningNumber (planning board 0) → length written ≡ 0
+      → PlannedFor board sheet written r sheet written
   planned-nothing r e z =
       let a = plan-short z (planning board (length sheet)) in
       (e ∙ plan-empty (length sheet) ∙ a .0, rw (eq-eqb (length written) 0 z), a .1)
 
-  module _ (more : length written ≡ 0 → ⊥) (w : Planning) (e : w ≡ planning board (length sheet)) (after : List ℕ) (f : after ≡ sheetAfter board sheet) where
+  module _ (more : length written ≡ 0 → ⊥) (w : Planning) (e : w ≡ planning board (length sheet)) (after : List ℕ)
+      (f : after ≡ sheetAfter board sheet) where
     pub planned : (r : ℕ) (slice : List ℕ) → Answered (onPlanning w) written r slice → PlannedFor board sheet written r after slice
-    planned r slice a =
-        (a .0 ∙ ap (λ (x : Planning). returned (onPlanning x) written) e, f ∙ sym (rw (ne-eqb (length written) 0 more)), a .1 ∙ ap (λ (x : Planning). filled (onPlanning x) written) e)
+    planned r slice a = (
+      a .0 ∙ ap (λ (x : Planning). returned (onPlanning x) written) e,
+      f ∙ sym (rw (ne-eqb (length written) 0 more)),
+      a .1
+          ∙ ap (λ (x : Planning). filled (onPlanning x) written) e,
+    )

@@ -6,7 +6,8 @@ use lib.ListN.{replicate}
 use Rattle.endian.specs.Endian.{be, le, beBytes}
 use Rattle.pairs.specs.Pairs.{table, first, findPair, findKind, pairOf, rowOf}
 use Rattle.packet.specs.Widths.{lengthFits, bodyFits, fieldsFit}
-use Rattle.packet.specs.Rules.{reservedSet, fixedWrong, upperZero, enablesWrong, crossesPage, statusWrong, fromRule5, fromRule6, fromRule7, fromRule8, fromRule9, ruleNumber}
+use Rattle.packet.specs.Rules.{reservedSet, fixedWrong, upperZero, enablesWrong, crossesPage, statusWrong, fromRule5, fromRule6, fromRule7}
+use Rattle.packet.specs.Rules.{fromRule8, fromRule9, ruleNumber}
 use Rattle.packet.specs.Verdict.{onRules, onFields, verdictOf}
 use Rattle.packet_numbers.specs.Numbers.{numbersOf}
 use Rattle.packet_numbers.specs.Parsing.{kinds, kindAt, anyAbove, headFrom, enablesFrom, onKind, fromKind, packetOf}
@@ -24,7 +25,8 @@ use Rattle.walk.specs.Tally.{join, tallyOn}
 use Rattle.walk.specs.Walk.{walkOver, walkFrom}
 use Rattle.sheet_record.specs.Spaces.{barsFrom}
 use Rattle.sheet_record.specs.Entry.{dwords, windowOf, entryOf}
-use Rattle.sheet.specs.Sheet.{allSized, isFramed, entriesFrom, commandsOf, allZero, readBacksWrong, breaks, anyBreaks, hasId, idTwice, findFrom}
+use Rattle.sheet.specs.Sheet.{allSized, isFramed, entriesFrom, commandsOf, allZero, readBacksWrong, breaks, anyBreaks, hasId, idTwice}
+use Rattle.sheet.specs.Sheet.{findFrom}
 use Rattle.sheet.specs.Sheet.{from29, from25, from28, from27, from24, from22, from20, from21, sheetNumber}
 use Rattle.sheet.specs.Lookup.{lookupOf}
 use Rattle.sheet.specs.Spaces.{functionsFrom, nodesFrom}
@@ -83,5 +85,25 @@ examples =
     ∷ []
 
 pub examples-hold : All Holds examples
-unfolding flatMap readOf pairOf findPair findKind rowOf first table judged headAt enablesAt addressAt unnamed ruleNumber fromRule5 fromRule6 fromRule7 fromRule8 fromRule9 reservedSet fixedWrong upperZero enablesWrong crossesPage statusWrong lengthFits bodyFits fieldsFit onRules onFields verdictOf numbersOf kinds kindAt anyAbove headFrom enablesFrom onKind fromKind packetOf frontBytes requestBytes addressBytes layout beBytes writeOf roomAfter lookupOf findFrom commandNumber routeOf fromSheet routePacket from42 walkFrom walkOver tallyOn join keep itemsOf items enabledIn sheetNumber from21 from20 from22 from24 from27 from28 from25 from29 isFramed allSized entriesFrom commandsOf breaks anyBreaks allZero readBacksWrong hasId idTwice entryOf dwords windowOf barsFrom functionsFrom nodesFrom be le nextOf partsOver partsOf closed start stop isNibbled isBarValue valuesFit slots slotHere wideSlot narrowSlot ioSlot sized sizeFrom
-examples-hold = (refl, (refl, (refl, (refl, (refl, (refl, (refl, (refl, (refl, (refl, (refl, (refl, (refl, (refl, (refl, (refl, (refl, tt)))))))))))))))))
+unfolding flatMap readOf pairOf findPair findKind rowOf first table judged headAt enablesAt addressAt unnamed ruleNumber fromRule5
+    fromRule6 fromRule7 fromRule8 fromRule9 reservedSet fixedWrong upperZero enablesWrong crossesPage statusWrong lengthFits bodyFits
+    fieldsFit onRules onFields verdictOf numbersOf kinds kindAt anyAbove headFrom enablesFrom onKind fromKind packetOf frontBytes
+    requestBytes
+    addressBytes layout beBytes writeOf roomAfter lookupOf findFrom commandNumber routeOf fromSheet routePacket from42 walkFrom walkOver
+    tallyOn join keep itemsOf items enabledIn sheetNumber from21 from20 from22 from24 from27 from28 from25 from29 isFramed allSized
+    entriesFrom commandsOf breaks anyBreaks allZero readBacksWrong hasId idTwice entryOf dwords windowOf barsFrom functionsFrom
+    nodesFrom be
+    le nextOf partsOver partsOf closed start stop isNibbled isBarValue valuesFit slots slotHere wideSlot narrowSlot ioSlot sized sizeFrom
+examples-hold = (
+  refl,
+  (
+    refl,
+    (
+      refl,
+      (
+        refl,
+        (refl, (refl, (refl, (refl, (refl, (refl, (refl, (refl, (refl, (refl, (refl, (refl, (refl, tt))))))))))))),
+      ),
+    ),
+  ),
+)

@@ -8,7 +8,8 @@ use lib.ListN.{length, getD, drop}
 use lib.Dec.{ltb, eqb}
 use borrow.Author.Tests.{eqb-false, ltb-false}
 use Rattle.pairs.specs.declared.Kind.{Kind}
-use Rattle.pairs.specs.declared.Kind.the-variants.{Memory as MemoryKind, Io as IoKind, Config as ConfigKind, Completion as CompletionKind, Msg, MsgD, FetchAdd, Swap, Cas}
+use Rattle.pairs.specs.declared.Kind.the-variants.{Memory as MemoryKind, Io as IoKind, Config as ConfigKind, Completion as CompletionKind}
+use Rattle.pairs.specs.declared.Kind.the-variants.{Msg, MsgD, FetchAdd, Swap, Cas}
 use Rattle.pairs.specs.declared.Row.{Row}
 use Rattle.pairs.specs.declared.Pair.{Pair}
 use Rattle.pairs.specs.declared.Pair.the-variants.{Carried, NotCarried, Unknown}
@@ -51,7 +52,8 @@ use Rattle.plan_answer.specs.declared.Planning.{Planning}
 use Rattle.plan_answer.specs.declared.Planning.the-variants.{Planned, Refused as NotPlanned}
 use Rattle.plan_answer.specs.Plan.{onRoom, onBoard, planning}
 use Rattle.capi.specs.Answers.{Answer, refuses, gives, returned, filled}
-use Rattle.capi.specs.Calls.{onReading, readAnswer, onWriting, onParsed, writeAnswer, onLookup, onRouting, routeAnswer, onPlanning, planAnswer}
+use Rattle.capi.specs.Calls.{onReading, readAnswer, onWriting, onParsed, writeAnswer, onLookup, onRouting, routeAnswer, onPlanning}
+use Rattle.capi.specs.Calls.{planAnswer}
 
 abbrev pub Numbered : Answer → Type 0
 Numbered (gives ns) = Unit
@@ -115,7 +117,8 @@ numbered-pair : (pair : Pair) (s : List ℕ) → NumberedReading (readPair pair 
 numbered-pair Unknown s = omega arith
 numbered-pair NotCarried s = omega arith
 numbered-pair (Carried row) s =
-    either NumberedReading (ltb (length s) (4 * row .form)) (NotRead 1) (readAs (kindNamed (row .name)) (row .form) s) (omega arith) (numbered-as (kindNamed (row .name)) (row .form) s)
+    either NumberedReading (ltb (length s) (4 * row .form)) (NotRead 1) (readAs (kindNamed (row .name)) (row .form) s) (omega arith)
+    (numbered-as (kindNamed (row .name)) (row .form) s)
 
 pub numbered-read : (header : List ℕ) → Numbered (readAnswer header)
 unfolding readOf
@@ -133,7 +136,8 @@ numbered-fields : (row : Row) (p : Packet) → NumberedVerdict (onFields row p)
 unfolding onFields onRules
 numbered-fields row p =
     let n = ruleNumber p in
-    either NumberedVerdict (fieldsFit p) (cond (eqb n 0) (Lawful row) (Unlawful n)) (Unlawful 10) (unless-zero NumberedVerdict n (Lawful row) (Unlawful n) tt (λ h. h)) (omega arith)
+    either NumberedVerdict (fieldsFit p) (cond (eqb n 0) (Lawful row) (Unlawful n)) (Unlawful 10)
+    (unless-zero NumberedVerdict n (Lawful row) (Unlawful n) tt (λ h. h)) (omega arith)
 
 numbered-verdict : (p : Packet) → NumberedVerdict (verdictOf p)
 unfolding verdictOf
@@ -188,7 +192,8 @@ numbered-parsed ns =
     let parsed = packetAs (NotTaken 10) kind ns in
     let outside = ltb 12 (getD ns 0 0) || ltb 4 (getD ns 1 0) in
     either NumberedParsed (ltb (length ns) 20) (NotTaken 11) (fromKind ns) (omega arith)
-    (either NumberedParsed outside (NotTaken 2) (onPair pair parsed) (omega arith) (numbered-on-pair pair parsed (numbered-packet-as kind ns)))
+    (either NumberedParsed outside (NotTaken 2) (onPair pair parsed) (omega arith)
+    (numbered-on-pair pair parsed (numbered-packet-as kind ns)))
 
 pub numbered-write : (packet : List ℕ) (room : ℕ) → Numbered (writeAnswer packet room)
 numbered-write packet room = go (packetOf packet) (numbered-parsed packet)
@@ -236,7 +241,8 @@ unfolding fromSheet routePacket from42
 numbered-from-sheet p s =
     let walk = answer p (walked (aimOf p) s (root s) 0) in
     let typed = either NumberedRouting (typeWrong (root s) p) (NotDelivered 42) walk (omega arith) (numbered-from-walk p s) in
-    let peopled = either NumberedRouting (eqb (length (nodesOf s)) 0) (NotDelivered 40) (cond (typeWrong (root s) p) (NotDelivered 42) walk) (omega arith) typed in
+    let peopled = either NumberedRouting (eqb (length (nodesOf s)) 0) (NotDelivered 40)
+    (cond (typeWrong (root s) p) (NotDelivered 42) walk) (omega arith) typed in
     unless-zero NumberedRouting (sheetNumber s) (routePacket p s) (NotDelivered (sheetNumber s)) peopled (λ h. h)
 
 pub numbered-route : (header sheet : List ℕ) → Numbered (routeAnswer header sheet)

@@ -21,15 +21,18 @@ use Rattle.plan_answer.specs.declared.Planning.{Planning}
 use Rattle.plan_answer.specs.declared.Planning.the-variants.{Planned, Refused as NotPlanned}
 use Rattle.plan_answer.specs.Plan.{planning, sheetAs, sheetAfter}
 use Rattle.capi.specs.Answers.{Answer, refuses, gives, returned, filled}
-use Rattle.capi.specs.Calls.{onWriting, onParsed, writeAnswer, roomOf, roomLeft, word, commandNumber, commandLeft, onPlanning, planAnswer, sheetLeft}
+use Rattle.capi.specs.Calls.{onWriting, onParsed, writeAnswer, roomOf, roomLeft, word, commandNumber, commandLeft, onPlanning}
+use Rattle.capi.specs.Calls.{planAnswer, sheetLeft}
 
 pub record RefusedKeeps : Type 0 where
   -- whatever the answer slice
   pub answer-slice : (a : Answer) (slice : List ℕ) → (returned a slice ≡ 0 → ⊥) → filled a slice ≡ slice
   -- the room of a write
-  pub room : (packet room written : List ℕ) → (returned (writeAnswer packet (length room)) written ≡ 0 → ⊥) → roomLeft packet room written ≡ room
+  pub room : (packet room written : List ℕ) → (returned (writeAnswer packet (length room)) written ≡ 0 → ⊥)
+      → roomLeft packet room written ≡ room
   -- the sheet of a plan
-  pub planned-sheet : (board sheet written : List ℕ) → (returned (planAnswer board (length sheet)) written ≡ 0 → ⊥) → sheetLeft board sheet written ≡ sheet
+  pub planned-sheet : (board sheet written : List ℕ) → (returned (planAnswer board (length sheet)) written ≡ 0 → ⊥)
+      → sheetLeft board sheet written ≡ sheet
   -- the sheet of a command word
   pub commanded-sheet : (sheet : List ℕ) (id command : ℕ) → (commandNumber sheet id command ≡ 0 → ⊥) → commandLeft sheet id command ≡ sheet
 
@@ -49,10 +52,12 @@ room-as : (p : Packet) (room : List ℕ) → roomAfter p room ≡ roomAs (writeO
 unfolding roomAfter
 room-as p room = refl
 
-keeps-room : (packet room written : List ℕ) → (returned (writeAnswer packet (length room)) written ≡ 0 → ⊥) → roomLeft packet room written ≡ room
+keeps-room : (packet room written : List ℕ) → (returned (writeAnswer packet (length room)) written ≡ 0 → ⊥)
+    → roomLeft packet room written ≡ room
 keeps-room packet room written h = go (eqb (length written) 0) refl
   where
-    by-writing : (p : Packet) (w : Writing) → eqb (length written) 0 ≡ false → writeOf p (length room) ≡ w → (returned (onWriting w) written ≡ 0 → ⊥) → roomAs w p room ≡ room
+    by-writing : (p : Packet) (w : Writing) → eqb (length written) 0 ≡ false → writeOf p (length room) ≡ w
+        → (returned (onWriting w) written ≡ 0 → ⊥) → roomAs w p room ≡ room
     by-writing p (Written n) e q h = absurd (h (one-given n written e))
     by-writing p (NotWritten n) e q h = refl
 
@@ -68,10 +73,12 @@ sheet-as : (board sheet : List ℕ) → sheetAfter board sheet ≡ sheetAs (plan
 unfolding sheetAfter
 sheet-as board sheet = refl
 
-keeps-planned : (board sheet written : List ℕ) → (returned (planAnswer board (length sheet)) written ≡ 0 → ⊥) → sheetLeft board sheet written ≡ sheet
+keeps-planned : (board sheet written : List ℕ) → (returned (planAnswer board (length sheet)) written ≡ 0 → ⊥)
+    → sheetLeft board sheet written ≡ sheet
 keeps-planned board sheet written h = go (eqb (length written) 0) refl
   where
-    by-planning : (a : Planning) → eqb (length written) 0 ≡ false → (returned (onPlanning a) written ≡ 0 → ⊥) → sheetAs a board sheet ≡ sheet
+    by-planning : (a : Planning) → eqb (length written) 0 ≡ false → (returned (onPlanning a) written ≡ 0 → ⊥)
+        → sheetAs a board sheet ≡ sheet
     by-planning (Planned n) e h = absurd (h (one-given n written e))
     by-planning (NotPlanned n) e h = refl
 

@@ -1,5 +1,5 @@
--- Demand 2 at the C boundary: a header that was read is written back to its own bytes from the twenty numbers, and numbers that were written are read
--- back the same. Assumes nothing.
+-- Demand 2 at the C boundary: a header that was read is written back to its own bytes from the twenty numbers, and numbers that were
+-- written are read back the same. Assumes nothing.
 use Prim.Native.Nat.{ℕ, _≤_}
 use native.Mathlib.Omega.{arith}
 use mathlib.Core.Path.{_≡_, refl, ap, _∙_}
@@ -80,7 +80,8 @@ pub record ReadBack (packet room written out : List ℕ) : Type 0 where
   pub same-numbers : read-into (roomLeft packet room written) out ≡ take 20 packet ++ drop 20 out
 
 module _ (packet room written out : List ℕ) (wide : 20 ≤ length out) where
-  read-as : (p : Packet) (n : ℕ) → packetOf packet ≡ Taken p → writeOf p (length room) ≡ Written n → 1 ≤ length written → ReadBack packet room written out
+  read-as : (p : Packet) (n : ℕ) → packetOf packet ≡ Taken p → writeOf p (length room) ≡ Written n → 1 ≤ length written
+      → ReadBack packet room written out
   read-as p n taken wrote one =
       let left : roomLeft packet room written ≡ roomAfter p room = rw (ne-eqb (length written) 0 (λ z. omega arith), taken) in
       let read : readOf (roomLeft packet room written) ≡ Accepted p = rw left (read-write p room n wrote) in
@@ -90,9 +91,11 @@ module _ (packet room written out : List ℕ) (wide : 20 ≤ length out) where
       record { accepted = rw (read, roomy); same-numbers = rw (read, roomy) (rw (twenty, same)) }
 
   pub read-back : returned (writeAnswer packet (length room)) written ≡ 0 → ReadBack packet room written out
-  read-back ok = on-parsed (packetOf packet) refl (given-of-zero (writeAnswer packet (length room)) written (numbered-write packet (length room)) ok)
+  read-back ok = on-parsed (packetOf packet) refl
+      (given-of-zero (writeAnswer packet (length room)) written (numbered-write packet (length room)) ok)
     where
-      on-writing : (p : Packet) (w : Writing) → packetOf packet ≡ Taken p → writeOf p (length room) ≡ w → Given (onWriting w) written → ReadBack packet room written out
+      on-writing : (p : Packet) (w : Writing) → packetOf packet ≡ Taken p → writeOf p (length room) ≡ w → Given (onWriting w) written
+          → ReadBack packet room written out
       on-writing p (Written n) t e g = read-as p n t e (let ns : n ∷ [] ≡ g .numbers = cc in omega (arith, g .fits, ap length ns))
       on-writing p (NotWritten n) t e g = absurd (let z : _≡_ {A = ℕ} 0 1 = cc in omega arith)
 

@@ -91,7 +91,8 @@ module _ (s : List ℕ) (c : Checked s) (n k : ℕ) (count : n ≡ length (entri
       pub sized : length p ≡ recordSize
       sized = ap length e ∙ length-part s k part-fits
 
-      pub lawful-here : (set : List ℕ) (m : ℕ) → set ≡ dwords (be 4) 6 p readbacksAt → m ≡ slotCount (headerOf p) → LawfulFrom (take m set) 0
+      pub lawful-here : (set : List ℕ) (m : ℕ) → set ≡ dwords (be 4) 6 p readbacksAt → m ≡ slotCount (headerOf p)
+          → LawfulFrom (take m set) 0
       unfolding entryOf
       lawful-here set m r q = rw (r, q, e) (lawful-index s c k inside)
 

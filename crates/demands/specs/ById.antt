@@ -1,5 +1,5 @@
--- What becomes of a packet that goes by ID, a configuration request or a completion, over the sheet of a planned board: document 01's "The walk"
--- in words of the board. It stands beside `Routed` of Demand3; `by-id-routed` of ByIdLaws proves it. Assumes nothing.
+-- What becomes of a packet that goes by ID, a configuration request or a completion, over the sheet of a planned board: document 01's "The
+-- walk" in words of the board. It stands beside `Routed` of Demand3; `by-id-routed` of ByIdLaws proves it. Assumes nothing.
 use mathlib.Core.Path.{_≡_}
 use mathlib.Core.Logic.{_⊎_, _↔_}
 use mathlib.Core.List.{List, reverse}
@@ -73,7 +73,8 @@ HasId b id k = HasIdAsNumbered (host b) (functions b) (devfnOf (functionsOf b)) 
 
 -- ## What becomes of it
 
--- What becomes of a header that is read as p, which goes by this ID, over a sheet t of board b. "Command bits do not matter.": none is asked for
+-- What becomes of a header that is read as p, which goes by this ID, over a sheet t of board b. "Command bits do not matter.": none is
+-- asked for
 pub record RoutedById (b t header : List ℕ) (p : Packet) (id : ℕ) : Type 0 where
   -- "A sheet with no functions gives 40, tried before 42, .."
   pub no-functions-40 : ¬ HasFunctions b → routeNumber header t ≡ 40

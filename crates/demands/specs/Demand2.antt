@@ -1,5 +1,5 @@
--- Demand 2: "Every lawful packet written is read back the same, and every header read is written back to the same bytes." Over the layout of document 01,
--- for any room and any bytes that follow. Assumes nothing.
+-- Demand 2: "Every lawful packet written is read back the same, and every header read is written back to the same bytes." Over the layout
+-- of document 01, for any room and any bytes that follow. Assumes nothing.
 use Prim.Native.Nat.{ℕ, _≤_}
 use mathlib.Core.Path.{_≡_}
 use mathlib.Core.Logic.{_↔_}
@@ -19,7 +19,8 @@ use Rattle.tlp.specs.RoundTrip.{read-write, write-read, lawful-read-iff}
 
 pub record Demand2 : Type 0 where
   -- what was written is read back as the same packet, whatever follows it in the room
-  pub written-is-read-back : (p : Packet) (room : List ℕ) (n : ℕ) → writeOf p (length room) ≡ Written n → readOf (roomAfter p room) ≡ Accepted p
+  pub written-is-read-back : (p : Packet) (room : List ℕ) (n : ℕ) → writeOf p (length room) ≡ Written n → readOf (roomAfter p room)
+      ≡ Accepted p
   -- what was read is written back to the header's first 12 or 16 bytes
   pub read-is-written-back : (s : List ℕ) (p : Packet) (room : List ℕ) → Bytes s → readOf s ≡ Accepted p → size p ≤ length room
       → (writeOf p (length room) ≡ Written (size p)) × (roomAfter p room ≡ take (size p) s ++ drop (size p) room)

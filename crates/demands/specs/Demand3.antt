@@ -1,5 +1,6 @@
--- Demand 3 in the user's sentences, over document 01's paragraph "Words of demand 3": when a lawful board is refused, how a planned one lies, and what
--- becomes of a request over its sheet. Bytes are what a slice of u8 holds. `demand-3` of Demand3Laws proves it. Assumes nothing.
+-- Demand 3 in the user's sentences, over document 01's paragraph "Words of demand 3": when a lawful board is refused, how a planned one
+-- lies, and what becomes of a request over its sheet. Bytes are what a slice of u8 holds. `demand-3` of Demand3Laws proves it. Assumes
+-- nothing.
 use mathlib.Core.Path.{_≡_}
 use mathlib.Core.Logic.{_⊎_, _↔_}
 use mathlib.Core.List.{List, reverse}
@@ -80,8 +81,8 @@ pub record AnswersByNumber (b room : List ℕ) : Type 0 where
 
 -- ## Its sheet
 
--- What the sheet of a planned board says, whatever its command words: none of its checks fails, its registers are the plan's, and by their own values
--- they lie within their parent's and siblings are apart
+-- What the sheet of a planned board says, whatever its command words: none of its checks fails, its registers are the plan's, and by their
+-- own values they lie within their parent's and siblings are apart
 pub record SheetSays (b t : List ℕ) : Type 0 where
   pub passes : sheetNumber t ≡ 0
   pub registers-are : (sp : Space) → registersOf sp t ≡ planRegisters sp (host b) (functions b) (devfnOf (functionsOf b))
@@ -121,8 +122,8 @@ Crosses p t bridges k = Trail (tallyFor (aimOf p) t) (root t) bridges k
 
 -- What becomes of a header that is read as p, such a request, over a sheet t of board b
 pub record Routed (b t header : List ℕ) (p : Packet) (sp : Space) (address : ℕ) : Type 0 where
-  -- "It is delivered to a function exactly when one of that function's BARs in the request's space holds its start address and that function, and
-  -- each bridge above it, has that space enabled."
+  -- "It is delivered to a function exactly when one of that function's BARs in the request's space holds its start address and that
+  -- function, and each bridge above it, has that space enabled."
   pub delivered-exactly : (k : ℕ) → DeliveredTo header t k ↔ Owns b t sp address k
   -- "Otherwise it is refused with 40, no owner."
   pub else-no-owner : (routeNumber header t ≡ 40) ↔ ((k : ℕ) → ¬ Owns b t sp address k)
@@ -141,8 +142,8 @@ pub record Routed (b t header : List ℕ) (p : Packet) (sp : Space) (address : �
 -- ## The demand
 
 pub record Demand3 : Type 0 where
-  -- "Given room for its sheet, a lawful board is refused exactly when its bus numbers, or one of three address pools, run out under document 01's
-  -- placing rule."
+  -- "Given room for its sheet, a lawful board is refused exactly when its bus numbers, or one of three address pools, run out under
+  -- document 01's placing rule."
   pub refused-exactly : (b room : List ℕ) → Lawful b → lengthOfSheet b ≤ length room → (¬ (planNumber b room ≡ 0)) ↔ RunsOut b
   -- with these numbers; an unlawful board has its own, in any room
   pub answers-by-number : (b room : List ℕ) → Lawful b → AnswersByNumber b room
@@ -160,7 +161,8 @@ pub record Demand3 : Type 0 where
   -- its sheet says the same, "as planned or rewritten since"
   pub sheet-says : (b room : List ℕ) (n : ℕ) → Bytes b → planning b (length room) ≡ Planned n
       → (t : List ℕ) → SameButCommands (take n (sheetAfter b room)) t → SheetSays b t
-  -- "Then take any accepted memory or I/O request entering from the host, whatever the sheet's command words say, as planned or rewritten since."
+  -- "Then take any accepted memory or I/O request entering from the host, whatever the sheet's command words say, as planned or rewritten
+  -- since."
   pub requests-routed : (b room : List ℕ) (n : ℕ) → Bytes b → planning b (length room) ≡ Planned n
       → (t : List ℕ) → SameButCommands (take n (sheetAfter b room)) t
       → (header : List ℕ) (p : Packet) → readOf header ≡ Accepted p

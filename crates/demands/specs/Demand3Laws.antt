@@ -187,7 +187,8 @@ trail-from-root : (enabled : ℕ → Bool) (address first : ℕ) (rs : List Regi
 unfolding Trail
 trail-from-root enabled address first [] on [] k e = let n = tally-nil enabled address first in absurd (suc-ne-zero 0 (cc))
 trail-from-root enabled address first [] on (m ∷ ns) k (s, e, rest) = let n = tally-nil enabled address first in absurd (suc-ne-zero 0 (cc))
-trail-from-root enabled address first (r ∷ rs) on ns k trail = subst (λ (bus : ℕ). Trail (tallyOn enabled (r ∷ rs) address) bus ns k) (sym on) trail
+trail-from-root enabled address first (r ∷ rs) on ns k trail =
+    subst (λ (bus : ℕ). Trail (tallyOn enabled (r ∷ rs) address) bus ns k) (sym on) trail
 
 module _ (b room : List ℕ) (n : ℕ) (bytes : Bytes b) (planned : planning b (length room) ≡ Planned n) where
   answers : AnswersPlanned b n
@@ -202,7 +203,8 @@ module _ (b room : List ℕ) (n : ℕ) (bytes : Bytes b) (planned : planning b (
   -- with everything enabled a holder is an owner
   holder-unique : (sp : Space) (address j k : ℕ) → HasBarOver b sp address j → HasBarOver b sp address k → j ≡ k
   holder-unique sp address j k hj hk =
-      planned-delivers (fits .board) (answers .not-refused) sp (devfnOf (functionsOf b)) (λ m. true) address .one-owner j k (owns j hj) (owns k hk)
+      planned-delivers (fits .board) (answers .not-refused) sp (devfnOf (functionsOf b)) (λ m. true) address .one-owner j k (owns j hj)
+      (owns k hk)
     where
       owns : (m : ℕ) → HasBarOver b sp address m → OwnsAsPlaced sp (host b) (functions b) (λ i. true) address m
       owns m h = record { bar-holds = h; is-enabled = refl; bridges-enabled = all-of _ (λ i. refl) (bridgesAbove b m) }
@@ -223,11 +225,13 @@ module _ (b room : List ℕ) (n : ℕ) (bytes : Bytes b) (planned : planning b (
         let way = reverse (bridgesAbove b k) in
         let by-plan = crosses-above (fits .board) (answers .not-refused) sp (devfnOf (functionsOf b)) enabled address k o in
         let by-sheet =
-        subst (λ (rs : List Registers). Trail (tallyOn enabled rs address) (host b .firstBus) way k) (sym (sheet .registers-are sp)) by-plan in
+        subst (λ (rs : List Registers). Trail (tallyOn enabled rs address) (host b .firstBus) way k) (sym (sheet .registers-are sp))
+        by-plan in
         subst (λ (ns : List Node). Trail (tallyOn enabled registers address) (rootOf ns) way k) (nodes-functions sp 1 (entriesOf t))
         (trail-from-root enabled address (host b .firstBus) registers (sheet .good sp .tree .first-on-root) way k by-sheet)
 
-    module _ (header : List ℕ) (p : Packet) (read : readOf header ≡ Accepted p) (sp : Space) (address : ℕ) (is : IsRequest p sp address) where
+    module _ (header : List ℕ) (p : Packet) (read : readOf header ≡ Accepted p) (sp : Space) (address : ℕ)
+        (is : IsRequest p sp address) where
       aim : aimOf p ≡ Address sp address
       aim = aim-of-request p sp address is
 

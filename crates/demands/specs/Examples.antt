@@ -8,7 +8,8 @@ use Rattle.endian.specs.Endian.{be, beBytes, le, leBytes}
 use Rattle.text.specs.Text.{ascii, hexadecimal, decimalOver, decimal}
 use Rattle.pairs.specs.Pairs.{table, first, findPair, pairOf}
 use Rattle.packet.specs.Fields.{headOf}
-use Rattle.packet.specs.Rules.{reservedSet, fixedWrong, upperZero, enablesWrong, crossesPage, statusWrong, fromRule5, fromRule6, fromRule7, fromRule8, fromRule9, ruleNumber}
+use Rattle.packet.specs.Rules.{reservedSet, fixedWrong, upperZero, enablesWrong, crossesPage, statusWrong, fromRule5, fromRule6, fromRule7}
+use Rattle.packet.specs.Rules.{fromRule8, fromRule9, ruleNumber}
 use Rattle.tlp.specs.declared.Reading.{Reading}
 use Rattle.tlp.specs.declared.Reading.the-variants.{Accepted, Refused}
 use Rattle.tlp_fields.specs.Fields.{headAt, enablesAt, addressAt, unnamed}
@@ -28,20 +29,24 @@ use Rattle.window.specs.Window.{closed, opened, start, stop, isNibbled}
 use Rattle.board_record.specs.Host.{hostOfPart, poolWrong, hostWrong}
 use Rattle.board_record.specs.Function.{functionOfPart, headerWrong, readbacksWrong}
 use Rattle.board_order.specs.Order.{above, parents, lastSibling, misplaced, anyMisplaced}
-use Rattle.board.specs.Board.{misframed, fromReadbacks, fromOrder, fromEdges, fromHeaders, fromCount, fromFrame, fromVersion, boardNumber, hostOf, functionsOf}
+use Rattle.board.specs.Board.{misframed, fromReadbacks, fromOrder, fromEdges, fromHeaders, fromCount, fromFrame, fromVersion, boardNumber}
+use Rattle.board.specs.Board.{hostOf, functionsOf}
 use Rattle.board.specs.Examples.{host, hostWith, row, card, p10}
 use Rattle.sheet_record.specs.Spaces.{barsFrom as rangesFrom}
 use Rattle.sheet_record.specs.Entry.{dwords, windowOf, entryOf}
-use Rattle.sheet.specs.Sheet.{allSized, isFramed, entriesFrom, commandsOf, allZero, readBacksWrong, breaks, anyBreaks, hasId, idTwice, fullSheet}
+use Rattle.sheet.specs.Sheet.{allSized, isFramed, entriesFrom, commandsOf, allZero, readBacksWrong, breaks, anyBreaks, hasId, idTwice}
+use Rattle.sheet.specs.Sheet.{fullSheet}
 use Rattle.sheet.specs.Sheet.{from29, from25, from28, from27, from24, from22, from20, from21, sheetNumber}
 use Rattle.sheet.specs.Spaces.{functionsFrom, nodesFrom}
 use Rattle.sheet.specs.Examples.{p10 as p10-sheet}
-use Rattle.sheet_bytes.specs.Layout.{dwordBytes, endBytes, bridgeBytes, bodyBytes, commonBytes, configBytes, partBytes, recordBytes, sheetBytes}
+use Rattle.sheet_bytes.specs.Layout.{dwordBytes, endBytes, bridgeBytes, bodyBytes, commonBytes, configBytes, partBytes, recordBytes}
+use Rattle.sheet_bytes.specs.Layout.{sheetBytes}
 use Rattle.walk.specs.Registers.{itemsOf, items, enabledIn}
 use Rattle.walk.specs.Tally.{join, tallyOn}
 use Rattle.walk.specs.Walk.{walkOver, walkFrom}
 use Rattle.plan_answer.specs.declared.Planning.the-variants.{Planned}
-use Rattle.plan_answer.specs.Plan.{barStart, windowFor, valuesFrom, plannedFrom, planOf, onRoom, onBoard, planning, numberOf as planningNumber, sheetAfter}
+use Rattle.plan_answer.specs.Plan.{barStart, windowFor, valuesFrom, plannedFrom, planOf, onRoom, onBoard, planning}
+use Rattle.plan_answer.specs.Plan.{numberOf as planningNumber, sheetAfter}
 use Rattle.sheet_text.specs.Listing.{words, windowText, bridgeText, endText, lineOf, countText, planText}
 use Rattle.sheet_text.specs.BoardText.{boardText}
 use Rattle.route.specs.declared.Routing.{Routing}
@@ -151,8 +156,45 @@ examples =
     ∷ []
 
 pub examples-hold : All examples
-unfolding examples ascii words windowText bridgeText endText lineOf countText planText boardText hexadecimal decimalOver decimal readOf pairOf findPair first table judged headAt enablesAt addressAt unnamed be ruleNumber fromRule5 fromRule6 fromRule7 fromRule8 fromRule9 reservedSet fixedWrong upperZero enablesWrong crossesPage statusWrong row planning onBoard onRoom boardNumber fromVersion fromFrame fromCount fromHeaders fromEdges fromOrder fromReadbacks misframed above parents lastSibling misplaced anyMisplaced functionOfPart headerWrong readbacksWrong hostOfPart poolWrong hostWrong beBytes nextOf partsOver partsOf anyPart any sizeFrom sized ioSlot narrowSlot wideSlot slotHere slots anyBad hostOf functionsOf refusalOf outOfPool place placed pieces ownPieces windowPieces barPieces layoutEnd largestAlign keep alignUp bridges barsFrom sheetAfter sheetBytes flatMap recordBytes partBytes configBytes commonBytes bodyBytes bridgeBytes endBytes dwordBytes planOf plannedFrom valuesFrom windowFor barStart closed opened busNumber subordinateOf greatestBelow le leBytes routeOf fromSheet routePacket from42 walkFrom walkOver tallyOn join itemsOf items enabledIn sheetNumber from21 from20 from22 from24 from27 from28 from25 from29 isFramed allSized entriesFrom commandsOf breaks anyBreaks allZero readBacksWrong hasId idTwice entryOf dwords windowOf rangesFrom functionsFrom nodesFrom start stop isNibbled isBarValue valuesFit
+unfolding examples ascii words windowText bridgeText endText lineOf countText planText boardText hexadecimal decimalOver decimal readOf
+    pairOf findPair first table judged headAt enablesAt addressAt unnamed be ruleNumber fromRule5 fromRule6 fromRule7 fromRule8 fromRule9
+    reservedSet fixedWrong upperZero enablesWrong crossesPage statusWrong row planning onBoard onRoom boardNumber fromVersion fromFrame
+    fromCount fromHeaders fromEdges fromOrder fromReadbacks misframed above parents lastSibling misplaced anyMisplaced functionOfPart
+    headerWrong readbacksWrong hostOfPart poolWrong hostWrong beBytes nextOf partsOver partsOf anyPart any sizeFrom sized ioSlot
+    narrowSlot
+    wideSlot slotHere slots anyBad hostOf functionsOf refusalOf outOfPool place placed pieces ownPieces windowPieces barPieces layoutEnd
+    largestAlign keep alignUp bridges barsFrom sheetAfter sheetBytes flatMap recordBytes partBytes configBytes commonBytes bodyBytes
+    bridgeBytes endBytes dwordBytes planOf plannedFrom valuesFrom windowFor barStart closed opened busNumber subordinateOf
+    greatestBelow le
+    leBytes routeOf fromSheet routePacket from42 walkFrom walkOver tallyOn join itemsOf items enabledIn sheetNumber from21 from20 from22
+    from24 from27 from28 from25 from29 isFramed allSized entriesFrom commandsOf breaks anyBreaks allZero readBacksWrong hasId
+    idTwice entryOf
+    dwords windowOf rangesFrom functionsFrom nodesFrom start stop isNibbled isBarValue valuesFit
 examples-hold = (
   refl,
-  (refl, (refl, (refl, (refl, (refl, (refl, (refl, (refl, (refl, (refl, (refl, (refl, ((refl, refl), (refl, ((refl, refl), (refl, ((refl, refl), (refl, tt)))))))))))))))))),
+  (
+    refl,
+    (
+      refl,
+      (
+        refl,
+        (
+          refl,
+          (
+            refl,
+            (
+              refl,
+              (
+                refl,
+                (
+                  refl,
+                  (refl, (refl, (refl, (refl, ((refl, refl), (refl, ((refl, refl), (refl, ((refl, refl), (refl, tt)))))))))),
+                ),
+              ),
+            ),
+          ),
+        ),
+      ),
+    ),
+  ),
 )

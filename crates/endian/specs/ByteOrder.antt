@@ -86,7 +86,8 @@ module _ {read : ℕ → List ℕ → ℕ → ℕ} {write : ℕ → ℕ → List
   read-write zero x = o .read-zero (write zero x) 0 ∙ sym (mod-one x)
   read-write (suc n) x =
       o .read-suc n (write (suc n) x) 0
-      ∙ rw (o .write-suc n x, read-append-add n (o .first n x ∷ []) (write n (o .rest n x)) 0, read-write n (o .rest n x)) (o .step-first n x)
+      ∙ rw (o .write-suc n x, read-append-add n (o .first n x ∷ []) (write n (o .rest n x)) 0, read-write n (o .rest n x))
+      (o .step-first n x)
 
   pub read-write-at : (n x : ℕ) (before after : List ℕ) → x < 256 ^ n → read n (before ++ write n x ++ after) (length before) ≡ x
   read-write-at n x before after h =

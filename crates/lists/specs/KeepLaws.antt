@@ -2,7 +2,8 @@
 use mathlib.Core.Path.{_≡_, refl, sym, ap, ap₂, _∙_}
 use mathlib.Core.Logic.{_⊎_, inl, inr}
 use mathlib.Core.Bool.{Bool, true, false, cond, _&&_, _||_, true≢false, false≢true}
-use mathlib.Core.List.{List, [], _∷_, _++_, map, map-append, cons≢nil, List·Memᴰ·head, List·Memᴰ·tail, List·Memᴰ·not-nil, List·Memᴰ·cases-cons}
+use mathlib.Core.List.{List, [], _∷_, _++_, map, map-append, cons≢nil, List·Memᴰ·head, List·Memᴰ·tail, List·Memᴰ·not-nil}
+use mathlib.Core.List.{List·Memᴰ·cases-cons}
 use Prim.Native.Nat.{suc, _≤_}
 use native.Mathlib.Omega.{arith}
 use lib.ListN.{length, take}
@@ -88,7 +89,8 @@ module _ {A : Type 0} where
     all-of-none [] e = tt
     all-of-none (x ∷ xs) e = go (t x) refl e (λ k. all-of-none xs k)
       where
-        go : (b : Bool) → t x ≡ b → (b || any t xs) ≡ false → (any t xs ≡ false → All (λ y. t y ≡ false) xs) → All (λ y. t y ≡ false) (x ∷ xs)
+        go : (b : Bool) → t x ≡ b → (b || any t xs) ≡ false → (any t xs ≡ false → All (λ y. t y ≡ false) xs)
+            → All (λ y. t y ≡ false) (x ∷ xs)
         go true h k on = absurd (true≢false k)
         go false h k on = (h, on k)
 

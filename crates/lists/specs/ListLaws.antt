@@ -2,7 +2,8 @@
 use mathlib.Core.Path.{_≡_, refl, sym, subst, _∙_}
 use mathlib.Core.Logic.{_⊎_, inl, inr}
 use mathlib.Core.Bool.{Bool, true, false, cond}
-use mathlib.Core.List.{List, [], _∷_, _++_, cons≢nil, tail-eq-of-cons-eq, List·Memᴰ·head, List·Memᴰ·tail, List·Memᴰ·not-nil, List·Memᴰ·cases-cons, List·Memᴰ·append-cases}
+use mathlib.Core.List.{List, [], _∷_, _++_, cons≢nil, tail-eq-of-cons-eq, List·Memᴰ·head, List·Memᴰ·tail, List·Memᴰ·not-nil}
+use mathlib.Core.List.{List·Memᴰ·cases-cons, List·Memᴰ·append-cases}
 use mathlib.Core.List.{Memᴰ·append-left, Memᴰ·append-right, flatMap, map}
 use Prim.Native.Nat.{ℕ, zero, suc}
 use lib.ListN.{drop}
@@ -81,7 +82,8 @@ module _ {A : Type 0} where
   pairwise-imp R S f [] h = tt
   pairwise-imp R S f (x ∷ xs) h = (all-imp (R x) (S x) xs (h .0) (f x), pairwise-imp R S f xs (h .1))
 
-  pub pairwise-all : (P : A → Type 0) (R : A → A → Type 0) (xs : List A) → All P xs → Pairwise R xs → Pairwise (λ x y. (P x × P y) × R x y) xs
+  pub pairwise-all : (P : A → Type 0) (R : A → A → Type 0) (xs : List A) → All P xs → Pairwise R xs
+      → Pairwise (λ x y. (P x × P y) × R x y) xs
   pairwise-all P R [] h r = tt
   pairwise-all P R (x ∷ xs) h r = (all-imp₂ _ _ _ xs (h .1) (r .0) (λ y p q. ((h .0, p), q)), pairwise-all P R xs (h .1) (r .1))
 
@@ -171,7 +173,8 @@ module _ {A : Type 0} (R : A → A → Type 0) where
   pairwise-map f [] h = tt
   pairwise-map f (x ∷ xs) h = (all-map-intro _ f xs (λ y m. all-elim _ xs (h .0) m), pairwise-map f xs (h .1))
 
-  pub pairwise-imp-members : (S : A → A → Type 0) (xs : List A) → ((x y : A) → x ∈ xs → y ∈ xs → R x y → S x y) → Pairwise R xs → Pairwise S xs
+  pub pairwise-imp-members : (S : A → A → Type 0) (xs : List A) → ((x y : A) → x ∈ xs → y ∈ xs → R x y → S x y) → Pairwise R xs
+      → Pairwise S xs
   pairwise-imp-members S [] f h = tt
   pairwise-imp-members S (x ∷ xs) f h = (
     all-intro _ xs (λ y m. f x y (List·Memᴰ·head refl) (List·Memᴰ·tail m) (all-elim _ xs (h .0) m)),

@@ -22,7 +22,8 @@ use Rattle.pairs.specs.FirstLaws.{first-same}
 
 names : List Name
 names =
-    name.MRd ∷ name.MRdLk ∷ name.MWr ∷ name.IORd ∷ name.IOWr ∷ name.CfgRd0 ∷ name.CfgWr0 ∷ name.CfgRd1 ∷ name.CfgWr1 ∷ name.Cpl ∷ name.CplD ∷ name.CplLk ∷ name.CplDLk ∷ name.Msg ∷ name.MsgD ∷ name.FetchAdd ∷ name.Swap ∷ name.Cas ∷ []
+    name.MRd ∷ name.MRdLk ∷ name.MWr ∷ name.IORd ∷ name.IOWr ∷ name.CfgRd0 ∷ name.CfgWr0 ∷ name.CfgRd1 ∷ name.CfgWr1 ∷ name.Cpl ∷
+    name.CplD ∷ name.CplLk ∷ name.CplDLk ∷ name.Msg ∷ name.MsgD ∷ name.FetchAdd ∷ name.Swap ∷ name.Cas ∷ []
 
 -- a kind's number is its name's place among the names, and fits a byte
 abbrev nameOf : Kind → Name
@@ -91,4 +92,5 @@ pub find-key : (kind : Kind) (form : ℕ) → findKey (keyOf (kindNumber kind) f
 unfolding findKey findKind
 find-key kind form =
     first-same (isKey (keyOf (kindNumber kind) form)) (isKind kind form) table
-    (λ (row : Row). let own = kindNamed (row .name) in key-joined (kindNumber own) (kindNumber kind) (row .form) form (below own) (below kind))
+    (λ (row : Row). let own = kindNamed (row .name) in key-joined (kindNumber own) (kindNumber kind) (row .form) form (below own)
+    (below kind))

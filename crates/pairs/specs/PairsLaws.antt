@@ -1,5 +1,5 @@
--- The laws of the table of pairs that the header's round trip stands on: reader and writer find the same carried rows, and what holds of each.
--- One test of the rows, computed over the whole table, gives them all. Assumes nothing.
+-- The laws of the table of pairs that the header's round trip stands on: reader and writer find the same carried rows, and what holds of
+-- each. One test of the rows, computed over the whole table, gives them all. Assumes nothing.
 use mathlib.Core.Path.{_≡_, refl, ap, sym, _∙_}
 use mathlib.Core.Logic.{_⊎_, inl, inr}
 use mathlib.Core.List.{List, [], _∷_}

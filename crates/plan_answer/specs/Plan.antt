@@ -1,5 +1,5 @@
--- Document 01, "Numbering and placing" and "The sheet": what the planner answers and what the sheet then holds. Where every BAR and window lies and which
--- numbers every bus has is the crate placing's rule, on the board's own records. Assumes nothing.
+-- Document 01, "Numbering and placing" and "The sheet": what the planner answers and what the sheet then holds. Where every BAR and window
+-- lies and which numbers every bus has is the crate placing's rule, on the board's own records. Assumes nothing.
 use Prim.Native.Nat.{ℕ, suc, _+_, _*_}
 use mathlib.Core.Bool.{cond}
 use mathlib.Core.List.{List, [], _∷_, _++_}

@@ -1,5 +1,5 @@
--- One function with every end cut at 2^62: a cut taken before changes nothing after it, so that cut cursors come to the cut of the whole ones.
--- Assumes nothing.
+-- One function with every end cut at 2^62: a cut taken before changes nothing after it, so that cut cursors come to the cut of the whole
+-- ones. Assumes nothing.
 use mathlib.Core.Path.{_≡_, refl, sym, ap, ap₂, _∙_}
 use mathlib.Core.Bool.{Bool, true, false, cond}
 use mathlib.Core.List.{List, [], _∷_, map}
@@ -16,7 +16,8 @@ use Rattle.lists.specs.Lists.{All}
 use Rattle.plan_rule.specs.Align.{alignUp}
 use Rattle.plan_rule.specs.declared.Extent.{Extent}
 use Rattle.plan_rule.specs.Cap.{cap, capped, cap-cap, cap-align}
-use Rattle.plan_function.specs.Function.{Ends, startOf, afterBar, barStarts, afterBars, isEmpty, windowStart, windowStop, afterWindow, belowWindow}
+use Rattle.plan_function.specs.Function.{Ends, startOf, afterBar, barStarts, afterBars, isEmpty, windowStart, windowStop, afterWindow}
+use Rattle.plan_function.specs.Function.{belowWindow}
 
 abbrev pub capEnds : Ends → Ends
 capEnds c q = cap (c q)

@@ -1,5 +1,5 @@
--- Document 01, "Numbering and placing", for one function: from the cursors of its bus, where its BARs and a bridge's windows start, and the cursors after
--- them; and the values of its BAR registers. Assumes nothing.
+-- Document 01, "Numbering and placing", for one function: from the cursors of its bus, where its BARs and a bridge's windows start, and the
+-- cursors after them; and the values of its BAR registers. Assumes nothing.
 use Prim.Native.Nat.{ℕ, _+_}
 use mathlib.Core.Bool.{Bool, cond}
 use mathlib.Core.List.{List, [], _∷_, _++_}

@@ -24,7 +24,8 @@ use Rattle.plan_rule.specs.PoolLaws.{same-pool-refl, eq-of-same-pool, is-on-of-
 use Rattle.plan_rule.specs.Records.{Function}
 use Rattle.plan_rule.specs.Records as placing
 use Rattle.plan_rule.specs.RecordLaws.{false-of-not}
-use Rattle.plan_rule.specs.Layout.{Part, bar, window, Piece, Placed, isWindow, isOn, select, isPlacedOn, selectPlaced, startAt, endAt, layout, layoutEnd}
+use Rattle.plan_rule.specs.Layout.{Part, bar, window, Piece, Placed, isWindow, isOn, select, isPlacedOn, selectPlaced, startAt, endAt}
+use Rattle.plan_rule.specs.Layout.{layout, layoutEnd}
 use Rattle.plan_rule.specs.LayoutLaws.{layout-end-append}
 use Rattle.plan_rule.specs.Pieces.{windowPiece, windowOver, barPiece, barPieces, windowPieces, ownPieces}
 use Rattle.plan_rule.specs.PieceLaws.{Own, BarsSized, own-pieces, Shaped, has-align, window-of-is, own-one}
@@ -35,7 +36,8 @@ use Rattle.plan_rule.specs.Sizing.{nothing, extend}
 use Rattle.plan_rule.specs.Sizing as sizing
 use Rattle.plan_rule.specs.ExtentLaws.{window-over-extent, select-windows}
 use Rattle.plan_function.specs.Registers.{barsFrom, isPart, isWindowIn, barStart, windowFor, valuesFrom}
-use Rattle.plan_function.specs.Function.{Ends, afterBar, barStarts, afterBars, valuesAt, isEmpty, windowStart, windowStop, afterFunction, belowFunction}
+use Rattle.plan_function.specs.Function.{Ends, afterBar, barStarts, afterBars, valuesAt, isEmpty, windowStart, windowStop}
+use Rattle.plan_function.specs.Function.{afterFunction, belowFunction}
 use Rattle.plan_function.specs.PassLaws.{firstOf, first-none, bar-start-first}
 
 -- ## BARs
@@ -132,7 +134,8 @@ module _ (k b : ℕ) (w : List Piece) (windows : All (λ p. isWindow (p .part) �
 
 -- where the BARs of pool q end
 module _ (k b : ℕ) (q : Pool) where
-  layout-end-bars : (e s : ℕ) (ss : List Slot) (c : Ends) → e ≡ c q → layoutEnd e (select b q (barPieces k b (barsFrom s ss))) ≡ afterBars c ss q
+  layout-end-bars : (e s : ℕ) (ss : List Slot) (c : Ends) → e ≡ c q → layoutEnd e (select b q (barPieces k b (barsFrom s ss)))
+      ≡ afterBars c ss q
   unfolding layoutEnd keep barPieces barsFrom afterBars
   layout-end-bars e s [] c h = h
   layout-end-bars e s (Unused ∷ ss) c h = layout-end-bars e (suc s) ss c h
@@ -178,8 +181,10 @@ module _ {A : Type 0} (k : ℕ) (q : Pool) (g : Placed → A) (d : A) where
   first-past-bars e [] ws h = refl
   first-past-bars e (p ∷ ps) ws h = go (eqb (p .owner) k) (first-past-bars (endAt e p) ps ws (h .1))
     where
-      go : (t : Bool) → firstOf k (isWindowIn q) g d (layout (endAt e p) (ps ++ ws)) ≡ firstOf k (isWindowIn q) g d (layout (layoutEnd (endAt e p) ps) ws)
-          → cond (t && (isWindow (p .part) && samePool (p .pool) q)) (g (record { piece = p; start = startAt e p })) (firstOf k (isWindowIn q) g d (layout (endAt e p) (ps ++ ws)))
+      go : (t : Bool) → firstOf k (isWindowIn q) g d (layout (endAt e p) (ps ++ ws))
+          ≡ firstOf k (isWindowIn q) g d (layout (layoutEnd (endAt e p) ps) ws)
+          → cond (t && (isWindow (p .part) && samePool (p .pool) q)) (g (record { piece = p; start = startAt e p }))
+          (firstOf k (isWindowIn q) g d (layout (endAt e p) (ps ++ ws)))
           ≡ firstOf k (isWindowIn q) g d (layout (layoutEnd (endAt e p) ps) ws)
       go true ih = rw (h .0) ih
       go false ih = ih
@@ -257,11 +262,13 @@ module _ (k : ℕ) (f : Function) (ss : List Slot) (rest : List Piece) (c : Curs
   bars-end : (q : Pool) → layoutEnd (c b q) (barsIn q) ≡ afterBars (c b) ss q
   bars-end q = layout-end-bars k b q (c b q) 0 ss (c b) refl
 
-  pub own-starts : (xs : List Placed) → ((j : ℕ) → barStart k j xs ≡ barStart k j (place c own)) → (j : ℕ) → barStart k j xs ≡ getD (barStarts (c b) ss) j 0
+  pub own-starts : (xs : List Placed) → ((j : ℕ) → barStart k j xs ≡ barStart k j (place c own)) → (j : ℕ) → barStart k j xs
+      ≡ getD (barStarts (c b) ss) j 0
   unfolding ownPieces
   own-starts xs h j =
       let n : 0 + j ≡ j = omega arith in
-      rw n at (starts-left k b (cond (f .bridge) (windowPieces k b rest) []) (windows-only k b rest (f .bridge)) xs 0 ss c (λ m l. rw (← bars) (h m)) j)
+      rw n at (starts-left k b (cond (f .bridge) (windowPieces k b rest) []) (windows-only k b rest (f .bridge)) xs 0 ss c
+      (λ m l. rw (← bars) (h m)) j)
 
   -- the search for a bridge's window in pool q
   pub own-window : {A : Type 0} (g : Placed → A) (d : A) → f .bridge ≡ true → (q : Pool)
@@ -288,7 +295,8 @@ module _ (k : ℕ) (f : Function) (ss : List Slot) (rest : List Piece) (c : Curs
       at : ℕ
       at = afterBars (c b) ss q
 
-      last : (t : Bool) → firstOf k (isWindowIn q) g d (layout at (cond t [] (p ∷ []))) ≡ cond t d (g (record { piece = p; start = windowStart q (inner q) at }))
+      last : (t : Bool) → firstOf k (isWindowIn q) g d (layout at (cond t [] (p ∷ [])))
+          ≡ cond t d (g (record { piece = p; start = windowStart q (inner q) at }))
       last true = refl
       last false = rw (eq-eqb k k refl, same-pool-refl q)
 
@@ -356,12 +364,14 @@ module _ (k : ℕ) (f : Function) (ss : List Slot) (rest : List Piece) (c : Curs
       starts =
           subst (λ (n : ℕ). All Opens (layout n (windowsIn q))) (bars-end q)
           (all-past Opens (c b q) (barsIn q) (windowsIn q)
-          (subst (All Opens) (placed-own q) (all-keep (isPlacedOn b q) Opens (place c own) (opened-at k q c own (off-bus k q ne) (own-one k q k f rest)))))
+          (subst (All Opens) (placed-own q)
+          (all-keep (isPlacedOn b q) Opens (place c own) (opened-at k q c own (off-bus k q ne) (own-one k q k f rest)))))
 
       here : windowsIn q ≡ windowPiece k b q (inner q .end) (inner q .align) ∷ [] → windowStart q (inner q) at ≡ cursorsAfter c own k q
       here e = subst (λ (l : List Piece). All Opens (layout at l)) e starts .0 (rw (eq-eqb k k refl) (same-pool-refl q))
 
-      go : (s t : Bool) → f .bridge ≡ s → isEmpty (inner q) ≡ t → cursorsAfter c own k q ≡ cond s (cond t (c k q) (windowStart q (inner q) at)) (c k q)
+      go : (s t : Bool) → f .bridge ≡ s → isEmpty (inner q) ≡ t → cursorsAfter c own k q
+          ≡ cond s (cond t (c k q) (windowStart q (inner q) at)) (c k q)
       go false t e i = none (rw e)
       go true true e i = none (rw (e, i))
       go true false e i = sym (here (rw (e, i)))

@@ -1,5 +1,5 @@
--- The plan's registers of the record at index i, and the cursors after it, are those of one function from the cursors of its bus before it; also with
--- every address cut at a limit that nothing on the board passes. Assumes nothing.
+-- The plan's registers of the record at index i, and the cursors after it, are those of one function from the cursors of its bus before it;
+-- also with every address cut at a limit that nothing on the board passes. Assumes nothing.
 use mathlib.Core.Path.{_≡_, refl, sym, ap, ap₂, subst, _∙_}
 use mathlib.Core.Bool.{Bool, true, false, cond, _&&_}
 use mathlib.Core.List.{List, [], _∷_, map}
@@ -24,7 +24,8 @@ use Rattle.plan_rule.specs.declared.Extent.{Extent}
 use Rattle.plan_rule.specs.Sizing.{busLaid, laidFrom}
 use Rattle.plan_rule.specs.Cap.{cap, cap-small}
 use Rattle.plan_function.specs.Registers.{barsFrom, isPart, isWindowIn, barStart, windowFor, valuesFrom}
-use Rattle.plan_function.specs.Function.{Ends, barStarts, afterBars, valuesAt, isEmpty, windowStart, windowStop, windowAt, windowOf, afterFunction, belowFunction}
+use Rattle.plan_function.specs.Function.{Ends, barStarts, afterBars, valuesAt, isEmpty, windowStart, windowStop, windowAt, windowOf}
+use Rattle.plan_function.specs.Function.{afterFunction, belowFunction}
 use Rattle.plan_function.specs.Pass.{cursorsAt}
 use Rattle.plan_function.specs.PassLaws.{firstOf, first-split, bar-start-split, cursors-at-step, record-split}
 use Rattle.plan_function.specs.FunctionLaws.{values-left, own-starts, own-window, own-cursor, below-cursor, other-cursor}
@@ -47,7 +48,8 @@ bar-start-whole cut z [] h k j = z
 bar-start-whole cut z (x ∷ xs) h k j =
     go (eqb (x .piece .owner) k && isPart (x .piece .part) j) (bar-start-whole cut z xs (h .1) k j)
   where
-    go : (t : Bool) → cut (barStart k j xs) ≡ barStart k j xs → cut (cond t (x .start) (barStart k j xs)) ≡ cond t (x .start) (barStart k j xs)
+    go : (t : Bool) → cut (barStart k j xs) ≡ barStart k j xs → cut (cond t (x .start) (barStart k j xs))
+        ≡ cond t (x .start) (barStart k j xs)
     go true ih = h .0
     go false ih = ih
 
@@ -56,7 +58,8 @@ window-for-whole : (cut : ℕ → ℕ) (xs : List Placed) → All (λ x. cut (x 
 unfolding windowFor firstOf
 window-for-whole cut [] h g k q = refl
 window-for-whole cut (x ∷ xs) h g k q =
-    ap₂ (cond (eqb (x .piece .owner) k && isWindowIn q x)) (ap₂ (opened q) (sym (h .0)) (sym (g .0))) (window-for-whole cut xs (h .1) (g .1) k q)
+    ap₂ (cond (eqb (x .piece .owner) k && isWindowIn q x)) (ap₂ (opened q) (sym (h .0)) (sym (g .0)))
+    (window-for-whole cut xs (h .1) (g .1) k q)
 
 -- ## The record at index i, with these slots
 
@@ -68,7 +71,8 @@ busBefore h fs i f = cursorsAt h fs i (f .parent)
 abbrev pub insideOf : List Function → ℕ → Pool → Extent
 insideOf fs i = busLaid fs (suc i) (laidFrom (suc i)) .extent
 
-module _ (h : Host) (fs : List Function) (lawful : Lawful fs) (i : ℕ) (f : Function) (at : IsAt fs i f) (ss : List Slot) (bars : f .bars ≡ barsFrom 0 ss) where
+module _ (h : Host) (fs : List Function) (lawful : Lawful fs) (i : ℕ) (f : Function) (at : IsAt fs i f) (ss : List Slot)
+    (bars : f .bars ≡ barsFrom 0 ss) where
   abbrev before : Ends
   before = busBefore h fs i f
 
@@ -103,7 +107,8 @@ module _ (h : Host) (fs : List Function) (lawful : Lawful fs) (i : ℕ) (f : Fun
 
     pub window-cut : f .bridge ≡ true → (q : Pool)
         → windowFor (suc i) q (placed h fs)
-        ≡ windowAt q (isEmpty (inner q)) (cut (windowStart q (inner q) (afterBars before ss q))) (cut (windowStop q (inner q) (afterBars before ss q)))
+        ≡ windowAt q (isEmpty (inner q)) (cut (windowStart q (inner q) (afterBars before ss q)))
+        (cut (windowStop q (inner q) (afterBars before ss q)))
     unfolding busLaid
     window-cut b q =
         window-for-whole cut (placed h fs) (whole .starts) (whole .ends) (suc i) q
@@ -120,7 +125,8 @@ module _ (h : Host) (fs : List Function) (lawful : Lawful fs) (i : ℕ) (f : Fun
 
   pub values-join : (rs : List ℕ) → valuesFrom (suc i) 0 (placed h fs) ss rs ≡ valuesAt ss rs (barStarts before ss)
   values-join rs =
-      values-cut (λ x. x) (record { none = refl; starts = all-of _ (λ x. refl) (placed h fs); ends = all-of _ (λ x. refl) (placed h fs) }) rs
+      values-cut (λ x. x) (record
+      { none = refl; starts = all-of _ (λ x. refl) (placed h fs); ends = all-of _ (λ x. refl) (placed h fs) }) rs
       ∙ ap (valuesAt ss rs) (map-id (barStarts before ss))
 
   pub window-join : f .bridge ≡ true → (q : Pool) → windowFor (suc i) q (placed h fs) ≡ windowOf ss inner before q
@@ -144,7 +150,8 @@ module _ (h : Host) (fs : List Function) (lawful : Lawful fs) (i : ℕ) (f : Fun
   pub cursor-other : (b : ℕ) (q : Pool) → (b ≡ f .parent → ⊥) → (b ≡ suc i → ⊥) → cursorsAt h fs (suc i) b q ≡ cursorsAt h fs i b q
   cursor-other b q np nk =
       ap (λ (c : Cursors). c b q) (cursors-at-step h fs i f at)
-      ∙ other-cursor (suc i) f ss (pieces (suc (suc i)) (drop (suc i) fs)) (cursorsAt h fs i) bars parent-lt (sized-here .0) rest-shaped b q np nk
+      ∙ other-cursor (suc i) f ss (pieces (suc (suc i)) (drop (suc i) fs)) (cursorsAt h fs i) bars parent-lt (sized-here .0)
+      rest-shaped b q np nk
 
 -- ## Where every pool is kept
 
@@ -154,15 +161,19 @@ pub record Room (h : Host) (fs : List Function) : Type 0 where
   pub low : (q : Pool) → h .last q < 4503599627370496
   pub fits : (q : Pool) → h .last q < bound q
 
-pub all-in-pool : (h : Host) (fs : List Function) → Lawful fs → Room h fs → All (λ x. endOf x ≤ suc (h .last (x .piece .pool))) (placed h fs)
+pub all-in-pool : (h : Host) (fs : List Function) → Lawful fs → Room h fs
+    → All (λ x. endOf x ≤ suc (h .last (x .piece .pool))) (placed h fs)
 all-in-pool h fs lawful room =
-    all-imp _ _ (placed h fs) (all-forall _ (placed h fs) (λ (q : Pool). in-pool h fs lawful q (room .kept q))) (λ x w. w (x .piece .pool) refl .to-end)
+    all-imp _ _ (placed h fs) (all-forall _ (placed h fs) (λ (q : Pool). in-pool h fs lawful q (room .kept q)))
+    (λ x w. w (x .piece .pool) refl .to-end)
 
 -- so that a cut at 2^62 leaves every address as it is
 pub whole-of-room : (h : Host) (fs : List Function) → Lawful fs → Room h fs → Whole cap (placed h fs)
 whole-of-room h fs lawful room =
     record {
       none = refl;
-      starts = all-imp _ _ (placed h fs) (all-in-pool h fs lawful room) (λ x l. cap-small (x .start) (omega (arith, room .low (x .piece .pool))));
-      ends = all-imp _ _ (placed h fs) (all-in-pool h fs lawful room) (λ x l. cap-small (endOf x) (omega (arith, room .low (x .piece .pool))));
+      starts = all-imp _ _ (placed h fs) (all-in-pool h fs lawful room)
+          (λ x l. cap-small (x .start) (omega (arith, room .low (x .piece .pool))));
+      ends = all-imp _ _ (placed h fs) (all-in-pool h fs lawful room)
+          (λ x l. cap-small (endOf x) (omega (arith, room .low (x .piece .pool))));
     }

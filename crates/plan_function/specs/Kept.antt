@@ -1,4 +1,5 @@
--- What the code keeps of one function's placing, and so what its calls answer: every end cut at 2^62, every register 32 bits. Assumes nothing.
+-- What the code keeps of one function's placing, and so what its calls answer: every end cut at 2^62, every register 32 bits. Assumes
+-- nothing.
 use Prim.Native.Nat.{ℕ, _-_, _%_}
 use mathlib.Core.List.{List, _++_, map}
 use lib.ListN.{take, replicate}
@@ -13,7 +14,8 @@ use Rattle.plan_function.specs.declared.BarsPlaced.{BarsPlaced}
 use Rattle.plan_function.specs.declared.Extents.{Extents}
 use Rattle.plan_function.specs.declared.WindowPlaced.{WindowPlaced}
 use Rattle.plan_function.specs.declared.WindowsPlaced.{WindowsPlaced}
-use Rattle.plan_function.specs.Function.{Ends, barStarts, afterBars, valuesAt, isEmpty, windowStart, windowStop, windowAt, afterWindow, belowWindow}
+use Rattle.plan_function.specs.Function.{Ends, barStarts, afterBars, valuesAt, isEmpty, windowStart, windowStop, windowAt}
+use Rattle.plan_function.specs.Function.{afterWindow, belowWindow}
 
 -- a register's 32 bits
 abbrev pub word : ℕ → ℕ

@@ -16,7 +16,8 @@ use Rattle.pools.specs.Pools.{granule}
 use Rattle.pools.specs.PoolsLaws.{granule-pos}
 use Rattle.bar.specs.declared.Slot.{Slot}
 use Rattle.bar.specs.declared.Slot.the-variants.{Unused, Bar, Upper, Bad}
-use Rattle.bar.specs.Bar.{isIoBar, isWide, ioWrong, ioSlot, narrowSlot, wideSlot, slotHere, sized, slots, isBad, anyBad, takesNext, span, widePool}
+use Rattle.bar.specs.Bar.{isIoBar, isWide, ioWrong, ioSlot, narrowSlot, wideSlot, slotHere, sized, slots, isBad, anyBad, takesNext, span}
+use Rattle.bar.specs.Bar.{widePool}
 use Rattle.bar.specs.Bar.{SizedSlot}
 use Rattle.bar.specs.BarLaws.{sized-slots, length-first, length-slots, slots-at-step, any-bad-of-bad, any-bad-step}
 use Rattle.bar.specs.Values.{valueOf, registersOf}
@@ -32,7 +33,8 @@ use Rattle.plan_function.specs.declared.BarsPlaced.{BarsPlaced}
 use Rattle.plan_function.specs.declared.Extents.{Extents}
 use Rattle.plan_function.specs.declared.WindowPlaced.{WindowPlaced}
 use Rattle.plan_function.specs.declared.WindowsPlaced.{WindowsPlaced}
-use Rattle.plan_function.specs.Function.{Ends, startOf, afterBar, barStarts, afterBars, registersAt, valuesAt, windowStart, windowStop}
+use Rattle.plan_function.specs.Function.{Ends, startOf, afterBar, barStarts, afterBars, registersAt, valuesAt, windowStart}
+use Rattle.plan_function.specs.Function.{windowStop}
 use Rattle.plan_function.specs.Kept.{word, endsOf, keptCursors, withEnd, keptValues, barsPlaced, windowPlaced, windowsPlaced}
 use Rattle.plan_function.specs.CapLaws.{capEnds, cap-after-bars, cap-bar-starts}
 
@@ -140,10 +142,13 @@ kept-ext e f h = λ i. record { low = h Low i; high = h High i; io = h Io i }
 
 -- what was kept is kept
 pub kept-kept : (c : Cursors) (e : Ends) → c ≡ keptCursors e → c ≡ keptCursors (endsOf c)
-kept-kept c e h = h ∙ sym (kept-ext (endsOf c) e (λ q. ap (λ (x : Cursors). cap (endsOf x q)) h ∙ ap (λ (f : Ends). cap (f q)) (ends-kept e) ∙ cap-cap (e q)))
+kept-kept c e h =
+    h ∙ sym (kept-ext (endsOf c) e
+    (λ q. ap (λ (x : Cursors). cap (endsOf x q)) h ∙ ap (λ (f : Ends). cap (f q)) (ends-kept e) ∙ cap-cap (e q)))
 
 -- a BAR of n bytes that starts at s
-pub kept-bar : (c : Cursors) (q : Pool) (wide : Bool) (z e s n : ℕ) → c ≡ keptCursors (endsOf c) → e ≡ endsOf c q → s ≡ cap (alignUp z e) → n ≡ cap (s + z)
+pub kept-bar : (c : Cursors) (q : Pool) (wide : Bool) (z e s n : ℕ) → c ≡ keptCursors (endsOf c) → e ≡ endsOf c q → s ≡ cap (alignUp z e)
+    → n ≡ cap (s + z)
     → withEnd c q n ≡ keptCursors (afterBar (endsOf c) (Bar q wide z))
 kept-bar c Low wide z e s n k d f g =
     let h : n ≡ cap (alignUp z (c .low) + z) = omega (arith, ap (alignUp z) d) in
@@ -173,7 +178,8 @@ pub record Placing (set : List ℕ) (n : ℕ) (c : Ends) (values : List ℕ) (at
   pub registers : take i values ++ keptFrom set n (endsOf at) i ≡ keptValues set n c
   pub cursors : keptCursors (afterBars (endsOf at) (slots (drop i (take n set)))) ≡ keptCursors (afterBars c (slots (take n set)))
 
-pub placing-start : (set : List ℕ) (n : ℕ) (c : Ends) (at : Cursors) → anyBad (slots (take n set)) ≡ false → at ≡ keptCursors c → Placing set n c (zeros 6) at 0
+pub placing-start : (set : List ℕ) (n : ℕ) (c : Ends) (at : Cursors) → anyBad (slots (take n set)) ≡ false → at ≡ keptCursors c
+    → Placing set n c (zeros 6) at 0
 unfolding keptFrom keptValues
 placing-start set n c at good h =
     record {
@@ -182,7 +188,8 @@ placing-start set n c at good h =
       lawful = good;
       kept = kept-kept at c h;
       clear = refl;
-      registers = ap (λ (l : List ℕ). map word (valuesAt xs set l)) (ap (λ (e : Ends). map cap (barStarts e xs)) same ∙ cap-bar-starts c xs (all-sized (take n set)));
+      registers = ap (λ (l : List ℕ). map word (valuesAt xs set l))
+          (ap (λ (e : Ends). map cap (barStarts e xs)) same ∙ cap-bar-starts c xs (all-sized (take n set)));
       cursors = kept-ext _ _ (λ q. ap (λ (e : Ends). cap (afterBars e xs q)) same ∙ cap-after-bars c xs (all-sized (take n set)) q);
     }
   where
@@ -216,7 +223,8 @@ ends-after : (x : Slot) (s : List ℕ) (i : ℕ) (e : Ends) → afterBars e (aft
 unfolding after-slot afterBars
 ends-after x s i e = go (takesNext x)
   where
-    go : (b : Bool) → afterBars e (cond b (Upper ∷ slots (drop (i + 2) s)) (slots (drop (i + 1) s))) ≡ afterBars e (slots (drop (i + cond b 2 1) s))
+    go : (b : Bool) → afterBars e (cond b (Upper ∷ slots (drop (i + 2) s)) (slots (drop (i + 1) s)))
+        ≡ afterBars e (slots (drop (i + cond b 2 1) s))
     go true = refl
     go false = refl
 
@@ -224,11 +232,13 @@ length-after : (x : Slot) (s : List ℕ) (i : ℕ) → length (x ∷ after-slot 
 unfolding after-slot
 length-after x s i = go (takesNext x)
   where
-    go : (b : Bool) → suc (length (cond b (Upper ∷ slots (drop (i + 2) s)) (slots (drop (i + 1) s)))) ≡ cond b 2 1 + length (slots (drop (i + cond b 2 1) s))
+    go : (b : Bool) → suc (length (cond b (Upper ∷ slots (drop (i + 2) s)) (slots (drop (i + 1) s)))) ≡ cond b 2 1
+        + length (slots (drop (i + cond b 2 1) s))
     go true = omega arith
     go false = omega arith
 
-module _ (set : List ℕ) (n : ℕ) (c : Ends) (values : List ℕ) (at : Cursors) (i : ℕ) (p : Placing set n c values at i) (below : i < n) (most : n ≤ 6)
+module _ (set : List ℕ) (n : ℕ) (c : Ends) (values : List ℕ) (at : Cursors) (i : ℕ) (p : Placing set n c values at i) (below : i < n)
+    (most : n ≤ 6)
     (six : length set ≡ 6) (x : Slot) (here : x ≡ slotHere (drop i (take n set))) where
   abbrev first : List ℕ
   first = take n set
@@ -257,7 +267,8 @@ module _ (set : List ℕ) (n : ℕ) (c : Ends) (values : List ℕ) (at : Cursors
         p .within,
       )
 
-  module _ (start v : ℕ) (values' : List ℕ) (at' : Cursors) (s : start ≡ cap (startOf (endsOf at) x)) (w : v ≡ valueOf x (getD set i 0) start)
+  module _ (start v : ℕ) (values' : List ℕ) (at' : Cursors) (s : start ≡ cap (startOf (endsOf at) x))
+      (w : v ≡ valueOf x (getD set i 0) start)
       (stored : values' ≡ sets values i (map word (registersOf x v))) (moved : at' ≡ keptCursors (afterBar (endsOf at) x)) where
     abbrev e : Ends
     e = endsOf at
@@ -275,7 +286,8 @@ module _ (set : List ℕ) (n : ℕ) (c : Ends) (values : List ℕ) (at : Cursors
     same = ap endsOf moved ∙ ends-kept (afterBar e x)
 
     tail-same : map cap (barStarts (endsOf at') rest) ≡ map cap (barStarts (afterBar e x) rest)
-    tail-same = ap (λ (f : Ends). map cap (barStarts f rest)) same ∙ cap-bar-starts (afterBar e x) rest (all-sized (drop (i + span x) first))
+    tail-same = ap (λ (f : Ends). map cap (barStarts f rest)) same
+        ∙ cap-bar-starts (afterBar e x) rest (all-sized (drop (i + span x) first))
 
     head-same : registersAt x (getD (drop i set) 0 0) (cap (startOf e x)) ≡ registersOf x v
     head-same =
@@ -361,11 +373,13 @@ placing-end set n c values at i p h = λ j. record { values = all j; cursors = e
     ends = p .kept ∙ rw none at (p .cursors)
 
 -- cursors that were kept before answer the same
-pub bars-placed-kept : (set : List ℕ) (n : ℕ) (c : Ends) (at : Cursors) → at ≡ keptCursors c → barsPlaced set n (endsOf at) ≡ barsPlaced set n c
+pub bars-placed-kept : (set : List ℕ) (n : ℕ) (c : Ends) (at : Cursors) → at ≡ keptCursors c → barsPlaced set n (endsOf at)
+    ≡ barsPlaced set n c
 unfolding keptValues
 bars-placed-kept set n c at h =
     ap₂ (λ (vs : List ℕ) (k : Cursors). record { values = vs ++ replicate (6 - n) 0; cursors = k })
-    (ap (λ (l : List ℕ). map word (valuesAt xs set l)) (ap (λ (e : Ends). map cap (barStarts e xs)) same ∙ cap-bar-starts c xs (all-sized (take n set))))
+    (ap (λ (l : List ℕ). map word (valuesAt xs set l))
+    (ap (λ (e : Ends). map cap (barStarts e xs)) same ∙ cap-bar-starts c xs (all-sized (take n set))))
     (kept-ext _ _ (λ q. ap (λ (e : Ends). cap (afterBars e xs q)) same ∙ cap-after-bars c xs (all-sized (take n set)) q))
   where
     xs : List Slot
@@ -386,7 +400,8 @@ span-one x = go (takesNext x)
 pub span-two : (x : Slot) → takesNext x ≡ true → span x ≡ 2
 span-two x e = rw e
 
-pub put-one : (l : List ℕ) (i : ℕ) (x : Slot) (v : ℕ) → takesNext x ≡ false → set l i (v % 4294967296) ≡ sets l i (map word (registersOf x v))
+pub put-one : (l : List ℕ) (i : ℕ) (x : Slot) (v : ℕ) → takesNext x ≡ false → set l i (v % 4294967296)
+    ≡ sets l i (map word (registersOf x v))
 put-one l i x v e = rw e
 
 pub put-two : (l : List ℕ) (i : ℕ) (x : Slot) (v : ℕ) → takesNext x ≡ true → v < 2 ^ 64
@@ -415,7 +430,8 @@ window-some q inner e below a z start stop n ea ez es et =
     last : stop ≡ cap (windowStop q inner e)
     last = omega (arith, et, first, ez, cap-align (granule q) (granule-pos q) (inner .end))
 
-pub windows-of-three : (inner : Extents) (c below : Cursors) (l h i : WindowPlaced) → l ≡ windowPlaced Low (inner .low) (c .low) (below .low)
+pub windows-of-three : (inner : Extents) (c below : Cursors) (l h i : WindowPlaced) → l
+    ≡ windowPlaced Low (inner .low) (c .low) (below .low)
     → h ≡ windowPlaced High (inner .high) (c .high) (below .high) → i ≡ windowPlaced Io (inner .io) (c .io) (below .io)
     → _≡_ {A = WindowsPlaced}
     (record {

@@ -1,5 +1,5 @@
--- What a loop over the records keeps, in the words of its two calls: its arrays hold the cursors of every bus before the next record, cut at 2^62; and what
--- it writes of a record is the plan's, where nothing runs out. Assumes nothing.
+-- What a loop over the records keeps, in the words of its two calls: its arrays hold the cursors of every bus before the next record, cut
+-- at 2^62; and what it writes of a record is the plan's, where nothing runs out. Assumes nothing.
 use mathlib.Core.Path.{_≡_, sym, ap, ap₂, subst, _∙_}
 use mathlib.Core.Logic.{⊎-elim}
 use mathlib.Core.Bool.{true, false}
@@ -35,8 +35,10 @@ use Rattle.plan_function.specs.Pass.{cursorsAt}
 use Rattle.plan_function.specs.PassLaws.{cursors-at-start}
 use Rattle.plan_function.specs.Kept.{word, keptValues, keptWindow}
 use Rattle.plan_function.specs.KeptLaws.{all-sized}
-use Rattle.plan_function.specs.CapLaws.{capEnds, cap-after-bars, cap-bar-starts, cap-window-start, cap-window-stop, cap-after-window, cap-below-window}
-use Rattle.plan_function.specs.JoinLaws.{Room, whole-of-room, busBefore, insideOf, parent-lt, values-cut, window-cut, cursor-own, cursor-below, cursor-other}
+use Rattle.plan_function.specs.CapLaws.{capEnds, cap-after-bars, cap-bar-starts, cap-window-start, cap-window-stop, cap-after-window}
+use Rattle.plan_function.specs.CapLaws.{cap-below-window}
+use Rattle.plan_function.specs.JoinLaws.{Room, whole-of-room, busBefore, insideOf, parent-lt, values-cut, window-cut, cursor-own}
+use Rattle.plan_function.specs.JoinLaws.{cursor-below, cursor-other}
 use Rattle.plan_function.specs.WordLaws.{all-fitting, map-word, words-join}
 
 -- the arrays of the buses up to n, before the record at index i
@@ -44,7 +46,8 @@ abbrev pub Agrees : Host → List Function → ℕ → ℕ → (ℕ → Ends) �
 Agrees h fs n i a = (b : ℕ) → b ≤ n → (q : Pool) → a b q ≡ cap (cursorsAt h fs i b q)
 
 -- at first every cursor is its pool's base
-pub agrees-start : (h : Host) (fs : List Function) (n : ℕ) (a : ℕ → Ends) → ((b : ℕ) → b ≤ n → (q : Pool) → a b q ≡ cap (h .base q)) → Agrees h fs n 0 a
+pub agrees-start : (h : Host) (fs : List Function) (n : ℕ) (a : ℕ → Ends) → ((b : ℕ) → b ≤ n → (q : Pool) → a b q ≡ cap (h .base q))
+    → Agrees h fs n 0 a
 agrees-start h fs n a e b l q = e b l q ∙ ap (λ (c : ℕ → Ends). cap (c b q)) (sym (cursors-at-start h fs))
 
 -- the record at index i, whose slots are those of the first m read-backs of its set
@@ -73,7 +76,8 @@ module _ (h : Host) (fs : List Function) (lawful : Lawful fs) (i : ℕ) (f : Fun
   pub values-planned : Room h fs → keptValues set m (a (f .parent)) ≡ valuesFrom (suc i) 0 (placed h fs) xs set
   unfolding keptValues
   values-planned room =
-      ap (λ (l : List ℕ). map word (valuesAt xs set l)) (ap (λ (e : Ends). map cap (barStarts e xs)) own-is ∙ cap-bar-starts own xs sized-slots)
+      ap (λ (l : List ℕ). map word (valuesAt xs set l))
+      (ap (λ (e : Ends). map cap (barStarts e xs)) own-is ∙ cap-bar-starts own xs sized-slots)
       ∙ ap (map word) (sym (values-cut h fs lawful i f at xs bars cap (whole-of-room h fs lawful room) set))
       ∙ map-word _ (words-join h fs lawful room i f at xs bars (all-fitting (take m set)) set)
 
@@ -106,7 +110,8 @@ module _ (h : Host) (fs : List Function) (lawful : Lawful fs) (i : ℕ) (f : Fun
       pub window-planned : Room h fs → (q : Pool) → keptWindow q (x q) (c q) ≡ windowFor (suc i) q (placed h fs)
       window-planned room q =
           ap₂ (keptWindow q) (sized q) (end-is q)
-          ∙ ap₂ (windowAt q (isEmpty (inside q))) (cap-window-start q (inside q) (afterBars own xs q)) (cap-window-stop q (inside q) (afterBars own xs q))
+          ∙ ap₂ (windowAt q (isEmpty (inside q))) (cap-window-start q (inside q) (afterBars own xs q))
+          (cap-window-stop q (inside q) (afterBars own xs q))
           ∙ sym (window-cut h fs lawful i f at xs bars cap (whole-of-room h fs lawful room) bridge q)
 
       -- its bus and the bus below it move
@@ -114,7 +119,9 @@ module _ (h : Host) (fs : List Function) (lawful : Lawful fs) (i : ℕ) (f : Fun
           → ((q : Pool) → a' (suc i) q ≡ cap (belowWindow q (x q) (c q) (a (suc i) q)))
           → ((b : ℕ) → b ≤ n → (b ≡ f .parent → ⊥) → (b ≡ suc i → ⊥) → (q : Pool) → a' b q ≡ a b q) → Agrees h fs n (suc i) a'
       agrees-bridge a' moved opened kept b l q =
-          ⊎-elim mine (λ ne. ⊎-elim below (λ nk. kept b l ne nk q ∙ agrees b l q ∙ ap cap (sym (cursor-other h fs lawful i f at xs bars b q ne nk))) (eq-or-ne b (suc i)))
+          ⊎-elim mine (λ ne. ⊎-elim below
+          (λ nk. kept b l ne nk q ∙ agrees b l q ∙ ap cap (sym (cursor-other h fs lawful i f at xs bars b q ne nk)))
+          (eq-or-ne b (suc i)))
           (eq-or-ne b (f .parent))
         where
           mine : b ≡ f .parent → a' b q ≡ cap (cursorsAt h fs (suc i) b q)

@@ -126,7 +126,8 @@ place-split c k (g ∷ fs) (suc i) f z e =
       after = ih .after;
       earlier = all-append _ (place c own) (ih .before) (all-imp _ _ (place c own) mine (λ x l. omega arith)) (ih .earlier);
       later = ih .later;
-      parts = place-record c k g fs ∙ ap (λ (l : List Placed). place c own ++ l) (ih .parts) ∙ sym (append-assoc (place c own) (ih .before) _);
+      parts = place-record c k g fs ∙ ap (λ (l : List Placed). place c own ++ l) (ih .parts)
+          ∙ sym (append-assoc (place c own) (ih .before) _);
     })
 
 -- a record's own pieces, by its index

@@ -30,13 +30,15 @@ isWindowIn q x = isWindowPart (x .piece .part) && samePool (x .piece .pool) q
 -- the window of record k in pool q: closed where the rule places none
 unfoldable pub windowFor : ℕ → Pool → List Placed → Window
 windowFor k q [] = closed q
-windowFor k q (x ∷ xs) = let later = windowFor k q xs in cond (eqb (x .piece .owner) k && isWindowIn q x) (opened q (x .start) (endOf x)) later
+windowFor k q (x ∷ xs) =
+    let later = windowFor k q xs in cond (eqb (x .piece .owner) k && isWindowIn q x) (opened q (x .start) (endOf x)) later
 
 -- the BAR registers of record k from slot j on: slots and read-backs from there
 unfoldable pub valuesFrom : ℕ → ℕ → List Placed → List Slot → List ℕ → List ℕ
 valuesFrom k j xs [] rs = []
 valuesFrom k j xs (Unused ∷ ss) rs = 0 ∷ valuesFrom k (suc j) xs ss (drop 1 rs)
 valuesFrom k j xs (Bar pool wide size ∷ ss) rs =
-    registersOf (Bar pool wide size) (valueOf (Bar pool wide size) (getD rs 0 0) (barStart k j xs)) ++ valuesFrom k (suc j) xs ss (drop 1 rs)
+    registersOf (Bar pool wide size) (valueOf (Bar pool wide size) (getD rs 0 0) (barStart k j xs)) ++ valuesFrom k (suc j) xs ss
+    (drop 1 rs)
 valuesFrom k j xs (Upper ∷ ss) rs = valuesFrom k (suc j) xs ss (drop 1 rs)
 valuesFrom k j xs (Bad ∷ ss) rs = 0 ∷ valuesFrom k (suc j) xs ss (drop 1 rs)

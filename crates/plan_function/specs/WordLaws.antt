@@ -1,4 +1,5 @@
--- Where nothing runs out, every BAR register of the plan has 32 bits: a 32-bit BAR is of the low or the I/O pool, whose addresses do. Assumes nothing.
+-- Where nothing runs out, every BAR register of the plan has 32 bits: a 32-bit BAR is of the low or the I/O pool, whose addresses do.
+-- Assumes nothing.
 use mathlib.Core.Path.{_≡_, refl, ap₂, subst, _∙_}
 use mathlib.Core.Bool.{Bool, true, false, cond}
 use mathlib.Core.List.{List, [], _∷_, _++_, map}
@@ -57,7 +58,8 @@ pub all-fitting : (s : List ℕ) → All Fitting (slots s)
 unfolding slots
 all-fitting [] = tt
 all-fitting (r ∷ []) = (fitting-of-starts (slotHere (r ∷ [])) (starts-here (r ∷ [])), tt)
-all-fitting (r ∷ u ∷ us) = (fitting-of-starts (slotHere (r ∷ u ∷ us)) (starts-here (r ∷ u ∷ us)), go (isWide r) (all-fitting us) (all-fitting (u ∷ us)))
+all-fitting (r ∷ u ∷ us) =
+    (fitting-of-starts (slotHere (r ∷ u ∷ us)) (starts-here (r ∷ u ∷ us)), go (isWide r) (all-fitting us) (all-fitting (u ∷ us)))
   where
     go : (b : Bool) → All Fitting (slots us) → All Fitting (slots (u ∷ us)) → All Fitting (cond b (Upper ∷ slots us) (slots (u ∷ us)))
     go true p q = (tt, p)
@@ -82,7 +84,8 @@ map-word (v ∷ vs) h = let e : v % 4294967296 ≡ v = omega arith in ap₂ (λ 
 -- the pieces still to be placed end within their pools
 module _ (last : Pool → ℕ) (fits : (q : Pool) → last q < bound q) (k b : ℕ) (xs : List Placed) (w : List Piece) where
   words-left : (s : ℕ) (ss : List Slot) (rs : List ℕ) (c : Cursors) → Left k b xs w s ss c → All Fitting ss
-      → All (λ x. endOf x ≤ suc (last (x .piece .pool))) (place c (barPieces k b (barsFrom s ss) ++ w)) → All (λ x. 0 < x .size) (barPieces k b (barsFrom s ss))
+      → All (λ x. endOf x ≤ suc (last (x .piece .pool))) (place c (barPieces k b (barsFrom s ss) ++ w))
+      → All (λ x. 0 < x .size) (barPieces k b (barsFrom s ss))
       → All IsWord (valuesFrom k s xs ss rs)
   unfolding valuesFrom barsFrom barStart barPieces place
   words-left s [] rs c h f e z = tt

@@ -59,7 +59,12 @@ module _ (h : Host) (fs : List Function) (board : Board h fs) (kept : BusesKept 
           let y = p .row in
           let is : y .number ≡ parentOf fs (x .number) = p .under .above ∙ r .parent-is in
           let leads : LeadsTo (x .bus) (planNodes h fs devfn) (planNode devfn y) =
-          record { in-sheet = Memᴰ·map (planNode devfn) (p .in-rows); is-bridge = p .under .bridge; leads = rw (p .under .bridge) (sym (p .under .bus-is)) } in
+          record {
+            in-sheet = Memᴰ·map (planNode devfn) (p .in-rows);
+            is-bridge = p .under .bridge;
+            leads = rw (p .under .bridge)
+                (sym (p .under .bus-is));
+          } in
           let pos : 0 < parentOf fs (x .number) = omega (arith, is, row-of (h .firstBus) fs (board .lawful) (p .in-rows) .from-1) in
           ap numbersOf (above-bridge rise tree (planNode devfn x) node (planNode devfn y) leads)
           ∙ ap (y .number ∷_) (up y (p .in-rows) (omega (arith, p .under .above, r .parent-before)))
@@ -83,4 +88,5 @@ module _ (h : Host) (fs : List Function) (board : Board h fs) (kept : BusesKept 
   pub length-above : (sp : Space) (f : Registers) → f ∈ planRegisters sp h fs devfn
       → length (bridgesAbove (planHost sp h) (planRegisters sp h fs devfn) f) ≡ length (aboveByParents fs (f .node .number))
   length-above sp f m =
-      sym (length-map (bridgesAbove (planHost sp h) (planRegisters sp h fs devfn) f) (λ (b : Node). b .number)) ∙ ap length (above-agree sp f m)
+      sym (length-map (bridgesAbove (planHost sp h) (planRegisters sp h fs devfn) f) (λ (b : Node). b .number))
+      ∙ ap length (above-agree sp f m)

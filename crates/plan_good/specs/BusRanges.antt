@@ -45,7 +45,8 @@ module _ (first : ℕ) (fs : List Function) (lawful : Lawful fs) where
       (all-elim _ (numbered first fs) (known .nested) m)
 
   -- What is on the bus below a bridge has that bridge for its parent
-  pub parent-of-bus : {x b : Numbered} → x ∈ numbered first fs → b ∈ numbered first fs → b .bridge ≡ true → x .bus ≡ b .secondary → x .parent ≡ b .number
+  pub parent-of-bus : {x b : Numbered} → x ∈ numbered first fs → b ∈ numbered first fs → b .bridge ≡ true → x .bus ≡ b .secondary
+      → x .parent ≡ b .number
   parent-of-bus {x} {b} m n is e =
       let r = row-of m in
       let s = row-of n in
@@ -66,7 +67,8 @@ module _ (first : ℕ) (fs : List Function) (lawful : Lawful fs) where
       let s = row-of (p .in-rows) in
       let number : p .row .number ≡ b .number = p .under .above ∙ up in
       let same-secondary : p .row .secondary ≡ b .secondary = s .secondary-is ∙ ap (busNumber first fs) number ∙ sym (r .secondary-is) in
-      let same-subordinate : p .row .subordinate ≡ b .subordinate = s .subordinate-is ∙ ap (subordinateOf first fs) number ∙ sym (r .subordinate-is) in
+      let same-subordinate : p .row .subordinate ≡ b .subordinate = s .subordinate-is ∙ ap (subordinateOf first fs) number
+      ∙ sym (r .subordinate-is) in
       let rises = all-elim _ (numbered first fs) (known .ranged) m is in
       record { from-first = omega (arith, rises .bus-first, p .under .bus-is); to-last = omega (arith, p .under .range-in is) })
       (parent-row m)
@@ -77,9 +79,14 @@ module _ (first : ℕ) (fs : List Function) (lawful : Lawful fs) where
       pairwise-imp _ _ (λ x y g a b e. g .1 a b (same-parent (g .0 .0) (g .0 .1) e)) (numbered first fs)
       (pairwise-all _ _ (numbered first fs) (rows first fs lawful) (known .apart))
 
-pub buses-in-host : (h : Host) (fs : List Function) → Lawful fs → BusesKept h fs → {x : Numbered} → x ∈ numbered (h .firstBus) fs → x .bridge ≡ true
+pub buses-in-host : (h : Host) (fs : List Function) → Lawful fs → BusesKept h fs → {x : Numbered} → x ∈ numbered (h .firstBus) fs
+    → x .bridge ≡ true
     → BusesWithin (h .firstBus) (h .lastBus) x
 buses-in-host h fs lawful kept {x} m is =
     let r = row-of (h .firstBus) fs lawful m in
     let within = all-elim _ (numbered (h .firstBus) fs) (known (h .firstBus) fs lawful .ranged) m is in
-    record { from-first = omega (arith, r .secondary-is, first-le-bus-number (h .firstBus) fs (x .number)); to-last = omega (arith, within .in-host) }
+    record {
+      from-first = omega (arith, r .secondary-is, first-le-bus-number (h .firstBus) fs (x .number));
+      to-last
+          = omega (arith, within .in-host);
+    }

@@ -1,5 +1,6 @@
--- Delivery by ID for a planned board, in document 01's words: which bus a function is on by the numbering rule, and which bridges stand above by
--- parent records. Nothing here speaks of how a walk finds its way. `planned-delivers-by-id` of ByIdLaws proves it. Assumes nothing.
+-- Delivery by ID for a planned board, in document 01's words: which bus a function is on by the numbering rule, and which bridges stand
+-- above by parent records. Nothing here speaks of how a walk finds its way. `planned-delivers-by-id` of ByIdLaws proves it. Assumes
+-- nothing.
 use mathlib.Core.Path.{_≡_}
 use mathlib.Core.Logic.{_↔_}
 use mathlib.Core.List.{List, reverse}

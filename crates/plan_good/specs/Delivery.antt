@@ -1,5 +1,5 @@
--- Demand 3's delivery for a planned board, in document 01's words: where its BARs are placed and which bridges stand above by parent records.
--- Nothing here speaks of how a walk finds its way. `planned-delivers` of DeliveryLaws proves it. Assumes nothing.
+-- Demand 3's delivery for a planned board, in document 01's words: where its BARs are placed and which bridges stand above by parent
+-- records. Nothing here speaks of how a walk finds its way. `planned-delivers` of DeliveryLaws proves it. Assumes nothing.
 use mathlib.Core.Path.{_≡_}
 use mathlib.Core.Logic.{_↔_}
 use mathlib.Core.Bool.{Bool, true, false}
@@ -30,7 +30,8 @@ pub record OwnsAsPlaced (sp : Space) (h : Host) (fs : List Function) (enabled : 
   pub bridges-enabled : All (λ b. enabled b ≡ true) (aboveByParents fs k)
 
 -- What a request with this start address comes to
-pub record DeliversAsPlaced (sp : Space) (h : Host) (fs : List Function) (enabled : ℕ → Bool) (address : ℕ) (outcome : Outcome) : Type 0 where
+pub record DeliversAsPlaced (sp : Space) (h : Host) (fs : List Function) (enabled : ℕ → Bool) (address : ℕ) (outcome : Outcome)
+    : Type 0 where
   pub delivered-exactly : (k count : ℕ)
       → (outcome ≡ delivered k count) ↔ (OwnsAsPlaced sp h fs enabled address k × (count ≡ length (aboveByParents fs k)))
   pub else-no-owner : (outcome ≡ refused 40) ↔ ((k : ℕ) → OwnsAsPlaced sp h fs enabled address k → ⊥)

@@ -55,7 +55,8 @@ module _ {h : Host} {fs : List Function} (board : Board h fs) (planned : refusal
   count-agree = length-above h fs board (kept-of-planned h fs planned .buses) devfn sp
 
   -- By the registers and by the placed BARs the same function owns the address
-  bar-holds-iff : (f : Registers) → f ∈ regs → Some (λ r. Holds r address) (f .bars) ↔ Some (BarHolds sp (f .node .number) address) (placed h fs)
+  bar-holds-iff : (f : Registers) → f ∈ regs → Some (λ r. Holds r address) (f .bars) ↔ Some (BarHolds sp (f .node .number) address)
+      (placed h fs)
   bar-holds-iff f m = (to, from)
     where
       k : ℕ
@@ -81,7 +82,8 @@ module _ {h : Host} {fs : List Function} (board : Board h fs) (planned : refusal
       from : Some (BarHolds sp (f .node .number) address) (placed h fs) → Some (λ r. Holds r address) (f .bars)
       from s =
           let (x, there, b) = member-of-some _ (placed h fs) s in
-          let in-bars = bars-intro sp k (placed h fs) there (record { owner-is = b .owner-is; in-space = b .in-space; part-is = b .is-bar }) in
+          let in-bars = bars-intro sp k (placed h fs) there
+          (record { owner-is = b .owner-is; in-space = b .in-space; part-is = b .is-bar }) in
           rw bars (some-of-member _ _ in-bars (record { from-start = b .from-start; before-stop = b .before-end }))
 
   bridges-enabled-iff : (f : Registers) → f ∈ regs
@@ -94,10 +96,12 @@ module _ {h : Host} {fs : List Function} (board : Board h fs) (planned : refusal
       same : numbersOf (bridgesAbove host regs f) ≡ aboveByParents fs (f .node .number)
       same = numbers-agree f m
 
-      to : All (λ b. enabled (b .number) ≡ true) (bridgesAbove host regs f) → All (λ b. enabled b ≡ true) (aboveByParents fs (f .node .number))
+      to : All (λ b. enabled (b .number) ≡ true) (bridgesAbove host regs f)
+          → All (λ b. enabled b ≡ true) (aboveByParents fs (f .node .number))
       to on = rw (← same) (all-map-intro _ (λ (b : Node). b .number) bs (λ b n. all-elim _ bs on n))
 
-      from : All (λ b. enabled b ≡ true) (aboveByParents fs (f .node .number)) → All (λ b. enabled (b .number) ≡ true) (bridgesAbove host regs f)
+      from : All (λ b. enabled b ≡ true) (aboveByParents fs (f .node .number))
+          → All (λ b. enabled (b .number) ≡ true) (bridgesAbove host regs f)
       from on =
           let on-numbers : All (λ b. enabled b ≡ true) (numbersOf bs) = rw same on in
           all-intro _ bs (λ b n. all-elim _ (numbersOf bs) on-numbers (Memᴰ·map (λ (c : Node). c .number) n))
@@ -111,10 +115,12 @@ module _ {h : Host} {fs : List Function} (board : Board h fs) (planned : refusal
         bridges-enabled = bridges-enabled-iff f m .0 (o .bridges-enabled);
       }
 
-  owns-of-placed : (k : ℕ) → OwnsAsPlaced sp h fs enabled address k → (f : Registers) × Owns host enabled regs address f × (f .node .number ≡ k)
+  owns-of-placed : (k : ℕ) → OwnsAsPlaced sp h fs enabled address k → (f : Registers) × Owns host enabled regs address f
+      × (f .node .number ≡ k)
   owns-of-placed k o =
       let (x, there, b) = member-of-some _ (placed h fs) (o .bar-holds) in
-      let (y, in-rows, e) = member-of-some _ (planRows h fs) (all-elim _ (placed h fs) (placed-has-row (h .firstBus) h fs (board .lawful)) there) in
+      let (y, in-rows, e) = member-of-some _ (planRows h fs)
+      (all-elim _ (placed h fs) (placed-has-row (h .firstBus) h fs (board .lawful)) there) in
       let is : y .number ≡ k = e ∙ b .owner-is in
       let m = register-intro sp h fs devfn in-rows in (
         register y,
@@ -132,8 +138,10 @@ module _ {h : Host} {fs : List Function} (board : Board h fs) (planned : refusal
       → Trail (tallyOn enabled regs address) (h .firstBus) (reverse (aboveByParents fs k)) k
   crosses-above k o =
       let (f, owns, is) = owns-of-placed k o in
-      let same : numbersOf (bridgesAbove host regs f) ≡ aboveByParents fs k = numbers-agree f (owns .in-sheet) ∙ ap (aboveByParents fs) is in
-      subst₂ (λ (ns : List ℕ) (n : ℕ). Trail (tallyOn enabled regs address) (h .firstBus) (reverse ns) n) same is (delivers .crosses-exactly f owns)
+      let same : numbersOf (bridgesAbove host regs f) ≡ aboveByParents fs k = numbers-agree f (owns .in-sheet)
+      ∙ ap (aboveByParents fs) is in
+      subst₂ (λ (ns : List ℕ) (n : ℕ). Trail (tallyOn enabled regs address) (h .firstBus) (reverse ns) n) same is
+      (delivers .crosses-exactly f owns)
 
   pub planned-delivers : DeliversAsPlaced sp h fs enabled address (outcomeOf host enabled regs address)
   planned-delivers =
@@ -155,8 +163,11 @@ module _ {h : Host} {fs : List Function} (board : Board h fs) (planned : refusal
 
       to : (k count : ℕ) → outcomeOf host enabled regs address ≡ delivered k count → Owned k × (count ≡ length (aboveByParents fs k))
       to k count e =
-          let (f, owns, is, counted) = owner-of-delivered (sound-of-good good) enabled address k count e in
-          (subst Owned is (placed-of-owns f owns), counted ∙ count-agree f (owns .in-sheet) ∙ ap (λ (n : ℕ). length (aboveByParents fs n)) is)
+          let (f, owns, is, counted) = owner-of-delivered (sound-of-good good) enabled address k count e in (
+            subst Owned is (placed-of-owns f owns),
+            counted ∙ count-agree f (owns .in-sheet)
+                ∙ ap (λ (n : ℕ). length (aboveByParents fs n)) is,
+          )
 
       from : (k count : ℕ) → Owned k × (count ≡ length (aboveByParents fs k)) → outcomeOf host enabled regs address ≡ delivered k count
       from k count (o, e) = reached k o ∙ ap (delivered k) (sym e)

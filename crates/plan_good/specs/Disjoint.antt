@@ -15,7 +15,8 @@ use Rattle.plan_rule.specs.Placing.{placed}
 use Rattle.plan_rule.specs.Numbering.{busNumber, Numbered}
 use Rattle.plan_rule.specs.Siblings.{busOf, disjoint-by-number}
 use Rattle.lists.specs.Lists.{_∈_, Pairwise, keep}
-use Rattle.lists.specs.ListLaws.{all-intro, all-map-intro, pairwise-append, pairwise-flat, pairwise-map, pairwise-imp-members, all-elim, pairwise-members}
+use Rattle.lists.specs.ListLaws.{all-intro, all-map-intro, pairwise-append, pairwise-flat, pairwise-map, pairwise-imp-members, all-elim}
+use Rattle.lists.specs.ListLaws.{pairwise-members}
 use Rattle.lists.specs.KeepLaws.{keep-elim, pairwise-keep}
 use Rattle.walk.specs.Ranges.{Range, Apart}
 use Rattle.walk.specs.Registers.{Registers, Item, itemsOf, items, barItem, windowItem, openWindows}
@@ -25,7 +26,8 @@ use Rattle.plan_good.specs.Spaces.{same-space}
 use Rattle.plan_good.specs.Boards.{Board, memory-apart}
 use Rattle.plan_good.specs.Registers.{rangeOf, isBarOf, isWindowOf, planRows, planRegister, planRegisters}
 use Rattle.plan_good.specs.Rows.{placed-bus, numbers-rise}
-use Rattle.plan_good.specs.Items.{PieceOf, bar-of-is, window-of-is, ItemPiece, item-piece, bar-item-piece, window-item-piece, item-bus}
+use Rattle.plan_good.specs.Items.{PieceOf, bar-of-is, window-of-is, ItemPiece, item-piece, bar-item-piece, window-item-piece}
+use Rattle.plan_good.specs.Items.{item-bus}
 use Rattle.plan_good.specs.Kept.{AllKept}
 
 module _ (sp : Space) (h : Host) (fs : List Function) (board : Board h fs) (kept : AllKept h fs) where
@@ -60,7 +62,8 @@ module _ (sp : Space) (h : Host) (fs : List Function) (board : Board h fs) (kept
           let b = keep-elim test (placed h fs) n in
           let p = known x (a .1) in
           let q = known y (b .1) in
-          let same : x .piece .bus ≡ y .piece .bus = above (a .0) ∙ ap (parentOf fs) (p .owner-is ∙ sym (q .owner-is)) ∙ sym (above (b .0)) in
+          let same : x .piece .bus ≡ y .piece .bus = above (a .0) ∙ ap (parentOf fs) (p .owner-is ∙ sym (q .owner-is))
+          ∙ sym (above (b .0)) in
           c (ap (busNumber (h .firstBus) fs) same) (p .in-space) (q .in-space)
 
   module _ (devfn : ℕ → ℕ) where
@@ -94,8 +97,10 @@ module _ (sp : Space) (h : Host) (fs : List Function) (board : Board h fs) (kept
         pieces-apart m m p q
         (λ e. false≢true (sym (p .of-row .part-is) ∙ ap (λ (x : Placed). isWindow (x .piece .part)) e ∙ q .of-row .part-is)))))
       where
-        of-apart : (item : Range → Item) → ((r : Range) → item r .range ≡ r) → (rs : List Range) → Pairwise Apart rs → Pairwise ApartOnBus (map item rs)
-        of-apart item is rs apart = pairwise-map ApartOnBus item rs (pairwise-imp-members Apart _ rs (λ r s _ _ a e. rw (is r, is s) a) apart)
+        of-apart : (item : Range → Item) → ((r : Range) → item r .range ≡ r) → (rs : List Range) → Pairwise Apart rs
+            → Pairwise ApartOnBus (map item rs)
+        of-apart item is rs apart = pairwise-map ApartOnBus item rs
+            (pairwise-imp-members Apart _ rs (λ r s _ _ a e. rw (is r, is s) a) apart)
 
         opened : (b : Bool) (rs : List Range) → Pairwise Apart rs → Pairwise Apart (cond b rs [])
         opened true rs apart = apart
@@ -108,12 +113,14 @@ module _ (sp : Space) (h : Host) (fs : List Function) (board : Board h fs) (kept
         window-items = map (windowItem (register y)) (openWindows (register y))
 
         bars : Pairwise ApartOnBus bar-items
-        bars = of-apart (barItem (register y)) (λ r. refl) (register y .bars) (parts-apart (y .number) false (isBarOf sp (y .number)) (bar-of-is sp (y .number)))
+        bars = of-apart (barItem (register y)) (λ r. refl) (register y .bars)
+            (parts-apart (y .number) false (isBarOf sp (y .number)) (bar-of-is sp (y .number)))
 
         windows : Pairwise ApartOnBus window-items
         windows =
             of-apart (windowItem (register y)) (λ r. refl) (openWindows (register y))
-            (opened (y .bridge) (register y .windows) (parts-apart (y .number) true (isWindowOf sp (y .number)) (window-of-is sp (y .number))))
+            (opened (y .bridge) (register y .windows)
+            (parts-apart (y .number) true (isWindowOf sp (y .number)) (window-of-is sp (y .number))))
 
     -- Those of two records
     records-apart : (y z : Numbered) → y ∈ planRows h fs → z ∈ planRows h fs → y .number < z .number

@@ -1,5 +1,5 @@
--- P10's board over registers, and what the definitions make of it: one table under one claim. Its checks hold, so nothing here is said of no
--- board. Assumes nothing.
+-- P10's board over registers, and what the definitions make of it: one table under one claim. Its checks hold, so nothing here is said of
+-- no board. Assumes nothing.
 use mathlib.Core.Path.{_≡_, refl}
 use mathlib.Core.Bool.{Bool, not}
 use mathlib.Core.List.{List, [], _∷_, flatMap}
@@ -57,11 +57,17 @@ rows =
     ∷ []
 
 pub examples : All Holds rows
-unfolding keep any alignUp layoutEnd largestAlign barPieces windowPieces ownPieces pieces place placed bridges busNumber greatestBelow subordinateOf numberedFrom outOfPool refusalOf flatMap itemsOf items join tallyOn walkOver walkFrom planRegisters aboveWithin aboveByParents
+unfolding keep any alignUp layoutEnd largestAlign barPieces windowPieces ownPieces pieces place placed bridges busNumber greatestBelow
+    subordinateOf numberedFrom outOfPool refusalOf flatMap itemsOf items join tallyOn walkOver walkFrom planRegisters aboveWithin
+    aboveByParents
 examples = (refl, (refl, (refl, (refl, (refl, (refl, (refl, (refl, (refl, (refl, (refl, tt)))))))))))
 
 pub p10-board : Board p10 p10-functions
-p10-board = record { lawful = record { ordered = (refl, (refl, tt)); sized = (tt, ((((12, refl), ((26, refl), ((8, refl), tt)))), tt)) }; edges = edges }
+p10-board =
+    record {
+      lawful = record { ordered = (refl, (refl, tt)); sized = (tt, ((((12, refl), ((26, refl), ((8, refl), tt)))), tt)) };
+      edges = edges;
+    }
   where
     edges : HostEdges p10
     edges =

@@ -22,7 +22,8 @@ use Rattle.lists.specs.ListLaws.{mem-cond-elim, flat-elim, all-elim}
 use Rattle.lists.specs.KeepLaws.{keep-elim, keep-intro}
 use Rattle.walk.specs.Ranges.{Range}
 use Rattle.walk.specs.Registers.{Registers, nodes, Item, itemsOf, items, barItem, windowItem, openWindows, NumberedFrom}
-use Rattle.plan_good.specs.Registers.{rangeOf, isBarOf, isWindowOf, barsOf, windowsOf, planNode, planRows, planNodes, planRegister, planRegisters}
+use Rattle.plan_good.specs.Registers.{rangeOf, isBarOf, isWindowOf, barsOf, windowsOf, planNode, planRows, planNodes, planRegister}
+use Rattle.plan_good.specs.Registers.{planRegisters}
 use Rattle.plan_good.specs.Rows.{placed-bus}
 use Rattle.plan_good.specs.BusRanges.{row-of}
 
@@ -41,7 +42,8 @@ module _ (sp : Space) (k : ℕ) (x : Placed) where
       (eqb-true (x .piece .owner) k (outer .0), inner .0, inner .1)
 
   pub bar-of-is : isBarOf sp k x ≡ true → PieceOf sp k false x
-  bar-of-is e = let t = tests (not (isWindow (x .piece .part))) e in record { owner-is = t .0; in-space = t .1; part-is = is-false (isWindow (x .piece .part)) (t .2) }
+  bar-of-is e = let t = tests (not (isWindow (x .piece .part))) e in record
+      { owner-is = t .0; in-space = t .1; part-is = is-false (isWindow (x .piece .part)) (t .2) }
     where
       is-false : (b : Bool) → not b ≡ true → b ≡ false
       is-false true g = sym g
@@ -106,7 +108,8 @@ module _ (sp : Space) (h : Host) (fs : List Function) (devfn : ℕ → ℕ) wher
       subst (λ (f : Registers). f .bars ≡ barsOf sp (placed h fs) (f .node .number)) e refl
 
 -- An item of the row y's registers: the placed piece that it is, a window or a BAR of y
-pub record ItemPiece (sp : Space) (h : Host) (fs : List Function) (devfn : ℕ → ℕ) (y : Numbered) (is-window : Bool) (i : Item) : Type 0 where
+pub record ItemPiece (sp : Space) (h : Host) (fs : List Function) (devfn : ℕ → ℕ) (y : Numbered) (is-window : Bool) (i : Item)
+    : Type 0 where
   pub piece : Placed
   pub is-placed : piece ∈ placed h fs
   pub of-row : PieceOf sp (y .number) is-window piece
@@ -145,10 +148,12 @@ module _ (sp : Space) (h : Host) (fs : List Function) (devfn : ℕ → ℕ) wher
     pub item-piece : {i : Item} → i ∈ itemsOf register → (k : Bool) × ItemPiece sp h fs devfn y k i
     unfolding itemsOf
     item-piece m =
-        ⊎-elim (λ n. (false, bar-item-piece n)) (λ n. (true, window-item-piece n)) (List·Memᴰ·append-cases (map (barItem register) (register .bars)) m)
+        ⊎-elim (λ n. (false, bar-item-piece n)) (λ n. (true, window-item-piece n))
+        (List·Memᴰ·append-cases (map (barItem register) (register .bars)) m)
 
   -- Every item is one of some row's registers
-  pub items-elim : {i : Item} → i ∈ items (planRegisters sp h fs devfn) → (y : Numbered) × (y ∈ planRows h fs) × (i ∈ itemsOf (planRegister sp (placed h fs) devfn y))
+  pub items-elim : {i : Item} → i ∈ items (planRegisters sp h fs devfn) → (y : Numbered) × (y ∈ planRows h fs)
+      × (i ∈ itemsOf (planRegister sp (placed h fs) devfn y))
   unfolding items planRegisters
   items-elim {i} m =
       let (f, n, g) = flat-elim itemsOf _ m in

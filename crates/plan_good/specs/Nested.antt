@@ -27,7 +27,8 @@ use Rattle.plan_good.specs.Items.{windows-intro, ItemPiece, item-piece, 
 use Rattle.plan_good.specs.Kept.{AllKept, placed-in-pool, pool-open}
 
 module _ (sp : Space) (h : Host) (fs : List Function) (lawful : Lawful fs) (devfn : ℕ → ℕ) where
-  piece-in-pool : AllKept h fs → {y : Numbered} {k : Bool} {i : Item} → ItemPiece sp h fs devfn y k i → Some (Inside (i .range)) (planHost sp h .pools)
+  piece-in-pool : AllKept h fs → {y : Numbered} {k : Bool} {i : Item} → ItemPiece sp h fs devfn y k i
+      → Some (Inside (i .range)) (planHost sp h .pools)
   piece-in-pool kept p =
       let q = p .piece .piece .pool in
       let lies = placed-in-pool h fs lawful kept (p .is-placed) in
@@ -38,7 +39,8 @@ module _ (sp : Space) (h : Host) (fs : List Function) (lawful : Lawful fs) (devf
       some-of-member _ _ (Memᴰ·map (poolRange h) listed) (subst (λ (r : Range). Inside r (poolRange h q)) (sym (p .range-is)) inside)
 
   -- The record above a piece on a bridge's bus is that bridge
-  piece-below : {y b : Numbered} {k : Bool} {i : Item} → y ∈ planRows h fs → b ∈ planRows h fs → b .bridge ≡ true → (p : ItemPiece sp h fs devfn y k i)
+  piece-below : {y b : Numbered} {k : Bool} {i : Item} → y ∈ planRows h fs → b ∈ planRows h fs → b .bridge ≡ true
+      → (p : ItemPiece sp h fs devfn y k i)
       → i .owner .node .bus ≡ b .secondary → p .piece .piece .bus ≡ b .number
   piece-below {y} {b} m n is p e =
       let r = row-of (h .firstBus) fs lawful n in
@@ -49,7 +51,8 @@ module _ (sp : Space) (h : Host) (fs : List Function) (lawful : Lawful fs) (devf
 
   piece-in-window : {b : Numbered} → b ∈ planRows h fs → {y : Numbered} {k : Bool} {i : Item} → (p : ItemPiece sp h fs devfn y k i)
       → p .piece .piece .bus ≡ b .number → Some (Inside (i .range)) (windowsOf sp (placed h fs) (b .number))
-  piece-in-window {b} n {y} {k} {i} p below = ⊎-elim on-root held (all-elim _ (placed h fs) (well-placed h fs lawful .contained) (p .is-placed))
+  piece-in-window {b} n {y} {k} {i} p below = ⊎-elim on-root held
+      (all-elim _ (placed h fs) (well-placed h fs lawful .contained) (p .is-placed))
     where
       x : Placed
       x = p .piece

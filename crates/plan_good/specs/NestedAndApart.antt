@@ -1,5 +1,5 @@
--- Demand 3, "bus ranges, BARs and open windows lie within their parent's, and siblings never overlap", in document 01's words: the parent is the
--- bridge just above, or the host; siblings share a bus. Assumes nothing.
+-- Demand 3, "bus ranges, BARs and open windows lie within their parent's, and siblings never overlap", in document 01's words: the parent
+-- is the bridge just above, or the host; siblings share a bus. Assumes nothing.
 use mathlib.Core.Path.{_≡_, sym}
 use mathlib.Core.Logic.{_⊎_, inl, inr, ⊎-elim}
 use mathlib.Core.Bool.{true}
@@ -62,7 +62,8 @@ planned-nested-and-apart {h} {fs} board planned =
     record {
       bus-ranges-in-parent = all-intro _ (planRows h fs) buses-in;
       bars-and-windows-in-parent = all-intro _ (placed h fs) pieces-in;
-      bus-ranges-apart = pairwise-imp _ _ (λ x y before a b e. inl (before a b e)) (planRows h fs) (siblings-before (h .firstBus) fs (board .lawful));
+      bus-ranges-apart = pairwise-imp _ _ (λ x y before a b e. inl (before a b e)) (planRows h fs)
+          (siblings-before (h .firstBus) fs (board .lawful));
       bars-and-windows-apart =
           λ sp.
           pairwise-imp _ _
@@ -77,7 +78,12 @@ planned-nested-and-apart {h} {fs} board planned =
     buses-in : (x : Numbered) → x ∈ planRows h fs → x .bridge ≡ true → InHost h x ⊎ Some (InBridge x) (planRows h fs)
     buses-in x m is =
         ⊎-elim
-        (λ root. inl (record { parent-is = root .0; on-first-bus = root .1; within = buses-in-host h fs (board .lawful) (kept .buses) m is }))
+        (λ root. inl (record {
+          parent-is = root .0;
+          on-first-bus = root .1;
+          within = buses-in-host h fs (board .lawful)
+              (kept .buses) m is;
+        }))
         (λ p.
         inr (some-of-member _ (planRows h fs) (p .in-rows)
         (record {

@@ -1,5 +1,5 @@
--- Every planned board is good, in both spaces: what its registers say is nested and disjoint, told by bus numbers and register values alone.
--- Assumes nothing.
+-- Every planned board is good, in both spaces: what its registers say is nested and disjoint, told by bus numbers and register values
+-- alone. Assumes nothing.
 use mathlib.Core.Path.{_≡_}
 use mathlib.Core.List.{List}
 use Prim.Native.Nat.{ℕ}

@@ -1,5 +1,5 @@
--- The placed pieces of one record, in order: its BARs in slot order, then its windows, low before high. So the registers of a plan have their BARs
--- and windows in the order of the record's own. Assumes nothing.
+-- The placed pieces of one record, in order: its BARs in slot order, then its windows, low before high. So the registers of a plan have
+-- their BARs and windows in the order of the record's own. Assumes nothing.
 use mathlib.Core.Path.{_≡_, refl, sym, ap, ap₂, subst, _∙_}
 use mathlib.Core.Bool.{Bool, true, false, cond, not, _&&_, and-true, and-false}
 use mathlib.Core.List.{List, [], _∷_, _++_, map, append-nil, cons≢nil, head-eq-of-cons-eq, tail-eq-of-cons-eq}
@@ -56,7 +56,8 @@ module _ (m : ℕ) (f : Function) (fs : List Function) (h : Sized (f ∷ fs)) wh
       keep-append (isOwn k) (ownPieces m f rest) rest
       ∙ ap (_++ keep (isOwn k) rest)
       (keep-none (isOwn k) _
-      (all-imp _ _ (ownPieces m f rest) (own-pieces m f rest (h .0)) (λ p o. ne-eqb (p .owner) k (λ (e : p .owner ≡ k). omega (arith, o .owner-is)))))
+      (all-imp _ _ (ownPieces m f rest) (own-pieces m f rest (h .0))
+      (λ p o. ne-eqb (p .owner) k (λ (e : p .owner ≡ k). omega (arith, o .owner-is)))))
     where
       rest : List Piece
       rest = pieces (suc m) fs
@@ -132,7 +133,8 @@ module _ (sp : Space) (k b : ℕ) where
     windows-no-bar : keep (isBar sp) (cond t (windowPieces k b rest) []) ≡ []
     windows-no-bar =
         keep-none (isBar sp) ws
-        (all-imp _ (λ (p : Piece). isBar sp p ≡ false) ws (are-windows rest t) (λ p (e : p .part ≡ window). rw e (and-false (inSpace sp (p .pool)))))
+        (all-imp _ (λ (p : Piece). isBar sp p ≡ false) ws (are-windows rest t)
+        (λ p (e : p .part ≡ window). rw e (and-false (inSpace sp (p .pool)))))
 
     windows-keep : keep (isWindowIn sp) (cond t (windowPieces k b rest) [])
         ≡ keep (λ p. inSpace sp (p .pool)) (cond t (windowPieces k b rest) [])
@@ -173,7 +175,8 @@ module _ (sp : Space) (h : Host) (fs : List Function) (lawful : Lawful fs) (i : 
       ∙ ap₂ _++_ (bars-no-window sp (suc i) (f .parent) (f .bars)) (windows-keep sp (suc i) (f .parent) rest (f .bridge))
 
   -- So, where BAR j of the record starts at `start j`, its registers are its BARs of the space from there on, in slot order
-  pub bars-at : (start : ℕ → ℕ) → ((x : Placed) (j : ℕ) → x ∈ placed h fs → x .piece .owner ≡ suc i → x .piece .part ≡ bar j → x .start ≡ start j)
+  pub bars-at : (start : ℕ → ℕ) →
+      ((x : Placed) (j : ℕ) → x ∈ placed h fs → x .piece .owner ≡ suc i → x .piece .part ≡ bar j → x .start ≡ start j)
       → barsOf sp (placed h fs) (suc i) ≡ map (barRange start) (keep (λ x. inSpace sp (x .pool)) (f .bars))
   unfolding barPieces
   bars-at start starts = go (keep (isBarOf sp (suc i)) (placed h fs)) (keep (λ x. inSpace sp (x .pool)) (f .bars)) bars-of-record known

@@ -45,13 +45,16 @@ module _ (h : Host) (fs : List Function) where
 
   pool-past-iff : (q : Pool) → PoolPast h fs q ↔ PoolRunsOut h fs q
   pool-past-iff q = (
-    some-imp _ _ (λ x p. record { on-root-bus = p .root .bus; of-pool = p .root .pool; last-byte-above = omega (arith, p .beyond) }) (placed h fs),
-    some-imp _ _ (λ x r. record { root = record { bus = r .on-root-bus; pool = r .of-pool }; beyond = omega (arith, r .last-byte-above) }) (placed h fs),
+    some-imp _ _ (λ x p. record { on-root-bus = p .root .bus; of-pool = p .root .pool; last-byte-above = omega (arith, p .beyond) })
+        (placed h fs),
+    some-imp _ _ (λ x r. record { root = record { bus = r .on-root-bus; pool = r .of-pool }; beyond = omega (arith, r .last-byte-above) })
+        (placed h fs),
   )
 
   kept-iff-not : (q : Pool) → Kept h fs q ↔ (¬ PoolRunsOut h fs q)
   kept-iff-not q = (
-    λ k s. some-elim _ (placed h fs) (λ x g. omega (arith, g .1 .last-byte-above, g .0 (g .1 .on-root-bus) (g .1 .of-pool))) (some-and _ _ (placed h fs) k s),
+    λ k s. some-elim _ (placed h fs) (λ x g. omega (arith, g .1 .last-byte-above, g .0 (g .1 .on-root-bus) (g .1 .of-pool)))
+        (some-and _ _ (placed h fs) k s),
     λ n. kept-iff h fs q .0 (false-of-not (outOfPool h fs q) (λ e. n (pool-past-iff q .0 (out-of-pool-iff h fs q .0 e)))),
   )
 

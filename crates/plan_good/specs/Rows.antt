@@ -96,7 +96,8 @@ pub numbers-rise : (first : ℕ) (fs : List Function) → Pairwise (λ x y. x .n
 numbers-rise first fs = numbers-rise-from first fs 1 fs
 
 module _ (fs : List Function) (lawful : Lawful fs) where
-  pieces-bus-from : (i : ℕ) (gs : List Function) → drop i fs ≡ gs → Sized gs → All (λ p. p .bus ≡ parentOf fs (p .owner)) (pieces (suc i) gs)
+  pieces-bus-from : (i : ℕ) (gs : List Function) → drop i fs ≡ gs → Sized gs
+      → All (λ p. p .bus ≡ parentOf fs (p .owner)) (pieces (suc i) gs)
   unfolding pieces
   pieces-bus-from i [] e h = tt
   pieces-bus-from i (f ∷ gs) e h =

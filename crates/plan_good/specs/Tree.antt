@@ -32,7 +32,8 @@ first-on-root first (f ∷ fs) lawful devfn =
 
 inside-of-within : (devfn : ℕ → ℕ) (first last : ℕ) (x : Numbered) → x .bridge ≡ true → BusesWithin first last x
     → Inside (busRange (planNode devfn x)) (record { pool = buses; start = first; stop = suc last })
-inside-of-within devfn first last x is w = rw is (record { same-pool = refl; start-inside = w .from-first; stop-inside = omega (arith, w .to-last) })
+inside-of-within devfn first last x is w =
+    rw is (record { same-pool = refl; start-inside = w .from-first; stop-inside = omega (arith, w .to-last) })
 
 -- A later bridge has a greater secondary
 abbrev Later : Node → Node → Type 0
@@ -43,7 +44,8 @@ module _ (h : Host) (fs : List Function) (lawful : Lawful fs) (devfn : ℕ → �
   pub only-bridge-to : (bus : ℕ) {b : Numbered} → b ∈ planRows h fs → b .bridge ≡ true → b .secondary ≡ bus
       → bridgesTo bus (planNodes h fs devfn) ≡ planNode devfn b ∷ []
   only-bridge-to bus {b} m is leads =
-      keep-only test clash (planNodes h fs devfn) later (Memᴰ·map (planNode devfn) m) (and-eq-true-iff _ _ .1 (is, eq-eqb _ bus (rw is leads)))
+      keep-only test clash (planNodes h fs devfn) later (Memᴰ·map (planNode devfn) m)
+      (and-eq-true-iff _ _ .1 (is, eq-eqb _ bus (rw is leads)))
     where
       later : Pairwise Later (planNodes h fs devfn)
       later =
@@ -87,7 +89,12 @@ module _ (h : Host) (fs : List Function) (lawful : Lawful fs) (devfn : ℕ → �
         rises : (x : Numbered) → x ∈ planRows h fs → x .bridge ≡ true → NodeRises (planNode devfn x)
         rises x m is =
             let r = all-elim _ (planRows h fs) (well-numbered (h .firstBus) fs lawful .ranged) m is in
-            rw is (record { own-below = r .bus-first; range-open = r .not-empty; last-is-byte = omega (arith, r .in-host, edges .last-bus-is-byte) })
+            rw is (record {
+              own-below = r .bus-first;
+              range-open = r .not-empty;
+              last-is-byte
+                  = omega (arith, r .in-host, edges .last-bus-is-byte);
+            })
 
     pub planned-tree : (sp : Space) → Tree (planHost sp h) (planNodes h fs devfn)
     planned-tree sp =
@@ -97,6 +104,7 @@ module _ (h : Host) (fs : List Function) (lawful : Lawful fs) (devfn : ℕ → �
           in-host =
               all-map-intro _ (planNode devfn) (planRows h fs)
               (λ x m is. inside-of-within devfn (h .firstBus) (h .lastBus) x is (buses-in-host h fs lawful kept m is));
-          in-parent = all-map-intro _ (planNode devfn) (planRows h fs) (λ b n is. all-map-intro _ (planNode devfn) (planRows h fs) (in-parent b n is));
+          in-parent = all-map-intro _ (planNode devfn) (planRows h fs)
+              (λ b n is. all-map-intro _ (planNode devfn) (planRows h fs) (in-parent b n is));
           siblings-apart = siblings-apart;
         }

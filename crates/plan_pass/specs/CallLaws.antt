@@ -12,15 +12,18 @@ use Rattle.plan_function.specs.declared.BarsPlaced.{BarsPlaced}
 use Rattle.plan_function.specs.declared.WindowsPlaced.{WindowsPlaced}
 use Rattle.plan_function.specs.Kept.{endsOf, barsPlaced, windowsPlaced}
 use Rattle.sheet_bytes.specs.declared.Registers.{Registers}
-use Rattle.plan_pass.specs.Step.{cursorsIn, endsList, extentsIn, barsIn, windowsIn, leafWith, leafRegisters, leafNext, bridgeWith, bridgeRegisters, bridgeNext}
+use Rattle.plan_pass.specs.Step.{cursorsIn, endsList, extentsIn, barsIn, windowsIn, leafWith, leafRegisters, leafNext, bridgeWith}
+use Rattle.plan_pass.specs.Step.{bridgeRegisters, bridgeNext}
 
 pub bars-in : {r : BarsPlaced} {n : ℕ} {k : Cursors} (c : List ℕ) (f : Function) → n ≡ slotCount f → k ≡ cursorsIn c (f .parent)
     → r ≡ barsPlaced (f .readbacks) n (endsOf k) → r ≡ barsIn c f
 bars-in c f n-is k-is e = e ∙ ap₂ (λ (n : ℕ) (k : Cursors). barsPlaced (f .readbacks) n (endsOf k)) n-is k-is
 
-pub windows-in : {r : WindowsPlaced} {x : Extents} {k : Cursors} {j : ℕ} (memo c : List ℕ) (i : ℕ) (after : Cursors) → j ≡ suc i → x ≡ extentsIn (laidAt memo i)
+pub windows-in : {r : WindowsPlaced} {x : Extents} {k : Cursors} {j : ℕ} (memo c : List ℕ) (i : ℕ) (after : Cursors) → j ≡ suc i → x
+    ≡ extentsIn (laidAt memo i)
     → k ≡ cursorsIn c j → r ≡ windowsPlaced x after k → r ≡ windowsPlaced (extentsIn (laidAt memo i)) after (cursorsIn c (suc i))
-windows-in memo c i after j-is x-is k-is e = e ∙ ap₂ (λ (x : Extents) (k : Cursors). windowsPlaced x after k) x-is (k-is ∙ ap (cursorsIn c) j-is)
+windows-in memo c i after j-is x-is k-is e =
+    e ∙ ap₂ (λ (x : Extents) (k : Cursors). windowsPlaced x after k) x-is (k-is ∙ ap (cursorsIn c) j-is)
 
 -- ## A function that is no bridge
 
@@ -48,7 +51,8 @@ module _ (memo c : List ℕ) (i : ℕ) (f : Function) {bars : BarsPlaced} {w : W
       g ∙ ap₂ (λ (l : ℕ) (x : WindowsPlaced). bridgeWith first counts i f l (bars .values) x) l-is windows-are
       ∙ ap (λ (x : BarsPlaced). bridgeWith first counts i f (laidAt memo i .next) (x .values) (windowsIn memo c i f)) b
 
-  pub bridge-next-join : {c₁ c₂ : List ℕ} {k : ℕ} → k ≡ suc i → c₁ ≡ sets c (3 * f .parent) (endsList (w .cursors)) → c₂ ≡ sets c₁ (3 * k) (endsList (w .below))
+  pub bridge-next-join : {c₁ c₂ : List ℕ} {k : ℕ} → k ≡ suc i → c₁ ≡ sets c (3 * f .parent) (endsList (w .cursors)) → c₂
+      ≡ sets c₁ (3 * k) (endsList (w .below))
       → c₂ ≡ bridgeNext memo c i f
   unfolding bridgeNext
   bridge-next-join k-is e₁ e₂ =

@@ -38,7 +38,8 @@ withLast h last = record { firstBus = h .firstBus; lastBus = h .lastBus; base = 
 abbrev pub Holding : List ℕ → ℕ → List ℕ → Type 0
 Holding b i c = Agrees (toHost (hostOf b)) (toPlacing (functionsOf b)) (length (functionsOf b)) i (endsIn c)
 
--- an accepted board on which nothing runs out, the arrays that count and size it, every cursor at its pool's base, and the sheet's version byte written
+-- an accepted board on which nothing runs out, the arrays that count and size it, every cursor at its pool's base, and the sheet's version
+-- byte written
 pub record Ready (b : List ℕ) (first : ℕ) (counts memo c sheet : List ℕ) : Type 0 where
   pub accepted : boardNumber b ≡ 0
   pub first-bus : first ≡ hostOf b .«first_bus»

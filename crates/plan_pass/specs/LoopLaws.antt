@@ -1,5 +1,5 @@
--- The loop over a board's records, turn by turn: it starts at the first record, each record written is the plan's, and at the end the sheet is the plan's.
--- Assumes nothing.
+-- The loop over a board's records, turn by turn: it starts at the first record, each record written is the plan's, and at the end the sheet
+-- is the plan's. Assumes nothing.
 use mathlib.Core.Path.{_≡_, refl, sym, ap, subst, _∙_}
 use mathlib.Core.Logic.{⊎-elim}
 use mathlib.Core.Bool.{Bool, true, false, cond}
@@ -40,8 +40,10 @@ use Rattle.sheet_bytes.specs.declared.Registers.{Registers}
 use Rattle.sheet_bytes.specs.Layout.{Planned, plannedOf, recordBytes, sheetBytes}
 use Rattle.sheet_bytes.specs.LayoutLaws.{sets-sheetBytes-snoc}
 use Rattle.plan_answer.specs.Plan.{entryFor, plannedFrom, planOf}
-use Rattle.plan_pass.specs.Step.{endsList, extentsIn, barsIn, leafRegisters, bridgeRegisters, registersOf, cursorsNext, Placeable, Bridged}
-use Rattle.plan_pass.specs.StepLaws.{endsIn, ends-stored, ends-other, RecordAt, record-planned, record-agrees, record-placeable, record-bridged}
+use Rattle.plan_pass.specs.Step.{endsList, extentsIn, barsIn, leafRegisters, bridgeRegisters, registersOf, cursorsNext, Placeable}
+use Rattle.plan_pass.specs.Step.{Bridged}
+use Rattle.plan_pass.specs.StepLaws.{endsIn, ends-stored, ends-other, RecordAt, record-planned, record-agrees, record-placeable}
+use Rattle.plan_pass.specs.StepLaws.{record-bridged}
 use Rattle.plan_pass.specs.Loop.{mostBuses, planOn, withLast, Holding, Ready, Standing, basesFor, Filled, Placing}
 
 -- ## The plan, record by record
@@ -61,7 +63,8 @@ module _ (first : ℕ) (ps : List placing.Function) (xs : List Placed) where
   planned-snoc k zero (g ∷ fs) f e = let h : g ≡ f = head-eq-of-cons-eq e in rw (h, add-zero k)
   planned-snoc k (suc i) (g ∷ fs) f e =
       let s : k + suc i ≡ suc k + i = omega arith in
-      rw s (ap (λ (l : List Planned). record { entry = entryFor first ps xs k g; command = g .command } ∷ l) (planned-snoc (suc k) i fs f e))
+      rw s (ap (λ (l : List Planned). record { entry = entryFor first ps xs k g; command = g .command } ∷ l)
+      (planned-snoc (suc k) i fs f e))
 
 length-plan : (b : List ℕ) → length (planOn b) ≡ length (functionsOf b)
 unfolding planOf
@@ -70,11 +73,15 @@ length-plan b = length-planned _ _ _ 1 (functionsOf b)
 plan-snoc : (b : List ℕ) (first i : ℕ) (f : Function) → first ≡ hostOf b .«first_bus» → RecordAt (functionsOf b) i f
     → take (suc i) (planOn b)
     ≡ take i (planOn b)
-    ++ (record { entry = entryFor first (toPlacing (functionsOf b)) (placed (toHost (hostOf b)) (toPlacing (functionsOf b))) (suc i) f; command = f .command } ∷ [])
+    ++ (record {
+      entry = entryFor first (toPlacing (functionsOf b)) (placed (toHost (hostOf b)) (toPlacing (functionsOf b))) (suc i) f;
+      command = f .command;
+    } ∷ [])
 unfolding planOf
 plan-snoc b first i f e at =
     let s : 1 + i ≡ suc i = omega arith in
-    rw e (rw s at (planned-snoc (hostOf b .«first_bus») (toPlacing (functionsOf b)) (placed (toHost (hostOf b)) (toPlacing (functionsOf b))) 1 i (functionsOf b) f at))
+    rw e (rw s at (planned-snoc (hostOf b .«first_bus») (toPlacing (functionsOf b))
+    (placed (toHost (hostOf b)) (toPlacing (functionsOf b))) 1 i (functionsOf b) f at))
 
 -- ## An I/O window's registers are bytes
 
@@ -110,7 +117,8 @@ io-bytes first counts memo c i f r e = rw e (go (isBridge f))
 rest-step : (fs : List Function) (i : ℕ) (f : Function) (r : List Function) → drop i fs ≡ f ∷ r → drop (suc i) fs ≡ r
 rest-step fs i f r e = ap (λ (k : ℕ). drop k fs) (sym (add-one i)) ∙ sym (drop-drop 1 i fs) ∙ ap (drop 1) e
 
-pub standing-start : (b : List ℕ) {first : ℕ} {counts memo c sheet : List ℕ} → Ready b first counts memo c sheet → Standing b c sheet c sheet 33 0
+pub standing-start : (b : List ℕ) {first : ℕ} {counts memo c sheet : List ℕ} → Ready b first counts memo c sheet
+    → Standing b c sheet c sheet 33 0
 standing-start b r =
     let a = accepted-of-zero b (r .accepted) in
     record {
@@ -177,10 +185,12 @@ module _ {b : List ℕ} {first : ℕ} {counts memo c₀ sheet₀ c sheet : List 
           holding =
               subst (λ (l : List ℕ). Holding b (suc i) l) (sym next)
               (record-agrees (r .prepared) (toHost (hostOf b)) c i here record-here inside (s .holding) room-here);
-          sheet-length = ap length wrote ∙ length-sets sheet (sheetLength i) (recordBytes (plannedOf (registersOf first counts memo c i here))) ∙ s .sheet-length;
+          sheet-length = ap length wrote ∙ length-sets sheet (sheetLength i)
+              (recordBytes (plannedOf (registersOf first counts memo c i here))) ∙ s .sheet-length;
           written =
               sets-sheetBytes-snoc sheet₀ (take i (planOn b)) (plannedOf (registersOf first counts memo c i here)) (s .written)
-              (wrote ∙ ap (λ (k : ℕ). sets sheet (sheetLength k) (recordBytes (plannedOf (registersOf first counts memo c i here)))) (sym so-far))
+              (wrote ∙ ap (λ (k : ℕ). sets sheet (sheetLength k) (recordBytes (plannedOf (registersOf first counts memo c i here))))
+              (sym so-far))
               ∙ ap (λ (p : Planned). sets sheet₀ 0 (sheetBytes (take i (planOn b) ++ p ∷ [])))
               planned-here
               ∙ ap (λ (l : List Planned). sets sheet₀ 0 (sheetBytes l)) (sym (plan-snoc b first i here (r .first-bus) record-here));
@@ -203,7 +213,8 @@ module _ {b : List ℕ} {first : ℕ} {counts memo c₀ sheet₀ c sheet : List 
 
 -- ## The whole pass
 
-pub filled-next : (c c' : List ℕ) (base : Cursors) (n : ℕ) → Filled base n c → 3 * n + 3 ≤ length c → c' ≡ sets c (3 * n) (endsList base) → Filled base (suc n) c'
+pub filled-next : (c c' : List ℕ) (base : Cursors) (n : ℕ) → Filled base n c → 3 * n + 3 ≤ length c → c' ≡ sets c (3 * n) (endsList base)
+    → Filled base (suc n) c'
 filled-next c c' base n f room e b l q =
     ap (λ (x : List ℕ). endsIn x b q) e ∙ ⊎-elim here (λ ne. ends-other c n base b ne q ∙ f b (omega arith) q) (eq-or-ne b n)
   where
@@ -225,7 +236,8 @@ length-functions : (ls : List (List ℕ)) → length (map functionOfPart ls) ≡
 length-functions [] = refl
 length-functions (p ∷ ls) = ap suc (length-functions ls)
 
-pub ready-of-placing : {b : List ℕ} {h : Host} {counts memo sheet : List ℕ} (c : List ℕ) (base : Cursors) → Placing b h counts memo sheet → base ≡ basesFor h
+pub ready-of-placing : {b : List ℕ} {h : Host} {counts memo sheet : List ℕ} (c : List ℕ) (base : Cursors) → Placing b h counts memo sheet
+    → base ≡ basesFor h
     → Filled base mostBuses c → length c ≡ 3 * mostBuses → Ready b (h .«first_bus») counts memo c (set sheet 0 1)
 ready-of-placing {b} {h} {counts} {memo} {sheet} c base p base-is filled long =
     record {
@@ -235,13 +247,15 @@ ready-of-placing {b} {h} {counts} {memo} {sheet} c base p base-is filled long =
       last = p .last;
       room = p .room;
       cursors-room = omega (arith, few, long);
-      bases = agrees-start (toHost (hostOf b)) (toPlacing (functionsOf b)) (length (functionsOf b)) (endsIn c) (λ k l q. filled k (omega (arith, few)) q ∙ each q);
+      bases = agrees-start (toHost (hostOf b)) (toPlacing (functionsOf b)) (length (functionsOf b)) (endsIn c)
+          (λ k l q. filled k (omega (arith, few)) q ∙ each q);
       sheet-room = omega (arith, p .sheet-room, length-set sheet 0 1);
       version = version-again sheet;
     }
   where
     few : length (functionsOf b) ≤ mostFunctions
-    few = let a = accepted-of-zero b (p .accepted) in omega (arith, ap length (a .functions-read), length-functions (partsFrom b 33), a .few)
+    few = let a = accepted-of-zero b
+        (p .accepted) in omega (arith, ap length (a .functions-read), length-functions (partsFrom b 33), a .few)
 
     same : base ≡ basesFor (hostOf b)
     same = base-is ∙ ap basesFor (p .host-read)

@@ -1,5 +1,5 @@
--- One record of the placing pass: its registers and the cursors after it, from the cursors of every bus (three numbers each, at 3 * b), the bridges counted
--- so far and what sizing stored. Assumes nothing.
+-- One record of the placing pass: its registers and the cursors after it, from the cursors of every bus (three numbers each, at 3 * b), the
+-- bridges counted so far and what sizing stored. Assumes nothing.
 use mathlib.Core.Path.{_≡_}
 use Prim.Native.Nat.{ℕ, suc, _+_, _*_, _≤_, _<_, max}
 use mathlib.Core.Bool.{false, cond}

@@ -1,5 +1,5 @@
--- One record of the placing pass is the plan's: from arrays that hold the cursors before it, its registers are those planned, and the arrays after it hold
--- the cursors before the next. Assumes nothing.
+-- One record of the placing pass is the plan's: from arrays that hold the cursors before it, its registers are those planned, and the
+-- arrays after it hold the cursors before the next. Assumes nothing.
 use mathlib.Core.Path.{_≡_, refl, sym, ap, _∙_}
 use mathlib.Core.Logic.{⊎-elim}
 use mathlib.Core.Bool.{Bool, true, false, true≢false, cond}
@@ -43,21 +43,24 @@ use Rattle.plan_function.specs.JoinLaws.{Room, insideOf, parent-lt}
 use Rattle.plan_function.specs.LoopLaws.{Agrees, values-planned, window-planned, agrees-leaf, agrees-bridge, align-power}
 use Rattle.sheet_bytes.specs.Layout.{plannedOf}
 use Rattle.plan_answer.specs.Plan.{slotsOf, entryFor}
-use Rattle.plan_pass.specs.Step.{cursorsIn, endsList, extentsIn, busIn, barsIn, windowsIn, leafRegisters, bridgeRegisters, registersOf, leafNext, bridgeNext, cursorsNext, Placeable, Bridged}
+use Rattle.plan_pass.specs.Step.{cursorsIn, endsList, extentsIn, busIn, barsIn, windowsIn, leafRegisters, bridgeRegisters}
+use Rattle.plan_pass.specs.Step.{registersOf, leafNext, bridgeNext, cursorsNext, Placeable, Bridged}
 
 -- ## The cursors' array as a function of bus and pool
 
 abbrev pub endsIn : List ℕ → ℕ → Ends
 endsIn c b = endsOf (cursorsIn c b)
 
-pub ends-stored : (c : List ℕ) (b : ℕ) (x : Cursors) → 3 * b + 3 ≤ length c → (q : Pool) → endsIn (sets c (3 * b) (endsList x)) b q ≡ endsOf x q
+pub ends-stored : (c : List ℕ) (b : ℕ) (x : Cursors) → 3 * b + 3 ≤ length c → (q : Pool) → endsIn (sets c (3 * b) (endsList x)) b q
+    ≡ endsOf x q
 ends-stored c b x h Low =
     ap (λ (k : ℕ). getD (sets c (3 * b) (endsList x)) k 0) (sym (add-zero (3 * b)))
     ∙ getD-sets-at c (3 * b) (endsList x) 0 0 (omega arith) (omega arith)
 ends-stored c b x h High = getD-sets-at c (3 * b) (endsList x) 1 0 (omega arith) (omega arith)
 ends-stored c b x h Io = getD-sets-at c (3 * b) (endsList x) 2 0 (omega arith) (omega arith)
 
-pub ends-other : (c : List ℕ) (k : ℕ) (x : Cursors) (b : ℕ) → (b ≡ k → ⊥) → (q : Pool) → endsIn (sets c (3 * k) (endsList x)) b q ≡ endsIn c b q
+pub ends-other : (c : List ℕ) (k : ℕ) (x : Cursors) (b : ℕ) → (b ≡ k → ⊥) → (q : Pool) → endsIn (sets c (3 * k) (endsList x)) b q
+    ≡ endsIn c b q
 ends-other c k x b ne = each
   where
     apart : (r : ℕ) → r < 3 → getD (sets c (3 * k) (endsList x)) (3 * b + r) 0 ≡ getD c (3 * b + r) 0
@@ -99,15 +102,18 @@ length-valuesAt (r ∷ []) rs starts good =
     ap length (append-nil (registersAt (narrowSlot r) (getD rs 0 0) (getD starts 0 0)))
     ∙ length-one (narrowSlot r) (getD rs 0 0) (getD starts 0 0) (starts-narrow r) (narrow-takes-one r)
 length-valuesAt (r ∷ u ∷ us) rs starts good =
-    go (isWide r) good (length-valuesAt us (drop 1 (drop 1 rs)) (drop 1 (drop 1 starts))) (length-valuesAt (u ∷ us) (drop 1 rs) (drop 1 starts))
+    go (isWide r) good (length-valuesAt us (drop 1 (drop 1 rs)) (drop 1 (drop 1 starts)))
+    (length-valuesAt (u ∷ us) (drop 1 rs) (drop 1 starts))
   where
     go : (b : Bool) → anyBad (cond b (wideSlot r u) (narrowSlot r) ∷ cond b (Upper ∷ slots us) (slots (u ∷ us))) ≡ false
         → (anyBad (slots us) ≡ false → length (valuesAt (slots us) (drop 1 (drop 1 rs)) (drop 1 (drop 1 starts))) ≡ length us)
         → (anyBad (slots (u ∷ us)) ≡ false → length (valuesAt (slots (u ∷ us)) (drop 1 rs) (drop 1 starts)) ≡ suc (length us))
-        → length (valuesAt (cond b (wideSlot r u) (narrowSlot r) ∷ cond b (Upper ∷ slots us) (slots (u ∷ us))) rs starts) ≡ suc (suc (length us))
+        → length (valuesAt (cond b (wideSlot r u) (narrowSlot r) ∷ cond b (Upper ∷ slots us) (slots (u ∷ us))) rs starts)
+        ≡ suc (suc (length us))
     go true g p q =
         let good = false-of-or (isBad (wideSlot r u)) (anyBad (slots us)) g in
-        length-append (registersAt (wideSlot r u) (getD rs 0 0) (getD starts 0 0)) (valuesAt (slots us) (drop 1 (drop 1 rs)) (drop 1 (drop 1 starts)))
+        length-append (registersAt (wideSlot r u) (getD rs 0 0) (getD starts 0 0))
+        (valuesAt (slots us) (drop 1 (drop 1 rs)) (drop 1 (drop 1 starts)))
         ∙ omega (arith, length-two (wideSlot r u) (getD rs 0 0) (getD starts 0 0) (wide-takes-next r u (good .0)), p (good .1))
     go false g p q =
         let good = false-of-or (isBad (narrowSlot r)) (anyBad (slots (u ∷ us))) g in
@@ -118,7 +124,8 @@ length-map : (vs : List ℕ) → length (map word vs) ≡ length vs
 length-map [] = refl
 length-map (v ∷ vs) = ap suc (length-map vs)
 
-pub length-keptValues : (set : List ℕ) (m : ℕ) (e : Ends) → m ≤ length set → anyBad (slots (take m set)) ≡ false → length (keptValues set m e) ≡ m
+pub length-keptValues : (set : List ℕ) (m : ℕ) (e : Ends) → m ≤ length set → anyBad (slots (take m set)) ≡ false
+    → length (keptValues set m e) ≡ m
 unfolding keptValues
 length-keptValues set m e h good =
     let starts = map cap (barStarts e (slots (take m set))) in
@@ -136,7 +143,8 @@ RecordAt fs i f = drop i fs ≡ f ∷ drop (suc i) fs
 
 pub is-at-of-record : (fs : List Function) (i : ℕ) (f : Function) → RecordAt fs i f → IsAt (toPlacing fs) i (toFunction f)
 is-at-of-record fs i f e =
-    map-drop toFunction i fs ∙ ap (map toFunction) e ∙ ap (λ (l : List placing.Function). toFunction f ∷ l) (sym (map-drop toFunction (suc i) fs))
+    map-drop toFunction i fs ∙ ap (map toFunction) e
+    ∙ ap (λ (l : List placing.Function). toFunction f ∷ l) (sym (map-drop toFunction (suc i) fs))
 
 length-placing : (fs : List Function) → length (toPlacing fs) ≡ length fs
 length-placing [] = refl
@@ -163,7 +171,8 @@ pub record Prepared (first : ℕ) (fs : List Function) (counts memo : List ℕ) 
   pub memo-room : 8 * length fs ≤ length memo
   pub stored : (i : ℕ) (f : Function) → RecordAt fs i f → isBridge f ≡ true → laidAt memo i ≡ below (toPlacing fs) i
 
-module _ {first : ℕ} {fs : List Function} {counts memo : List ℕ} (prepared : Prepared first fs counts memo) (h : Host) (c : List ℕ) (i : ℕ) (f : Function)
+module _ {first : ℕ} {fs : List Function} {counts memo : List ℕ} (prepared : Prepared first fs counts memo) (h : Host) (c : List ℕ)
+    (i : ℕ) (f : Function)
     (at : RecordAt fs i f) (inside : i < length fs) (agrees : Agrees h (toPlacing fs) (length fs) i (endsIn c)) where
   abbrev ps : List placing.Function
   ps = toPlacing fs
@@ -182,8 +191,10 @@ module _ {first : ℕ} {fs : List Function} {counts memo : List ℕ} (prepared :
   values-are : Room h ps → take (slotCount f) (barsIn c f .values) ≡ valuesFrom (suc i) 0 (placed h ps) (slotsOf f) (f .readbacks)
   values-are room =
       take-at (keptValues (f .readbacks) (slotCount f) (endsIn c (f .parent))) (replicate (6 - slotCount f) 0) (slotCount f)
-      (length-keptValues (f .readbacks) (slotCount f) (endsIn c (f .parent)) (omega (arith, slot-count-le (isBridge f), prepared .six i f at)) (prepared .readable i f at))
-      ∙ values-planned h ps (prepared .lawful) i (toFunction f) is-at (f .readbacks) (slotCount f) refl (length fs) (endsIn c) agrees inside room
+      (length-keptValues (f .readbacks) (slotCount f) (endsIn c (f .parent))
+      (omega (arith, slot-count-le (isBridge f), prepared .six i f at)) (prepared .readable i f at))
+      ∙ values-planned h ps (prepared .lawful) i (toFunction f) is-at (f .readbacks) (slotCount f) refl (length fs) (endsIn c) agrees
+      inside room
 
   after-bars : (q : Pool) → endsOf (barsIn c f .cursors) q ≡ cap (afterBars (endsIn c (f .parent)) (slotsOf f) q)
   after-bars q = ap (λ (e : Ends). e q) (ends-kept (afterBars (endsIn c (f .parent)) (slotsOf f)))
@@ -233,14 +244,20 @@ module _ {first : ℕ} {fs : List Function} {counts memo : List ℕ} (prepared :
     window-is : Room h ps → (q : Pool)
         → keptWindow q (extentIn (extentsIn (laidAt memo i)) q) (endsOf (barsIn c f .cursors) q) ≡ windowFor (suc i) q (placed h ps)
     window-is room =
-        window-planned h ps (prepared .lawful) i (toFunction f) is-at (f .readbacks) (slotCount f) refl (length fs) (endsIn c) agrees inside bridge
+        window-planned h ps (prepared .lawful) i (toFunction f) is-at (f .readbacks) (slotCount f) refl (length fs) (endsIn c) agrees
+        inside bridge
         (extentIn (extentsIn (laidAt memo i))) inner-is (endsOf (barsIn c f .cursors)) after-bars room
 
     next-is : laidAt memo i .next ≡ busLaid ps (suc i) (laidFrom (suc i)) .next
     next-is = ap (λ (l : Laid). l .next) (prepared .stored i f at bridge)
 
     pub next-fits : laidAt memo i .next ≤ length fs
-    next-fits = omega (arith, next-is, next-le ps (prepared .lawful) (suc i) (laidFrom (suc i)) (omega (arith, length-placing fs)), length-placing fs)
+    next-fits = omega (
+      arith,
+      next-is,
+      next-le ps (prepared .lawful) (suc i) (laidFrom (suc i)) (omega (arith, length-placing fs)),
+      length-placing fs,
+    )
 
     last-is : busIn first counts (laidAt memo i .next) ≡ subordinateOf first ps (suc i)
     last-is =
@@ -248,7 +265,8 @@ module _ {first : ℕ} {fs : List Function} {counts memo : List ℕ} (prepared :
         ∙ sym (subordinate-laid first ps (prepared .lawful) i (toFunction f) is-at bridge)
 
     pub bridge-planned : Room h ps
-        → plannedOf (bridgeRegisters first counts memo c i f) ≡ record { entry = entryFor first ps (placed h ps) (suc i) f; command = f .command }
+        → plannedOf (bridgeRegisters first counts memo c i f)
+        ≡ record { entry = entryFor first ps (placed h ps) (suc i) f; command = f .command }
     unfolding plannedOf bridgeRegisters
     bridge-planned room =
         let values = values-are room in
@@ -274,7 +292,8 @@ module _ {first : ℕ} {fs : List Function} {counts memo : List ℕ} (prepared :
     pub bridge-agrees : 3 * suc (length fs) ≤ length c → Agrees h ps (length fs) (suc i) (endsIn (bridgeNext memo c i f))
     unfolding bridgeNext
     bridge-agrees room =
-        agrees-bridge h ps (prepared .lawful) i (toFunction f) is-at (f .readbacks) (slotCount f) refl (length fs) (endsIn c) agrees inside bridge
+        agrees-bridge h ps (prepared .lawful) i (toFunction f) is-at (f .readbacks) (slotCount f) refl (length fs) (endsIn c) agrees
+        inside bridge
         (extentIn (extentsIn (laidAt memo i))) inner-is (endsOf (barsIn c f .cursors)) after-bars
         (endsIn (sets (sets c (3 * f .parent) (endsList own)) (3 * suc i) (endsList under)))
         (λ q.
@@ -283,7 +302,9 @@ module _ {first : ℕ} {fs : List Function} {counts memo : List ℕ} (prepared :
         ∙ ap (λ (e : Ends). e q) (ends-kept (λ p. afterWindow p (extentIn (extentsIn (laidAt memo i)) p) (endsOf (barsIn c f .cursors) p))))
         (λ q.
         ends-stored (sets c (3 * f .parent) (endsList own)) (suc i) under (omega (arith, length-sets c (3 * f .parent) (endsList own))) q
-        ∙ ap (λ (e : Ends). e q) (ends-kept (λ p. belowWindow p (extentIn (extentsIn (laidAt memo i)) p) (endsOf (barsIn c f .cursors) p) (endsIn c (suc i) p))))
+        ∙ ap (λ (e : Ends). e q)
+        (ends-kept (λ p. belowWindow p (extentIn (extentsIn (laidAt memo i)) p) (endsOf (barsIn c f .cursors) p)
+        (endsIn c (suc i) p))))
         (λ b l np nk q. ends-other (sets c (3 * f .parent) (endsList own)) (suc i) under b nk q ∙ ends-other c (f .parent) own b np q)
       where
         own : Cursors
@@ -334,6 +355,7 @@ module _ {first : ℕ} {fs : List Function} {counts memo : List ℕ} (prepared :
           last-counted = omega (arith, next-fits e, prepared .counts-room);
           last-numbered = bus-lt (laidAt memo i .next) (next-fits e);
           aligned =
-              align-power h ps (prepared .lawful) i (toFunction f) is-at (f .readbacks) (slotCount f) refl (length fs) (endsIn c) agrees inside e
+              align-power h ps (prepared .lawful) i (toFunction f) is-at (f .readbacks) (slotCount f) refl (length fs) (endsIn c)
+              agrees inside e
               (extentIn (extentsIn (laidAt memo i))) (inner-is e);
         }

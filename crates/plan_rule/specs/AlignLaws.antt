@@ -3,8 +3,10 @@ use mathlib.Core.Path.{_≡_, sym, ap, _∙_}
 use mathlib.Core.Logic.{⊎-elim}
 use Prim.Native.Nat.{ℕ, suc, _+_, _-_, _*_, _/_, _%_, _^_, _≤_, _<_, max}
 use native.Mathlib.Omega.{arith}
-use native.Mathlib.Nat.{div-add-mod', mod-lt, mod-eq-zero-of-dvd, dvd-of-mod-eq-zero, dvd-trans, mul-mod-left, mul-mod-right, zero-mod, add-mod}
-use native.Mathlib.Nat.{mul-add-div-right, add-mul, le-antisymm, lt-of-mul-lt-mul-right, le-of-dvd, mul-le-mul-right, max-eq-left, max-eq-right, lt-of-not-le, not-le-of-lt}
+use native.Mathlib.Nat.{div-add-mod', mod-lt, mod-eq-zero-of-dvd, dvd-of-mod-eq-zero, dvd-trans, mul-mod-left, mul-mod-right, zero-mod}
+use native.Mathlib.Nat.{add-mod}
+use native.Mathlib.Nat.{mul-add-div-right, add-mul, le-antisymm, lt-of-mul-lt-mul-right, le-of-dvd, mul-le-mul-right, max-eq-left}
+use native.Mathlib.Nat.{max-eq-right, lt-of-not-le, not-le-of-lt}
 use lib.Bits.{bitAnd, and-mask}
 use lib.Pow.{pow-pos, pow-lt, pow-mono, pow-add}
 use Rattle.plan_rule.specs.Order.{le-or-lt}
@@ -38,13 +40,15 @@ multiple-of-le {a} {b} (i, d) (j, e) h =
     ⊎-elim
     (λ (l : i ≤ j).
     let s : i + (j - i) ≡ j = omega arith in
-    rw (d, e) (ap (λ (n : ℕ). 2 ^ n % 2 ^ i) (sym s) ∙ ap (λ (n : ℕ). n % 2 ^ i) (pow-add 2 i (j - i)) ∙ mul-mod-right (2 ^ i) (2 ^ (j - i))))
+    rw (d, e) (ap (λ (n : ℕ). 2 ^ n % 2 ^ i) (sym s) ∙ ap (λ (n : ℕ). n % 2 ^ i) (pow-add 2 i (j - i))
+    ∙ mul-mod-right (2 ^ i) (2 ^ (j - i))))
     (λ (l : j < i). let g : b < a = rw (d, e) (pow-lt l) in absurd (omega arith))
     (le-or-lt i j)
 
 pub power-max : {a b : ℕ} → PowerOfTwo a → PowerOfTwo b → PowerOfTwo (max a b)
 power-max {a} {b} p q =
-    ⊎-elim (λ (l : a ≤ b). (q .0, max-eq-right l ∙ q .1)) (λ (l : b < a). (p .0, max-eq-left {n = a} {m = b} (omega arith) ∙ p .1)) (le-or-lt a b)
+    ⊎-elim (λ (l : a ≤ b). (q .0, max-eq-right l ∙ q .1)) (λ (l : b < a). (p .0, max-eq-left {n = a} {m = b} (omega arith) ∙ p .1))
+    (le-or-lt a b)
 
 pub multiple-trans : (a b c : ℕ) → Multiple a b → Multiple b c → Multiple a c
 multiple-trans a b c h k = mod-eq-zero-of-dvd a (dvd-trans a (dvd-of-mod-eq-zero a h) (dvd-of-mod-eq-zero b k))

@@ -24,7 +24,8 @@ use Rattle.plan_rule.specs.PieceLaws.{BarsSized, Shaped, has-align, piec
 use Rattle.plan_rule.specs.Layout.{Piece, isOn, select}
 use Rattle.plan_rule.specs.LayoutLaws.{HasAlign}
 use Rattle.plan_rule.specs.declared.Extent.{Extent}
-use Rattle.plan_rule.specs.Sizing.{grow, extend, withBars, withWindow, Laid, laidFrom, busLaid, barsLaid, windowLaid, functionLaid, rootLaid, endsPast}
+use Rattle.plan_rule.specs.Sizing.{grow, extend, withBars, withWindow, Laid, laidFrom, busLaid, barsLaid, windowLaid, functionLaid}
+use Rattle.plan_rule.specs.Sizing.{rootLaid, endsPast}
 use Rattle.plan_rule.specs.SizingLaws.{laid-ext, Ready, bus-laid-child, function-laid-bridge, out-of-pool-laid}
 use Rattle.plan_rule.specs.RecordLaws.{IsAt}
 use Rattle.plan_rule.specs.Refusals.{outOfPool}
@@ -81,7 +82,8 @@ cap-extend e (p ∷ ps) h =
     ∙ ap (λ (x : Extent). capped (extend x ps)) (cap-grow-whole e (p .size) (p .align) (h .0))
     ∙ cap-extend (grow e (p .size) (p .align)) ps (h .1)
 
-pub cap-with-bars : (q : Pool) (e : Extent) (bs : List Bar) → All (λ b. PowerOfTwo (b .size)) bs → capped (withBars q (capped e) bs) ≡ capped (withBars q e bs)
+pub cap-with-bars : (q : Pool) (e : Extent) (bs : List Bar) → All (λ b. PowerOfTwo (b .size)) bs → capped (withBars q (capped e) bs)
+    ≡ capped (withBars q e bs)
 unfolding withBars
 cap-with-bars q e [] h = capped-capped e
 cap-with-bars q e (b ∷ bs) h =
@@ -112,7 +114,8 @@ cap-with-window q e inner = go (eqb (inner .align) 0)
     ends = omega (arith, cap-align a (omega (arith, pos)) (e .end), cap-align g pos (inner .end))
 
     go : (t : Bool)
-        → capped (cond t (capped e) (grow (capped e) (alignUp g (cap (inner .end))) a)) ≡ capped (cond t e (grow e (alignUp g (inner .end)) a))
+        → capped (cond t (capped e) (grow (capped e) (alignUp g (cap (inner .end))) a))
+        ≡ capped (cond t e (grow e (alignUp g (inner .end)) a))
     go true = capped-capped e
     go false = ap (λ (n : ℕ). record { end = n; align = max (e .align) a }) ends
 
@@ -123,14 +126,17 @@ cap-bars-laid f l h = laid-ext _ _ refl (λ q. cap-with-bars q (l .extent q) (f 
 pub cap-window-laid : (l inner : Laid) → cappedLaid (windowLaid (cappedLaid l) (cappedLaid inner)) ≡ cappedLaid (windowLaid l inner)
 cap-window-laid l inner = laid-ext _ _ refl (λ q. cap-with-window q (l .extent q) (inner .extent q))
 
-pub cap-bus-laid : (fs : List Function) → Sized fs → (b : ℕ) (l : Laid) → cappedLaid (busLaid fs b (cappedLaid l)) ≡ cappedLaid (busLaid fs b l)
+pub cap-bus-laid : (fs : List Function) → Sized fs → (b : ℕ) (l : Laid) → cappedLaid (busLaid fs b (cappedLaid l))
+    ≡ cappedLaid (busLaid fs b l)
 unfolding busLaid
 cap-bus-laid fs h b l =
     laid-ext _ _ refl
     (λ q.
     let rest = pieces (suc (l .next)) (drop (l .next) fs) in
     cap-extend (l .extent q) (select b q rest)
-    (all-imp _ _ (select b q rest) (all-keep (isOn b q) Shaped rest (pieces-shaped (suc (l .next)) (drop (l .next) fs) (all-drop BarsSized (l .next) fs h))) has-align))
+    (all-imp _ _ (select b q rest)
+    (all-keep (isOn b q) Shaped rest (pieces-shaped (suc (l .next)) (drop (l .next) fs) (all-drop BarsSized (l .next) fs h)))
+    has-align))
 
 pub cap-function-laid : (fs : List Function) (f : Function) (l : Laid) → BarsSized f
     → cappedLaid (functionLaid fs f (cappedLaid l)) ≡ cappedLaid (functionLaid fs f l)
@@ -168,14 +174,16 @@ out-of-pool-capped h fs lawful q l =
     out-of-pool-laid fs lawful h q ∙ ap (λ (t : Bool). ltb 0 (x .align) && t) (sym (cap-past (h .last q) (x .end) l))
 
 -- One turn of a capped loop over the functions of bus b leaves what the loop comes to
-pub bus-laid-turn : (fs : List Function) → Lawful fs → (b : ℕ) (l m : Laid) (f : Function) → Ready fs b (l .next) → IsAt fs (l .next) f → f .parent ≡ b
+pub bus-laid-turn : (fs : List Function) → Lawful fs → (b : ℕ) (l m : Laid) (f : Function) → Ready fs b (l .next) → IsAt fs (l .next) f
+    → f .parent ≡ b
     → m ≡ cappedLaid (functionLaid fs f l) → cappedLaid (busLaid fs b m) ≡ cappedLaid (busLaid fs b l)
 bus-laid-turn fs lawful b l m f r e p g =
     rw g (cap-bus-laid fs (lawful .sized) b (functionLaid fs f l)) ∙ ap cappedLaid (sym (bus-laid-child fs lawful b l f r e p))
 
 -- A bridge from its capped BARs and its capped bus
 pub function-laid-turn : (fs : List Function) (f : Function) (l bars inner : Laid) → f .bridge ≡ true → bars ≡ cappedLaid (barsLaid f l)
-    → inner ≡ cappedLaid (busLaid fs (suc (l .next)) (laidFrom (suc (l .next)))) → cappedLaid (windowLaid bars inner) ≡ cappedLaid (functionLaid fs f l)
+    → inner ≡ cappedLaid (busLaid fs (suc (l .next)) (laidFrom (suc (l .next)))) → cappedLaid (windowLaid bars inner)
+    ≡ cappedLaid (functionLaid fs f l)
 function-laid-turn fs f l bars inner b e g =
     rw (e, g) (cap-window-laid (barsLaid f l) (busLaid fs (suc (l .next)) (laidFrom (suc (l .next)))))
     ∙ ap cappedLaid (sym (function-laid-bridge fs f l b))

@@ -104,7 +104,8 @@ rowFrom k (suc n) = bridgeBelow k ∷ rowFrom (suc k) n
 -- Twice n records from k on: a bridge on the root bus with one function below it
 abbrev pub cardsFrom : ℕ → ℕ → List Function
 cardsFrom k zero = []
-cardsFrom k (suc n) = bridgeBelow 0 ∷ endBelow k (at 0 low 0x4000 ∷ at 1 low 0x10 ∷ at 2 high 0x200000 ∷ at 4 io 0x20 ∷ []) ∷ cardsFrom (suc (suc k)) n
+cardsFrom k (suc n) =
+    bridgeBelow 0 ∷ endBelow k (at 0 low 0x4000 ∷ at 1 low 0x10 ∷ at 2 high 0x200000 ∷ at 4 io 0x20 ∷ []) ∷ cardsFrom (suc (suc k)) n
 
 -- All memory, and I/O, that can be had; and one byte of I/O less than 128 cards take
 abbrev pub wide : Host
@@ -151,7 +152,31 @@ unfolding
     subordinateOf numberedFrom ranges outOfPool refusalOf extend busLaid
 examples = (
   refl,
-  (refl, (refl, (refl, (refl, (refl, (refl, (refl, (refl, (refl, (refl, (refl, (refl, (refl, (refl, (refl, (refl, (refl, (refl, (refl, (refl, tt)))))))))))))))))))),
+  (
+    refl,
+    (
+      refl,
+      (
+        refl,
+        (
+          refl,
+          (
+            refl,
+            (
+              refl,
+              (
+                refl,
+                (
+                  refl,
+                  (refl, (refl, (refl, (refl, (refl, (refl, (refl, (refl, (refl, (refl, (refl, (refl, tt)))))))))))),
+                ),
+              ),
+            ),
+          ),
+        ),
+      ),
+    ),
+  ),
 )
 
 -- P10's functions are lawful. A function below a bridge that a later sibling closed is not in depth-first order

@@ -19,7 +19,8 @@ use Rattle.plan_rule.specs.PoolLaws.{is-on-of-ne}
 use Rattle.plan_rule.specs.Records.{Bar, Function, Sized, run}
 use Rattle.plan_rule.specs.Layout.{Piece, isOn, select, layoutEnd, largestAlign}
 use Rattle.plan_rule.specs.LayoutLaws.{HasAlign, le-largest-align}
-use Rattle.plan_rule.specs.Pieces.{windowSize, windowAlign, windowPiece, windowOver, barPiece, barPieces, windowPieces, ownPieces, pieces}
+use Rattle.plan_rule.specs.Pieces.{windowSize, windowAlign, windowPiece, windowOver, barPiece, barPieces, windowPieces, ownPieces}
+use Rattle.plan_rule.specs.Pieces.{pieces}
 use Rattle.plan_rule.specs.PieceLaws.{BarsSized, own-pieces, Shaped, has-align}
 use Rattle.plan_rule.specs.declared.Extent.{Extent}
 use Rattle.plan_rule.specs.Sizing.{nothing, grow, extend, withBars, withWindow}
@@ -60,7 +61,8 @@ module _ (k b : ℕ) (q : Pool) where
       go false h g = h
 
   -- Of the three windows only that of pool q is of pool q
-  keep-window : (r : Pool) (content : List Piece) → select b q (windowOver k b r content) ≡ cond (samePool r q) (windowOver k b r content) []
+  keep-window : (r : Pool) (content : List Piece) → select b q (windowOver k b r content)
+      ≡ cond (samePool r q) (windowOver k b r content) []
   unfolding keep
   keep-window r [] = go (samePool r q)
     where
@@ -70,7 +72,8 @@ module _ (k b : ℕ) (q : Pool) where
   keep-window r (c ∷ cs) = rw (eq-eqb b b refl)
 
   -- A window over its content, in the walk's words
-  pub window-over-extent : (content : List Piece) → All HasAlign content → windowOver k b q content ≡ windowFor k b q (extend nothing content)
+  pub window-over-extent : (content : List Piece) → All HasAlign content → windowOver k b q content
+      ≡ windowFor k b q (extend nothing content)
   window-over-extent [] h = rw (extend-nil nothing)
   window-over-extent (c ∷ cs) h =
       let x : Extent = extend nothing (c ∷ cs) in
@@ -79,7 +82,8 @@ module _ (k b : ℕ) (q : Pool) where
       let some : eqb (x .align) 0 ≡ false = ne-eqb (x .align) 0 (λ z. omega (arith, align, le-largest-align (c ∷ cs) .0, h .0)) in
       sym (rw some (ap₂ (λ (n m : ℕ). windowPiece k b q n m ∷ []) size align))
 
-  extend-window : (e : Extent) (content : List Piece) → All HasAlign content → extend e (windowOver k b q content) ≡ withWindow q e (extend nothing content)
+  extend-window : (e : Extent) (content : List Piece) → All HasAlign content → extend e (windowOver k b q content)
+      ≡ withWindow q e (extend nothing content)
   unfolding extend
   extend-window e content h = ap (extend e) (window-over-extent content h) ∙ go (extend nothing content)
     where
@@ -125,7 +129,8 @@ extend-own k f rest h q e =
     a : Extent
     a = withBars q e (f .bars)
 
-    go : (t : Bool) → extend a (select b q (cond t (windowPieces k b rest) [])) ≡ cond t (withWindow q a (extend nothing (select k q rest))) a
+    go : (t : Bool) → extend a (select b q (cond t (windowPieces k b rest) []))
+        ≡ cond t (withWindow q a (extend nothing (select k q rest))) a
     go true =
         ap (extend a) (select-windows k b q rest)
         ∙ extend-window k b q a (select k q rest)
@@ -145,7 +150,8 @@ select-skip b q k f fs h n =
 
 -- A record of this bus goes before the rest
 pub select-own : (q : Pool) (k : ℕ) (f : Function) (fs : List Function)
-    → select (f .parent) q (pieces k (f ∷ fs)) ≡ select (f .parent) q (ownPieces k f (pieces (suc k) fs)) ++ select (f .parent) q (pieces (suc k) fs)
+    → select (f .parent) q (pieces k (f ∷ fs)) ≡ select (f .parent) q (ownPieces k f (pieces (suc k) fs)) ++ select (f .parent) q
+    (pieces (suc k) fs)
 unfolding pieces
 select-own q k f fs = keep-append (isOn (f .parent) q) (ownPieces k f (pieces (suc k) fs)) (pieces (suc k) fs)
 

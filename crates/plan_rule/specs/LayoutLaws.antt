@@ -42,7 +42,8 @@ layout-within e [] h = tt
 layout-within e (p ∷ ps) h =
     let l = le-end-at e p (h .0) in (
       record { from-start = l .0; to-end = le-layout-end (endAt e p) ps (h .1) },
-      all-imp _ _ (layout (endAt e p) ps) (layout-within (endAt e p) ps (h .1)) (λ x w. record { from-start = omega (arith, w .from-start, l .1); to-end = w .to-end }),
+      all-imp _ _ (layout (endAt e p) ps) (layout-within (endAt e p) ps (h .1))
+          (λ x w. record { from-start = omega (arith, w .from-start, l .1); to-end = w .to-end }),
     )
 
 pub layout-ordered : (e : ℕ) (ps : List Piece) → All HasAlign ps → Pairwise Before (layout e ps)
@@ -99,7 +100,8 @@ le-largest-align (p ∷ ps) = (
   all-imp _ _ ps (le-largest-align ps) (λ x h. omega arith),
 )
 
-pub largest-align-power : (g : ℕ) (ps : List Piece) → PowerOfTwo g → All (λ p. PowerOfTwo (p .align)) ps → PowerOfTwo (max g (largestAlign ps))
+pub largest-align-power : (g : ℕ) (ps : List Piece) → PowerOfTwo g → All (λ p. PowerOfTwo (p .align)) ps
+    → PowerOfTwo (max g (largestAlign ps))
 unfolding largestAlign
 largest-align-power g [] h k = let e : max g 0 ≡ g = omega arith in rw e h
 largest-align-power g (p ∷ ps) h k =

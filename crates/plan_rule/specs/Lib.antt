@@ -1,5 +1,5 @@
--- Numbering and placing of a board in whole numbers. First the definitions, in the order of the house rules; then the laws; then the theorems
--- that others cite: Placed, RefusalLaws, Numbered, SizingLaws, Cap, Siblings, Preorder, AboveLaws.
+-- Numbering and placing of a board in whole numbers. First the definitions, in the order of the house rules; then the laws; then the
+-- theorems that others cite: Placed, RefusalLaws, Numbered, SizingLaws, Cap, Siblings, Preorder, AboveLaws.
 pub mod Align
 pub mod Pools
 pub mod Records

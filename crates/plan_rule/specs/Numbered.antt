@@ -18,7 +18,8 @@ use Rattle.plan_rule.specs.Pieces.{pieces}
 use Rattle.plan_rule.specs.PieceLaws.{pieces-parent}
 use Rattle.plan_rule.specs.RecordLaws.{Bounded, bounded-start, bounded-step, parent-cases, IsAt, ordered-from}
 use Rattle.plan_rule.specs.Sizing.{laidFrom, busLaid}
-use Rattle.plan_rule.specs.Numbering.{weight, bridges, busNumber, insert, greatestBelow, subordinateOf, Numbered, rowOf, numberedFrom, numbered}
+use Rattle.plan_rule.specs.Numbering.{weight, bridges, busNumber, insert, greatestBelow, subordinateOf, Numbered, rowOf, numberedFrom}
+use Rattle.plan_rule.specs.Numbering.{numbered}
 use Rattle.plan_rule.specs.NumberingLaws.{bridges-take-suc, bridges-split, bridges-take-mono, bridges-take-run}
 use Rattle.plan_rule.specs.NumberingLaws.{top-le-greatest, greatest-le, greatest-mono, subset-insert, greatest-run}
 
@@ -97,7 +98,8 @@ module _ (first : ℕ) (all : List Function) where
     where
       after : (j : ℕ) → parentsAfter ok (suc i) f j ≡ true → Rises first all j
       after j g =
-          ⊎-elim (λ t. subst (Rises first all) (sym (t .0)) (bridge-rises i f fs e (t .1))) (λ t. h j (t .0)) (parent-cases ok (suc i) f j g)
+          ⊎-elim (λ t. subst (Rises first all) (sym (t .0)) (bridge-rises i f fs e (t .1))) (λ t. h j (t .0))
+          (parent-cases ok (suc i) f j g)
 
   -- What holds of every parent holds of every row's
   rows-parent : (P : ℕ → Type 0) (i : ℕ) (fs : List Function) → All (λ f. P (f .parent)) fs → All (λ x. P (x .parent)) (rows i fs)
@@ -115,7 +117,8 @@ module _ (first : ℕ) (all : List Function) where
   unfolding subordinateOf
   subordinate-run ok i f fs e d l b =
       rw (drop-suc i all f fs e)
-      (greatest-run (suc i) (parentsAfter ok (suc i) f) (λ j. eqb j (suc i)) (B (suc i)) (suc (suc i)) fs (d .1) (bounded-step ok (suc i) f l)
+      (greatest-run (suc i) (parentsAfter ok (suc i) f) (λ j. eqb j (suc i)) (B (suc i)) (suc (suc i)) fs (d .1)
+      (bounded-step ok (suc i) f l)
       agree
       (λ j g. omega (arith, eqb-true j (suc i) g))
       (omega arith))
@@ -159,7 +162,8 @@ module _ (first : ℕ) (all : List Function) where
     all-imp _ _ (rows (suc i) fs) (later-rows (suc i) fs (drop-suc i all f fs e)) (λ y g b. omega (arith, g b, bus-number-suc i f fs e)),
   )
 
-  rising-rows : (i : ℕ) (fs : List Function) → drop i all ≡ fs → Pairwise (λ x y. y .bridge ≡ true → x .secondary < y .secondary) (rows i fs)
+  rising-rows : (i : ℕ) (fs : List Function) → drop i all ≡ fs
+      → Pairwise (λ x y. y .bridge ≡ true → x .secondary < y .secondary) (rows i fs)
   unfolding numberedFrom
   rising-rows i [] e = tt
   rising-rows i (f ∷ fs) e =
@@ -235,11 +239,13 @@ module _ (first : ℕ) (all : List Function) where
           (λ j g. rw g)
           (omega arith))
 
-      tail : (t : Bool) → All (Below (insert (suc i) inside) grown (B (suc i))) (rows (suc i) fs) → All (Below inside top (B (suc i))) (rows (suc i) fs)
+      tail : (t : Bool) → All (Below (insert (suc i) inside) grown (B (suc i))) (rows (suc i) fs)
+          → All (Below inside top (B (suc i))) (rows (suc i) fs)
           → All
           (λ x.
           x .bridge ≡ true → x .parent ≡ p
-          → x .subordinate ≤ cond t (greatestBelow (insert (suc i) inside) grown m (suc (suc i)) fs) (greatestBelow inside top m (suc (suc i)) fs))
+          → x .subordinate ≤ cond t (greatestBelow (insert (suc i) inside) grown m (suc (suc i)) fs)
+          (greatestBelow inside top m (suc (suc i)) fs))
           (rows (suc i) fs)
       tail true u v = subst (λ (c : ℕ). All (Below (insert (suc i) inside) grown c) (rows (suc i) fs)) is u
       tail false u v = subst (λ (c : ℕ). All (Below inside top c) (rows (suc i) fs)) is v
@@ -250,22 +256,29 @@ module _ (first : ℕ) (all : List Function) where
   unfolding numberedFrom subordinateOf
   nested-rows ok i [] e d l = tt
   nested-rows ok i (f ∷ fs) e d l =
-      let later = nested-rows (parentsAfter ok (suc i) f) (suc i) fs n (d .1) (bounded-step ok (suc i) f l) in
-      (inl (l (f .parent) (d .0), d .0), all-imp₂ _ _ _ (rows (suc i) fs) later (all-and _ _ (rows (suc i) fs) (rows-bus (suc i) fs) children) each)
+      let later = nested-rows (parentsAfter ok (suc i) f) (suc i) fs n (d .1) (bounded-step ok (suc i) f l) in (
+        inl (l (f .parent) (d .0), d .0),
+        all-imp₂ _ _ _ (rows (suc i) fs) later
+            (all-and _ _ (rows (suc i) fs) (rows-bus (suc i) fs) children) each,
+      )
     where
       n : drop (suc i) all ≡ fs
       n = drop-suc i all f fs e
 
       Child : List Function → Numbered → Type 0
-      Child gs x = x .bridge ≡ true → x .parent ≡ suc i → x .subordinate ≤ greatestBelow (λ j. eqb j (suc i)) (B (suc i)) (B (suc i)) (suc (suc i)) gs
+      Child gs x = x .bridge ≡ true → x .parent ≡ suc i
+          → x .subordinate ≤ greatestBelow (λ j. eqb j (suc i)) (B (suc i)) (B (suc i)) (suc (suc i)) gs
 
       children : All (Child (drop (suc i) all)) (rows (suc i) fs)
       children =
           let here : eqb (suc i) (suc i) ≡ true = eq-eqb (suc i) (suc i) refl in
-          subst (λ (gs : List Function). All (Child gs) (rows (suc i) fs)) (sym n) (child-range (suc i) (λ j. eqb j (suc i)) (B (suc i)) (suc i) fs n here)
+          subst (λ (gs : List Function). All (Child gs) (rows (suc i) fs)) (sym n)
+          (child-range (suc i) (λ j. eqb j (suc i)) (B (suc i)) (suc i) fs n here)
 
-      each : (x : Numbered) → ((x .parent < suc (suc i)) × (parentsAfter ok (suc i) f (x .parent) ≡ true)) ⊎ Some (Under x) (rows (suc i) fs)
-          → (x .bus ≡ B (x .parent)) × Child (drop (suc i) all) x → ((x .parent < suc i) × (ok (x .parent) ≡ true)) ⊎ Some (Under x) (rows i (f ∷ fs))
+      each : (x : Numbered) → ((x .parent < suc (suc i)) × (parentsAfter ok (suc i) f (x .parent) ≡ true))
+          ⊎ Some (Under x) (rows (suc i) fs)
+          → (x .bus ≡ B (x .parent)) × Child (drop (suc i) all) x → ((x .parent < suc i) × (ok (x .parent) ≡ true))
+          ⊎ Some (Under x) (rows i (f ∷ fs))
       each x (inr s) k = inr (inr s)
       each x (inl (m, g)) k =
           ⊎-elim
@@ -312,7 +325,8 @@ module _ (first : ℕ) (fs : List Function) (lawful : Lawful fs) where
           all-and _ _ rows₀ (rows-bus first fs 0 fs)
           (rows-parent first fs (Rises first fs) 0 fs every-parent-rises)
 
-      root : (x : Numbered) → ((x .parent < 1) × (onlyHost (x .parent) ≡ true)) ⊎ Some (Under x) rows₀ → x .bus ≡ busNumber first fs (x .parent)
+      root : (x : Numbered) → ((x .parent < 1) × (onlyHost (x .parent) ≡ true)) ⊎ Some (Under x) rows₀ → x .bus
+          ≡ busNumber first fs (x .parent)
           → ((x .parent ≡ 0) × (x .bus ≡ first)) ⊎ Some (Under x) rows₀
       root x (inr s) b = inr s
       root x (inl (m, g)) b =

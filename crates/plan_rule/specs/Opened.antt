@@ -52,7 +52,8 @@ module _ (k : ℕ) (f : Function) (rest : List Piece) (c : Cursors) (before : f 
   own-off o q l = all-imp _ _ own (own-pieces k f rest sized) (λ p g. is-on-of-ne o q p (λ e. omega (arith, g .bus-is)))
 
   skip-own : (o : ℕ) (q : Pool) → k ≤ o → select o q (own ++ rest) ≡ select o q rest
-  skip-own o q l = keep-append (isOn o q) own rest ∙ ap (λ (xs : List Piece). xs ++ select o q rest) (keep-none (isOn o q) own (own-off o q l))
+  skip-own o q l = keep-append (isOn o q) own rest
+      ∙ ap (λ (xs : List Piece). xs ++ select o q rest) (keep-none (isOn o q) own (own-off o q l))
 
   skip-placed : (o : ℕ) (q : Pool) → k ≤ o → selectPlaced o q (ownPlaced ++ restPlaced) ≡ selectPlaced o q restPlaced
   unfolding ownPlaced restPlaced opened
@@ -79,7 +80,8 @@ module _ (k : ℕ) (f : Function) (rest : List Piece) (c : Cursors) (before : f 
   own-opened w o h e =
       let q = w .piece .pool in
       let s = skip-own k q (omega arith) in
-      let start : w .start ≡ opened k q = h q (is-window-of k q (w .piece) (record { is-window = e; owner-is = o .owner-is; pool-is = refl })) in
+      let start : w .start ≡ opened k q = h q
+      (is-window-of k q (w .piece) (record { is-window = e; owner-is = o .owner-is; pool-is = refl })) in
       let laid : selectPlaced k q (ownPlaced ++ restPlaced) ≡ layout (w .start) (select k q (own ++ rest)) =
       skip-placed k q (omega arith)
       ∙ place-select k q opened rest (unopened-of-owner (suc k) k q (omega arith) rest later)
@@ -98,7 +100,8 @@ module _ (k : ℕ) (f : Function) (rest : List Piece) (c : Cursors) (before : f 
   step-opened h =
       let owns = all-place (Own k f rest) c own (own-pieces k f rest sized) in
       let owners = all-place (λ p. suc k ≤ p .owner) opened rest later in
-      all-append _ ownPlaced restPlaced (all-imp₂ _ _ _ ownPlaced owns own-starts own-opened) (all-imp₂ _ _ _ restPlaced owners h later-opened)
+      all-append _ ownPlaced restPlaced (all-imp₂ _ _ _ ownPlaced owns own-starts own-opened)
+      (all-imp₂ _ _ _ restPlaced owners h later-opened)
 
 pub windows-opened : (ok : ℕ → Bool) (k : ℕ) (fs : List Function) → DepthFirst ok k fs → Bounded ok k → Sized fs
     → (c : Cursors) → All (IsOpened (pieces k fs) (place c (pieces k fs))) (place c (pieces k fs))
@@ -151,7 +154,8 @@ content-divides content w h s t a =
     let m = multiple-of-le (g .align-power) (t .align-power) (omega (arith, s .align-is, l)) in
     (has-align p g, multiple-trans (p .align) (w .piece .align) (w .start) m a))
 
-module _ (ps : List Piece) (xs : List Placed) (w : Placed) (shaped : All Shaped ps) (o : Opened ps xs w) (t : Shaped (w .piece)) (a : Aligned w) where
+module _ (ps : List Piece) (xs : List Placed) (w : Placed) (shaped : All Shaped ps) (o : Opened ps xs w) (t : Shaped (w .piece))
+    (a : Aligned w) where
   abbrev contentOf : List Piece
   contentOf = select (w .piece .owner) (w .piece .pool) ps
 

@@ -193,7 +193,8 @@ pieces-owner k (f ∷ fs) h =
     (all-imp _ _ (pieces (suc k) fs) (pieces-owner (suc k) fs (h .1)) (λ p l. omega arith))
 
 -- What holds of every parent holds of every piece's bus
-pub pieces-parent : (P : ℕ → Type 0) (k : ℕ) (fs : List Function) → Sized fs → All (λ f. P (f .parent)) fs → All (λ p. P (p .bus)) (pieces k fs)
+pub pieces-parent : (P : ℕ → Type 0) (k : ℕ) (fs : List Function) → Sized fs → All (λ f. P (f .parent)) fs
+    → All (λ p. P (p .bus)) (pieces k fs)
 unfolding pieces
 pieces-parent P k [] h g = tt
 pieces-parent P k (f ∷ fs) h g =
@@ -266,8 +267,10 @@ window-there k f rest e q n = rw e (some-right (WindowOf k q) (barPieces k (f .p
 
     go : (q : Pool) → (select k q rest ≡ [] → ⊥) → Some (WindowOf k q) (w low ++ (w high ++ w io))
     go low m = some-left (WindowOf k low) (w low) (w high ++ w io) (over low (select k low rest) m)
-    go high m = some-right (WindowOf k high) (w low) (w high ++ w io) (some-left (WindowOf k high) (w high) (w io) (over high (select k high rest) m))
-    go io m = some-right (WindowOf k io) (w low) (w high ++ w io) (some-right (WindowOf k io) (w high) (w io) (over io (select k io rest) m))
+    go high m = some-right (WindowOf k high) (w low) (w high ++ w io)
+        (some-left (WindowOf k high) (w high) (w io) (over high (select k high rest) m))
+    go io m = some-right (WindowOf k io) (w low) (w high ++ w io)
+        (some-right (WindowOf k io) (w high) (w io) (over io (select k io rest) m))
 
 -- Every piece is on an earlier bus, or there is the window of its bus and pool
 pub window-above : (ok : ℕ → Bool) (k : ℕ) (fs : List Function) → DepthFirst ok k fs → Bounded ok k → Sized fs
@@ -306,7 +309,8 @@ window-above ok k (f ∷ fs) d l h =
             let n : select k q rest ≡ [] → ⊥ = λ g. cons≢nil (sym e ∙ g) in
             all-of (λ p. isOn k q p ≡ true → Some (WindowOf k q) own) (λ p i. window-there k f rest (bridge n) q n) rest
 
-    above : (p : Piece) → (p .bus < suc k) ⊎ Some (WindowOf (p .bus) (p .pool)) rest → ((q : Pool) → isOn k q p ≡ true → Some (WindowOf k q) own) → Above p
+    above : (p : Piece) → (p .bus < suc k) ⊎ Some (WindowOf (p .bus) (p .pool)) rest
+        → ((q : Pool) → isOn k q p ≡ true → Some (WindowOf k q) own) → Above p
     above p (inr w) g = inr (some-right (WindowOf (p .bus) (p .pool)) own rest w)
     above p (inl m) g = ⊎-elim this (λ n. inl n) (le-or-lt k (p .bus))
       where
@@ -317,7 +321,8 @@ window-above ok k (f ∷ fs) d l h =
             inr (some-left (WindowOf (p .bus) (p .pool)) own rest (rw e w))
 
 -- A later record opens no earlier bus
-pub unopened-of-owner : (k b : ℕ) (q : Pool) → b < k → (ps : List Piece) → All (λ p. k ≤ p .owner) ps → All (λ p. isWindowOf b q p ≡ false) ps
+pub unopened-of-owner : (k b : ℕ) (q : Pool) → b < k → (ps : List Piece) → All (λ p. k ≤ p .owner) ps
+    → All (λ p. isWindowOf b q p ≡ false) ps
 unopened-of-owner k b q l ps h =
     all-imp _ _ ps h (λ p m. false-of-not (isWindowOf b q p) (λ e. omega (arith, window-of-is b q p e .owner-is)))
 
@@ -364,7 +369,8 @@ module _ (b : ℕ) (q : Pool) where
 
       windows : Pairwise OneWindow (w low ++ (w high ++ w io))
       windows =
-          let two = pairwise-append OneWindow (w high) (w io) (alone high (select k high rest)) (alone io (select k io rest)) (cross high io refl) in
+          let two = pairwise-append OneWindow (w high) (w io) (alone high (select k high rest)) (alone io (select k io rest))
+          (cross high io refl) in
           pairwise-append OneWindow (w low) (w high ++ w io) (alone low (select k low rest)) two others
 
       go : (t : Bool) → Pairwise OneWindow (cond t (w low ++ (w high ++ w io)) [])

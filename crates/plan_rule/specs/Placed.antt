@@ -47,7 +47,8 @@ pub record WellPlaced (h : Host) (fs : List Function) : Type 0 where
   pub apart : Pairwise Apart (placed h fs)
   pub bar-aligned : All (λ x. isWindow (x .piece .part) ≡ false → Multiple (x .piece .size) (x .start)) (placed h fs)
   pub window-aligned : All
-      (λ x. isWindow (x .piece .part) ≡ true → Multiple (granule (x .piece .pool)) (x .start) × Multiple (granule (x .piece .pool)) (endOf x))
+      (λ x. isWindow (x .piece .part) ≡ true → Multiple (granule (x .piece .pool)) (x .start)
+      × Multiple (granule (x .piece .pool)) (endOf x))
       (placed h fs)
 
 module _ (h : Host) (fs : List Function) (lawful : Lawful fs) where
@@ -82,7 +83,8 @@ module _ (h : Host) (fs : List Function) (lawful : Lawful fs) where
       (λ w o g e. record { opened = o e; shape = g .0; aligned = g .1 })
 
   translates : All (λ w. isWindow (w .piece .part) ≡ true → Translated (pieces 1 fs) xs w) xs
-  translates = all-imp _ _ xs windows (λ w g e. let o = g e in window-translates (pieces 1 fs) xs w shaped (o .opened) (o .shape) (o .aligned))
+  translates = all-imp _ _ xs windows
+      (λ w g e. let o = g e in window-translates (pieces 1 fs) xs w shaped (o .opened) (o .shape) (o .aligned))
 
   -- What lies on a window's bus lies within it
   Holding : Placed → Placed → Type 0
@@ -96,7 +98,8 @@ module _ (h : Host) (fs : List Function) (lawful : Lawful fs) where
       is-window w e o =
           all-imp _ _ xs (window-contains (pieces 1 fs) xs w shaped (o .opened) (o .shape) (o .aligned))
           (λ x g v.
-          let on = is-on-of-on (w .piece .owner) (w .piece .pool) (x .piece) (record { bus = sym (v .owner-is); pool = sym (v .pool-is) }) in
+          let on = is-on-of-on (w .piece .owner) (w .piece .pool) (x .piece)
+          (record { bus = sym (v .owner-is); pool = sym (v .pool-is) }) in
           record { window = v; within = g on })
 
       is-bar : (w : Placed) → isWindow (w .piece .part) ≡ false → All (Holding w) xs
@@ -180,7 +183,8 @@ module _ (h : Host) (fs : List Function) (lawful : Lawful fs) where
       Below : ℕ → Placed → Type 0
       Below n x = x .piece .bus < n → x .piece .pool ≡ q → InPool x
 
-      root : (x : Placed) → (x .piece .bus ≡ 0 → x .piece .pool ≡ q → endOf x ≤ suc (h .last q)) → (isPlacedOn 0 q x ≡ true → h .base q ≤ x .start)
+      root : (x : Placed) → (x .piece .bus ≡ 0 → x .piece .pool ≡ q → endOf x ≤ suc (h .last q))
+          → (isPlacedOn 0 q x ≡ true → h .base q ≤ x .start)
           → x .piece .bus ≡ 0 → x .piece .pool ≡ q → InPool x
       root x k b e i = record { from-start = b (is-on-of-on 0 q (x .piece) (record { bus = e; pool = i })); to-end = k e i }
 
@@ -204,7 +208,8 @@ module _ (h : Host) (fs : List Function) (lawful : Lawful fs) where
       below zero = all-of (Below 0) (λ x l. absurd (omega arith)) xs
       below (suc n) = all-imp₂ _ _ _ xs contains rooted (each (below n))
         where
-          each : All (Below n) xs → (x : Placed) → (x .piece .bus ≡ 0) ⊎ Some (Holds x) xs → (x .piece .bus ≡ 0 → x .piece .pool ≡ q → InPool x)
+          each : All (Below n) xs → (x : Placed) → (x .piece .bus ≡ 0) ⊎ Some (Holds x) xs
+              → (x .piece .bus ≡ 0 → x .piece .pool ≡ q → InPool x)
               → Below (suc n) x
           each ih x (inl e) r l i = r e i
           each ih x (inr s) r l i =

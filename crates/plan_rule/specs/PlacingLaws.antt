@@ -91,8 +91,10 @@ module _ (b : ℕ) (q : Pool) where
   unfolding cursorsAfter layoutEnd keep
   cursors-select c [] h = refl
   cursors-select c (p ∷ ps) h = ⊎-elim
-      (λ (e : isOn b q p ≡ true). rw e (cursors-select (after c p) ps (h .1) ∙ ap (λ (n : ℕ). layoutEnd n (select b q ps)) (after-on c p (h .0) e)))
-      (λ (e : isOn b q p ≡ false). rw e (cursors-select (after c p) ps (h .1) ∙ ap (λ (n : ℕ). layoutEnd n (select b q ps)) (after-off c p (h .0) e)))
+      (λ (e : isOn b q p ≡ true). rw e
+      (cursors-select (after c p) ps (h .1) ∙ ap (λ (n : ℕ). layoutEnd n (select b q ps)) (after-on c p (h .0) e)))
+      (λ (e : isOn b q p ≡ false). rw e
+      (cursors-select (after c p) ps (h .1) ∙ ap (λ (n : ℕ). layoutEnd n (select b q ps)) (after-off c p (h .0) e)))
       (true-or-false (isOn b q p))
 
   -- Where no piece of the list is on bus b, and one window at most opens it, it stands open at that window's start

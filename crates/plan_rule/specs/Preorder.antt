@@ -1,5 +1,5 @@
--- Depth-first order in the document's words: a parent is the host, the record before if it is a bridge, or a bridge above the record before.
--- A board's check that climbs from the record before is `AtOrAbove`, and is the same as the order that numbering and placing go by.
+-- Depth-first order in the document's words: a parent is the host, the record before if it is a bridge, or a bridge above the record
+-- before. A board's check that climbs from the record before is `AtOrAbove`, and is the same as the order that numbering and placing go by.
 -- Assumes nothing.
 use mathlib.Core.Path.{_≡_, refl, sym, ap, subst}
 use mathlib.Core.Logic.{_⊎_, inl, inr, ⊎-elim, _↔_}
@@ -105,7 +105,8 @@ module _ (fs : List Function) where
   from-climbs ok i [] e h c all = tt
   from-climbs ok i (f ∷ gs) e h c all = (
     subst (λ (p : ℕ). ok p ≡ true) up (c (parentOf fs (suc i)) (this .before) (this .bridge)),
-    from-climbs (parentsAfter ok (suc i) f) (suc i) gs (drop-suc i fs f gs e) (falls-suc i h (this .before)) next (λ m l. all m (omega arith)),
+    from-climbs (parentsAfter ok (suc i) f) (suc i) gs (drop-suc i fs f gs e) (falls-suc i h (this .before)) next
+        (λ m l. all m (omega arith)),
   )
     where
       here : (i < length fs) × (getD fs i noFunction ≡ f)
@@ -122,7 +123,8 @@ module _ (fs : List Function) where
       next j (above q) b =
           let le : j ≤ parentOf fs (suc i) = at-or-above-le (falls-le i (parentOf fs (suc i)) (at-or-above-le h (this .before)) h) q in
           let pi : parentOf fs (suc i) ≤ i = at-or-above-le h (this .before) in
-          parent-kept ok (suc i) f j (c j (at-or-above-trans q (this .before)) (λ (z : j ≡ i). this .bridge (omega arith))) (omega (arith, up))
+          parent-kept ok (suc i) f j (c j (at-or-above-trans q (this .before)) (λ (z : j ≡ i). this .bridge (omega arith)))
+          (omega (arith, up))
 
   to-climbs : (ok : ℕ → Bool) (i : ℕ) (gs : List Function) → drop i fs ≡ gs → DepthFirst ok (suc i) gs → Falls i → Climbed ok i
       → (m : ℕ) → i ≤ m → m < length fs → ParentLawful fs m
@@ -131,7 +133,8 @@ module _ (fs : List Function) where
   to-climbs ok i (f ∷ gs) e d h c m l n =
       ⊎-elim
       (λ (z : m ≡ i). subst (ParentLawful fs) (sym z) this)
-      (λ z. to-climbs (parentsAfter ok (suc i) f) (suc i) gs (drop-suc i fs f gs e) (d .1) (falls-suc i h (this .before)) next m (omega arith) n)
+      (λ z. to-climbs (parentsAfter ok (suc i) f) (suc i) gs (drop-suc i fs f gs e) (d .1) (falls-suc i h (this .before)) next m
+      (omega arith) n)
       (eq-or-ne m i)
     where
       here : (i < length fs) × (getD fs i noFunction ≡ f)
@@ -161,5 +164,6 @@ module _ (fs : List Function) where
   unfolding Climbs Climbed
   depth-first-iff = (
     λ d m. to-climbs onlyHost 0 fs refl d (λ n l. absurd (omega arith)) (λ j e. (at (eqb-true j 0 e), λ _. tt)) m (omega arith),
-    λ h. from-climbs onlyHost 0 fs refl (λ n l. absurd (omega arith)) (λ j a b. eq-eqb j 0 (omega (arith, at-or-above-le (λ n l. absurd (omega arith)) a))) (λ m l. h m),
+    λ h. from-climbs onlyHost 0 fs refl (λ n l. absurd (omega arith))
+        (λ j a b. eq-eqb j 0 (omega (arith, at-or-above-le (λ n l. absurd (omega arith)) a))) (λ m l. h m),
   )

@@ -84,13 +84,15 @@ unfolding outOfPool any layout largestAlign
 out-of-pool-end h fs lawful q =
     any-keep (isPlacedOn 0 q) (λ x. ltb (suc (h .last q)) (endOf x)) (placed h fs)
     ∙ ap (any (λ x. ltb (suc (h .last q)) (endOf x))) (well-placed h fs lawful .rooted q)
-    ∙ go (select 0 q (pieces 1 fs)) (all-imp _ _ (select 0 q (pieces 1 fs)) (all-keep (isOn 0 q) Shaped (pieces 1 fs) (pieces-shaped 1 fs (lawful .sized))) has-align)
+    ∙ go (select 0 q (pieces 1 fs))
+    (all-imp _ _ (select 0 q (pieces 1 fs)) (all-keep (isOn 0 q) Shaped (pieces 1 fs) (pieces-shaped 1 fs (lawful .sized))) has-align)
   where
     go : (content : List Piece) → All HasAlign content
         → any (λ x. ltb (suc (h .last q)) (endOf x)) (layout (h .base q) content)
         ≡ (ltb 0 (largestAlign content) && ltb (suc (h .last q)) (layoutEnd (h .base q) content))
     go [] a = refl
-    go (p ∷ ps) a = rw (lt-ltb 0 (max (p .align) (largestAlign ps)) (omega (arith, a .0))) (layout-past (suc (h .last q)) (h .base q) p ps (a .1))
+    go (p ∷ ps) a = rw (lt-ltb 0 (max (p .align) (largestAlign ps)) (omega (arith, a .0)))
+        (layout-past (suc (h .last q)) (h .base q) p ps (a .1))
 
 abbrev pub BusesKept : Host → List Function → Type 0
 BusesKept h fs = h .firstBus + bridges fs ≤ h .lastBus
@@ -149,11 +151,15 @@ unfolding refusalOf
 refusal-law h fs =
     record {
       none-iff = (
-        λ e. let g = first-none a b c d e in (kept (g .0), kept-iff h fs low .0 (g .1), kept-iff h fs high .0 (g .2), kept-iff h fs io .0 (g .3)),
+        λ e. let g = first-none a b c d
+            e in (kept (g .0), kept-iff h fs low .0 (g .1), kept-iff h fs high .0 (g .2), kept-iff h fs io .0 (g .3)),
         λ g. rw (below (g .0), kept-iff h fs low .1 (g .1), kept-iff h fs high .1 (g .2), kept-iff h fs io .1 (g .3)),
       );
-      buses-iff =
-          (λ e. ltb-true (h .lastBus) (h .firstBus + bridges fs) (first-buses a b c d e), λ g. rw (lt-ltb (h .lastBus) (h .firstBus + bridges fs) g));
+      buses-iff = (
+        λ e. ltb-true (h .lastBus) (h .firstBus + bridges fs) (first-buses a b c d e),
+        λ g. rw
+            (lt-ltb (h .lastBus) (h .firstBus + bridges fs) g),
+      );
       low-iff = (
         λ e. let g = first-low a b c d e in (kept (g .0), out-of-pool-iff h fs low .0 (g .1)),
         λ g. rw (below (g .0), out-of-pool-iff h fs low .1 (g .1)),

@@ -1,4 +1,5 @@
--- Which number a lawful board is refused with: 30 where the bus numbers run out, 31 to 33 where a pool does, in that order. Assumes nothing.
+-- Which number a lawful board is refused with: 30 where the bus numbers run out, 31 to 33 where a pool does, in that order. Assumes
+-- nothing.
 use mathlib.Core.Path.{_≡_}
 use mathlib.Core.Bool.{Bool, cond, _&&_}
 use mathlib.Core.List.{List}

@@ -54,7 +54,8 @@ module _ (first : ℕ) (h : Host) (fs : List Function) (lawful : Lawful fs) wher
     unfolding placed
     known =
         let shaped = all-place Shaped (fromBases h) (pieces 1 fs) (pieces-shaped 1 fs (lawful .sized)) in
-        all-imp₂ _ _ _ (placed h fs) shaped (all-and _ _ (placed h fs) (in-pool h fs lawful low kept-low) (in-pool h fs lawful high kept-high))
+        all-imp₂ _ _ _ (placed h fs) shaped
+        (all-and _ _ (placed h fs) (in-pool h fs lawful low kept-low) (in-pool h fs lawful high kept-high))
         (λ x s g. record { in-low = g .0; in-high = g .1; not-empty = omega (arith, s .align-fits, has-align (x .piece) s) })
 
     low-before-high : (x y : Placed) → Known x → Known y → x .piece .pool ≡ low → y .piece .pool ≡ high → endOf x ≤ y .start

@@ -23,7 +23,8 @@ use Rattle.plan_rule.specs.PieceLaws.{BarsSized, Shaped, has-align, piec
 use Rattle.plan_rule.specs.RecordLaws.{IsAt, Subset, parent-cases, parent-new, parent-kept, depth-first-mono, false-of-not}
 use Rattle.plan_rule.specs.Sizing.{nothing, extend, withBars, withWindow, Laid, laidFrom, busLaid, barsLaid, windowLaid, functionLaid}
 use Rattle.plan_rule.specs.Sizing.{rootLaid, endsPast, windowFor, windowsFor}
-use Rattle.plan_rule.specs.ExtentLaws.{extend-end, extend-align, extend-nil, extend-append, window-over-extent, extend-own, select-skip, select-own}
+use Rattle.plan_rule.specs.ExtentLaws.{extend-end, extend-align, extend-nil, extend-append, window-over-extent, extend-own}
+use Rattle.plan_rule.specs.ExtentLaws.{select-skip, select-own}
 use Rattle.plan_rule.specs.ExtentLaws.{select-past-run, length-run-run}
 use Rattle.plan_rule.specs.Refusals.{outOfPool}
 use Rattle.plan_rule.specs.RefusalLaws.{out-of-pool-end}
@@ -62,13 +63,19 @@ past-run b c l ok k (f ∷ fs) m d h =
     under ih e = rw e (subst (λ (n : ℕ). Goal n (drop (length (run c fs)) fs)) (omega arith) ih)
 
     past : leb c (f .parent) ≡ false → Goal (k + length (run c (f ∷ fs))) (drop (length (run c (f ∷ fs))) (f ∷ fs))
-    past e = rw (e, add-zero k) (kept, (up, depth-first-mono (parentsAfter ok k f) (parentsAfter kept k f) (suc k) fs same (d .1)), λ j g. leb-true j b (both-of-and (ok j) (leb j b) g .1))
+    past e = rw (e, add-zero k) (
+      kept,
+      (up, depth-first-mono (parentsAfter ok k f) (parentsAfter kept k f) (suc k) fs same (d .1)),
+      λ j g. leb-true j b
+          (both-of-and (ok j) (leb j b) g .1),
+    )
       where
         kept : ℕ → Bool
         kept j = ok j && leb j b
 
         parent-le : f .parent ≤ b
-        parent-le = ⊎-elim (λ (p : f .parent ≤ b). p) (λ (p : c ≤ f .parent). absurd (omega (arith, leb-false c (f .parent) e))) (h (f .parent) (d .0))
+        parent-le = ⊎-elim (λ (p : f .parent ≤ b). p) (λ (p : c ≤ f .parent). absurd (omega (arith, leb-false c (f .parent) e)))
+            (h (f .parent) (d .0))
 
         up : kept (f .parent) ≡ true
         up = rw (d .0) (le-leb (f .parent) b parent-le)
@@ -125,7 +132,8 @@ module _ (fs : List Function) (lawful : Lawful fs) where
   parent-le b i f r e = r .below (f .parent) (ordered-at b i f e r .0)
 
   -- Where it is not of this bus, the walk over this bus has ended
-  pub bus-laid-stop : (b : ℕ) (l : Laid) (f : Function) → Ready fs b (l .next) → IsAt fs (l .next) f → (f .parent ≡ b → ⊥) → busLaid fs b l ≡ l
+  pub bus-laid-stop : (b : ℕ) (l : Laid) (f : Function) → Ready fs b (l .next) → IsAt fs (l .next) f → (f .parent ≡ b → ⊥)
+      → busLaid fs b l ≡ l
   unfolding busLaid
   bus-laid-stop b l f r e n = laid-ext (busLaid fs b l) l next extents
     where
@@ -224,7 +232,8 @@ module _ (fs : List Function) (lawful : Lawful fs) where
               let all : suc i + length (run c rest) ≡ suc i + m + length (run c (drop (suc i + m) fs)) = omega arith in
               all ∙ ap (λ (x : ℕ). x + length (run c (drop x fs))) (sym (next-bridge l f g))
 
-      extents : (q : Pool) → extend (l .extent q) (select c q (pieces (suc i) (drop i fs))) ≡ extend (functionLaid fs f l .extent q) (select c q (pieces (suc n) (drop n fs)))
+      extents : (q : Pool) → extend (l .extent q) (select c q (pieces (suc i) (drop i fs)))
+          ≡ extend (functionLaid fs f l .extent q) (select c q (pieces (suc n) (drop n fs)))
       extents q =
           let rests = pieces (suc (suc i)) rest in
           ap (λ (g : List Function). extend (l .extent q) (select c q (pieces (suc i) g))) e
@@ -244,7 +253,8 @@ module _ (fs : List Function) (lawful : Lawful fs) where
         allowed = parentsAfter (r .allowed) (suc i) f;
         ordered = ordered-at b i f e r .1;
         below =
-            λ j g. ⊎-elim (λ t. omega (arith, t .0)) (λ t. omega (arith, r .below j (t .0), r .earlier)) (parent-cases (r .allowed) (suc i) f j g);
+            λ j g. ⊎-elim (λ t. omega (arith, t .0)) (λ t. omega (arith, r .below j (t .0), r .earlier))
+            (parent-cases (r .allowed) (suc i) f j g);
         earlier = omega arith;
       }
 
@@ -277,7 +287,8 @@ module _ (fs : List Function) (lawful : Lawful fs) where
       bridge : f .bridge ≡ true → Ready fs b (functionLaid fs f l .next)
       bridge g =
           let m : ℕ = length (run (suc i) (drop (suc i) fs)) in
-          let done = past-run b (suc i) (omega (arith, r .earlier)) after (suc (suc i)) (drop (suc i) fs) (omega arith) (ordered-at b i f e r .1) split in
+          let done = past-run b (suc i) (omega (arith, r .earlier)) after (suc (suc i)) (drop (suc i) fs) (omega arith)
+          (ordered-at b i f e r .1) split in
           rw (next-bridge l f g)
           (record {
             allowed = done .0;
@@ -307,7 +318,8 @@ module _ (fs : List Function) (lawful : Lawful fs) where
   -- A record's own pieces, in the walk's words
   pub own-pieces-laid : (i : ℕ) (f : Function) → IsAt fs i f
       → ownPieces (suc i) f (pieces (suc (suc i)) (drop (suc i) fs))
-      ≡ barPieces (suc i) (f .parent) (f .bars) ++ cond (f .bridge) (windowsFor (suc i) (f .parent) (busLaid fs (suc i) (laidFrom (suc i)))) []
+      ≡ barPieces (suc i) (f .parent) (f .bars) ++ cond (f .bridge)
+      (windowsFor (suc i) (f .parent) (busLaid fs (suc i) (laidFrom (suc i)))) []
   unfolding ownPieces windowPieces busLaid
   own-pieces-laid i f e =
       ap (λ (w : List Piece). barPieces (suc i) (f .parent) (f .bars) ++ cond (f .bridge) w [])
@@ -316,10 +328,12 @@ module _ (fs : List Function) (lawful : Lawful fs) where
       rest : List Piece
       rest = pieces (suc (suc i)) (drop (suc i) fs)
 
-      each : (q : Pool) → windowOver (suc i) (f .parent) q (select (suc i) q rest) ≡ windowFor (suc i) (f .parent) q (extend nothing (select (suc i) q rest))
+      each : (q : Pool) → windowOver (suc i) (f .parent) q (select (suc i) q rest)
+          ≡ windowFor (suc i) (f .parent) q (extend nothing (select (suc i) q rest))
       each q =
           window-over-extent (suc i) (f .parent) q (select (suc i) q rest)
-          (all-imp _ _ (select (suc i) q rest) (all-keep (isOn (suc i) q) Shaped rest (pieces-shaped (suc (suc i)) (drop (suc i) fs) (sized-at i f e .1))) has-align)
+          (all-imp _ _ (select (suc i) q rest)
+          (all-keep (isOn (suc i) q) Shaped rest (pieces-shaped (suc (suc i)) (drop (suc i) fs) (sized-at i f e .1))) has-align)
 
   -- A pool runs out exactly when the walk over the root bus, from the pools' bases, ends past it
   pub out-of-pool-laid : (h : Host) (q : Pool) → outOfPool h fs q ≡ endsPast (h .last q) (busLaid fs 0 (rootLaid h) .extent q)
@@ -328,4 +342,5 @@ module _ (fs : List Function) (lawful : Lawful fs) where
       let content = select 0 q (pieces 1 fs) in
       let x = extend (rootLaid h .extent q) content in
       let align : x .align ≡ largestAlign content = extend-align (rootLaid h .extent q) content ∙ omega arith in
-      out-of-pool-end h fs lawful q ∙ sym (ap₂ (λ (a n : ℕ). ltb 0 a && ltb (suc (h .last q)) n) align (extend-end (rootLaid h .extent q) content))
+      out-of-pool-end h fs lawful q ∙ sym
+      (ap₂ (λ (a n : ℕ). ltb 0 a && ltb (suc (h .last q)) n) align (extend-end (rootLaid h .extent q) content))

@@ -40,8 +40,10 @@ module _ (b : List ℕ) (bytes : Bytes b) (accepted : boardNumber b ≡ 0) where
   unfolding a
   functions =
       let parts = partsFrom b 33 in
-      let right : any readbacksWrong (map functionOfPart parts) ≡ false = ap (any readbacksWrong) (sym (a .functions-read)) ∙ a .readbacks in
-      subst (All FunctionFits) (sym (a .functions-read)) (functions-fit parts (bytes-parts (drop 33 b) (bytes-drop 33 b bytes)) (a .headers) right)
+      let right : any readbacksWrong (map functionOfPart parts) ≡ false = ap (any readbacksWrong) (sym (a .functions-read))
+      ∙ a .readbacks in
+      subst (All FunctionFits) (sym (a .functions-read))
+      (functions-fit parts (bytes-parts (drop 33 b) (bytes-drop 33 b bytes)) (a .headers) right)
 
   few : length (functionsOf b) ≤ mostFunctions
   unfolding a

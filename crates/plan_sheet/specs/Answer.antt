@@ -1,5 +1,5 @@
--- What the planner's answer says: a sheet's length is answered only for a board that is accepted and runs out of nothing, the sheet then starts the
--- room, and whatever its command words it is a planned sheet. Assumes nothing.
+-- What the planner's answer says: a sheet's length is answered only for a board that is accepted and runs out of nothing, the sheet then
+-- starts the room, and whatever its command words it is a planned sheet. Assumes nothing.
 use mathlib.Core.Path.{_≡_, refl, ap, subst, _∙_}
 use mathlib.Core.Bool.{Bool, true, false, cond}
 use mathlib.Core.List.{List}

@@ -23,7 +23,8 @@ use Rattle.plan_sheet.specs.WindowRanges.{pool-agree}
 -- every BAR's value, where its registers start, says its base
 abbrev pub SaysBases : List Slot → List ℕ → (ℕ → ℕ) → Type 0
 SaysBases ss vs base =
-    (j : ℕ) (q : Pool) (wide : Bool) (z : ℕ) → getD ss j Unused ≡ Bar q wide z → baseOf (Bar q wide z) (valueHere (Bar q wide z) (drop j vs)) ≡ base j
+    (j : ℕ) (q : Pool) (wide : Bool) (z : ℕ) → getD ss j Unused ≡ Bar q wide z
+    → baseOf (Bar q wide z) (valueHere (Bar q wide z) (drop j vs)) ≡ base j
 
 module _ (sp : Space) (start : ℕ → ℕ) where
   ranges-from : (ss : List Slot) (s : ℕ) (vs : List ℕ) → SaysBases ss vs (λ j. start (s + j))
@@ -51,7 +52,12 @@ module _ (sp : Space) (start : ℕ → ℕ) where
 
           by : (t : Bool)
               → cond t
-              (record { pool = poolOf q; start = baseOf (Bar q wide z) (valueHere (Bar q wide z) vs); stop = baseOf (Bar q wide z) (valueHere (Bar q wide z) vs) + z } ∷ [])
+              (record {
+                pool = poolOf q;
+                start = baseOf (Bar q wide z) (valueHere (Bar q wide z) vs);
+                stop = baseOf (Bar q wide z)
+                    (valueHere (Bar q wide z) vs) + z;
+              } ∷ [])
               []
               ++ rangesFrom sp ss (drop 1 vs)
               ≡ map (barRange start)

@@ -1,4 +1,5 @@
--- What a board's bytes and checks give the planned sheet: every number has its width, and numbering, placing and order are lawful. Assumes nothing.
+-- What a board's bytes and checks give the planned sheet: every number has its width, and numbering, placing and order are lawful. Assumes
+-- nothing.
 use mathlib.Core.Path.{_≡_}
 use mathlib.Core.Bool.{true, false}
 use mathlib.Core.List.{List}

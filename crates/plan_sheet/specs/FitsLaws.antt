@@ -95,12 +95,14 @@ type-of-header p e =
     let tests = false-of-or (not (eqb (headerType header) 0) && not (isBridgeHeader header)) (not right) e in
     go (eqb (headerType header) 0) refl (isBridgeHeader header) refl (tests .0)
   where
-    go : (a : Bool) → eqb (getD p 3 0 % 128) 0 ≡ a → (c : Bool) → eqb (getD p 3 0 % 128) 1 ≡ c → (not a && not c) ≡ false → getD p 3 0 % 128 ≤ 1
+    go : (a : Bool) → eqb (getD p 3 0 % 128) 0 ≡ a → (c : Bool) → eqb (getD p 3 0 % 128) 1 ≡ c → (not a && not c) ≡ false
+        → getD p 3 0 % 128 ≤ 1
     go true h c k t = omega (arith, eqb-true (getD p 3 0 % 128) 0 h)
     go false h true k t = omega (arith, eqb-true (getD p 3 0 % 128) 1 k)
     go false h false k t = absurd (true≢false t)
 
-pub function-fits : (p : List ℕ) → Bytes p → headerWrong p ≡ false → readbacksWrong (functionOfPart p) ≡ false → FunctionFits (functionOfPart p)
+pub function-fits : (p : List ℕ) → Bytes p → headerWrong p ≡ false → readbacksWrong (functionOfPart p) ≡ false
+    → FunctionFits (functionOfPart p)
 unfolding functionOfPart readbacksWrong
 function-fits p b e r =
     let s = readbacks-of-bytes (getD p 3 0) p b in
@@ -115,7 +117,8 @@ function-fits p b e r =
       rest-zero = s .rest-zero;
     }
 
-pub functions-fit : (ps : List (List ℕ)) → All Bytes ps → anyPart headerWrong ps ≡ false → any readbacksWrong (map functionOfPart ps) ≡ false
+pub functions-fit : (ps : List (List ℕ)) → All Bytes ps → anyPart headerWrong ps ≡ false
+    → any readbacksWrong (map functionOfPart ps) ≡ false
     → All FunctionFits (map functionOfPart ps)
 unfolding anyPart any
 functions-fit [] b e r = tt

@@ -66,7 +66,8 @@ once-of-distinct k (e ∷ es) h = rw (absent k (k + 1) e es (h .0)) (once-of-dis
 
 -- ## One record for each function
 
-length-from : (first : ℕ) (ps : List placing.Function) (xs : List Placed) (k : ℕ) (gs : List Function) → length (plannedFrom first ps xs k gs) ≡ length gs
+length-from : (first : ℕ) (ps : List placing.Function) (xs : List Placed) (k : ℕ) (gs : List Function)
+    → length (plannedFrom first ps xs k gs) ≡ length gs
 unfolding plannedFrom
 length-from first ps xs k [] = refl
 length-from first ps xs k (f ∷ gs) = ap suc (length-from first ps xs (suc k) gs)
@@ -112,7 +113,8 @@ module _ (h : Host) (fs : List Function) (fits : BoardFits h fs) (planned : refu
     readbacks-right =
         rw (
           values-of-record (suc i) xs f fit,
-          placed-values-lawful (λ j. barStart (suc i) j xs) (slotReadbacks f) (fit .lawful) (bars-placed-at h fs fits planned i f gs at fit),
+          placed-values-lawful (λ j. barStart (suc i) j xs) (slotReadbacks f) (fit .lawful)
+              (bars-placed-at h fs fits planned i f gs at fit),
           fit .rest-zero,
         )
 
@@ -155,7 +157,8 @@ module _ (h : Host) (fs : List Function) (fits : BoardFits h fs) (planned : refu
   ids : idTwice (entriesOf (sheetBytes (planOf h fs))) ≡ false
   ids =
       once-of-distinct 1 (entriesOf (sheetBytes (planOf h fs)))
-      (subst DistinctIds (sym (nodes-agree h fs fits planned)) (planned-ids (toHost h) ps (fits .board .lawful) (devfnOf fs) (fits .siblings-rise)))
+      (subst DistinctIds (sym (nodes-agree h fs fits planned))
+      (planned-ids (toHost h) ps (fits .board .lawful) (devfnOf fs) (fits .siblings-rise)))
 
   pub planned-checked : Checked (sheetBytes (planOf h fs))
   planned-checked =

@@ -134,7 +134,8 @@ module _ (h : Host) (fs : List Function) (fits : BoardFits h fs) (planned : refu
 
     windows-are : (sp : Space)
         → map (λ (x : Placed). x .piece) (keep (isWindowOf sp (suc i)) xs)
-        ≡ keep (λ p. inSpace sp (p .pool)) (cond (isBridge f) (windowPieces (suc i) (f .parent) (pieces (suc (suc i)) (drop (suc i) ps))) [])
+        ≡ keep (λ p. inSpace sp (p .pool))
+        (cond (isBridge f) (windowPieces (suc i) (f .parent) (pieces (suc (suc i)) (drop (suc i) ps))) [])
     windows-are sp = windows-of-record sp (toHost h) ps (fits .board .lawful) i (toFunction f) (at-placing i fs f gs at)
 
     no-windows : (sp : Space) → isBridge f ≡ false → windowsOf sp xs (suc i) ≡ []
@@ -151,7 +152,8 @@ module _ (h : Host) (fs : List Function) (fits : BoardFits h fs) (planned : refu
         go : (t : Bool) → isBridge f ≡ t → sheetWindows memorySpace entry ≡ windowsOf memorySpace xs (suc i)
         go true e =
             rw (e, window-for-keep memorySpace (suc i) Low refl xs, window-for-keep memorySpace (suc i) High refl xs)
-            (ranges-of-two (suc i) (f .parent) (select (suc i) low rest) (select (suc i) high rest) (keep (isWindowOf memorySpace (suc i)) xs)
+            (ranges-of-two (suc i) (f .parent) (select (suc i) low rest) (select (suc i) high rest)
+            (keep (isWindowOf memorySpace (suc i)) xs)
             ((rw e at (windows-are memorySpace)) ∙ memory-windows (suc i) (f .parent) rest) (edges memorySpace))
         go false e = rw (e, range-of-closed Low, range-of-closed High) (sym (no-windows memorySpace e))
     windows-agree ioSpace = go (isBridge f) refl

@@ -42,7 +42,8 @@ use Rattle.plan_sheet.specs.Values.{slotReadbacks, length-slot-readbacks
 abbrev pub StandsAt : List Function → ℕ → Function → List Function → Type 0
 StandsAt fs i f gs = drop i fs ≡ f ∷ gs
 
-pub at-placing : (i : ℕ) (fs : List Function) (f : Function) (gs : List Function) → StandsAt fs i f gs → IsAt (toPlacing fs) i (toFunction f)
+pub at-placing : (i : ℕ) (fs : List Function) (f : Function) (gs : List Function) → StandsAt fs i f gs
+    → IsAt (toPlacing fs) i (toFunction f)
 at-placing zero [] f gs e = absurd (cons≢nil (sym e))
 at-placing zero (g ∷ fs) f gs e = ap (λ (x : Function). toFunction x ∷ toPlacing fs) (head-eq-of-cons-eq e)
 at-placing (suc i) [] f gs e = absurd (cons≢nil (sym e))
@@ -124,7 +125,8 @@ module _ (h : Host) (fs : List Function) (fits : BoardFits h fs) (planned : refu
         ∙ length-slot-readbacks f fit
 
     values-lt : Dwords (valuesFrom (suc i) 0 xs (slotsOf f) (f .readbacks))
-    values-lt = rw (values-of-record (suc i) xs f fit) (placed-value-lt (λ j. barStart (suc i) j xs) (slotReadbacks f) (fit .lawful) bars-placed-at)
+    values-lt = rw (values-of-record (suc i) xs f fit)
+        (placed-value-lt (λ j. barStart (suc i) j xs) (slotReadbacks f) (fit .lawful) bars-placed-at)
 
     entry-shaped : Shaped (entryFor first ps xs (suc i) f)
     entry-shaped =

@@ -115,13 +115,19 @@ module _ (k b : ℕ) where
     miss r xs other =
         ap (openRange r)
         (window-for-miss k r x xs
-        (rw (ap (λ (p : Piece). samePool (p .pool) r) e ∙ other, and-false (isWindow (x .piece .part)), and-false (eqb (x .piece .owner) k))))
+        (rw (
+          ap (λ (p : Piece). samePool (p .pool) r) e
+              ∙ other,
+          and-false (isWindow (x .piece .part)),
+          and-false (eqb (x .piece .owner) k),
+        )))
 
   shut : (q : Pool) → openRange q (windowFor k q []) ≡ []
   shut q = ap (openRange q) (window-for-none k q) ∙ range-of-closed q
 
   -- one pool after another, low before high
-  pub ranges-of-two : (cl ch : List Piece) (ws : List Placed) → map (λ (x : Placed). x .piece) ws ≡ windowOver k b low cl ++ windowOver k b high ch
+  pub ranges-of-two : (cl ch : List Piece) (ws : List Placed) → map (λ (x : Placed). x .piece) ws
+      ≡ windowOver k b low cl ++ windowOver k b high ch
       → ((q : Pool) (x : Placed) → WindowAt q ws x → Edges q (x .start) (endOf x))
       → openRange Low (windowFor k Low ws) ++ openRange High (windowFor k High ws) ≡ map rangeOf ws
   ranges-of-two [] [] [] e d = rw (shut Low, shut High)

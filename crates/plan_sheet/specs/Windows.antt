@@ -50,11 +50,13 @@ window-for-cases k q (x ∷ xs) = go (eqb (x .piece .owner) k && isWindowIn q x)
     go : (t : Bool) → (eqb (x .piece .owner) k && isWindowIn q x) ≡ t
         → (windowFor k q xs ≡ closed q) ⊎ ((y : Placed) × WindowAt q xs y × (windowFor k q xs ≡ opened q (y .start) (endOf y)))
         → (cond t (opened q (x .start) (endOf x)) (windowFor k q xs) ≡ closed q)
-        ⊎ ((y : Placed) × WindowAt q (x ∷ xs) y × (cond t (opened q (x .start) (endOf x)) (windowFor k q xs) ≡ opened q (y .start) (endOf y)))
+        ⊎ ((y : Placed) × WindowAt q (x ∷ xs) y ×
+        (cond t (opened q (x .start) (endOf x)) (windowFor k q xs) ≡ opened q (y .start) (endOf y)))
     go true e rest =
         let outer = both-of-and (eqb (x .piece .owner) k) (isWindowIn q x) e in
         let inner = both-of-and (isWindow (x .piece .part)) (samePool (x .piece .pool) q) (outer .1) in
-        let here : WindowAt q (x ∷ xs) x = record { among = List·Memᴰ·head refl; is-window = inner .0; pool-is = eq-of-same-pool (x .piece .pool) q (inner .1) } in
+        let here : WindowAt q (x ∷ xs) x = record
+        { among = List·Memᴰ·head refl; is-window = inner .0; pool-is = eq-of-same-pool (x .piece .pool) q (inner .1) } in
         inr (x, here, refl)
     go false e rest = later (windowFor k q xs) rest
 

@@ -1,5 +1,5 @@
--- What the planner's sizing asks and what it answers: a bus from its functions, a bridge from its bus, and the whole board from the pools' bases.
--- Assumes nothing.
+-- What the planner's sizing asks and what it answers: a bus from its functions, a bridge from its bus, and the whole board from the pools'
+-- bases. Assumes nothing.
 use mathlib.Core.Path.{_≡_}
 use mathlib.Core.Bool.{Bool, false, _&&_}
 use mathlib.Core.List.{List}

@@ -97,7 +97,8 @@ pub stored-below : (ps hs ss memo memo' : List ℕ) (bases : Pool → ℕ) (r : 
     → laidAt memo' i ≡ below (functionsIn ps hs ss) i
 stored-below ps hs ss memo memo' bases r room b i h e =
     ap (λ (m : List ℕ). laidAt m i) (b .stored)
-    ∙ laid-at-bridge (functionsIn ps hs ss) memo (omega (arith, length-functions ps hs ss)) i (functionAt ps hs ss i) (functions-at ps hs ss i h)
+    ∙ laid-at-bridge (functionsIn ps hs ss) memo (omega (arith, length-functions ps hs ss)) i (functionAt ps hs ss i)
+    (functions-at ps hs ss i h)
     (omega (arith, length-functions ps hs ss))
     e
 

@@ -44,7 +44,8 @@ unfolding busLaid
 bus-next-le fs b l = omega arith
 
 -- a window's alignment is a power of two
-window-align-power : (fs : List Function) → Sized fs → (b k : ℕ) (q : Pool) → PowerOfTwo (windowAlign q (busLaid fs b (laidFrom k) .extent q .align))
+window-align-power : (fs : List Function) → Sized fs → (b k : ℕ) (q : Pool)
+    → PowerOfTwo (windowAlign q (busLaid fs b (laidFrom k) .extent q .align))
 unfolding busLaid
 window-align-power fs h b k q =
     let rest = pieces (suc k) (drop k fs) in
@@ -52,7 +53,8 @@ window-align-power fs h b k q =
     let e : extend nothing content .align ≡ largestAlign content = extend-align nothing content ∙ omega arith in
     rw e
     (largest-align-power (granule q) content (granule-power q)
-    (all-imp _ _ content (all-keep (isOn b q) Shaped rest (pieces-shaped (suc k) (drop k fs) (all-drop BarsSized k fs h))) (λ p s. s .align-power)))
+    (all-imp _ _ content (all-keep (isOn b q) Shaped rest (pieces-shaped (suc k) (drop k fs) (all-drop BarsSized k fs h)))
+    (λ p s. s .align-power)))
 
 module _ {ps hs ss memo : List ℕ} {d : ℕ} {l : Laid} (s : Standing ps hs ss memo (getD ps (l .next) 0) d l)
     (here : l .next < length ps) where

@@ -25,7 +25,8 @@ use Rattle.plan_sizing.specs.MemoLaws.{memo-between-none, memo-walked}
 use Rattle.plan_sizing.specs.Board.{Board, isChild, Standing, BusSized, FunctionSized, OnBus}
 
 child-of : (ps : List ℕ) (i b : ℕ) → isChild ps i b ≡ true → (i < length ps) × (getD ps i 0 ≡ b)
-child-of ps i b e = let h = both-of-and (ltb i (length ps)) (eqb (getD ps i 0) b) e in (ltb-true i (length ps) (h .0), eqb-true (getD ps i 0) b (h .1))
+child-of ps i b e =
+    let h = both-of-and (ltb i (length ps)) (eqb (getD ps i 0) b) e in (ltb-true i (length ps) (h .0), eqb-true (getD ps i 0) b (h .1))
 
 not-child : (ps : List ℕ) (i b : ℕ) → isChild ps i b ≡ false → (length ps ≤ i) ⊎ ((i < length ps) × (getD ps i 0 ≡ b → ⊥))
 not-child ps i b e =
@@ -99,7 +100,12 @@ module _ {ps hs ss memo memo' : List ℕ} {b d : ℕ} {start l : Laid} (on : OnB
             standing =
                 record {
                   board = on .standing .board;
-                  room = omega (arith, on .standing .room, ap length (w .stored) ∙ length-sets memo' (8 * l .next) (memoBetween fs (l .next) (r .next)));
+                  room = omega (
+                    arith,
+                    on .standing .room,
+                    ap length (w .stored)
+                        ∙ length-sets memo' (8 * l .next) (memoBetween fs (l .next) (r .next)),
+                  );
                   whole = whole-of-cut r (functionLaid fs f (says l)) (w .laid);
                   within = omega (arith, next, function-next-le fs lawful (says l) f (omega (arith, child-within, count)), count);
                   deep = on .standing .deep;
@@ -108,10 +114,12 @@ module _ {ps hs ss memo memo' : List ℕ} {b d : ℕ} {start l : Laid} (on : OnB
             from = omega (arith, on .from, lt-next-of-turn);
             same =
                 cut-of-capped (busLaid fs b (says r)) (busLaid fs b (says l))
-                (bus-laid-turn fs lawful b (says l) (says r) f (on .standing .ready) at parent (says-of-cut r (functionLaid fs f (says l)) (w .laid)))
+                (bus-laid-turn fs lawful b (says l) (says r) f (on .standing .ready) at parent
+                (says-of-cut r (functionLaid fs f (says l)) (w .laid)))
                 ∙ on .same;
             stored =
-                memo-walked fs memo (start .next) (l .next) (r .next) (on .from) (omega (arith, lt-next-of-turn)) (omega (arith, child-within, count))
+                memo-walked fs memo (start .next) (l .next) (r .next) (on .from) (omega (arith, lt-next-of-turn))
+                (omega (arith, child-within, count))
                 (on .stored)
                 (w .stored);
           }

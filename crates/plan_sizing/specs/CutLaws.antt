@@ -1,5 +1,5 @@
--- The laws of what the code keeps: cutting twice is cutting once, and each step of the walk from what is kept comes to what is kept of the step.
--- Assumes nothing.
+-- The laws of what the code keeps: cutting twice is cutting once, and each step of the walk from what is kept comes to what is kept of the
+-- step. Assumes nothing.
 use mathlib.Core.Path.{_≡_, refl, sym, ap, _∙_}
 use mathlib.Core.Bool.{Bool, true, false, true≢false, cond}
 use mathlib.Core.List.{List, _∷_}
@@ -82,7 +82,8 @@ cap-add-bars bs m h = laid-ext _ _ refl (λ q. cap-with-bars q (m .extent q) bs 
 
 pub cut-add-bars : (bs : List records.Bar) (m : placing.Laid) → AllSized bs → cut (addBars bs (says (cut m))) ≡ cut (addBars bs m)
 cut-add-bars bs m h =
-    ap (λ (x : placing.Laid). cut (addBars bs x)) (says-cut m) ∙ cut-of-capped (addBars bs (cappedLaid m)) (addBars bs m) (cap-add-bars bs m h)
+    ap (λ (x : placing.Laid). cut (addBars bs x)) (says-cut m)
+    ∙ cut-of-capped (addBars bs (cappedLaid m)) (addBars bs m) (cap-add-bars bs m h)
 
 -- what is still to be added from place i on
 abbrev pub restOf : List ℕ → ℕ → List records.Bar
@@ -94,7 +95,8 @@ unfolding barsFrom withBars
 add-bars-step set i x m h e l = ap (λ (xs : List Slot). addBars (barsFrom i xs) m) (slots-at-step set i x h e l) ∙ go x l
   where
     go : (y : Slot) → isBad y ≡ false
-        → addBars (barsFrom i (y ∷ cond (takesNext y) (Upper ∷ slots (drop (i + 2) set)) (slots (drop (i + 1) set)))) m ≡ addBars (restOf set (i + span y)) (addSlot y m)
+        → addBars (barsFrom i (y ∷ cond (takesNext y) (Upper ∷ slots (drop (i + 2) set)) (slots (drop (i + 1) set)))) m
+        ≡ addBars (restOf set (i + span y)) (addSlot y m)
     go Unused g = rw (add-one i)
     go (Bar pool true size) g = rw (add-two i)
     go (Bar pool false size) g = rw (add-one i)
@@ -102,7 +104,8 @@ add-bars-step set i x m h e l = ap (λ (xs : List Slot). addBars (barsFrom i xs)
     go Bad g = absurd (true≢false g)
 
 -- among lawful slots each is lawful
-pub not-bad-of-lawful : (set : List ℕ) (i : ℕ) (x : Slot) → i < length set → x ≡ slotHere (drop i set) → anyBad (slots (drop i set)) ≡ false → isBad x ≡ false
+pub not-bad-of-lawful : (set : List ℕ) (i : ℕ) (x : Slot) → i < length set → x ≡ slotHere (drop i set) → anyBad (slots (drop i set))
+    ≡ false → isBad x ≡ false
 not-bad-of-lawful set i x h e g = go (isBad x) refl
   where
     go : (t : Bool) → isBad x ≡ t → t ≡ false

@@ -78,5 +78,6 @@ pub record Worked (rs : List Row) : Type 0 where
   pub stores : map storedBy rs ≡ map (λ r. r .stored) rs
 
 pub examples : Worked rows
-unfolding sizeFrom sized ioSlot narrowSlot wideSlot slotHere slots alignUp keep front barPieces windowPieces ownPieces pieces layoutEnd largestAlign extend busLaid barsFrom functionsIn memoFrom
+unfolding sizeFrom sized ioSlot narrowSlot wideSlot slotHere slots alignUp keep front barPieces windowPieces ownPieces pieces layoutEnd
+    largestAlign extend busLaid barsFrom functionsIn memoFrom
 examples = record { sizes = refl; stores = refl }

@@ -57,7 +57,8 @@ functions-agree to (g ∷ gs) (p ∷ ps) hs ss e h =
 -- ## A set, in the words of the code
 
 pub set-at : (ss : List ℕ) (at : ℕ) → at + 6 ≤ length ss
-    → take 6 (drop at ss) ≡ getD ss at 0 ∷ getD ss (at + 1) 0 ∷ getD ss (at + 2) 0 ∷ getD ss (at + 3) 0 ∷ getD ss (at + 4) 0 ∷ getD ss (at + 5) 0 ∷ []
+    → take 6 (drop at ss) ≡ getD ss at 0 ∷ getD ss (at + 1) 0 ∷ getD ss (at + 2) 0 ∷ getD ss (at + 3) 0 ∷ getD ss (at + 4) 0 ∷ getD ss
+    (at + 5) 0 ∷ []
 set-at ss at h =
     let e0 : at < length ss = omega arith in
     let e1 : suc at < length ss = omega arith in

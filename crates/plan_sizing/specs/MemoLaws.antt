@@ -24,7 +24,8 @@ set-sets o i v j (w ∷ ws) h =
     ∙ ap (λ (p : List ℕ). sets p (suc j) ws) (set-comm o j i w v (λ e. omega arith))
 
 -- a run stored before a later one
-pub sets-before : (o : List ℕ) (i : ℕ) (vs : List ℕ) (j : ℕ) (ws : List ℕ) → i + length vs ≤ j → sets (sets o j ws) i vs ≡ sets (sets o i vs) j ws
+pub sets-before : (o : List ℕ) (i : ℕ) (vs : List ℕ) (j : ℕ) (ws : List ℕ) → i + length vs ≤ j → sets (sets o j ws) i vs
+    ≡ sets (sets o i vs) j ws
 sets-before o i [] j ws h = refl
 sets-before o i (v ∷ vs) j ws h =
     ap (λ (p : List ℕ). sets p (suc i) vs) (set-sets o i v j ws (omega arith)) ∙ sets-before (set o i v) (suc i) vs j ws (omega arith)
@@ -44,7 +45,8 @@ length-memo-from fs i [] = refl
 length-memo-from fs i (f ∷ gs) =
     length-append (memoOf fs i f) (memoFrom fs (suc i) gs) ∙ omega (arith, length-memo-of fs i f, length-memo-from fs (suc i) gs)
 
-memo-from-append : (fs : List Function) (i : ℕ) (gs hs : List Function) → memoFrom fs i (gs ++ hs) ≡ memoFrom fs i gs ++ memoFrom fs (i + length gs) hs
+memo-from-append : (fs : List Function) (i : ℕ) (gs hs : List Function) → memoFrom fs i (gs ++ hs)
+    ≡ memoFrom fs i gs ++ memoFrom fs (i + length gs) hs
 unfolding memoFrom
 memo-from-append fs i [] hs = ap (λ (k : ℕ). memoFrom fs k hs) (sym (add-zero i))
 memo-from-append fs i (f ∷ gs) hs =
@@ -104,7 +106,8 @@ module _ (fs : List Function) (o : List ℕ) where
 
   -- a bridge, stored after the records below it
   pub memo-bridge : {o₁ o₂ : List ℕ} (i k : ℕ) (f : Function) (inner : Laid) → IsAt fs i f → f .bridge ≡ true → i < k → inner ≡ below fs i
-      → o₁ ≡ sets o (8 * (i + 1)) (memoBetween fs (i + 1) k) → o₂ ≡ sets o₁ (8 * i) (numbersOf inner) → o₂ ≡ sets o (8 * i) (memoBetween fs i k)
+      → o₁ ≡ sets o (8 * (i + 1)) (memoBetween fs (i + 1) k) → o₂ ≡ sets o₁ (8 * i) (numbersOf inner) → o₂
+      ≡ sets o (8 * i) (memoBetween fs i k)
   memo-bridge i k f inner e b h g p q =
       let s : 8 * i + 8 ≡ 8 * (i + 1) = omega arith in
       q

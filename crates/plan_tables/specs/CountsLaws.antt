@@ -1,4 +1,5 @@
--- The counts of bridges: the pass that stores them, and that the k-th is the number of bridges among the first k functions. Assumes nothing.
+-- The counts of bridges: the pass that stores them, and that the k-th is the number of bridges among the first k functions. Assumes
+-- nothing.
 use mathlib.Core.Path.{_≡_, refl, sym, ap, _∙_}
 use mathlib.Core.List.{List, [], _∷_}
 use Prim.Native.Nat.{ℕ, zero, suc, _+_, _≤_, _<_}
@@ -15,7 +16,8 @@ use Rattle.plan_tables.specs.Counts.{weightOf, countsFrom, countsOf}
 -- ---- the pass: n bridges are before index i, and the counts before it are stored
 
 module _ {r : List ℕ} (cs hs : List ℕ) (i n : ℕ) (e : sets cs i (countsFrom n (drop i hs)) ≡ r) where
-  pub counts-turn : (w : ℕ) → w ≡ weightOf (getD hs i 0) → i < length hs → sets (set cs i n) (i + 1) (countsFrom (n + w) (drop (i + 1) hs)) ≡ r
+  pub counts-turn : (w : ℕ) → w ≡ weightOf (getD hs i 0) → i < length hs
+      → sets (set cs i n) (i + 1) (countsFrom (n + w) (drop (i + 1) hs)) ≡ r
   unfolding countsFrom
   counts-turn w q h =
       let more : drop i hs ≡ getD hs i 0 ∷ drop (suc i) hs = drop-cons hs i 0 h in

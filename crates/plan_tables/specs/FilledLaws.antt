@@ -82,7 +82,8 @@ board-of-lists b e =
     record {
       headers = omega (arith, ps, hs);
       readbacks = omega (arith, ps, length-readbacksOf fs six);
-      ordered = subst (λ (l : List placing.Function). DepthFirst onlyHost 1 l) (sym (functions-of-lists fs six)) (lawful-of-accepted b e .ordered);
+      ordered = subst (λ (l : List placing.Function). DepthFirst onlyHost 1 l) (sym (functions-of-lists fs six))
+          (lawful-of-accepted b e .ordered);
       shallow = rw (functions-of-lists fs six) (few-above-of-accepted b e);
       readable = readable-of fs six (accepted-of-zero b e .readbacks);
     }

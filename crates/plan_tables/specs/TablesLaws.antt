@@ -79,7 +79,8 @@ module _ {b ps hs ss ps' hs' ss' : List ℕ} {at i : ℕ} (s : Filling b ps hs s
 
   pub filling-readbacks : length ss' ≡ length ss
   filling-readbacks =
-      sym (length-sets ss' (6 * i) (readbacksOf (functionsFrom b at))) ∙ ap length (s .readbacks) ∙ length-sets ss 0 (readbacksOf (functionsOf b))
+      sym (length-sets ss' (6 * i) (readbacksOf (functionsFrom b at))) ∙ ap length (s .readbacks)
+      ∙ length-sets ss 0 (readbacksOf (functionsOf b))
 
   -- the end of the pass, by what is left
   filled-of-none : functionsFrom b at ≡ [] → Filled (functionsOf b) ps hs ss ps' hs' ss' i
@@ -120,7 +121,8 @@ module _ {b ps hs ss ps' hs' ss' : List ℕ} {at i : ℕ} (s : Filling b ps hs s
         let rest = functionsFrom b (at + 2 + n) in
         let left : functionsFrom b at ≡ f ∷ rest = functions-record ∙ ap (λ (x : Function). x ∷ rest) (sym q) in
         let one : i + 1 ≡ suc i = add-one i in
-        let six : 6 * (i + 1) ≡ 6 * i + length (f .readbacks) = omega (arith, ap (λ (x : Function). length (x .readbacks)) q, length-readbacks (take n (drop (at + 2) b))) in
+        let six : 6 * (i + 1) ≡ 6 * i + length (f .readbacks)
+        = omega (arith, ap (λ (x : Function). length (x .readbacks)) q, length-readbacks (take n (drop (at + 2) b))) in
         record {
           lawful = none-later headerWrong b at n e (s .lawful);
           few = omega (arith, s .few, ap length left);

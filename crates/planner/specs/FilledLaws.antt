@@ -28,7 +28,8 @@ use Rattle.plan_sizing.specs.Board.{basesOf, rootFrom}
 use Rattle.plan_sizing.specs.BoardLaws.{stored-below}
 use Rattle.plan_tables.specs.Tables.{headersOf, Room, Filled}
 use Rattle.plan_tables.specs.Counts.{countsOf}
-use Rattle.plan_tables.specs.FilledLaws.{filled-few, room-filled, length-take-parents, take-headers, functions-filled, board-filled, bridges-filled}
+use Rattle.plan_tables.specs.FilledLaws.{filled-few, room-filled, length-take-parents, take-headers, functions-filled, board-filled}
+use Rattle.plan_tables.specs.FilledLaws.{bridges-filled}
 use Rattle.plan_pass.specs.StepLaws.{RecordAt}
 use Rattle.planner.specs.declared.Measured.{Measured}
 use Rattle.planner.specs.Measure.{Measurable, CountedAndSized, IsMeasured}
@@ -72,28 +73,34 @@ module _ {ps hs ss ps' hs' ss' : List ℕ} {n : ℕ} (b : List ℕ) (e : boardNu
 
     counted : (k : ℕ) → k ≤ length (functionsOf b) → getD counts' k 0 ≡ bridges (take k (toPlacing (functionsOf b)))
     counted k l =
-        bridges-filled b e room filled counts k (s .counts-are) (omega (arith, few, filled .count, counts-room)) (omega (arith, filled .count))
+        bridges-filled b e room filled counts k (s .counts-are) (omega (arith, few, filled .count, counts-room))
+        (omega (arith, filled .count))
 
     all-bridges : m .bridges ≡ bridges (toPlacing (functionsOf b))
     all-bridges =
         let fs = toPlacing (functionsOf b) in
         let l : length fs ≡ n = length-map (functionsOf b) _ ∙ sym (filled .count) in
-        s .bridges-are ∙ counted n (omega (arith, filled .count)) ∙ ap (λ (k : ℕ). bridges (take k fs)) (sym l) ∙ ap bridges (take-length fs)
+        s .bridges-are ∙ counted n (omega (arith, filled .count)) ∙ ap (λ (k : ℕ). bridges (take k fs)) (sym l)
+        ∙ ap bridges (take-length fs)
 
     root-is : m .root ≡ cut (busLaid (toPlacing (functionsOf b)) 0 (rootLaid (toHost (hostOf b))))
     root-is =
         s .sized .laid
-        ∙ ap (λ (fs : List placing.Function). cut (busLaid fs 0 (rootFrom (basesOf (h .low .base) (h .high .base) (h .io .base))))) (functions-filled b e room filled)
+        ∙ ap (λ (fs : List placing.Function). cut (busLaid fs 0 (rootFrom (basesOf (h .low .base) (h .high .base) (h .io .base)))))
+        (functions-filled b e room filled)
         ∙ ap (λ (l : laid.Laid). cut (busLaid (toPlacing (functionsOf b)) 0 l)) (root-from-bases h)
         ∙ ap (λ (x : Host). cut (busLaid (toPlacing (functionsOf b)) 0 (rootLaid (toHost x)))) host-is
 
-    stored : (i : ℕ) (f : Function) → RecordAt (functionsOf b) i f → isBridge f ≡ true → laidAt memo' i ≡ below (toPlacing (functionsOf b)) i
+    stored : (i : ℕ) (f : Function) → RecordAt (functionsOf b) i f → isBridge f ≡ true → laidAt memo' i
+        ≡ below (toPlacing (functionsOf b)) i
     stored i f at is =
         let there = header-at (functionsOf b) i f at in
         let header : getD (take n hs') i 0 ≡ f .header = ap (λ (l : List ℕ). getD l i 0) (take-headers b e room filled) ∙ there .1 in
         let lp = length-take-parents b e room filled in
-        stored-below (take n ps') (take n hs') (take (6 * n) ss') memo memo' (basesOf (h .low .base) (h .high .base) (h .io .base)) (m .root)
-        (omega (arith, lp, few, filled .count, memo-room)) (s .sized) i (omega (arith, lp, there .0, filled .count)) (ap isBridgeHeader header ∙ is)
+        stored-below (take n ps') (take n hs') (take (6 * n) ss') memo memo'
+        (basesOf (h .low .base) (h .high .base) (h .io .base)) (m .root)
+        (omega (arith, lp, few, filled .count, memo-room)) (s .sized) i (omega (arith, lp, there .0, filled .count))
+        (ap isBridgeHeader header ∙ is)
         ∙ ap (λ (fs : List placing.Function). below fs i) (functions-filled b e room filled)
 
     pub measured : IsMeasured b counts' memo' m
@@ -105,6 +112,13 @@ module _ {ps hs ss ps' hs' ss' : List ℕ} {n : ℕ} (b : List ℕ) (e : boardNu
           root = root-is;
           counts-room = omega (arith, few, counts-room, ap length (s .counts-are), length-sets counts 0 (countsOf (take n hs')));
           counted = counted;
-          memo-room = omega (arith, few, memo-room, ap length (s .sized .stored), length-sets memo 0 (memoFrom sized-functions 0 sized-functions));
+          memo-room = omega (
+            arith,
+            few,
+            memo-room,
+            ap length (s .sized .stored),
+            length-sets memo 0
+                (memoFrom sized-functions 0 sized-functions),
+          );
           stored = stored;
         }

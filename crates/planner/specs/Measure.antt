@@ -49,10 +49,11 @@ pub record CountedAndSized (ps hs ss : List ℕ) (n : ℕ) (h : Host) (counts me
   pub functions : m .functions ≡ n
   pub counts-are : counts' ≡ sets counts 0 (countsOf (take n hs))
   pub bridges-are : m .bridges ≡ getD counts' n 0
-  pub sized : BoardSized (functionsIn (take n ps) (take n hs) (take (6 * n) ss)) (basesOf (h .low .base) (h .high .base) (h .io .base)) memo memo' (m .root)
+  pub sized : BoardSized (functionsIn (take n ps) (take n hs) (take (6 * n) ss)) (basesOf (h .low .base) (h .high .base) (h .io .base))
+      memo memo' (m .root)
 
--- the board measured: its functions and bridges, what its root bus comes to, and the arrays that count the bridges before each function and keep what
--- lies below each bridge
+-- the board measured: its functions and bridges, what its root bus comes to, and the arrays that count the bridges before each function and
+-- keep what lies below each bridge
 pub record IsMeasured (b counts memo : List ℕ) (m : Measured) : Type 0 where
   pub functions : m .functions ≡ length (functionsOf b)
   pub bridges-are : m .bridges ≡ bridges (toPlacing (functionsOf b))
@@ -60,4 +61,5 @@ pub record IsMeasured (b counts memo : List ℕ) (m : Measured) : Type 0 where
   pub counts-room : length (functionsOf b) < length counts
   pub counted : (k : ℕ) → k ≤ length (functionsOf b) → getD counts k 0 ≡ bridges (take k (toPlacing (functionsOf b)))
   pub memo-room : 8 * length (functionsOf b) ≤ length memo
-  pub stored : (i : ℕ) (f : Function) → RecordAt (functionsOf b) i f → isBridge f ≡ true → laidAt memo i ≡ below (toPlacing (functionsOf b)) i
+  pub stored : (i : ℕ) (f : Function) → RecordAt (functionsOf b) i f → isBridge f ≡ true → laidAt memo i
+      ≡ below (toPlacing (functionsOf b)) i

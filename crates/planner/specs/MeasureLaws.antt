@@ -48,7 +48,8 @@ open-ends-low e Io o = omega (arith, e .io-ends-below-64-KiB o)
 -- ---- one pool
 
 -- whatever is laid out from a base on ends past it
-past-base : (l base : ℕ) → l ≤ base → (ps : List Piece) → All Shaped ps → (ltb 0 (largestAlign ps) && ltb l (layoutEnd base ps)) ≡ ltb 0 (largestAlign ps)
+past-base : (l base : ℕ) → l ≤ base → (ps : List Piece) → All Shaped ps → (ltb 0 (largestAlign ps) && ltb l (layoutEnd base ps))
+    ≡ ltb 0 (largestAlign ps)
 unfolding layoutEnd largestAlign
 past-base l base g [] h = refl
 past-base l base g (p ∷ ps) h = go (ltb 0 (max (p .align) (largestAlign ps)))
@@ -72,7 +73,8 @@ module _ (h : placing.Host) (fs : List placing.Function) (lawful : Lawful fs) (q
   unfolding busLaid
   out-of-closed closed =
       let content = select 0 q (pieces 1 fs) in
-      let align : extend (rootLaid h .extent q) content .align ≡ largestAlign content = extend-align (rootLaid h .extent q) content ∙ omega arith in
+      let align : extend (rootLaid h .extent q) content .align ≡ largestAlign content = extend-align (rootLaid h .extent q) content
+      ∙ omega arith in
       out-of-pool-end h fs lawful q ∙ past-base (suc (h .last q)) (h .base q) closed content content-shaped ∙ ap (ltb 0) (sym align)
 
 -- a pool runs out exactly when the code finds so, from what it kept of the root bus
@@ -109,4 +111,10 @@ unfolding refusalBy refusalOf
 refusal-by-is {m = m} b bytes accepted is =
     let board = board-of-accepted b bytes accepted in
     let out = runs-out-is (hostOf b) (toPlacing (functionsOf b)) (board .lawful) (m .root) (is .root) in
-    rw (is .bridges-are, out Low (open-ends-low (board .edges) Low), out High (open-ends-low (board .edges) High), out Io (open-ends-low (board .edges) Io))
+    rw (
+      is .bridges-are,
+      out Low (open-ends-low (board .edges) Low),
+      out High (open-ends-low (board .edges) High),
+      out Io
+          (open-ends-low (board .edges) Io),
+    )

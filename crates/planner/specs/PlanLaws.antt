@@ -45,7 +45,8 @@ unfolding planning
 planning-lawful b room e = rw (eq-eqb (boardNumber b) 0 e)
 
 -- the sheet by the answer
-pub sheet-after-is : {p : Planning} {s : List ℕ} (b room : List ℕ) → p ≡ planning b (length room) → s ≡ sheetAs p b room → s ≡ sheetAfter b room
+pub sheet-after-is : {p : Planning} {s : List ℕ} (b room : List ℕ) → p ≡ planning b (length room) → s ≡ sheetAs p b room → s
+    ≡ sheetAfter b room
 unfolding sheetAfter
 sheet-after-is b room e g = g ∙ ap (λ (p : Planning). sheetAs p b room) e
 
@@ -60,7 +61,8 @@ module _ (h : Host) (fs : List Function) (room : ℕ) where
   unfolding onBoard onRoom
   on-board-short e l = rw (eq-eqb (refusalOf (toHost h) (toPlacing fs)) 0 e, lt-ltb room (sheetLength (length fs)) l)
 
-  pub on-board-planned : refusalOf (toHost h) (toPlacing fs) ≡ 0 → sheetLength (length fs) ≤ room → onBoard h fs room ≡ Planned (sheetLength (length fs))
+  pub on-board-planned : refusalOf (toHost h) (toPlacing fs) ≡ 0 → sheetLength (length fs) ≤ room → onBoard h fs room
+      ≡ Planned (sheetLength (length fs))
   unfolding onBoard onRoom
   on-board-planned e l = rw (eq-eqb (refusalOf (toHost h) (toPlacing fs)) 0 e, le-ltb room (sheetLength (length fs)) l)
 
@@ -87,13 +89,24 @@ bridges-le-length (f ∷ fs) = go (f .bridge) (bridges-le-length fs)
     go true l = omega arith
     go false l = omega arith
 
-pub few-bridges : {counts memo : List ℕ} {m : Measured} (b : List ℕ) → boardNumber b ≡ 0 → IsMeasured b counts memo m → m .bridges ≤ mostFunctions
+pub few-bridges : {counts memo : List ℕ} {m : Measured} (b : List ℕ) → boardNumber b ≡ 0 → IsMeasured b counts memo m
+    → m .bridges ≤ mostFunctions
 few-bridges b e is =
     let a = accepted-of-zero b e in
     let fs = toPlacing (functionsOf b) in
-    omega (arith, is .bridges-are, bridges-le-length fs, length-map (functionsOf b) toFunction, ap length (a .functions-read), length-map (partsFrom b 33) functionOfPart, a .few)
+    omega (
+      arith,
+      is .bridges-are,
+      bridges-le-length fs,
+      length-map (functionsOf b) toFunction,
+      ap length (a .functions-read),
+      length-map
+          (partsFrom b 33) functionOfPart,
+      a .few,
+    )
 
-module _ {h : Host} {counts memo : List ℕ} {m : Measured} {n : ℕ} (b : List ℕ) (bytes : Bytes b) (accepted : boardNumber b ≡ 0) (host-is : h ≡ hostOf b)
+module _ {h : Host} {counts memo : List ℕ} {m : Measured} {n : ℕ} (b : List ℕ) (bytes : Bytes b) (accepted : boardNumber b ≡ 0)
+    (host-is : h ≡ hostOf b)
     (is : IsMeasured b counts memo m) (number : n ≡ refusalBy h m) where
   number-is : n ≡ refusalOf (toHost (hostOf b)) (toPlacing (functionsOf b))
   number-is = number ∙ ap (λ (x : Host). refusalBy x m) host-is ∙ refusal-by-is b bytes accepted is

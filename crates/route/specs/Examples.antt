@@ -138,5 +138,37 @@ examples =
     ∷ []
 
 pub examples-hold : All Holds examples
-unfolding flatMap routeOf fromSheet routePacket from42 readOf pairOf findPair first table judged headAt enablesAt addressAt targetAt outcomeAt unnamed unnamedTarget unnamedLower ruleNumber fromRule5 fromRule6 fromRule7 fromRule8 fromRule9 reservedSet fixedWrong upperZero enablesWrong crossesPage statusWrong walkFrom walkOver tallyOn tallyById join keep itemsOf items enabledIn sheetNumber from21 from20 from22 from24 from27 from28 from25 from29 isFramed allSized entriesFrom commandsOf breaks anyBreaks allZero readBacksWrong hasId idTwice entryOf dwords windowOf barsFrom functionsFrom nodesFrom be le nextOf partsOver partsOf closed start stop isNibbled isBarValue valuesFit slots slotHere wideSlot narrowSlot ioSlot sized sizeFrom
-examples-hold = (refl, (refl, (refl, (refl, (refl, (refl, (refl, (refl, (refl, (refl, (refl, (refl, (refl, (refl, (refl, (refl, (refl, (refl, (refl, (refl, (refl, (refl, (refl, tt)))))))))))))))))))))))
+unfolding flatMap routeOf fromSheet routePacket from42 readOf pairOf findPair first table judged headAt enablesAt addressAt targetAt
+    outcomeAt unnamed unnamedTarget unnamedLower ruleNumber fromRule5 fromRule6 fromRule7 fromRule8 fromRule9 reservedSet
+    fixedWrong upperZero
+    enablesWrong crossesPage statusWrong walkFrom walkOver tallyOn tallyById join keep itemsOf items enabledIn sheetNumber from21 from20
+    from22 from24 from27 from28 from25 from29 isFramed allSized entriesFrom commandsOf breaks anyBreaks allZero readBacksWrong
+    hasId idTwice
+    entryOf dwords windowOf barsFrom functionsFrom nodesFrom be le nextOf partsOver partsOf closed start stop isNibbled
+    isBarValue valuesFit
+    slots slotHere wideSlot narrowSlot ioSlot sized sizeFrom
+examples-hold = (
+  refl,
+  (
+    refl,
+    (
+      refl,
+      (
+        refl,
+        (
+          refl,
+          (
+            refl,
+            (
+              refl,
+              (
+                refl,
+                (refl, (refl, (refl, (refl, (refl, (refl, (refl, (refl, (refl, (refl, (refl, (refl, (refl, (refl, (refl, tt))))))))))))))),
+              ),
+            ),
+          ),
+        ),
+      ),
+    ),
+  ),
+)

@@ -1,4 +1,5 @@
--- One turn of each pass over a framed sheet, in the words of the code: the record at the cursor is the part that the code takes. Assumes nothing.
+-- One turn of each pass over a framed sheet, in the words of the code: the record at the cursor is the part that the code takes. Assumes
+-- nothing.
 use mathlib.Core.Path.{_≡_, refl, sym, ap, _∙_}
 use mathlib.Core.Bool.{Bool, true, false, not, _&&_, and-true}
 use mathlib.Core.List.{List, [], _∷_}
@@ -45,7 +46,8 @@ module _ (s : List ℕ) (at : ℕ) (a : FramedAt s at) where
   unfolding findFrom entryOf
   find-hit id e = ap (findFrom id at) entries-on ∙ rw (eq-eqb (idOf (partFrom s at)) id e)
 
-  pub find-miss : (id : ℕ) → (idOf (partFrom s at) ≡ id → ⊥) → findFrom id at (entriesFrom s at) ≡ findFrom id (at + stride) (entriesFrom s (at + stride))
+  pub find-miss : (id : ℕ) → (idOf (partFrom s at) ≡ id → ⊥) → findFrom id at (entriesFrom s at)
+      ≡ findFrom id (at + stride) (entriesFrom s (at + stride))
   unfolding findFrom entryOf
   find-miss id e = ap (findFrom id at) entries-on ∙ rw (ne-eqb (idOf (partFrom s at)) id e)
 

@@ -18,9 +18,12 @@ use Rattle.records.specs.Records.{nextOf}
 use Rattle.records.specs.RecordsLaws.{fits-at, next-end, next-stray, next-record, next-broken}
 use Rattle.sheet.specs.declared.Lookup.{Lookup}
 use Rattle.sheet.specs.declared.Lookup.the-variants.{Registers, Refused}
-use Rattle.sheet_record.specs.Places.{idAt, registersAt, commandAt, headerTypeAt, valuesAt, primaryAt, secondaryAt, subordinateAt, ioBaseAt, ioLimitAt, lowBaseAt, lowLimitAt, highBaseAt, highLimitAt, upperBaseAt, upperLimitAt, readbacksAt, recordSize, stride}
+use Rattle.sheet_record.specs.Places.{idAt, registersAt, commandAt, headerTypeAt, valuesAt, primaryAt, secondaryAt, subordinateAt, ioBaseAt}
+use Rattle.sheet_record.specs.Places.{ioLimitAt, lowBaseAt, lowLimitAt, highBaseAt, highLimitAt, upperBaseAt, upperLimitAt, readbacksAt}
+use Rattle.sheet_record.specs.Places.{recordSize, stride}
 use Rattle.sheet_record.specs.Entry.{dwords, headerOf, slotCount, windowOf, Entry, entryOf}
-use Rattle.sheet.specs.Sheet.{isFramed, Framed, entriesFrom, entriesOf, commandsOf, from20, from21, from22, sheetNumber, recordAt, commandPlace}
+use Rattle.sheet.specs.Sheet.{isFramed, Framed, entriesFrom, entriesOf, commandsOf, from20, from21, from22, sheetNumber, recordAt}
+use Rattle.sheet.specs.Sheet.{commandPlace}
 use Rattle.sheet.specs.Lookup.{lookupOf, commandFrom, withCommand}
 use Rattle.sheet.specs.Spaces.{functionsFrom, nodesFrom, registersOf, nodesOf}
 use Rattle.sheet.specs.Commands.{InCommand, SameButCommands}
@@ -86,7 +89,8 @@ module _ (p q : List ℕ) (h : (i : ℕ) → (i / 2 ≡ commandAt / 2 → ⊥) �
 next-same : (s t : List ℕ) (at : ℕ) → length t ≡ length s → be 2 t at ≡ be 2 s at → nextOf (drop at t) ≡ nextOf (drop at s)
 next-same s t at l n = go (leb (length s) at) refl (eqb (length s) (at + 1)) refl (leb (be 2 s at) (length s - (at + 2))) refl
   where
-    go : (a : Bool) → leb (length s) at ≡ a → (b : Bool) → eqb (length s) (at + 1) ≡ b → (c : Bool) → leb (be 2 s at) (length s - (at + 2)) ≡ c
+    go : (a : Bool) → leb (length s) at ≡ a → (b : Bool) → eqb (length s) (at + 1) ≡ b → (c : Bool)
+        → leb (be 2 s at) (length s - (at + 2)) ≡ c
         → nextOf (drop at t) ≡ nextOf (drop at s)
     go true x b y c z =
         let past : length s ≤ at = leb-true (length s) at x in
@@ -118,14 +122,16 @@ module _ {s t : List ℕ} (same : SameButCommands s t) where
       ht = omega (arith, same .same-length)
 
       by-size : (j : ℕ) (b : Bool) → eqb j recordSize ≡ b → nextOf (drop at s) ≡ Record j → nextOf (drop at t) ≡ Record j
-          → (at + stride ≤ length s → isFramed (drop (at + stride) t) ≡ isFramed (drop (at + stride) s)) → isFramed (drop at t) ≡ isFramed (drop at s)
+          → (at + stride ≤ length s → isFramed (drop (at + stride) t) ≡ isFramed (drop (at + stride) s)) → isFramed (drop at t)
+          ≡ isFramed (drop at s)
       by-size j true q x y on =
           let n90 = eqb-true j recordSize q in
           framed-on t at j ht y n90 ∙ on (omega (arith, n90, fits-at s at j x)) ∙ sym (framed-on s at j h x n90)
       by-size j false q x y on =
           let other = eqb-false j recordSize q in framed-other t at j ht y other ∙ sym (framed-other s at j h x other)
 
-      go : (x : Next) → nextOf (drop at s) ≡ x → (at + stride ≤ length s → isFramed (drop (at + stride) t) ≡ isFramed (drop (at + stride) s))
+      go : (x : Next) → nextOf (drop at s) ≡ x →
+          (at + stride ≤ length s → isFramed (drop (at + stride) t) ≡ isFramed (drop (at + stride) s))
           → isFramed (drop at t) ≡ isFramed (drop at s)
       go End x on = framed-end t at (next-at-record k at e ∙ x) ∙ sym (framed-end s at x)
       go Broken x on = framed-broken t at (next-at-record k at e ∙ x) ∙ sym (framed-broken s at x)
@@ -142,7 +148,14 @@ module _ {s t : List ℕ} (same : SameButCommands s t) where
       go : (b : Bool) → ltb i recordSize ≡ b → getD (partFrom t at) i 0 ≡ getD (partFrom s at) i 0
       go true l =
           let below : i < recordSize = ltb-true i recordSize l in
-          rw (size, getD-take recordSize (drop (at + 2) t) i 0 below, getD-take recordSize (drop (at + 2) s) i 0 below, getD-drop (at + 2) t i 0, getD-drop (at + 2) s i 0)
+          rw (
+            size,
+            getD-take recordSize (drop (at + 2) t) i 0 below,
+            getD-take recordSize (drop (at + 2) s) i 0 below,
+            getD-drop (at + 2)
+                t i 0,
+            getD-drop (at + 2) s i 0,
+          )
           (same .same-bytes (at + 2 + i) (λ d. c (omega arith)))
       go false l =
           let past : recordSize ≤ i = ltb-false i recordSize l in
@@ -206,7 +219,8 @@ same-of-command s id command = go (lookupOf s id) refl
         by false q true r =
             absurd (c (omega (arith, ltb-false i (commandFrom a) q, ltb-true i (commandFrom a + 2) r, l .place, l .found .place)))
         by false q false r =
-            getD-sets-after s (commandFrom a) (leBytes 2 command) i 0 (omega (arith, length-leBytes 2 command, ltb-false i (commandFrom a + 2) r))
+            getD-sets-after s (commandFrom a) (leBytes 2 command) i 0
+            (omega (arith, length-leBytes 2 command, ltb-false i (commandFrom a + 2) r))
 
     go : (l : Lookup) → lookupOf s id ≡ l → SameButCommands s (withCommand l s command)
     go (Refused n) e = record { same-length = refl; same-bytes = λ i c. refl }
@@ -255,7 +269,8 @@ commands-rewritten s id command a small l =
     same-count : length (commandsOf t) ≡ length (set (commandsOf s) k command)
     same-count = count ∙ sym (length-set (commandsOf s) k command)
 
-    word : (j : ℕ) → j < length (commandsOf t) → getD (commandsOf t) j 0 ≡ le 2 (sets s (commandPlace k) (leBytes 2 command)) (commandPlace j)
+    word : (j : ℕ) → j < length (commandsOf t) → getD (commandsOf t) j 0
+        ≡ le 2 (sets s (commandPlace k) (leBytes 2 command)) (commandPlace j)
     word j h = command-index t j framed′ h ∙ ap (λ (x : List ℕ). le 2 x (commandPlace j)) t-is
 
     by : (j : ℕ) → j < length (commandsOf t) → (b : Bool) → eqb j k ≡ b → getD (commandsOf t) j 0 ≡ getD (set (commandsOf s) k command) j 0
@@ -269,7 +284,8 @@ commands-rewritten s id command a small l =
         ∙ ap (λ (i : ℕ). getD (set (commandsOf s) k command) i 0) (sym e)
     by j h false q =
         let other : j ≡ k → ⊥ = eqb-false j k q in
-        word j h ∙ kept (ltb j k) refl ∙ sym (command-index s j framed (omega (arith, count))) ∙ sym (getD-set-other (commandsOf s) k j command 0 other)
+        word j h ∙ kept (ltb j k) refl ∙ sym (command-index s j framed (omega (arith, count)))
+        ∙ sym (getD-set-other (commandsOf s) k j command 0 other)
       where
         kept : (c : Bool) → ltb j k ≡ c → le 2 (sets s (commandPlace k) (leBytes 2 command)) (commandPlace j) ≡ le 2 s (commandPlace j)
         kept true c = le-sets-before 2 s (commandPlace k) (leBytes 2 command) (commandPlace j) (omega (arith, ltb-true j k c))

@@ -1,5 +1,5 @@
--- Worked examples of sheets, as one table under one claim: P8's and P10's sheets, each number with the check after it failing too, lookups, and
--- P10's registers as the walk has them. Assumes nothing.
+-- Worked examples of sheets, as one table under one claim: P8's and P10's sheets, each number with the check after it failing too, lookups,
+-- and P10's registers as the walk has them. Assumes nothing.
 use mathlib.Core.Path.{_≡_, refl}
 use mathlib.Core.List.{List, [], _∷_, _++_}
 use Prim.Native.Nat.{ℕ, zero, suc}
@@ -18,7 +18,8 @@ use Rattle.sheet_record.specs.Spaces.{barsFrom}
 use Rattle.sheet.specs.declared.Lookup.{Lookup}
 use Rattle.sheet.specs.declared.Lookup.the-variants.{Registers as Found, Refused}
 use Rattle.sheet_record.specs.Entry.{dwords, windowOf, entryOf}
-use Rattle.sheet.specs.Sheet.{allSized, isFramed, entriesFrom, commandsOf, allZero, readBacksWrong, breaks, anyBreaks, findFrom, hasId, idTwice, from29, from25, from28, from27, from24, from22, from20, from21, sheetNumber}
+use Rattle.sheet.specs.Sheet.{allSized, isFramed, entriesFrom, commandsOf, allZero, readBacksWrong, breaks, anyBreaks, findFrom}
+use Rattle.sheet.specs.Sheet.{hasId, idTwice, from29, from25, from28, from27, from24, from22, from20, from21, sheetNumber}
 use Rattle.sheet.specs.Lookup.{lookupOf, withCommand}
 use Rattle.sheet.specs.Spaces.{functionsFrom, registersOf}
 
@@ -143,5 +144,67 @@ examples =
     ∷ []
 
 pub examples-hold : All Holds examples
-unfolding blank sheetNumber from21 from20 from22 from24 from27 from28 from25 from29 isFramed allSized entriesFrom commandsOf breaks anyBreaks allZero readBacksWrong findFrom hasId idTwice lookupOf entryOf dwords windowOf barsFrom functionsFrom be le leBytes nextOf partsOver partsOf closed start stop isNibbled isBarValue valuesFit slots slotHere wideSlot narrowSlot ioSlot sized sizeFrom
-examples-hold = (refl, (refl, (refl, (refl, (refl, (refl, (refl, (refl, (refl, (refl, (refl, (refl, (refl, (refl, (refl, (refl, (refl, (refl, (refl, (refl, (refl, (refl, (refl, (refl, (refl, (refl, (refl, (refl, (refl, (refl, tt))))))))))))))))))))))))))))))
+unfolding blank sheetNumber from21 from20 from22 from24 from27 from28 from25 from29 isFramed allSized entriesFrom commandsOf breaks
+    anyBreaks allZero readBacksWrong findFrom hasId idTwice lookupOf entryOf dwords windowOf barsFrom functionsFrom be le leBytes nextOf
+    partsOver partsOf closed start stop isNibbled isBarValue valuesFit slots slotHere wideSlot narrowSlot ioSlot sized sizeFrom
+examples-hold = (
+  refl,
+  (
+    refl,
+    (
+      refl,
+      (
+        refl,
+        (
+          refl,
+          (
+            refl,
+            (
+              refl,
+              (
+                refl,
+                (
+                  refl,
+                  (
+                    refl,
+                    (
+                      refl,
+                      (
+                        refl,
+                        (
+                          refl,
+                          (
+                            refl,
+                            (
+                              refl,
+                              (
+                                refl,
+                                (
+                                  refl,
+                                  (
+                                    refl,
+                                    (
+                                      refl,
+                                      (
+                                        refl,
+                                        (refl, (refl, (refl, (refl, (refl, (refl, (refl, (refl, (refl, (refl, tt)))))))))),
+                                      ),
+                                    ),
+                                  ),
+                                ),
+                              ),
+                            ),
+                          ),
+                        ),
+                      ),
+                    ),
+                  ),
+                ),
+              ),
+            ),
+          ),
+        ),
+      ),
+    ),
+  ),
+)

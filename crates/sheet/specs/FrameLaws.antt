@@ -1,5 +1,5 @@
--- A sheet that passes the 20s is its version byte and records of 92 bytes: what a pass with a cursor finds, where record k starts, and what its
--- part is. Assumes nothing.
+-- A sheet that passes the 20s is its version byte and records of 92 bytes: what a pass with a cursor finds, where record k starts, and what
+-- its part is. Assumes nothing.
 use mathlib.Core.Path.{_≡_, refl, sym, ap, _∙_}
 use mathlib.Core.Bool.{Bool, true, false, _&&_, and-false, and-eq-true-iff, false≢true}
 use mathlib.Core.List.{List, [], _∷_}
@@ -12,7 +12,8 @@ use Rattle.endian.specs.Endian.{be}
 use Rattle.records.specs.declared.Next.{Next}
 use Rattle.records.specs.declared.Next.the-variants.{End, Record, Broken}
 use Rattle.records.specs.Records.{nextOf, Parts, partsOf, partsFrom}
-use Rattle.records.specs.RecordsLaws.{empty-of-end, fits-at, length-part, next-end, next-broken, next-record, parts-record, parts-end, parts-broken}
+use Rattle.records.specs.RecordsLaws.{empty-of-end, fits-at, length-part, next-end, next-broken, next-record, parts-record, parts-end}
+use Rattle.records.specs.RecordsLaws.{parts-broken}
 use Rattle.sheet_record.specs.Places.{recordSize, stride}
 use Rattle.sheet.specs.Sheet.{allSized, isFramed, Framed, partsIn, partAt, sheetLength, recordAt}
 
@@ -35,7 +36,8 @@ module _ (s : List ℕ) (at : ℕ) where
   pub framed-other : (n : ℕ) → at ≤ length s → nextOf (drop at s) ≡ Record n → (n ≡ recordSize → ⊥) → isFramed (drop at s) ≡ false
   framed-other n h e k = framed-record n h e ∙ rw (ne-eqb n recordSize k) (and-false (partsOf (drop (at + 2 + n) s) .whole))
 
-  pub framed-on : (n : ℕ) → at ≤ length s → nextOf (drop at s) ≡ Record n → n ≡ recordSize → isFramed (drop at s) ≡ isFramed (drop (at + stride) s)
+  pub framed-on : (n : ℕ) → at ≤ length s → nextOf (drop at s) ≡ Record n → n ≡ recordSize → isFramed (drop at s)
+      ≡ isFramed (drop (at + stride) s)
   unfolding isFramed
   framed-on n h e k = let q : at + 2 + n ≡ at + stride = omega arith in framed-record n h e ∙ rw (eq-eqb n recordSize k, q)
 
@@ -75,7 +77,8 @@ framed-at s at f h = go (nextOf (drop at s)) refl
     go Broken e = absurd (false≢true (sym (framed-broken s at e) ∙ f))
     go (Record n) e =
         let rest = allSized (partsFrom s (at + 2 + n)) in
-        let both = and-eq-true-iff (partsOf (drop (at + 2 + n) s) .whole) (eqb n recordSize && rest) .0 (sym (framed-record s at n (omega arith) e) ∙ f) in
+        let both = and-eq-true-iff (partsOf (drop (at + 2 + n) s) .whole) (eqb n recordSize && rest) .0
+        (sym (framed-record s at n (omega arith) e) ∙ f) in
         ninety n e (eqb-true n recordSize (and-eq-true-iff (eqb n recordSize) rest .0 (both .1) .0))
 
 pub parts-past : (s : List ℕ) (at : ℕ) → length s ≤ at → partsFrom s at ≡ []

@@ -72,7 +72,8 @@ module _ (s : List ℕ) (f : Framed 1 s) where
   pub record-fits : (k : ℕ) → k < length (entriesOf s) → sheetLength (k + 1) ≤ length s
   record-fits k h = omega (arith, count-entries s f)
 
-  pub entries-index : (k : ℕ) → k < length (entriesOf s) → entriesFrom s (recordAt k) ≡ entryOf (partAt s k) ∷ entriesFrom s (recordAt (k + 1))
+  pub entries-index : (k : ℕ) → k < length (entriesOf s) → entriesFrom s (recordAt k)
+      ≡ entryOf (partAt s k) ∷ entriesFrom s (recordAt (k + 1))
   entries-index k h =
       let a = framed-at s (recordAt k) (framed-index k (omega arith) .sized) (lt-of-index k h) in
       let e : recordAt k + stride ≡ recordAt (k + 1) = omega arith in
@@ -94,7 +95,8 @@ module _ (s : List ℕ) (f : Framed 1 s) where
   count-index = omega (arith, count-entries s f)
 
   -- the command bit of record k
-  pub enabled-index : (space : Space) (k : ℕ) → k < length (entriesOf s) → enabledOf space s (k + 1) ≡ enables space (commandOf (partAt s k))
+  pub enabled-index : (space : Space) (k : ℕ) → k < length (entriesOf s) → enabledOf space s (k + 1)
+      ≡ enables space (commandOf (partAt s k))
   enabled-index space k h = enabled-map space (commandsOf s) k ∙ ap (enables space) (command-of-part k h)
     where
       command-of-part : (k : ℕ) → k < length (entriesOf s) → getD (commandsOf s) k 0 ≡ commandOf (partAt s k)

@@ -1,5 +1,5 @@
--- Document 01, "The sheet": "Asked for an ID, the caller gets that function's 64 register bytes themselves, inside the lent sheet, or 40 (a bad sheet:
--- its number) and an empty part." And the sheet after one function's command word is rewritten. Assumes nothing.
+-- Document 01, "The sheet": "Asked for an ID, the caller gets that function's 64 register bytes themselves, inside the lent sheet, or 40 (a
+-- bad sheet: its number) and an empty part." And the sheet after one function's command word is rewritten. Assumes nothing.
 use Prim.Native.Nat.{ℕ, _+_, _-_}
 use mathlib.Core.Bool.{cond}
 use mathlib.Core.List.{List, []}

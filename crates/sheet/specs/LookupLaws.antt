@@ -28,7 +28,8 @@ id-of-entry : (p : List ℕ) → idOf p ≡ entryOf p .id
 unfolding entryOf
 id-of-entry p = refl
 
-found-from : (s : List ℕ) (id a at : ℕ) (es : List Entry) → entriesFrom s at ≡ es → Framed at s → findFrom id at es ≡ At a → FoundAt s at id a
+found-from : (s : List ℕ) (id a at : ℕ) (es : List Entry) → entriesFrom s at ≡ es → Framed at s → findFrom id at es ≡ At a
+    → FoundAt s at id a
 unfolding findFrom
 found-from s id a at [] e f q = absurd (let z : _≡_ {A = ℕ} 0 1 = cc in omega arith)
 found-from s id a at (x ∷ es) e f q =
@@ -42,7 +43,8 @@ found-from s id a at (x ∷ es) e f q =
           index = 0;
           place = omega arith;
           fits = omega (arith, r .here .fits);
-          id-is = ap (λ (i : ℕ). idOf (partFrom s i)) (sym same) ∙ id-of-entry (partFrom s at) ∙ ap (λ (y : Entry). y .id) (r .head) ∙ eqb-true (x .id) id t;
+          id-is = ap (λ (i : ℕ). idOf (partFrom s i)) (sym same) ∙ id-of-entry (partFrom s at) ∙ ap (λ (y : Entry). y .id) (r .head)
+              ∙ eqb-true (x .id) id t;
         }
     here r false t q on =
         let later = on q in
@@ -69,7 +71,8 @@ looked-up s id a q = go (eqb (sheetNumber s) 0) refl q
         record { checked = c; record-at = at; place = sym same; found = found-at s 1 id at (c .framed) e }
     found c Nothing e q = absurd (let z : _≡_ {A = ℕ} 0 1 = cc in omega arith)
 
-    go : (b : Bool) → eqb (sheetNumber s) 0 ≡ b → cond b (placed (findFrom id 1 (entriesOf s))) (Refused (sheetNumber s)) ≡ Registers a → LookedUp s id a
+    go : (b : Bool) → eqb (sheetNumber s) 0 ≡ b → cond b (placed (findFrom id 1 (entriesOf s))) (Refused (sheetNumber s)) ≡ Registers a
+        → LookedUp s id a
     go true z q = found (checked-of-zero s (eqb-true (sheetNumber s) 0 z)) (findFrom id 1 (entriesOf s)) refl q
     go false z q = absurd (let z : _≡_ {A = ℕ} 0 1 = cc in omega arith)
 
@@ -78,7 +81,8 @@ pub registers-fit : (s : List ℕ) (id a : ℕ) → lookupOf s id ≡ Registers 
 registers-fit s id a q = let l = looked-up s id a q in omega (arith, l .place, l .found .fits)
 
 -- in the words of the code
-pub registers-part : (s : List ℕ) (id a : ℕ) → lookupOf s id ≡ Registers a → take (a + registersSize - a) (drop a s) ≡ registerBytes (lookupOf s id) s
+pub registers-part : (s : List ℕ) (id a : ℕ) → lookupOf s id ≡ Registers a → take (a + registersSize - a) (drop a s)
+    ≡ registerBytes (lookupOf s id) s
 registers-part s id a q = let n : a + registersSize - a ≡ registersSize = omega arith in rw (n, q)
 
 module _ (s : List ℕ) (id n : ℕ) where

@@ -27,11 +27,13 @@ or-swap false true true d = refl
 or-swap false true false d = refl
 or-swap false false c d = refl
 
-any-marked-marked : (ws : List ℕ) (id : ℕ) (es : List Entry) → id / 64 < length ws → anyMarked (marked ws id) es ≡ (hasId id es || anyMarked ws es)
+any-marked-marked : (ws : List ℕ) (id : ℕ) (es : List Entry) → id / 64 < length ws → anyMarked (marked ws id) es
+    ≡ (hasId id es || anyMarked ws es)
 unfolding anyMarked hasId
 any-marked-marked ws id [] h = refl
 any-marked-marked ws id (e ∷ es) h =
-    ap₂ _||_ (is-marked-marked ws id (e .id) h) (any-marked-marked ws id es h) ∙ or-swap (eqb (e .id) id) (isMarked ws (e .id)) (hasId id es) (anyMarked ws es)
+    ap₂ _||_ (is-marked-marked ws id (e .id) h) (any-marked-marked ws id es h)
+    ∙ or-swap (eqb (e .id) id) (isMarked ws (e .id)) (hasId id es) (anyMarked ws es)
 
 -- ## The pass: one turn, in the words of the code
 
@@ -49,7 +51,9 @@ module _ (s : List ℕ) (at : ℕ) (a : FramedAt s at) (ws : List ℕ) (id : ℕ
   repeats-miss vs e h v =
       let es = entriesFrom s (at + stride) in
       ap (repeats ws) (entries-on s at a)
-      ∙ rw (sym own, e, v, any-marked-marked ws id es h) (sym (or-assoc (anyMarked ws es) (hasId id es) (idTwice es)) ∙ ap (λ (b : Bool). b || idTwice es) (or-comm (anyMarked ws es) (hasId id es)))
+      ∙ rw (sym own, e, v, any-marked-marked ws id es h)
+      (sym (or-assoc (anyMarked ws es) (hasId id es) (idTwice es))
+      ∙ ap (λ (b : Bool). b || idTwice es) (or-comm (anyMarked ws es) (hasId id es)))
 
 pub repeats-past : (s : List ℕ) (at : ℕ) → length s ≤ at → (ws : List ℕ) → repeats ws (entriesFrom s at) ≡ false
 unfolding anyMarked idTwice

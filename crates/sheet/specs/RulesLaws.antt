@@ -17,7 +17,8 @@ use Rattle.sheet.specs.Sheet.{Framed, partAt, entriesFrom, entriesOf, al
 use Rattle.sheet_record.specs.Spaces.{slotsOf}
 use Rattle.sheet.specs.IndexLaws.{entries-index}
 
-breaks-from : (rule : Rule) (s : List ℕ) (f : Framed 1 s) (k : ℕ) → k < length (entriesOf s) → anyBreaks rule (entriesFrom s (recordAt k)) ≡ false
+breaks-from : (rule : Rule) (s : List ℕ) (f : Framed 1 s) (k : ℕ) → k < length (entriesOf s)
+    → anyBreaks rule (entriesFrom s (recordAt k)) ≡ false
     → (breaks rule (entryOf (partAt s k)) ≡ false) × (anyBreaks rule (entriesFrom s (recordAt (k + 1))) ≡ false)
 unfolding anyBreaks
 breaks-from rule s f k h e = false-of-or _ _ (sym (ap (anyBreaks rule) (entries-index s f k h)) ∙ e)

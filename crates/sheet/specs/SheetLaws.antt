@@ -1,4 +1,5 @@
--- A sheet that passes 20 to 29, in the words of the walk's laws: record numbers count up, bridges rise (27) and IDs differ (28). Assumes nothing.
+-- A sheet that passes 20 to 29, in the words of the walk's laws: record numbers count up, bridges rise (27) and IDs differ (28). Assumes
+-- nothing.
 use mathlib.Core.Path.{_≡_, refl, ap}
 use mathlib.Core.Bool.{Bool, true, false, cond, _&&_, and-eq-true-iff}
 use mathlib.Core.List.{List, [], _∷_}
@@ -20,7 +21,8 @@ use Rattle.sheet_record.specs.Spaces.{slotsOf, nodeOf}
 use Rattle.sheet.specs.declared.Rule.the-variants.{HeaderType, Buses, ReadBacks, Nibbles}
 use Rattle.sheet_record.specs.Places.{subordinateAt, stride}
 use Rattle.sheet_record.specs.Entry.{Entry, headerOf, isBridge, subordinateOf, entryOf, bus, devfn, bridges}
-use Rattle.sheet.specs.Sheet.{isFramed, Framed, partAt, entriesFrom, entriesOf, busesWrong, breaks, anyBreaks, hasId, idTwice, from20, from21, from22, from24, from25, from27, from28, from29, sheetNumber}
+use Rattle.sheet.specs.Sheet.{isFramed, Framed, partAt, entriesFrom, entriesOf, busesWrong, breaks, anyBreaks, hasId, idTwice, from20}
+use Rattle.sheet.specs.Sheet.{from21, from22, from24, from25, from27, from28, from29, sheetNumber}
 use Rattle.sheet.specs.CheckLaws.{partFrom, first-at}
 use Rattle.bar.specs.Bar.{anyBad}
 use Rattle.sheet.specs.Spaces.{functionsFrom, nodesFrom, registersOf, nodesOf}

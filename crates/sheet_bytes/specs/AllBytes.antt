@@ -10,7 +10,8 @@ use Rattle.endian.specs.EndianLaws.{bytes-beBytes, bytes-leBytes}
 use Rattle.lists.specs.Lists.{All}
 use Rattle.sheet_record.specs.Places.{recordSize}
 use Rattle.sheet_record.specs.Entry.{Entry, isBridge}
-use Rattle.sheet_bytes.specs.Layout.{Planned, Shaped, WellShaped, zeros, dwordBytes, endBytes, bridgeBytes, bodyBytes, commonBytes, configBytes, partBytes, recordBytes, sheetBytes}
+use Rattle.sheet_bytes.specs.Layout.{Planned, Shaped, WellShaped, zeros, dwordBytes, endBytes, bridgeBytes, bodyBytes, commonBytes}
+use Rattle.sheet_bytes.specs.Layout.{configBytes, partBytes, recordBytes, sheetBytes}
 
 -- a list of bytes, so told that a list is known by its proof
 record Held (s : List ℕ) : Type 0 where

@@ -14,12 +14,14 @@ use Rattle.sheet_record.specs.Places.{recordSize, stride}
 use Rattle.sheet_record.specs.Entry.{Entry, isBridge}
 use Rattle.sheet.specs.Sheet.{sheetLength}
 use Rattle.sheet_bytes.specs.declared.Registers.{Registers}
-use Rattle.sheet_bytes.specs.Layout.{Planned, zeros, dwordBytes, endBytes, bridgeBytes, bridgeBody, bodyBytes, commonBytes, configBytes, partBytes, recordBytes, sheetBytes, plannedOf}
+use Rattle.sheet_bytes.specs.Layout.{Planned, zeros, dwordBytes, endBytes, bridgeBytes, bridgeBody, bodyBytes, commonBytes}
+use Rattle.sheet_bytes.specs.Layout.{configBytes, partBytes, recordBytes, sheetBytes, plannedOf}
 
 -- ## Numbers in rows
 
 -- only the numbers that are written count
-dwordBytes-take : (write : ℕ → List ℕ) (n m : ℕ) (vs : List ℕ) (i : ℕ) → i + n ≤ m → dwordBytes write n (take m vs) i ≡ dwordBytes write n vs i
+dwordBytes-take : (write : ℕ → List ℕ) (n m : ℕ) (vs : List ℕ) (i : ℕ) → i + n ≤ m → dwordBytes write n (take m vs) i
+    ≡ dwordBytes write n vs i
 unfolding dwordBytes
 dwordBytes-take write zero m vs i h = refl
 dwordBytes-take write (suc n) m vs i h =
@@ -115,7 +117,8 @@ module _ (p : Planned) where
   length-readbacks = length-dwordBytes 4 (beBytes 4) (length-beBytes 4) 6 (p .entry .readbacks) 0
 
   pub length-recordBytes : length (recordBytes p) ≡ stride
-  length-recordBytes = ap length (sym recordBytes-parts) ∙ length-append (marks ++ common ++ body) readbacks ∙ ap₂ _+_ length-marks-body length-readbacks
+  length-recordBytes = ap length (sym recordBytes-parts) ∙ length-append (marks ++ common ++ body) readbacks
+      ∙ ap₂ _+_ length-marks-body length-readbacks
 
   pub length-partBytes : length (partBytes p) ≡ recordSize
   unfolding recordBytes
@@ -124,7 +127,8 @@ module _ (p : Planned) where
 pub length-sheetBytes : (ps : List Planned) → length (sheetBytes ps) ≡ sheetLength (length ps)
 unfolding sheetBytes flatMap
 length-sheetBytes [] = refl
-length-sheetBytes (p ∷ ps) = omega (arith, length-append (recordBytes p) (flatMap recordBytes ps), length-recordBytes p, length-sheetBytes ps)
+length-sheetBytes (p ∷ ps) =
+    omega (arith, length-append (recordBytes p) (flatMap recordBytes ps), length-recordBytes p, length-sheetBytes ps)
 
 -- ## A sheet written record by record
 

@@ -20,16 +20,20 @@ use Rattle.records.specs.Records.{nextOf, Parts, partsOf}
 use Rattle.records.specs.RecordsLaws.{partsOf-step}
 use Rattle.lists.specs.Lists.{All}
 use Rattle.sheet_record.specs.Places.{valuesAt, readbacksAt, recordSize, stride}
-use Rattle.sheet_record.specs.Entry.{Entry, dwords, isBridge, slotCount, idOf, commandOf, headerOf, primaryOf, secondaryOf, subordinateOf, windowOf, entryOf}
+use Rattle.sheet_record.specs.Entry.{Entry, dwords, isBridge, slotCount, idOf, commandOf, headerOf, primaryOf, secondaryOf, subordinateOf}
+use Rattle.sheet_record.specs.Entry.{windowOf, entryOf}
 use Rattle.sheet.specs.Sheet.{allSized, isFramed, Framed, partsIn, entriesFrom, entriesOf, commandsOf}
-use Rattle.sheet_bytes.specs.Layout.{Planned, Dwords, NoBridge, Shaped, WellShaped, zeros, dwordBytes, endBytes, numberBytes, memoryBytes, bridgeBytes, bodyBytes, commonBytes, configBytes, partBytes, recordBytes, sheetBytes}
+use Rattle.sheet_bytes.specs.Layout.{Planned, Dwords, NoBridge, Shaped, WellShaped, zeros, dwordBytes, endBytes, numberBytes}
+use Rattle.sheet_bytes.specs.Layout.{memoryBytes, bridgeBytes, bodyBytes, commonBytes, configBytes, partBytes, recordBytes}
+use Rattle.sheet_bytes.specs.Layout.{sheetBytes}
 use Rattle.sheet_bytes.specs.LayoutLaws.{length-common, length-body, length-partBytes, length-recordBytes, length-sheetBytes}
 
 -- ## Numbers in rows, once for both orders of bytes
 
 module _ {read : ℕ → List ℕ → ℕ → ℕ} {write : ℕ → ℕ → List ℕ} (o : ByteOrder read write) where
   -- the first of a row
-  read-first : (at x : ℕ) (before rest after : List ℕ) → length before ≡ at → x < 2 ^ 32 → read 4 (before ++ (write 4 x ++ rest) ++ after) at ≡ x
+  read-first : (at x : ℕ) (before rest after : List ℕ) → length before ≡ at → x < 2 ^ 32
+      → read 4 (before ++ (write 4 x ++ rest) ++ after) at ≡ x
   read-first at x before rest after l h =
       let split : before ++ (write 4 x ++ rest) ++ after ≡ before ++ write 4 x ++ (rest ++ after) = simp append-assoc in
       ap₂ (read 4) split (sym l) ∙ read-write-at o 4 x before (rest ++ after) h
@@ -66,7 +70,8 @@ module _ (p : Planned) where
   abbrev e : Entry
   e = p .entry
 
-  partBytes-of : (b : Bool) → isBridge (e .header) ≡ b → partBytes p ≡ beforeValues p ++ dwordBytes (leBytes 4) (cond b 2 6) (e .values) 0 ++ afterValues b p
+  partBytes-of : (b : Bool) → isBridge (e .header) ≡ b → partBytes p
+      ≡ beforeValues p ++ dwordBytes (leBytes 4) (cond b 2 6) (e .values) 0 ++ afterValues b p
   unfolding partBytes configBytes bodyBytes bridgeBytes endBytes
   partBytes-of true h = rw h (simp append-assoc)
   partBytes-of false h = rw h (simp append-assoc)
@@ -95,7 +100,8 @@ module _ (p : Planned) where
       → dwords (le 4) (slotCount (e .header)) (partBytes p) valuesAt ≡ e .values
   values-partBytes c d =
       ap (λ (s : List ℕ). dwords (le 4) (slotCount (e .header)) s valuesAt) (partBytes-of (isBridge (e .header)) refl)
-      ∙ dwords-dwordBytes little-endian (slotCount (e .header)) 0 valuesAt (beforeValues p) (afterValues (isBridge (e .header)) p) (e .values)
+      ∙ dwords-dwordBytes little-endian (slotCount (e .header)) 0 valuesAt (beforeValues p) (afterValues (isBridge (e .header)) p)
+      (e .values)
       (simp (length-append, length-beBytes, length-common)) (omega arith) d
 
 -- a bridge's own

@@ -4,7 +4,8 @@ use mathlib.Core.Bool.{Bool, true, false, _||_}
 use mathlib.Core.List.{List}
 use Prim.Native.Nat.{ℕ, zero, suc, _+_, _-_, _*_, _/_, _%_, _^_, _<_, suc-le-suc, max}
 use native.Mathlib.Omega.{arith}
-use native.Mathlib.Nat.{le-of-suc-le-suc, mod-lt, mod-eq-of-lt, div-eq-of-lt, mul-add-mod-self-right, max-le, one-mul, zero-div, zero-lt-suc}
+use native.Mathlib.Nat.{le-of-suc-le-suc, mod-lt, mod-eq-of-lt, div-eq-of-lt, mul-add-mod-self-right, max-le, one-mul, zero-div}
+use native.Mathlib.Nat.{zero-lt-suc}
 use lib.ListN.{length, getD, set, replicate}
 use lib.Seq.{getD-set-same, getD-set-other}
 use lib.Dec.{eqb, ltb}
@@ -91,7 +92,8 @@ is-marked-marked ws id j h = go (eqb (j / 64) (id / 64)) refl
         → hasBit (getD (set ws (id / 64) new) (j / 64) 0) (j % 64) ≡ (eqb j id || hasBit (getD ws (j / 64) 0) (j % 64))
     go true q =
         let e = eqb-true (j / 64) (id / 64) q in
-        rw (e, getD-set-same ws (id / 64) new 0 h) (has-bit-or old (id % 64) (j % 64) ∙ ap (λ (b : Bool). b || hasBit old (j % 64)) (eqb-bit j id e))
+        rw (e, getD-set-same ws (id / 64) new 0 h)
+        (has-bit-or old (id % 64) (j % 64) ∙ ap (λ (b : Bool). b || hasBit old (j % 64)) (eqb-bit j id e))
     go false q =
         let d = eqb-false (j / 64) (id / 64) q in
         rw (getD-set-other ws (id / 64) (j / 64) new 0 d, ne-eqb j id (λ s. d (ap (λ (x : ℕ). x / 64) s)))

@@ -11,7 +11,8 @@ pub use Rattle.bar.specs.Header.{isBridge, slotCount}
 use Rattle.window.specs.declared.Window.{Window}
 use Rattle.window.specs.Window.{closed}
 use Rattle.sheet_record.specs.Places.{idAt, commandAt, headerTypeAt, valuesAt, primaryAt, secondaryAt, subordinateAt}
-use Rattle.sheet_record.specs.Places.{ioBaseAt, ioLimitAt, lowBaseAt, lowLimitAt, highBaseAt, highLimitAt, upperBaseAt, upperLimitAt, readbacksAt}
+use Rattle.sheet_record.specs.Places.{ioBaseAt, ioLimitAt, lowBaseAt, lowLimitAt, highBaseAt, highLimitAt, upperBaseAt, upperLimitAt}
+use Rattle.sheet_record.specs.Places.{readbacksAt}
 
 -- n numbers of four bytes, in the order of bytes that `read` has
 unfoldable pub dwords : (List ℕ → ℕ → ℕ) → ℕ → List ℕ → ℕ → List ℕ

@@ -31,5 +31,6 @@ module _ (p : List ℕ) where
 
   pub bars-entry : (space : Space)
       → barsOf space (entryOf p)
-      ≡ barsAt space (take (slotCount (headerOf p)) (dwords (be 4) 6 p readbacksAt)) (take (slotCount (headerOf p)) (dwords (le 4) 6 p valuesAt)) 0
+      ≡ barsAt space (take (slotCount (headerOf p)) (dwords (be 4) 6 p readbacksAt))
+      (take (slotCount (headerOf p)) (dwords (le 4) 6 p valuesAt)) 0
   bars-entry space = rw (slots-entry, values-entry)

@@ -33,12 +33,15 @@ barsAt space rs vs i = barsFrom space (slots (drop i rs)) (drop i vs)
 pub bars-step : (space : Space) (rs vs : List ℕ) (i : ℕ) (x : Slot) → i < length rs → x ≡ slotHere (drop i rs) → isBad x ≡ false
     → barsAt space rs vs i ≡ barHere space x (drop i vs) ++ barsAt space rs vs (i + span x)
 unfolding barsFrom
-bars-step space rs vs i x h e l = ap (λ (xs : List Slot). barsFrom space xs (drop i vs)) (slots-at-step rs i x h e l) ∙ ap (barHere space x (drop i vs) ++_) (go (takesNext x))
+bars-step space rs vs i x h e l =
+    ap (λ (xs : List Slot). barsFrom space xs (drop i vs)) (slots-at-step rs i x h e l)
+    ∙ ap (barHere space x (drop i vs) ++_) (go (takesNext x))
   where
     two : i + 1 + 1 ≡ i + 2
     two = omega arith
 
-    go : (b : Bool) → barsFrom space (cond b (Upper ∷ slots (drop (i + 2) rs)) (slots (drop (i + 1) rs))) (drop 1 (drop i vs)) ≡ barsAt space rs vs (i + cond b 2 1)
+    go : (b : Bool) → barsFrom space (cond b (Upper ∷ slots (drop (i + 2) rs)) (slots (drop (i + 1) rs))) (drop 1 (drop i vs))
+        ≡ barsAt space rs vs (i + cond b 2 1)
     go true = rw (drop-drop 1 i vs, drop-drop 1 (i + 1) vs, two)
     go false = rw (drop-drop 1 i vs)
 
@@ -47,7 +50,8 @@ unfolding barsFrom slots
 bars-end space rs vs i h = rw (drop-of-length-le rs h)
 
 -- a range that is there under a condition has one claim where it is there and holds the address
-hits-of-one : (b : Bool) (r : Range) (address : ℕ) (c : Claim) → hitsOf address c (cond b (r ∷ []) []) ≡ cond (b && holds r address) (c ∷ []) []
+hits-of-one : (b : Bool) (r : Range) (address : ℕ) (c : Claim) → hitsOf address c (cond b (r ∷ []) [])
+    ≡ cond (b && holds r address) (c ∷ []) []
 unfolding hitsOf keep
 hits-of-one false r address c = refl
 hits-of-one true r address c = go (holds r address)
@@ -75,7 +79,8 @@ open-of-held start stop a = go (ltb start stop) refl (leb start a) refl
     go false e false g = refl
     go false e true g = sym (le-ltb a stop (omega (arith, ltb-false start stop e, leb-true start a g)))
 
-pub window-hits : (q : Pool) (w : Window) (address : ℕ) (c : Claim) → hitsOf address c (openRange q w) ≡ cond (windows.holds q w address) (c ∷ []) []
+pub window-hits : (q : Pool) (w : Window) (address : ℕ) (c : Claim) → hitsOf address c (openRange q w)
+    ≡ cond (windows.holds q w address) (c ∷ []) []
 window-hits q w address c =
     hits-of-one (windows.isOpen q w) (record { pool = poolOf q; start = windows.start q w; stop = windows.stop q w }) address c
     ∙ ap (λ (b : Bool). cond b (c ∷ []) []) (open-of-held (windows.start q w) (windows.stop q w) address)
@@ -89,7 +94,8 @@ held-by-size base size address h = go (ltb (address - base) size) refl
     go true e = sym (lt-ltb address (base + size) (omega (arith, ltb-true (address - base) size e)))
     go false e = sym (le-ltb address (base + size) (omega (arith, ltb-false (address - base) size e)))
 
-module _ (space : Space) (x : Slot) (q : Pool) (wide : Bool) (size : ℕ) (e : x ≡ Bar q wide size) (base v address : ℕ) (b : base ≡ baseOf (Bar q wide size) v) where
+module _ (space : Space) (x : Slot) (q : Pool) (wide : Bool) (size : ℕ) (e : x ≡ Bar q wide size) (base v address : ℕ)
+    (b : base ≡ baseOf (Bar q wide size) v) where
   pub bar-of-other-space : inSpace space q ≡ false → barHolds space x v address ≡ false
   bar-of-other-space h = rw (e, h)
 

@@ -1,4 +1,5 @@
--- What is printed of a board: the plan that the placing rule makes of it, or its number. The sheet that the planner leaves prints so. Assumes nothing.
+-- What is printed of a board: the plan that the placing rule makes of it, or its number. The sheet that the planner leaves prints so.
+-- Assumes nothing.
 use mathlib.Core.Path.{_≡_, refl, sym, ap, _∙_}
 use mathlib.Core.List.{List, map}
 use Prim.Native.Nat.{ℕ}

@@ -19,7 +19,8 @@ use Rattle.window.specs.Window.{closed, opened, start, stop, isNibbled}
 use Rattle.board_record.specs.Host.{hostOfPart, poolWrong, hostWrong}
 use Rattle.board_record.specs.Function.{functionOfPart, headerWrong, readbacksWrong}
 use Rattle.board_order.specs.Order.{above, parents, lastSibling, misplaced, anyMisplaced}
-use Rattle.board.specs.Board.{misframed, fromReadbacks, fromOrder, fromEdges, fromHeaders, fromCount, fromFrame, fromVersion, boardNumber, hostOf, functionsOf}
+use Rattle.board.specs.Board.{misframed, fromReadbacks, fromOrder, fromEdges, fromHeaders, fromCount, fromFrame, fromVersion, boardNumber}
+use Rattle.board.specs.Board.{hostOf, functionsOf}
 use Rattle.board.specs.Examples.{p10 as p10-board}
 use Rattle.sheet_record.specs.Entry.{dwords, windowOf, entryOf}
 use Rattle.sheet.specs.Sheet.{fullSheet, allSized, isFramed, entriesFrom, allZero, readBacksWrong, breaks, anyBreaks, hasId, idTwice}
@@ -41,5 +42,14 @@ pub record Printed : Type 0 where
   pub bad-sheet : sheetText (nibbled p10) ≡ ascii "refused 29\n"
 
 pub examples : Printed
-unfolding p10-text ascii words windowText bridgeText endText lineOf countText planText refusalText sheetText boardText hexadecimal decimalOver decimal flatMap planning onBoard onRoom boardNumber fromVersion fromFrame fromCount fromHeaders fromEdges fromOrder fromReadbacks misframed above parents lastSibling misplaced anyMisplaced functionOfPart headerWrong readbacksWrong hostOfPart poolWrong hostWrong be beBytes le nextOf partsOver partsOf anyPart any sizeFrom sized ioSlot narrowSlot wideSlot slotHere slots anyBad hostOf functionsOf refusalOf outOfPool place placed pieces ownPieces windowPieces barPieces layoutEnd largestAlign keep alignUp bridges barsFrom planOf plannedFrom valuesFrom windowFor barStart closed opened busNumber subordinateOf greatestBelow sheetNumber from21 from20 from22 from24 from27 from28 from25 from29 isFramed allSized entriesFrom breaks anyBreaks allZero readBacksWrong hasId idTwice entryOf dwords windowOf start stop isNibbled isBarValue valuesFit
+unfolding p10-text ascii words windowText bridgeText endText lineOf countText planText refusalText sheetText boardText hexadecimal
+    decimalOver decimal flatMap planning onBoard onRoom boardNumber fromVersion fromFrame fromCount fromHeaders fromEdges fromOrder
+    fromReadbacks misframed above parents lastSibling misplaced anyMisplaced functionOfPart headerWrong readbacksWrong
+    hostOfPart poolWrong
+    hostWrong be beBytes le nextOf partsOver partsOf anyPart any sizeFrom sized ioSlot narrowSlot wideSlot slotHere slots anyBad hostOf
+    functionsOf refusalOf outOfPool place placed pieces ownPieces windowPieces barPieces layoutEnd largestAlign keep alignUp
+    bridges barsFrom
+    planOf plannedFrom valuesFrom windowFor barStart closed opened busNumber subordinateOf greatestBelow sheetNumber from21 from20 from22
+    from24 from27 from28 from25 from29 isFramed allSized entriesFrom breaks anyBreaks allZero readBacksWrong hasId idTwice entryOf dwords
+    windowOf start stop isNibbled isBarValue valuesFit
 examples = record { p10-planned = refl; p10-short-room = refl; p10-sheet = refl; p8-sheet = refl; bad-sheet = refl }

@@ -17,10 +17,12 @@ use Rattle.records.specs.Limits.{mostFunctions}
 use Rattle.sheet.specs.declared.Rule.the-variants.{HeaderType, Buses, ReadBacks, Nibbles}
 use Rattle.sheet_record.specs.Places.{valuesAt}
 use Rattle.sheet_record.specs.Entry.{Entry, dwords, idOf, headerOf, isBridge, slotCount, entryOf}
-use Rattle.sheet.specs.Sheet.{isFramed, partsIn, entriesFrom, entriesOf, anyBreaks, idTwice, from29, from25, from28, from27, from24, from22, from20, from21, sheetNumber}
+use Rattle.sheet.specs.Sheet.{isFramed, partsIn, entriesFrom, entriesOf, anyBreaks, idTwice, from29, from25, from28, from27, from24, from22}
+use Rattle.sheet.specs.Sheet.{from20, from21, sheetNumber}
 use Rattle.sheet.specs.IndexLaws.{length-entries}
 use Rattle.sheet.specs.SheetLaws.{checked-of-zero}
-use Rattle.sheet_text.specs.Listing.{newline, words, buses, edges, uppers, windowText, bridgeText, endText, lineOf, countText, planText, refusalText, sheetText, longest}
+use Rattle.sheet_text.specs.Listing.{newline, words, buses, edges, uppers, windowText, bridgeText, endText, lineOf, countText}
+use Rattle.sheet_text.specs.Listing.{planText, refusalText, sheetText, longest}
 use Rattle.sheet_text.specs.ListingLaws.{lineOf-bridge, lineOf-end, sheetText-good, sheetText-bad}
 
 -- ## Digits
@@ -121,10 +123,22 @@ line-le p = go (isBridge (headerOf p)) refl
     go : (b : Bool) → isBridge (headerOf p) ≡ b → length (lineOf (entryOf p)) ≤ 83
     go true e =
         let two : length (entryOf p .values) ≡ 2 = length-values p ∙ ap (λ (b : Bool). cond b 2 6) e in
-        omega (arith, ap length (lineOf-bridge p e id refl), length-append (hexadecimal 4 id) (bridgeText (entryOf p)), digits-of-id, length-bridgeText (entryOf p) two)
+        omega (
+          arith,
+          ap length (lineOf-bridge p e id refl),
+          length-append (hexadecimal 4 id) (bridgeText (entryOf p)),
+          digits-of-id,
+          length-bridgeText (entryOf p) two,
+        )
     go false e =
         let six : length (entryOf p .values) ≡ 6 = length-values p ∙ ap (λ (b : Bool). cond b 2 6) e in
-        omega (arith, ap length (lineOf-end p e id refl), length-append (hexadecimal 4 id) (endText (entryOf p)), digits-of-id, length-endText (entryOf p) six)
+        omega (
+          arith,
+          ap length (lineOf-end p e id refl),
+          length-append (hexadecimal 4 id) (endText (entryOf p)),
+          digits-of-id,
+          length-endText (entryOf p) six,
+        )
 
 lines-le : (ps : List (List ℕ)) → length (flatMap lineOf (map entryOf ps)) ≤ 83 * length ps
 unfolding flatMap
@@ -177,7 +191,8 @@ number-lt s =
     let es = entriesOf s in
     chosen-lt (eqb (length s) 0) 20 (from21 s) (omega arith)
     (chosen-lt (eqb (getD s 0 0) 1) (from20 s) 21
-    (chosen-lt (isFramed (drop 1 s)) (from22 es) 20 (chosen-lt (ltb mostFunctions (length es)) 22 (from24 es) (omega arith) (from24-lt es)) (omega arith))
+    (chosen-lt (isFramed (drop 1 s)) (from22 es) 20
+    (chosen-lt (ltb mostFunctions (length es)) 22 (from24 es) (omega arith) (from24-lt es)) (omega arith))
     (omega arith))
 
 pub sheet-le : (s : List ℕ) → length (sheetText s) ≤ longest
@@ -188,7 +203,12 @@ sheet-le s = go (eqb (sheetNumber s) 0) refl
         let z = eqb-true (sheetNumber s) 0 e in
         omega (arith, ap length (sheetText-good s (sheetNumber s) refl z), plan-le s (checked-of-zero s z .count))
     go false e =
-        omega (arith, ap length (sheetText-bad s (sheetNumber s) refl (eqb-false (sheetNumber s) 0 e)), refusal-le (sheetNumber s) (number-lt s))
+        omega (
+          arith,
+          ap length (sheetText-bad s (sheetNumber s) refl (eqb-false (sheetNumber s) 0 e)),
+          refusal-le (sheetNumber s)
+              (number-lt s),
+        )
 
 -- a text that fits from the start on is put whole, and what follows it stays
 pub put-whole : {o text after : List ℕ} {r : ℕ} → length text ≤ length o → Put o 0 text after r

@@ -1,5 +1,5 @@
--- Document 01, "Examples": a plan is "printed whole (functions, then BARs, buses, I/O, memory, high, uppers; a refusal prints `refused N`)". Registers
--- are in hexadecimal, counts and N in decimal, and every line ends with a newline. Assumes nothing.
+-- Document 01, "Examples": a plan is "printed whole (functions, then BARs, buses, I/O, memory, high, uppers; a refusal prints `refused
+-- N`)". Registers are in hexadecimal, counts and N in decimal, and every line ends with a newline. Assumes nothing.
 use Prim.Native.Nat.{ℕ, _+_, _*_}
 use mathlib.Core.Bool.{cond}
 use mathlib.Core.List.{List, [], _∷_, _++_, flatMap}

@@ -18,7 +18,8 @@ use Rattle.sheet_record.specs.Entry.{Entry, dwords, idOf, headerOf, isBridge, p
 use Rattle.sheet.specs.Sheet.{Framed, partsIn, partAt, entriesFrom, entriesOf, sheetNumber}
 use Rattle.sheet.specs.FrameLaws.{part-index}
 use Rattle.sheet.specs.IndexLaws.{length-entries}
-use Rattle.sheet_text.specs.Listing.{newline, words, buses, edges, uppers, windowText, bridgeText, endText, lineOf, planText, refusalText, sheetText}
+use Rattle.sheet_text.specs.Listing.{newline, words, buses, edges, uppers, windowText, bridgeText, endText, lineOf, planText}
+use Rattle.sheet_text.specs.Listing.{refusalText, sheetText}
 
 words-snoc : (width : ℕ) (ns : List ℕ) (n : ℕ) → words width (ns ++ n ∷ []) ≡ words width ns ++ 32 ∷ hexadecimal width n
 unfolding words
@@ -46,7 +47,9 @@ pub lines-index : (s : List ℕ) (k : ℕ) → Framed 1 s → k < length (entrie
     → flatMap lineOf (take (k + 1) (entriesOf s)) ≡ flatMap lineOf (take k (entriesOf s)) ++ lineOf (entryOf (partAt s k))
 lines-index s k f h =
     let es = entriesOf s in
-    rw (add-one k, take-suc es k (entryOf []) h) (lines-snoc (take k es) (getD es k (entryOf [])) ∙ ap (λ (e : Entry). flatMap lineOf (take k es) ++ lineOf e) (entry-index s k f h))
+    rw (add-one k, take-suc es k (entryOf []) h)
+    (lines-snoc (take k es) (getD es k (entryOf []))
+    ∙ ap (λ (e : Entry). flatMap lineOf (take k es) ++ lineOf e) (entry-index s k f h))
 
 -- where a text was put, nothing more is put
 pub put-nothing : {o o₁ vs : List ℕ} {at r : ℕ} → Put o at vs o₁ r → Put o₁ r [] o₁ r

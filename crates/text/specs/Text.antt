@@ -9,8 +9,8 @@ use lib.ListN.{length}
 use lib.Dec.{ltb}
 use lib.Seq.{sets}
 
--- A text put at a place: what fits of it is stored, since a store past the end changes nothing. The next place is the end of the text, or of
--- the bytes.
+-- A text put at a place: what fits of it is stored, since a store past the end changes nothing. The next place is the end of the text, or
+-- of the bytes.
 pub record Put (bytes : List ℕ) (at : ℕ) (text : List ℕ) (after : List ℕ) (next : ℕ) : Type 0 where
   pub stored : after ≡ sets bytes at text
   pub place : next ≡ min (at + length text) (length bytes)

@@ -54,7 +54,8 @@ enough zero k n p q = absurd (omega arith)
 enough (suc j) zero n p q = absurd (omega arith)
 enough (suc j) (suc k) n p q = go (ltb n 10) refl (λ h. enough j k (n / 10) (omega arith) (omega arith))
   where
-    go : (b : Bool) → ltb n 10 ≡ b → (10 ≤ n → decimalOver j (n / 10) ≡ decimalOver k (n / 10)) → decimalOver (suc j) n ≡ decimalOver (suc k) n
+    go : (b : Bool) → ltb n 10 ≡ b → (10 ≤ n → decimalOver j (n / 10) ≡ decimalOver k (n / 10)) → decimalOver (suc j) n
+        ≡ decimalOver (suc k) n
     go true e more = rw e
     go false e more = rw e (ap (λ (r : List ℕ). r ++ (digit (n % 10) ∷ [])) (more (ltb-false _ _ e)))
 

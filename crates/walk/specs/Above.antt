@@ -1,5 +1,5 @@
--- The bridges above a bus, told by bus numbers: none on the root bus, else the bridge whose secondary it is, and then the bridges above that
--- one. Assumes nothing.
+-- The bridges above a bus, told by bus numbers: none on the root bus, else the bridge whose secondary it is, and then the bridges above
+-- that one. Assumes nothing.
 use mathlib.Core.Path.{_≡_}
 use mathlib.Core.Bool.{Bool, true, false, _&&_}
 use mathlib.Core.List.{List, [], _∷_}

@@ -93,11 +93,13 @@ module _ {host : Host} {ns : List Node} (rise : BridgesRise ns) (tree : Tree hos
           let r = all-elim _ ns rise (lb .in-sheet) (lb .is-bridge) in
           absurd (omega (arith, r .own-below, lb .leads, root-le b (lb .in-sheet)))
       go (inr (p, e)) =
-          let is-p : (d : Node) → LeadsTo (x .bus) ns d → d ≡ p = λ d l. List·Memᴰ·eq-of-singleton (rw e at (bridges-to-intro (x .bus) ns l)) in
+          let is-p : (d : Node) → LeadsTo (x .bus) ns d → d
+          ≡ p = λ d l. List·Memᴰ·eq-of-singleton (rw e at (bridges-to-intro (x .bus) ns l)) in
           is-p b lb ∙ sym (is-p c lc)
 
   -- and the only one
-  pub above-unique : (x : Node) → x ∈ ns → (bs cs : List Node) → Above (host .first) ns (x .bus) bs → Above (host .first) ns (x .bus) cs → bs ≡ cs
+  pub above-unique : (x : Node) → x ∈ ns → (bs cs : List Node) → Above (host .first) ns (x .bus) bs
+      → Above (host .first) ns (x .bus) cs → bs ≡ cs
   unfolding Above
   above-unique x m [] [] a b = refl
   above-unique x m [] (c ∷ cs) a b =
@@ -118,6 +120,7 @@ module _ {host : Host} {ns : List Node} (rise : BridgesRise ns) (tree : Tree hos
   unfolding Above
   above-root x m e = above-of-way-up x m [] e
 
-  pub above-bridge : (x : Node) → x ∈ ns → (b : Node) → LeadsTo (x .bus) ns b → above (host .first) ns (x .bus) ≡ b ∷ above (host .first) ns (b .bus)
+  pub above-bridge : (x : Node) → x ∈ ns → (b : Node) → LeadsTo (x .bus) ns b → above (host .first) ns (x .bus)
+      ≡ b ∷ above (host .first) ns (b .bus)
   unfolding Above
   above-bridge x m b l = above-of-way-up x m (b ∷ above (host .first) ns (b .bus)) (l, above-is b (l .in-sheet))

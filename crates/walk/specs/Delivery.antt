@@ -66,7 +66,13 @@ module _ {host : Host} {fs : List Registers} (sound : Sound host fs) (enabled : 
       let same : ends .crossed ≡ bridgesAbove host fs f =
       above-unique (sound .bridges-rise) (sound .tree) (f .node) in-nodes _ _ (r .way-up) found in (
         f,
-        record { in-sheet = r .in-sheet; bar-holds = r .bar-holds; is-enabled = r .is-enabled; bridges-enabled = rw same at (r .bridges-enabled) },
+        record {
+          in-sheet = r .in-sheet;
+          bar-holds = r .bar-holds;
+          is-enabled = r .is-enabled;
+          bridges-enabled = rw same at
+              (r .bridges-enabled);
+        },
         ends .number-is,
         omega (arith, count-is, ap length (ends .trail-is), length-downward (ends .crossed), ap length same),
       )
@@ -86,7 +92,8 @@ module _ {host : Host} {fs : List Registers} (sound : Sound host fs) (enabled : 
   unfolding walkFrom
   otherwise-nobody nobody = go (outcomeOf host enabled fs address) refl
     where
-      by-number : (x : ℕ) → outcomeOf host enabled fs address ≡ refused x → (x ≡ noOwner) ⊎ ((b : ℕ) × (tallyOn enabled fs address b ≡ several))
+      by-number : (x : ℕ) → outcomeOf host enabled fs address ≡ refused x → (x ≡ noOwner)
+          ⊎ ((b : ℕ) × (tallyOn enabled fs address b ≡ several))
           → outcomeOf host enabled fs address ≡ refused noOwner
       by-number x e (inl q) = e ∙ ap refused q
       by-number x e (inr (b, q)) = absurd (not-several b q)
@@ -125,12 +132,15 @@ pub outcome-from-first : {host : Host} (fs : List Registers) → Tree host (node
     → walkFrom (tallyOn enabled fs address) (rootOf (nodes fs)) 0 ≡ outcomeOf host enabled fs address
 outcome-from-first {host} [] tree enabled address =
     walk-none _ _ 0 (tally-nil enabled address 0) ∙ sym (walk-none _ _ 0 (tally-nil enabled address (host .first)))
-outcome-from-first {host} (f ∷ fs) tree enabled address = ap (λ (b : ℕ). walkFrom (tallyOn enabled (f ∷ fs) address) b 0) (tree .first-on-root)
+outcome-from-first {host} (f ∷ fs) tree enabled address =
+    ap (λ (b : ℕ). walkFrom (tallyOn enabled (f ∷ fs) address) b 0) (tree .first-on-root)
 
 -- At most one function of the sheet has a BAR over an address, enabled or not.
-pub holder-unique : {host : Host} {fs : List Registers} → Sound host fs → NumberedFrom 1 fs → (address : ℕ) (f g : Registers) → f ∈ fs → g ∈ fs
+pub holder-unique : {host : Host} {fs : List Registers} → Sound host fs → NumberedFrom 1 fs → (address : ℕ) (f g : Registers)
+    → f ∈ fs → g ∈ fs
     → Some (λ r. Holds r address) (f .bars) → Some (λ r. Holds r address) (g .bars) → f ≡ g
-holder-unique {host} {fs} sound numbered address f g mf mg hf hg = owner-unique sound (λ n. true) address numbered f g (owns f mf hf) (owns g mg hg)
+holder-unique {host} {fs} sound numbered address f g mf mg hf hg =
+    owner-unique sound (λ n. true) address numbered f g (owns f mf hf) (owns g mg hg)
   where
     owns : (x : Registers) → x ∈ fs → Some (λ r. Holds r address) (x .bars) → Owns host (λ n. true) fs address x
     owns x m h = record { in-sheet = m; bar-holds = h; is-enabled = refl; bridges-enabled = all-of _ (λ b. refl) (bridgesAbove host fs x) }

@@ -1,5 +1,5 @@
--- Worked examples of the walk, as one table under one claim: document 01's P10, command bits, foreign sheets, ends at 2^64 and 255 bridges in
--- a row; and source document 001's tree by ID. Then P10's sheet is good. Assumes nothing.
+-- Worked examples of the walk, as one table under one claim: document 01's P10, command bits, foreign sheets, ends at 2^64 and 255 bridges
+-- in a row; and source document 001's tree by ID. Then P10's sheet is good. Assumes nothing.
 use mathlib.Core.Path.{_≡_, refl}
 use mathlib.Core.Logic.{inl, inr}
 use mathlib.Core.Bool.{Bool, true, false, not, false≢true}
@@ -184,7 +184,8 @@ p10-host =
     }
 
 -- P10's sheet in memory is good: the predicate is met by a planned sheet.
-inside : (p : Pool) (a b c d : ℕ) → c ≤ a → b ≤ d → Inside (record { pool = p; start = a; stop = b }) (record { pool = p; start = c; stop = d })
+inside : (p : Pool) (a b c d : ℕ) → c ≤ a → b ≤ d
+    → Inside (record { pool = p; start = a; stop = b }) (record { pool = p; start = c; stop = d })
 inside p a b c d h k = record { same-pool = refl; start-inside = h; stop-inside = k }
 
 p10-tree : Tree p10-host (nodes p10-memory)
@@ -205,7 +206,10 @@ p10-nested =
     record {
       in-pool = (
         λ _. inl (inside _ _ _ _ _ (omega arith) (omega arith)),
-        (λ _. inr (inl (inside _ _ _ _ _ (omega arith) (omega arith))), (λ other. absurd (omega arith), (λ other. absurd (omega arith), tt))),
+        (
+          λ _. inr (inl (inside _ _ _ _ _ (omega arith) (omega arith))),
+          (λ other. absurd (omega arith), (λ other. absurd (omega arith), tt)),
+        ),
       );
       in-window-above = (λ _. below, (λ e. absurd (false≢true e), tt));
     }
@@ -213,7 +217,10 @@ p10-nested =
     below : All (InWindowOf (record { node = bridgeAt 1 0 0 1 1; bars = []; windows = p10-windows })) (items p10-memory)
     below = (
       λ other. absurd (omega arith),
-      (λ other. absurd (omega arith), (λ _. inl (inside _ _ _ _ _ (omega arith) (omega arith)), (λ _. inr (inl (inside _ _ _ _ _ (omega arith) (omega arith))), tt))),
+      (
+        λ other. absurd (omega arith),
+        (λ _. inl (inside _ _ _ _ _ (omega arith) (omega arith)), (λ _. inr (inl (inside _ _ _ _ _ (omega arith) (omega arith))), tt)),
+      ),
     )
 
 p10-disjoint : Disjoint p10-memory
@@ -227,4 +234,11 @@ p10-disjoint =
     }
 
 pub p10-good : Good p10-host p10-memory
-p10-good = record { bridges-rise = (λ _. omega arith, (λ e. absurd (false≢true e), tt)); tree = p10-tree; nested = p10-nested; disjoint = p10-disjoint }
+p10-good =
+    record {
+      bridges-rise = (λ _. omega arith, (λ e. absurd (false≢true e), tt));
+      tree = p10-tree;
+      nested = p10-nested;
+      disjoint
+          = p10-disjoint;
+    }

@@ -1,6 +1,6 @@
--- A good sheet, told by bus numbers and register values alone, beyond checks 20 to 29: bus ranges, then BARs and open windows, lie within their
--- parent's, and siblings are apart. Command words do not appear. Each part is a record of its own, named by the number that document 02 gives
--- its refusal. Assumes nothing.
+-- A good sheet, told by bus numbers and register values alone, beyond checks 20 to 29: bus ranges, then BARs and open windows, lie within
+-- their parent's, and siblings are apart. Command words do not appear. Each part is a record of its own, named by the number that document
+-- 02 gives its refusal. Assumes nothing.
 use mathlib.Core.Path.{_≡_}
 use mathlib.Core.Logic.{_⊎_}
 use mathlib.Core.Bool.{true}
@@ -85,4 +85,10 @@ pub record Sound (host : Host) (fs : List Registers) : Type 0 where
 
 pub sound-of-good : {host : Host} {fs : List Registers} → Good host fs → Sound host fs
 sound-of-good good =
-    record { bridges-rise = good .bridges-rise; tree = good .tree; in-window-above = good .nested .in-window-above; disjoint = good .disjoint }
+    record {
+      bridges-rise = good .bridges-rise;
+      tree = good .tree;
+      in-window-above = good .nested .in-window-above;
+      disjoint
+          = good .disjoint;
+    }

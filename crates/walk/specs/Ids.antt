@@ -1,6 +1,6 @@
 -- Document 01, The walk, by ID: on the target's bus the function with that ID, else by the bridges whose bus range holds the target's bus.
--- It is the same walk over other registers: the address is the target's bus, a bridge's window its bus range, and a function with the target's
--- device/function has its own bus as a BAR. Assumes nothing.
+-- It is the same walk over other registers: the address is the target's bus, a bridge's window its bus range, and a function with the
+-- target's device/function has its own bus as a BAR. Assumes nothing.
 use mathlib.Core.Path.{_≡_}
 use mathlib.Core.Bool.{Bool, true, cond, _&&_}
 use mathlib.Core.List.{List, [], _∷_, map}

@@ -1,5 +1,5 @@
--- By ID the walk ends at the function with that ID, past the bridges above it, and else there is no owner: the registers by ID are sound where
--- the bus numbers are, and delivery is that of any sound sheet. Assumes nothing.
+-- By ID the walk ends at the function with that ID, past the bridges above it, and else there is no owner: the registers by ID are sound
+-- where the bus numbers are, and delivery is that of any sound sheet. Assumes nothing.
 use mathlib.Core.Path.{_≡_, refl, sym, ap, subst, _∙_}
 use mathlib.Core.Logic.{_⊎_, inl, inr}
 use mathlib.Core.Bool.{Bool, true, false, cond}
@@ -10,7 +10,8 @@ use lib.Dec.{eqb}
 use lib.ListN.{length}
 use borrow.Author.Tests.{eqb-true, eq-eqb}
 use Rattle.lists.specs.Lists.{_∈_, Some, Pairwise}
-use Rattle.lists.specs.ListLaws.{all-of, all-elim, all-intro, all-map-intro, member-of-some, mem-cond-elim, flat-elim, pairwise-flat, pairwise-map, pairwise-imp-members, pairwise-both}
+use Rattle.lists.specs.ListLaws.{all-of, all-elim, all-intro, all-map-intro, member-of-some, mem-cond-elim, flat-elim, pairwise-flat}
+use Rattle.lists.specs.ListLaws.{pairwise-map, pairwise-imp-members, pairwise-both}
 use Rattle.walk.specs.Ranges.{Holds, Inside, Apart}
 use Rattle.walk.specs.Registers.{Node, Registers, Item, barItem, windowItem, openWindows, itemsOf, items}
 use Rattle.walk.specs.Tally.{tallyOn}
@@ -60,8 +61,10 @@ module _ {host : Host} {ns : List Node} (rise : BridgesRise ns) (tree : Tree hos
 
       go : IdItem devfn n i → IdItem devfn m j → Apart (i .range) (j .range)
       go (own-bus p d r) (own-bus q e s) = absurd (differ (bus-same p q) (d ∙ sym e))
-      go (own-bus p d r) (bus-range q e s) = let up = all-elim _ ns rise in-m e in rw (r, s) (inl (omega (arith, bus-same p q, up .own-below)))
-      go (bus-range p d r) (own-bus q e s) = let up = all-elim _ ns rise in-n d in rw (r, s) (inr (omega (arith, bus-same p q, up .own-below)))
+      go (own-bus p d r) (bus-range q e s) = let up = all-elim _ ns rise in-m e in rw (r, s)
+          (inl (omega (arith, bus-same p q, up .own-below)))
+      go (bus-range p d r) (own-bus q e s) = let up = all-elim _ ns rise in-n d in rw (r, s)
+          (inr (omega (arith, bus-same p q, up .own-below)))
       go (bus-range p d r) (bus-range q e s) = rw (r, s) (siblings d e (bus-same p q))
 
   -- a function's own bus and its range
@@ -70,7 +73,8 @@ module _ {host : Host} {ns : List Node} (rise : BridgesRise ns) (tree : Tree hos
   own-apart n m = go (eqb (n .devfn) devfn) (n .bridge) refl
     where
       go : (d b : Bool) → n .bridge ≡ b
-          → Pairwise ApartOnBus (map (barItem (byId devfn n)) (cond d (ownBus n ∷ []) []) ++ map (windowItem (byId devfn n)) (cond b (busRange n ∷ []) []))
+          → Pairwise ApartOnBus
+          (map (barItem (byId devfn n)) (cond d (ownBus n ∷ []) []) ++ map (windowItem (byId devfn n)) (cond b (busRange n ∷ []) []))
       go true true e = let up = all-elim _ ns rise m e in ((λ _. inl (omega (arith, up .own-below)), tt), (tt, tt))
       go true false e = (tt, tt)
       go false true e = (tt, tt)
@@ -81,7 +85,8 @@ module _ {host : Host} {ns : List Node} (rise : BridgesRise ns) (tree : Tree hos
   below-range n m in-n in-m is-bridge at i (own-bus p d r) =
       let up = all-elim _ ns rise in-n is-bridge in
       rw r (record { same-pool = refl; start-inside = omega arith; stop-inside = omega (arith, up .range-open) })
-  below-range n m in-n in-m is-bridge at i (bus-range p d r) = rw r (all-elim _ ns (all-elim _ ns (tree .in-parent) in-n is-bridge) in-m d at)
+  below-range n m in-n in-m is-bridge at i (bus-range p d r) = rw r
+      (all-elim _ ns (all-elim _ ns (tree .in-parent) in-n is-bridge) in-m d at)
 
   below-node : (n : Node) → n ∈ ns → n .bridge ≡ true → (i : Item) → i ∈ items (map (byId devfn) ns) → InWindowOf (byId devfn n) i
   unfolding items
@@ -98,7 +103,10 @@ module _ {host : Host} {ns : List Node} (rise : BridgesRise ns) (tree : Tree hos
         bridges-rise = rw by-id-nodes rise;
         tree = rw by-id-nodes tree;
         in-window-above = all-map-intro _ (byId devfn) ns (λ n m is-bridge. all-intro _ _ (below-node n m is-bridge));
-        disjoint = record { apart-on-bus = pairwise-flat ApartOnBus itemsOf _ (all-map-intro _ (byId devfn) ns own-apart) (pairwise-map _ (byId devfn) ns across) };
+        disjoint = record {
+          apart-on-bus = pairwise-flat ApartOnBus itemsOf _ (all-map-intro _ (byId devfn) ns own-apart)
+              (pairwise-map _ (byId devfn) ns across);
+        };
       }
     where
       across : Pairwise (λ n m. (i j : Item) → i ∈ itemsOf (byId devfn n) → j ∈ itemsOf (byId devfn m) → ApartOnBus i j) ns
@@ -120,13 +128,16 @@ id-of-bar target devfn n h =
 
 -- By ID as by address: the walk ends at the function with that ID, past the bridges above it, and else there is no owner.
 module _ {host : Host} {ns : List Node} (rise : BridgesRise ns) (tree : Tree host ns) (distinct : DistinctIds ns) (target devfn : ℕ) where
-  by-id-walk : (top from : ℕ) → walkFrom (tallyById ns target devfn) top from ≡ walkFrom (tallyOn always (map (byId devfn) ns) target) top from
+  by-id-walk : (top from : ℕ) → walkFrom (tallyById ns target devfn) top from
+      ≡ walkFrom (tallyOn always (map (byId devfn) ns) target) top from
   by-id-walk top from = walk-agree _ _ (λ bus. tally-by-id-agree ns rise target devfn bus distinct) top from
 
-  has-id-of-owner : (f : Registers) → Owns host always (map (byId devfn) ns) target f → (n : Node) × (byId devfn n ≡ f) × HasId target devfn ns n
+  has-id-of-owner : (f : Registers) → Owns host always (map (byId devfn) ns) target f → (n : Node) × (byId devfn n ≡ f)
+      × HasId target devfn ns n
   has-id-of-owner f o =
       let (n, in-ns, same) = Memᴰ·of-map (byId devfn) ns (o .in-sheet) in
-      let (at, same-devfn) = id-of-bar target devfn n (subst (λ (g : Registers). Some (λ r. Holds r target) (g .bars)) (sym same) (o .bar-holds)) in
+      let (at, same-devfn) = id-of-bar target devfn n
+      (subst (λ (g : Registers). Some (λ r. Holds r target) (g .bars)) (sym same) (o .bar-holds)) in
       (n, same, record { in-sheet = in-ns; bus-is = at; devfn-is = same-devfn })
 
   owns-of-id : (n : Node) → HasId target devfn ns n → Owns host always (map (byId devfn) ns) target (byId devfn n)

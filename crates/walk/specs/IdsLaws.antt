@@ -46,7 +46,8 @@ same-test false false to from = refl
 
 -- One node's claims by ID: one for its own bus if it has the device/function, and one for its range if it is a bridge.
 node-claims : (target devfn bus : ℕ) (n : Node)
-    → claimsOf always target bus (byId devfn n) ≡ oneIf (ownBusClaims target devfn bus n) (functionClaim n) ++ oneIf (leadsToward target bus n) (bridgeClaim n)
+    → claimsOf always target bus (byId devfn n) ≡ oneIf (ownBusClaims target devfn bus n) (functionClaim n) ++ oneIf
+    (leadsToward target bus n) (bridgeClaim n)
 node-claims target devfn bus n = go (eqb (n .bus) bus) refl
   where
     own : hitsOf target (functionClaim n) (byId devfn n .bars) ≡ oneIf (eqb (n .devfn) devfn && holds (ownBus n) target) (functionClaim n)
@@ -56,7 +57,8 @@ node-claims target devfn bus n = go (eqb (n .bus) bus) refl
     range = hits-if target (bridgeClaim n) (busRange n) (n .bridge)
 
     go : (here : Bool) → eqb (n .bus) bus ≡ here
-        → claimsOf always target bus (byId devfn n) ≡ oneIf (ownBusClaims target devfn bus n) (functionClaim n) ++ oneIf (leadsToward target bus n) (bridgeClaim n)
+        → claimsOf always target bus (byId devfn n) ≡ oneIf (ownBusClaims target devfn bus n) (functionClaim n) ++ oneIf
+        (leadsToward target bus n) (bridgeClaim n)
     go true e = claims-of-here always target bus (byId devfn n) (rw e) ∙ rw e (ap₂ _++_ own range)
     go false e = claims-of-other always target bus (byId devfn n) (rw e) ∙ rw e
 
@@ -77,10 +79,12 @@ claims-by-node devfn target bus p c (n ∷ ns) h =
 
 module _ (ns : List Node) (rise : BridgesRise ns) (target devfn bus : ℕ) where
   -- On the target's bus no bridge's range holds it, for ranges start past the bridge's own bus.
-  claims-on-target : bus ≡ target → (n : Node) → n ∈ ns → claimsOf always target bus (byId devfn n) ≡ oneIf (hasId target devfn n) (functionClaim n)
+  claims-on-target : bus ≡ target → (n : Node) → n ∈ ns → claimsOf always target bus (byId devfn n)
+      ≡ oneIf (hasId target devfn n) (functionClaim n)
   claims-on-target e n m =
       node-claims target devfn bus n
-      ∙ ap₂ (λ (b c : Bool). oneIf b (functionClaim n) ++ oneIf c (bridgeClaim n)) (same-test _ _ to from) (eq-false-of-not-eq-true no-range)
+      ∙ ap₂ (λ (b c : Bool). oneIf b (functionClaim n) ++ oneIf c (bridgeClaim n)) (same-test _ _ to from)
+      (eq-false-of-not-eq-true no-range)
       ∙ append-nil _
     where
       to : ownBusClaims target devfn bus n ≡ true → hasId target devfn n ≡ true
@@ -92,7 +96,8 @@ module _ (ns : List Node) (rise : BridgesRise ns) (target devfn bus : ℕ) where
       from h =
           let (here, same-devfn) = and-eq-true-iff _ _ .0 h in
           let at : n .bus ≡ target = eqb-true _ _ here in
-          and-eq-true-iff _ _ .1 (eq-eqb _ _ (at ∙ sym e), and-eq-true-iff _ _ .1 (same-devfn, holds-iff (ownBus n) target .1 (omega arith)))
+          and-eq-true-iff _ _ .1
+          (eq-eqb _ _ (at ∙ sym e), and-eq-true-iff _ _ .1 (same-devfn, holds-iff (ownBus n) target .1 (omega arith)))
 
       no-range : leadsToward target bus n ≡ true → ⊥
       no-range h =
@@ -103,10 +108,12 @@ module _ (ns : List Node) (rise : BridgesRise ns) (target devfn bus : ℕ) where
           omega (arith, r .own-below, holds-iff (busRange n) target .0 held .from-start)
 
   -- Off it no function's own bus is the target's.
-  claims-off-target : (bus ≡ target → ⊥) → (n : Node) → claimsOf always target bus (byId devfn n) ≡ oneIf (leadsToward target bus n) (bridgeClaim n)
+  claims-off-target : (bus ≡ target → ⊥) → (n : Node) → claimsOf always target bus (byId devfn n)
+      ≡ oneIf (leadsToward target bus n) (bridgeClaim n)
   claims-off-target e n =
       node-claims target devfn bus n
-      ∙ ap (λ (b : Bool). oneIf b (functionClaim n) ++ oneIf (leadsToward target bus n) (bridgeClaim n)) (eq-false-of-not-eq-true no-function)
+      ∙ ap (λ (b : Bool). oneIf b (functionClaim n) ++ oneIf (leadsToward target bus n) (bridgeClaim n))
+      (eq-false-of-not-eq-true no-function)
     where
       no-function : ownBusClaims target devfn bus n ≡ true → ⊥
       no-function h =

@@ -1,5 +1,5 @@
--- Ranges of addresses: one holds an address, one lies inside another, two are apart. Half-open over whole numbers, so that an end at 2^64 is no
--- special case. Assumes nothing.
+-- Ranges of addresses: one holds an address, one lies inside another, two are apart. Half-open over whole numbers, so that an end at 2^64
+-- is no special case. Assumes nothing.
 use mathlib.Core.Path.{_≡_, ap, _∙_}
 use mathlib.Core.Logic.{_⊎_, inl, inr, _↔_}
 use mathlib.Core.Bool.{Bool, true, _&&_, and-eq-true-iff}

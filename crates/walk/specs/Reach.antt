@@ -53,7 +53,13 @@ module _ (enabled : ℕ → Bool) (fs : List Registers) (address : ℕ) where
       record {
         owner = b .owner;
         crossed = [];
-        reaches = record { in-sheet = b .in-sheet; bar-holds = b .bar-holds; is-enabled = b .is-enabled; way-up = b .on-bus; bridges-enabled = tt };
+        reaches = record {
+          in-sheet = b .in-sheet;
+          bar-holds = b .bar-holds;
+          is-enabled = b .is-enabled;
+          way-up = b .on-bus;
+          bridges-enabled = tt;
+        };
         number-is = b .number-is;
         trail-is = refl;
       }
@@ -95,7 +101,8 @@ module _ {host : Host} {fs : List Registers} (sound : Sound host fs) (enabled : 
       let (g, in-fs, is-b) = nodes-elim fs (l .in-sheet) in
       let bridge : g .node .bridge ≡ true = ap (λ (n : Node). n .bridge) is-b ∙ l .is-bridge in
       let below : i .owner .node .bus ≡ g .node .secondary = sym (ap (λ (n : Node). n .secondary) is-b ∙ l .leads) in
-      let (r, in-windows, inside) = member-of-some _ (g .windows) (all-elim _ (items fs) (all-elim _ fs (sound .in-window-above) in-fs bridge) m below) in (
+      let (r, in-windows, inside) = member-of-some _ (g .windows)
+      (all-elim _ (items fs) (all-elim _ fs (sound .in-window-above) in-fs bridge) m below) in (
         windowItem g r,
         item-of-window fs in-fs bridge in-windows,
         holds-of-inside inside h,
@@ -104,7 +111,8 @@ module _ {host : Host} {fs : List Registers} (sound : Sound host fs) (enabled : 
       )
 
   -- From above an item that holds the address the trail comes down to its bus.
-  trail-down : (i : Item) → i ∈ items fs → Holds (i .range) address → (top : ℕ) (bs : List Node) → Above top (nodes fs) (i .owner .node .bus) bs
+  trail-down : (i : Item) → i ∈ items fs → Holds (i .range) address → (top : ℕ) (bs : List Node)
+      → Above top (nodes fs) (i .owner .node .bus) bs
       → All (λ b. enabled (b .number) ≡ true) bs
       → (ns : List ℕ) (number : ℕ) → Trail (tallyOn enabled fs address) (i .owner .node .bus) ns number
       → Trail (tallyOn enabled fs address) top (reverseAux (numbersOf bs) ns) number

@@ -1,6 +1,6 @@
--- What the walk reads of a sheet in one address space, in record order: where each function stands, its BARs and its open windows. The command
--- words are kept apart, as a function from a record's number to the space's bit: what is said of the registers then holds whatever the command
--- words say. Assumes nothing.
+-- What the walk reads of a sheet in one address space, in record order: where each function stands, its BARs and its open windows. The
+-- command words are kept apart, as a function from a record's number to the space's bit: what is said of the registers then holds whatever
+-- the command words say. Assumes nothing.
 use mathlib.Core.Bool.{Bool, false, cond}
 use mathlib.Core.List.{List, [], _∷_, _++_, map, flatMap}
 use mathlib.Core.Path.{_≡_}

@@ -1,5 +1,5 @@
--- Where an item of a sheet comes from: a BAR or an open window of one of its functions, and each of these is an item. A record number names one
--- function. Assumes nothing.
+-- Where an item of a sheet comes from: a BAR or an open window of one of its functions, and each of these is an item. A record number names
+-- one function. Assumes nothing.
 use mathlib.Core.Path.{_≡_, refl, sym, ap, subst, _∙_}
 use mathlib.Core.Logic.{_⊎_, inl, inr}
 use mathlib.Core.Bool.{Bool, true, false}
@@ -40,7 +40,8 @@ module _ (fs : List Registers) where
   unfolding items itemsOf
   item-elim {i} m = let found = flat-elim itemsOf fs m in go (found .0) (found .1) (List·Memᴰ·append-cases _ (found .2))
     where
-      go : (f : Registers) → f ∈ fs → (i ∈ map (barItem f) (f .bars)) ⊎ (i ∈ map (windowItem f) (openWindows f)) → BarOf fs i ⊎ WindowOf fs i
+      go : (f : Registers) → f ∈ fs → (i ∈ map (barItem f) (f .bars)) ⊎ (i ∈ map (windowItem f) (openWindows f)) → BarOf fs i
+          ⊎ WindowOf fs i
       go f m (inl h) =
           let from = Memᴰ·of-map (barItem f) (f .bars) h in
           inl (subst (BarOf fs) (from .2) (record { in-sheet = m; in-bars = from .1; claim-is = refl }))
@@ -69,10 +70,12 @@ number-ge k (g ∷ gs) f h m = go (List·Memᴰ·cases-cons m) (number-ge (k + 1
     go (inr m) later = omega (arith, later m)
 
 -- a record number names one function
-pub number-unique : (k : ℕ) (fs : List Registers) (f g : Registers) → NumberedFrom k fs → f ∈ fs → g ∈ fs → f .node .number ≡ g .node .number → f ≡ g
+pub number-unique : (k : ℕ) (fs : List Registers) (f g : Registers) → NumberedFrom k fs → f ∈ fs → g ∈ fs → f .node .number
+    ≡ g .node .number → f ≡ g
 unfolding NumberedFrom
 number-unique k [] f g h m₁ m₂ e = absurd (List·Memᴰ·not-nil m₁)
-number-unique k (x ∷ xs) f g h m₁ m₂ e = go (List·Memᴰ·cases-cons m₁) (List·Memᴰ·cases-cons m₂) (λ a b. number-unique (k + 1) xs f g (h .1) a b e)
+number-unique k (x ∷ xs) f g h m₁ m₂ e =
+    go (List·Memᴰ·cases-cons m₁) (List·Memᴰ·cases-cons m₂) (λ a b. number-unique (k + 1) xs f g (h .1) a b e)
   where
     past : (y z : Registers) → y ≡ x → z ∈ xs → y .node .number ≡ z .node .number → ⊥
     past y z same m e = omega (arith, number-ge (k + 1) xs z (h .1) m, h .0, e, ap (λ (w : Registers). w .node .number) same)

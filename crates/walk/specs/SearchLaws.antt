@@ -68,7 +68,8 @@ module _ (enabled : ℕ → Bool) (address bus : ℕ) where
       ∙ ap₂ _++_ b w
 
   -- a function of another bus, or one that is not enabled
-  pub claims-of-other : (f : Registers) → (eqb (f .node .bus) bus && enabled (f .node .number)) ≡ false → claimsOf enabled address bus f ≡ []
+  pub claims-of-other : (f : Registers) → (eqb (f .node .bus) bus && enabled (f .node .number)) ≡ false
+      → claimsOf enabled address bus f ≡ []
   claims-of-other f e =
       claims-of-parts f [] []
       (ap claimsIn (no-items (barItem f) (λ r. rw e) (f .bars)))

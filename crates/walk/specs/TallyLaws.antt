@@ -94,7 +94,8 @@ pub record WindowClaim (enabled : ℕ → Bool) (fs : List Registers) (address b
   pub window-holds : Some (λ r. Holds r address) (owner .windows)
 
 module _ (enabled : ℕ → Bool) (fs : List Registers) (address bus : ℕ) where
-  claim-of-one : (c : Claim) → tallyOn enabled fs address bus ≡ one c → (i : Item) × (i ∈ items fs) × Claims enabled address bus i × (i .claim ≡ c)
+  claim-of-one : (c : Claim) → tallyOn enabled fs address bus ≡ one c → (i : Item) × (i ∈ items fs) × Claims enabled address bus i
+      × (i .claim ≡ c)
   unfolding tallyOn
   claim-of-one c e =
       let only : c ∈ claimsOn enabled fs address bus = rw (claims-of-one _ c e) (List·Memᴰ·head refl) in
@@ -105,7 +106,8 @@ module _ (enabled : ℕ → Bool) (fs : List Registers) (address bus : ℕ) wher
   pub bar-of-tally : (number : ℕ) → tallyOn enabled fs address bus ≡ one (bar number) → BarClaim enabled fs address bus number
   bar-of-tally number e = let (i, m, c, q) = claim-of-one _ e in go i c q (item-elim fs m)
     where
-      go : (i : Item) → Claims enabled address bus i → i .claim ≡ bar number → BarOf fs i ⊎ WindowOf fs i → BarClaim enabled fs address bus number
+      go : (i : Item) → Claims enabled address bus i → i .claim ≡ bar number → BarOf fs i ⊎ WindowOf fs i
+          → BarClaim enabled fs address bus number
       go i c q (inl b) =
           record {
             owner = i .owner;
@@ -164,7 +166,8 @@ unfolding tallyOn
 tally-agree enabled enabled′ fs address h bus =
     ap (λ (is : List Item). join none (claimsIn is)) (keep-agree (claims enabled address bus) (claims enabled′ address bus) (items fs) same)
   where
-    go : (i : Item) → i ∈ items fs → (b : Bool) → holds (i .range) address ≡ b → claims enabled address bus i ≡ claims enabled′ address bus i
+    go : (i : Item) → i ∈ items fs → (b : Bool) → holds (i .range) address ≡ b → claims enabled address bus i
+        ≡ claims enabled′ address bus i
     go i m true e = ap (λ (on : Bool). eqb (i .owner .node .bus) bus && on && holds (i .range) address) (h i m (holds-iff _ _ .0 e))
     go i m false e = simp (e, and-false)
 
@@ -172,7 +175,8 @@ tally-agree enabled enabled′ fs address h bus =
     same i m = go i m (holds (i .range) address) refl
 
 -- Where bridges rise (27) the tally leads upwards: what the walk's equation asks.
-pub rising-of-bridges : (enabled : ℕ → Bool) (fs : List Registers) (address : ℕ) → BridgesRise (nodes fs) → Rising (tallyOn enabled fs address)
+pub rising-of-bridges : (enabled : ℕ → Bool) (fs : List Registers) (address : ℕ) → BridgesRise (nodes fs)
+    → Rising (tallyOn enabled fs address)
 rising-of-bridges enabled fs address rise = record { rises = up }
   where
     up : (bus n secondary : ℕ) → tallyOn enabled fs address bus ≡ one (window n secondary) → (bus < secondary) × (secondary < 256)

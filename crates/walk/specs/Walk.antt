@@ -1,5 +1,5 @@
--- Document 01, The walk: from bus to bus by the tally of each, until a BAR is reached or a refusal. The tally of a bus is any function of its
--- number, so that routing by address and by ID are one walk. Assumes nothing.
+-- Document 01, The walk: from bus to bus by the tally of each, until a BAR is reached or a refusal. The tally of a bus is any function of
+-- its number, so that routing by address and by ID are one walk. Assumes nothing.
 use Prim.Native.Nat.{ℕ, zero, suc, _+_, _<_}
 use mathlib.Core.Path.{_≡_}
 use mathlib.Core.List.{List, [], _∷_}

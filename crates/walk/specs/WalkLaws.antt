@@ -1,4 +1,5 @@
--- Laws of the walk: where bus numbers rise the bound on the number of buses does not matter, and the walk is told by its trail. Assumes nothing.
+-- Laws of the walk: where bus numbers rise the bound on the number of buses does not matter, and the walk is told by its trail. Assumes
+-- nothing.
 use mathlib.Core.Path.{_≡_, refl, sym, ap, ap₂, subst, fun-ext, _∙_}
 use mathlib.Core.Logic.{_⊎_, inl, inr}
 use Prim.Native.Nat.{ℕ, zero, suc, _+_, _≤_, _<_}
@@ -12,7 +13,8 @@ use Rattle.walk.specs.Walk.{delivered, refused, noOwner, settle, walkOve
 
 module _ {tally : ℕ → Tally} (rising : Rising tally) where
   -- two bounds that both leave a bus for each number from here on give one walk
-  pub walk-enough : (n m bus crossed : ℕ) → bus < 256 → 256 ≤ n + bus → 256 ≤ m + bus → walkOver n tally bus crossed ≡ walkOver m tally bus crossed
+  pub walk-enough : (n m bus crossed : ℕ) → bus < 256 → 256 ≤ n + bus → 256 ≤ m + bus → walkOver n tally bus crossed
+      ≡ walkOver m tally bus crossed
   unfolding walkOver
   walk-enough zero m bus crossed h enough-n enough-m = absurd (omega arith)
   walk-enough (suc n) zero bus crossed h enough-n enough-m = absurd (omega arith)
@@ -49,7 +51,8 @@ module _ {tally : ℕ → Tally} (rising : Rising tally) where
   walk-step bus crossed t h e = sym (walk-fuel (suc 256) bus crossed h (omega arith)) ∙ over-step 256 bus crossed t (omega arith) e
 
 -- A BAR's claim ends the walk, on any bus.
-over-bar : (n : ℕ) (tally : ℕ → Tally) (bus crossed x : ℕ) → tally bus ≡ one (bar x) → walkOver (suc n) tally bus crossed ≡ delivered x crossed
+over-bar : (n : ℕ) (tally : ℕ → Tally) (bus crossed x : ℕ) → tally bus ≡ one (bar x) → walkOver (suc n) tally bus crossed
+    ≡ delivered x crossed
 unfolding walkOver
 over-bar n tally bus crossed x e = rw e
 
@@ -71,7 +74,8 @@ pub trail-of-delivered : (tally : ℕ → Tally) (n bus crossed number count : �
     → (ns : List ℕ) × Trail tally bus ns number × (count ≡ crossed + length ns)
 unfolding walkOver Trail
 trail-of-delivered tally zero bus crossed number count e = absurd (suc-ne-zero 0 (cc))
-trail-of-delivered tally (suc n) bus crossed number count e = go (tally bus) refl e (λ b. trail-of-delivered tally n b (crossed + 1) number count)
+trail-of-delivered tally (suc n) bus crossed number count e =
+    go (tally bus) refl e (λ b. trail-of-delivered tally n b (crossed + 1) number count)
   where
     go : (t : Tally) → tally bus ≡ t → settle t crossed (λ b. walkOver n tally b (crossed + 1)) ≡ delivered number count
         → ((b : ℕ) → walkOver n tally b (crossed + 1) ≡ delivered number count
@@ -94,7 +98,8 @@ walk-of-trail rising bus crossed (n ∷ ns) number (b, e, t) =
     let up = rising .rises bus n b e in
     walk-step rising bus crossed _ (omega arith) e ∙ walk-of-trail rising b (crossed + 1) ns number t ∙ ap (delivered number) (omega arith)
 
-pub trail-unique : (tally : ℕ → Tally) (bus : ℕ) (ns ms : List ℕ) (x y : ℕ) → Trail tally bus ns x → Trail tally bus ms y → (ns ≡ ms) × (x ≡ y)
+pub trail-unique : (tally : ℕ → Tally) (bus : ℕ) (ns ms : List ℕ) (x y : ℕ) → Trail tally bus ns x → Trail tally bus ms y
+    → (ns ≡ ms) × (x ≡ y)
 unfolding Trail
 trail-unique tally bus [] [] x y t u = (refl, cc)
 trail-unique tally bus [] (m ∷ ms) x y t (c, q, u) = absurd (suc-ne-zero 0 (cc))

@@ -1,4 +1,5 @@
--- Worked examples of windows: the closed spellings, the slip of zeros, P10's windows, and the widest of foreign sheets, as one claim. Assumes nothing.
+-- Worked examples of windows: the closed spellings, the slip of zeros, P10's windows, and the widest of foreign sheets, as one claim.
+-- Assumes nothing.
 use mathlib.Core.Path.{_≡_, refl}
 use mathlib.Core.Bool.{Bool, true, false, cond}
 use mathlib.Core.List.{List, [], _∷_, map}

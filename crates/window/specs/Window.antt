@@ -1,5 +1,5 @@
--- Document 01, "Numbering and placing" (the last paragraph) and refusal 29: window registers and the ranges they stand for, once over pool and granule.
--- A range is told by its start and its stop, the address after its last. Assumes nothing.
+-- Document 01, "Numbering and placing" (the last paragraph) and refusal 29: window registers and the ranges they stand for, once over pool
+-- and granule. A range is told by its start and its stop, the address after its last. Assumes nothing.
 use Prim.Native.Nat.{ℕ, _+_, _-_, _*_, _/_, _%_, _^_, _<_}
 use mathlib.Core.Bool.{Bool, _&&_}
 use lib.Dec.{eqb, leb, ltb}

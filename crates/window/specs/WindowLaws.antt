@@ -1,5 +1,5 @@
--- The laws of window registers, once over the pool: a closed window is shut, an opened one stands for its range, and registers fit their widths.
--- Assumes nothing.
+-- The laws of window registers, once over the pool: a closed window is shut, an opened one stands for its range, and registers fit their
+-- widths. Assumes nothing.
 use mathlib.Core.Path.{_≡_, refl, sym, ap, _∙_}
 use mathlib.Core.Bool.{Bool, true, false, _&&_, and-eq-true-iff}
 use mathlib.Core.Logic.{_↔_, Iff·and, Iff·trans}
@@ -14,7 +14,8 @@ use Rattle.pools.specs.declared.Pool.the-variants.{Low, High, Io}
 use Rattle.pools.specs.Pools.{granule}
 use Rattle.pools.specs.PoolsLaws.{granule-pos}
 use Rattle.window.specs.declared.Window.{Window}
-use Rattle.window.specs.Window.{closed, fields, nibble, uppers, bound, register, upper, opened, address, start, stop, isOpen, holds, isNibbled, Fits}
+use Rattle.window.specs.Window.{closed, fields, nibble, uppers, bound, register, upper, opened, address, start, stop, isOpen, holds}
+use Rattle.window.specs.Window.{isNibbled, Fits}
 
 -- ## Registers of one address
 
@@ -150,10 +151,13 @@ unfolding opened start stop isNibbled
 opened-range q w f n =
     let nibbles = and-eq-true-iff _ _ .0 n in
     let pos = granule-pos q in
-    let base = register-address q (w .«upper_base») (w .base) (start q w) (f .base) (eqb-true _ _ (nibbles .0)) (omega arith) (omega arith) in
-    let limit = register-address q (w .«upper_limit») (w .limit) (stop q w - 1) (f .limit) (eqb-true _ _ (nibbles .1)) (omega arith) (omega arith) in
+    let base = register-address q (w .«upper_base») (w .base) (start q w) (f .base) (eqb-true _ _ (nibbles .0)) (omega arith)
+    (omega arith) in
+    let limit = register-address q (w .«upper_limit») (w .limit) (stop q w - 1) (f .limit) (eqb-true _ _ (nibbles .1)) (omega arith)
+    (omega arith) in
     let upper-base = upper-address q (w .«upper_base») (w .base) (start q w) (f .upper-base) (f .base) (omega arith) (omega arith) in
-    let upper-limit = upper-address q (w .«upper_limit») (w .limit) (stop q w - 1) (f .upper-limit) (f .limit) (omega arith) (omega arith) in
+    let upper-limit = upper-address q (w .«upper_limit») (w .limit) (stop q w - 1) (f .upper-limit) (f .limit) (omega arith)
+    (omega arith) in
     rw (base, limit, upper-base, upper-limit)
 
 -- the upper words of low and I/O windows are 0

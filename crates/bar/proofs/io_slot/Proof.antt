@@ -30,7 +30,8 @@ sized-requires c κs = search needs
 returns-2 : tie.Need-returns-2
 unfolding ioSlot
 returns-2 c =
-    let w : ioWrong (c .before .before .before .before .args .r) ≡ false = sym (c .before .before .before .io-wrong .ensures) ∙ c .before .before .if1 .left in
+    let args = c .before .before .before .before .args in
+    let w : ioWrong (args .r) ≡ false = sym (c .before .before .before .io-wrong .ensures) ∙ c .before .before .if1 .left in
     simp w (rw (← c .before .size-of .ensures 16 2 refl refl) (c .sized .ensures))
 
 pub io-slot-spec : {M : Type 1} → statement M

@@ -23,8 +23,11 @@ is-io-pool-requires c κs = search needs
 
 returns : tie.Need-returns
 returns c =
-    let a = c .before .before .before .before .args in
-    is-bar-value-masked (a .pool) (a .size) (a .r) (a .v) _ _ _ _ (c .before .before .before .before .pre) (c .before .before .before .type-of .ensures) (c .before .before .type-of2 .ensures) (c .before .without-type .ensures) (c .is-io-pool .ensures)
+    let args = c .before .before .before .before .args in
+    let pre = c .before .before .before .before .pre in
+    let a = args in
+    is-bar-value-masked (a .pool) (a .size) (a .r) (a .v) _ _ _ _ pre (c .before .before .before .type-of .ensures)
+    (c .before .before .type-of2 .ensures) (c .before .without-type .ensures) (c .is-io-pool .ensures)
 
 pub is-bar-value-spec : {M : Type 1} → statement M
 is-bar-value-spec =

@@ -31,10 +31,14 @@ is-bad-requires c κs = search needs
 
 returns : tie.Need-returns Inv-loop μ-loop
 returns c =
-    let a = c .before .before .before .before .before .before .before .args in
+    let at-loop = c .before .before .before .before .before in
+    let loop = at-loop .loop in
+    let args = at-loop .before .before .args in
+    let a = args in
     let six : length (a .t1) ≡ 6 = search needs in
     let l = length-first (a .t1) (a .n) six in
-    ap not (sym (any-bad-of-bad (take (a .n) (a .t1)) (c .before .before .before .before .before .loop .i) _ (omega arith) (c .before .before .slot-in .ensures) (sym (c .before .is-bad .ensures) ∙ c .if1 .taken)) ∙ c .before .before .before .before .before .loop .inv)
+    ap not (sym (any-bad-of-bad (take (a .n) (a .t1)) (loop .i) _ (omega arith) (c .before .before .slot-in .ensures)
+    (sym (c .before .is-bad .ensures) ∙ c .if1 .taken)) ∙ loop .inv)
 
 span-requires : tie.Need-span-requires Inv-loop μ-loop
 span-requires c κs = search needs
@@ -47,13 +51,16 @@ loop-less c = omega arith
 
 loop-again : tie.Need-loop-again Inv-loop μ-loop
 loop-again c =
-    let a = c .before .before .before .before .before .before .before .before .args in
-    let i = c .before .before .before .before .before .before .loop .i in
+    let at-loop = c .before .before .before .before .before .before in
+    let loop = at-loop .loop in
+    let args = at-loop .before .before .args in
+    let a = args in
+    let i = loop .i in
     let six : length (a .t1) ≡ 6 = search needs in
     let l = length-first (a .t1) (a .n) six in
     ap (λ (k : ℕ). anyBad (slots (drop (i + k) (take (a .n) (a .t1))))) (c .span .ensures .0)
-    ∙ any-bad-step (take (a .n) (a .t1)) i _ (omega arith) (c .before .before .before .slot-in .ensures) (sym (c .before .before .is-bad .ensures) ∙ c .before .if1 .left)
-    ∙ c .before .before .before .before .before .before .loop .inv
+    ∙ any-bad-step (take (a .n) (a .t1)) i _ (omega arith) (c .before .before .before .slot-in .ensures)
+    (sym (c .before .before .is-bad .ensures) ∙ c .before .if1 .left) ∙ loop .inv
 
 returns-2 : tie.Need-returns-2 Inv-loop μ-loop
 returns-2 c =

@@ -18,11 +18,19 @@ io-slot-requires c κs = search needs
 
 returns-2 : tie.Need-returns-2
 unfolding narrowSlot
-returns-2 c = simp (ne-eqb _ _ (c .before .before .before .if1 .left), sym (c .before .before .is-io .ensures) ∙ c .before .if2 .taken) (c .io-slot .ensures)
+returns-2 c =
+    simp (ne-eqb _ _ (c .before .before .before .if1 .left), sym (c .before .before .is-io .ensures) ∙ c .before .if2 .taken)
+    (c .io-slot .ensures)
 
 returns-3 : tie.Need-returns-3
 unfolding narrowSlot
-returns-3 c = simp (ne-eqb _ _ (c .before .before .before .if1 .left), sym (c .before .before .is-io .ensures) ∙ c .before .if2 .left, ne-eqb _ _ (c .if3 .taken))
+returns-3 c =
+    simp (
+      ne-eqb _ _ (c .before .before .before .if1 .left),
+      sym (c .before .before .is-io .ensures)
+          ∙ c .before .if2 .left,
+      ne-eqb _ _ (c .if3 .taken),
+    )
 
 mul-size-of : tie.Need-mul-size-of
 mul-size-of c = search needs
@@ -38,7 +46,11 @@ sized-requires c κs = search needs
 
 returns-4 : tie.Need-returns-4
 unfolding narrowSlot
-returns-4 c = simp (ne-eqb _ _ (c .before .before .before .before .before .if1 .left), sym (c .before .before .before .before .is-io .ensures) ∙ c .before .before .before .if2 .left, eq-eqb _ _ (c .before .before .if3 .left)) (rw (← c .before .size-of .ensures 32 4 refl refl) (c .sized .ensures))
+returns-4 c =
+    let is-io = c .before .before .before .before .is-io in
+    let if1 = c .before .before .before .before .before .if1 in
+    simp (ne-eqb _ _ (if1 .left), sym (is-io .ensures) ∙ c .before .before .before .if2 .left, eq-eqb _ _ (c .before .before .if3 .left))
+    (rw (← c .before .size-of .ensures 32 4 refl refl) (c .sized .ensures))
 
 pub narrow-slot-spec : {M : Type 1} → statement M
 narrow-slot-spec =

@@ -32,9 +32,15 @@ slot-of-requires c κs = search needs
 
 returns-2 : tie.Need-returns-2
 returns-2 c =
-    let a = c .before .before .before .before .before .args in
-    let m = c .before .before .before .before .count .ensures ∙ sym (length-first (a .set .now) (a .n) (c .before .before .before .before .before .pre)) in
-    c .slot-of .ensures ∙ sym (slot-here-at (take (a .n) (a .set .now)) (a .i) _ _ _ m (omega arith) (c .before .before .entry .ensures) (c .before .entry2 .ensures))
+    let count = c .before .before .before .before .count in
+    let at-args = c .before .before .before .before .before in
+    let args = at-args .args in
+    let pre = at-args .pre in
+    let a = args in
+    let m = count .ensures ∙ sym (length-first (a .set .now) (a .n) pre) in
+    c .slot-of .ensures ∙ sym
+    (slot-here-at (take (a .n) (a .set .now)) (a .i) _ _ _ m (omega arith) (c .before .before .entry .ensures)
+    (c .before .entry2 .ensures))
 
 pub slot-in-spec : {M : Type 1} → statement M
 slot-in-spec =

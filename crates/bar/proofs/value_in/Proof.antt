@@ -24,9 +24,11 @@ joined-requires c κs = search needs
 
 returns : tie.Need-returns
 returns c =
-    let a = c .before .before .before .before .before .args in
+    let entry = c .before .before .before .before .entry in
+    let args = c .before .before .before .before .before .args in
+    let a = args in
     let t = sym (c .before .before .before .takes-next .ensures) ∙ c .before .before .if1 .taken in
-    c .joined .ensures .0 ∙ ap₂ joined (c .before .before .before .before .entry .ensures) (c .before .entry2 .ensures)
+    c .joined .ensures .0 ∙ ap₂ joined (entry .ensures) (c .before .entry2 .ensures)
     ∙ sym (value-here-at (a .x) (take (a .n) (a .values .now)) (a .i) ∙ rw t)
 
 cast-result : tie.Need-cast-result

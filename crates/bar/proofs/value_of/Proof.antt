@@ -18,7 +18,15 @@ type-of-requires : tie.Need-type-of-requires
 type-of-requires c κs = search needs
 
 add-result : tie.Need-add-result
-add-result c = omega (arith, c .type-of .ensures, c .before .without-type .ensures, typed-lt-64 (c .before .before .before .x .given .0 .0) (c .before .before .before .before .before .args .base) (c .before .before .before .before .before .args .r) (omega arith))
+add-result c =
+    let args = c .before .before .before .before .before .args in
+    omega (
+      arith,
+      c .type-of .ensures,
+      c .before .without-type .ensures,
+      typed-lt-64 (c .before .before .before .x .given .0 .0)
+          (args .base) (args .r) (omega arith),
+    )
 
 enum-told-2 : tie.Need-enum-told-2
 enum-told-2 c = search needs

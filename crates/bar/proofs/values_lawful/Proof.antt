@@ -50,19 +50,28 @@ loop-less c = omega arith
 
 loop-again : tie.Need-loop-again Inv-loop μ-loop
 loop-again c =
-    let a = c .before .before .before .before .before .before .before .before .before .before .args in
-    let i = c .before .before .before .before .before .before .before .before .loop .i in
+    let at-slot-in = c .before .before .before .before .before in
+    let slot-in = at-slot-in .slot-in in
+    let loop = at-slot-in .before .before .before .loop in
+    let args = at-slot-in .before .before .before .before .before .args in
+    let a = args in
+    let i = loop .i in
     let six : length (a .t1) ≡ 6 = search needs in
     ap (λ (k : ℕ). valuesFrom (take (a .n) (a .t1)) (take (a .n) (a .t2)) (i + k)) (c .span .ensures .0)
-    ∙ values-on (a .t1) (a .t2) (a .n) i _ _ _ six (omega arith) (c .before .before .before .before .before .slot-in .ensures) (c .before .before .before .value-in .ensures) (c .before .before .is-value .ensures) (c .before .if1 .taken)
-    ∙ c .before .before .before .before .before .before .before .before .loop .inv
+    ∙ values-on (a .t1) (a .t2) (a .n) i _ _ _ six (omega arith) (slot-in .ensures) (c .before .before .before .value-in .ensures)
+    (c .before .before .is-value .ensures) (c .before .if1 .taken) ∙ loop .inv
 
 returns : tie.Need-returns Inv-loop μ-loop
 returns c =
-    let a = c .before .before .before .before .before .before .before .before .before .args in
-    let i = c .before .before .before .before .before .before .before .loop .i in
+    let slot-in = c .before .before .before .before .slot-in in
+    let at-loop = c .before .before .before .before .before .before .before in
+    let loop = at-loop .loop in
+    let args = at-loop .before .before .args in
+    let a = args in
+    let i = loop .i in
     let six : length (a .t1) ≡ 6 = search needs in
-    sym (values-off (a .t1) (a .t2) (a .n) i _ _ _ six (omega arith) (c .before .before .before .before .slot-in .ensures) (c .before .before .value-in .ensures) (c .before .is-value .ensures) (c .if1 .left)) ∙ c .before .before .before .before .before .before .before .loop .inv
+    sym (values-off (a .t1) (a .t2) (a .n) i _ _ _ six (omega arith) (slot-in .ensures) (c .before .before .value-in .ensures)
+    (c .before .is-value .ensures) (c .if1 .left)) ∙ loop .inv
 
 returns-2 : tie.Need-returns-2 Inv-loop μ-loop
 returns-2 c =

@@ -24,16 +24,20 @@ sized-requires-2 c κs = search needs
 returns : tie.Need-returns
 unfolding wideSlot
 returns c =
-    let a = c .before .before .before .before .args in
-    let j : c .before .before .before .joined .result ≡ joined (a .r) (a .upper) = c .before .before .before .joined .ensures .0 in
+    let the-joined = c .before .before .before .joined in
+    let args = c .before .before .before .before .args in
+    let a = args in
+    let j : the-joined .result ≡ joined (a .r) (a .upper) = the-joined .ensures .0 in
     let z = rw j at (c .before .before .size-of .ensures 64 4 refl refl) in
     simp (eq-eqb _ _ (c .before .if1 .taken)) (rw (← z) (c .sized .ensures))
 
 returns-2 : tie.Need-returns-2
 unfolding wideSlot
 returns-2 c =
-    let a = c .before .before .before .before .args in
-    let j : c .before .before .before .joined .result ≡ joined (a .r) (a .upper) = c .before .before .before .joined .ensures .0 in
+    let the-joined = c .before .before .before .joined in
+    let args = c .before .before .before .before .args in
+    let a = args in
+    let j : the-joined .result ≡ joined (a .r) (a .upper) = the-joined .ensures .0 in
     let z = rw j at (c .before .before .size-of .ensures 64 4 refl refl) in
     simp (ne-eqb _ _ (c .before .if1 .left)) (rw (← z) (c .sized2 .ensures))
 

@@ -1,5 +1,5 @@
--- `board::any_breaks` meets its contract. The invariant: no record left is asked too early, and what is left from the cursor on decides; the
--- measure is the bytes left. Assumes nothing.
+-- `board::any_breaks` meets its contract. The invariant: no record left is asked too early, and what is left from the cursor on decides;
+-- the measure is the bytes left. Assumes nothing.
 use Rattle.board.proofs.any_breaks.Statement.{statement}
 use Rattle.board.proofs.any_breaks.Tie as tie
 use native.Mathlib.Omega.{arith}
@@ -18,14 +18,17 @@ use Rattle.board.specs.PassLaws.{breaks-end, breaks-broken, breaks-hit, 
 
 abbrev Inv-loop : tie.InvT-loop
 Inv-loop rule board at₀ at =
-    (anyPart (tooEarly rule) (partsFrom board at) ≡ false) × (anyBreaks rule (partsOf (drop at board)) ≡ anyBreaks rule (partsOf (drop 33 board)))
+    (anyPart (tooEarly rule) (partsFrom board at) ≡ false)
+    × (anyBreaks rule (partsOf (drop at board)) ≡ anyBreaks rule (partsOf (drop 33 board)))
 
 abbrev μ-loop : tie.MeasureT-loop
 μ-loop rule board at₀ at = length board - at
 
 -- the board, the cursor, and the length of the record there
 abbrev bytes : tie.After-known-told Inv-loop μ-loop → List ℕ
-bytes c = c .before .before .before .before .before .before .args .board .now
+bytes c =
+    let args = c .before .before .before .before .before .before .args in
+    args .board .now
 
 abbrev cursor : tie.After-known-told Inv-loop μ-loop → ℕ
 cursor c = c .before .before .before .before .loop .at
@@ -50,18 +53,22 @@ enum-told c = search needs
 
 returns : tie.Need-returns Inv-loop μ-loop
 returns c =
+    let loop = c .before .before .before .loop in
+    let place = c .before .before .before .before .before in
     let e = sym (c .before .before .next-at .ensures) ∙ c .enum-told .given .1 in
-    let start = c .before .before .before .before .before in
-    sym (breaks-end (start .args .rule) (start .args .board .now) (c .before .before .before .loop .at) e) ∙ c .before .before .before .loop .inv .1
+    let start = place in
+    sym (breaks-end (start .args .rule) (start .args .board .now) (loop .at) e) ∙ loop .inv .1
 
 enum-told-2 : tie.Need-enum-told-2 Inv-loop μ-loop
 enum-told-2 c = search needs
 
 returns-2 : tie.Need-returns-2 Inv-loop μ-loop
 returns-2 c =
+    let loop = c .before .before .before .loop in
+    let place = c .before .before .before .before .before in
     let e = sym (c .before .before .next-at .ensures) ∙ c .enum-told2 .given .1 in
-    let start = c .before .before .before .before .before in
-    sym (breaks-broken (start .args .rule) (start .args .board .now) (c .before .before .before .loop .at) e) ∙ c .before .before .before .loop .inv .1
+    let start = place in
+    sym (breaks-broken (start .args .rule) (start .args .board .now) (loop .at) e) ∙ loop .inv .1
 
 enum-known-n : tie.Need-enum-known-n Inv-loop μ-loop
 enum-known-n c = search needs
@@ -71,16 +78,22 @@ part-at-requires c κs = fits c
 
 breaks-requires : tie.Need-breaks-requires Inv-loop μ-loop
 breaks-requires c κs =
-    let early = tooEarly (c .before .before .before .before .before .before .before .args .rule) in
+    let at-loop = c .before .before .before .before .before in
+    let loop = at-loop .loop in
+    let args = at-loop .before .before .args in
+    let early = tooEarly (args .rule) in
     let r = c .before in
-    ap early (c .part-at .ensures) ∙ none-here early (bytes r) (cursor r) _ (found r) (c .before .before .before .before .before .loop .inv .0)
+    ap early (c .part-at .ensures) ∙ none-here early (bytes r) (cursor r) _ (found r) (loop .inv .0)
 
 returns-3 : tie.Need-returns-3 Inv-loop μ-loop
 returns-3 c =
-    let rule = c .before .before .before .before .before .before .before .before .before .args .rule in
+    let at-loop = c .before .before .before .before .before .before .before in
+    let loop = at-loop .loop in
+    let args = at-loop .before .before .args in
+    let rule = args .rule in
     let h = ap (breaks rule) (sym (c .before .before .part-at .ensures)) ∙ sym (c .before .breaks .ensures) ∙ c .if1 .taken in
     let r = c .before .before .before in
-    sym (breaks-hit rule (bytes r) (cursor r) _ (found r) h) ∙ c .before .before .before .before .before .before .before .loop .inv .1
+    sym (breaks-hit rule (bytes r) (cursor r) _ (found r) h) ∙ loop .inv .1
 
 add-at : tie.Need-add-at Inv-loop μ-loop
 add-at c = omega (arith, fits (c .before .before .before))
@@ -93,11 +106,15 @@ loop-less c = omega (arith, fits (c .before .before .before))
 
 loop-again : tie.Need-loop-again Inv-loop μ-loop
 loop-again c =
-    let rule = c .before .before .before .before .before .before .before .before .before .args .rule in
+    let at-loop = c .before .before .before .before .before .before .before in
+    let loop = at-loop .loop in
+    let args = at-loop .before .before .args in
+    let rule = args .rule in
     let h = ap (breaks rule) (sym (c .before .before .part-at .ensures)) ∙ sym (c .before .breaks .ensures) ∙ c .if1 .left in
     let r = c .before .before .before in (
-      none-later (tooEarly rule) (bytes r) (cursor r) _ (found r) (c .before .before .before .before .before .before .before .loop .inv .0),
-      sym (breaks-miss rule (bytes r) (cursor r) _ (found r) h) ∙ c .before .before .before .before .before .before .before .loop .inv .1,
+      none-later (tooEarly rule) (bytes r) (cursor r) _ (found r) (loop .inv .0),
+      sym (breaks-miss rule (bytes r) (cursor r) _ (found r) h)
+          ∙ loop .inv .1,
     )
 
 pub any-breaks-spec : {M : Type 1} → statement M

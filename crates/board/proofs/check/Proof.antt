@@ -17,8 +17,10 @@ use Rattle.board_record.specs.declared.Rule.the-variants.{Header, ReadBacks}
 use Rattle.board_record.specs.Host.{hostOfPart, hostWrong}
 use Rattle.board_record.specs.Function.{functionOfPart, headerWrong, readbacksWrong}
 use Rattle.board.specs.PassLaws.{any-never}
-use Rattle.board.specs.Board.{misframed, fromReadbacks, fromOrder, fromEdges, fromHeaders, fromCount, fromFrame, fromVersion, boardNumber}
-use Rattle.board.specs.BoardLaws.{any-map, host-of-framed, breaks-of-framed, framed, past-version, past-count, past-headers, past-edges, past-order}
+use Rattle.board.specs.Board.{misframed, fromReadbacks, fromOrder, fromEdges, fromHeaders, fromCount, fromFrame, fromVersion}
+use Rattle.board.specs.Board.{boardNumber}
+use Rattle.board.specs.BoardLaws.{any-map, host-of-framed, breaks-of-framed, framed, past-version, past-count, past-headers}
+use Rattle.board.specs.BoardLaws.{past-edges, past-order}
 
 -- the start of the call, from each check that is passed
 abbrev start-2 : tie.Else2 → tie.Start
@@ -78,8 +80,9 @@ past-7 c = past-6 (c .before .before) ∙ past-order _ (sym (c .before .misplace
 
 readbacks : (c : tie.After-any-breaks2) → c .any-breaks2 .result ≡ any readbacksWrong (functions (start-7 (c .before)))
 readbacks c =
+    let place = c .before .before .before .before .before .before .before .before .before .before .before in
     let s = bytes (start-7 (c .before)) in
-    let w = whole (c .before .before .before .before .before .before .before .before .before .before .before) in
+    let w = whole place in
     c .any-breaks2 .ensures ∙ breaks-of-framed s ReadBacks w ∙ sym (any-map readbacksWrong functionOfPart (partsFrom s 33))
 
 returns : tie.Need-returns
@@ -92,7 +95,8 @@ shared-slice-read-if2 c = search needs
 returns-2 : tie.Need-returns-2
 unfolding boardNumber fromVersion
 returns-2 c =
-    let s = bytes (c .before .before .before .before) in
+    let place = c .before .before .before .before in
+    let s = bytes place in
     sym (rw (ne-eqb (length s) 0 (c .before .before .if1 .left), ne-eqb (getD s 0 0) 1 (c .if2 .taken)))
 
 misframed-requires : tie.Need-misframed-requires
@@ -132,14 +136,21 @@ unfolding fromEdges
 returns-6 c = sym (past-5 (c .before .before .before .before) ∙ rw (sym (edges (c .before)) ∙ c .if6 .taken))
 
 misplaced-requires : tie.Need-misplaced-requires
-misplaced-requires c κs = sym (headers (c .before .before .before .before .before)) ∙ c .before .before .before .before .if5 .left
+misplaced-requires c κs =
+    let if5 = c .before .before .before .before .if5 in
+    let place = c .before .before .before .before .before in
+    sym (headers place) ∙ if5 .left
 
 returns-7 : tie.Need-returns-7
 unfolding fromOrder
 returns-7 c = sym (past-6 (c .before .before) ∙ rw (sym (c .before .misplaced .ensures) ∙ c .if7 .taken))
 
 any-breaks-requires-2 : tie.Need-any-breaks-requires-2
-any-breaks-requires-2 c κs = sym (headers (c .before .before .before .before .before .before .before)) ∙ c .before .before .before .before .before .before .if5 .left
+any-breaks-requires-2 c κs =
+    let at-if5 = c .before .before .before .before .before .before in
+    let if5 = at-if5 .if5 in
+    let place = at-if5 .before in
+    sym (headers place) ∙ if5 .left
 
 returns-8 : tie.Need-returns-8
 unfolding fromReadbacks

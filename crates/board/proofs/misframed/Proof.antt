@@ -21,29 +21,38 @@ enum-known-n c = search needs
 
 returns : tie.Need-returns
 returns c =
-    let s = c .before .before .before .before .before .before .args .board .now in
-    let e = sym (c .before .before .before .before .next-at .ensures) ∙ c .before .before .n .given .1 in
+    let next-at = c .before .before .before .before .next-at in
+    let args = c .before .before .before .before .before .before .args in
+    let s = args .board .now in
+    let e = sym (next-at .ensures) ∙ c .before .before .n .given .1 in
     sym (misframed-host s _ e (c .if1 .taken))
 
 any-breaks-requires : tie.Need-any-breaks-requires
-any-breaks-requires c κs = any-never (partsFrom (c .before .before .before .before .before .before .args .board .now) 33)
+any-breaks-requires c κs =
+    let args = c .before .before .before .before .before .before .args in
+    any-never (partsFrom (args .board .now) 33)
 
 returns-2 : tie.Need-returns-2
 returns-2 c =
-    let s = c .before .before .before .before .args .board .now in
+    let args = c .before .before .before .before .args in
+    let s = args .board .now in
     let e = sym (c .before .before .next-at .ensures) ∙ c .enum-told .given .1 in
     sym (misframed-end s e)
 
 returns-3 : tie.Need-returns-3
 returns-3 c =
-    let s = c .before .before .before .before .args .board .now in
+    let args = c .before .before .before .before .args in
+    let s = args .board .now in
     let e = sym (c .before .before .next-at .ensures) ∙ c .enum-told2 .given .1 in
     sym (misframed-broken s e)
 
 returns-4 : tie.Need-returns-4
 returns-4 c =
-    let s = c .before .before .before .before .before .before .before .args .board .now in
-    let e = sym (c .before .before .before .before .before .next-at .ensures) ∙ c .before .before .before .n .given .1 in
+    let at-next-at = c .before .before .before .before .before in
+    let next-at = at-next-at .next-at in
+    let args = at-next-at .before .before .args in
+    let s = args .board .now in
+    let e = sym (next-at .ensures) ∙ c .before .before .before .n .given .1 in
     c .any-breaks .ensures ∙ sym (misframed-tail s _ e (c .before .if1 .left))
 
 pub misframed-spec : {M : Type 1} → statement M

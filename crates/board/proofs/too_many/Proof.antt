@@ -1,4 +1,5 @@
--- `board::too_many` meets its contract. The invariant: those counted and those left are all; the measure is the bytes left. Assumes nothing.
+-- `board::too_many` meets its contract. The invariant: those counted and those left are all; the measure is the bytes left. Assumes
+-- nothing.
 use Rattle.board.proofs.too_many.Statement.{statement}
 use Rattle.board.proofs.too_many.Tie as tie
 use native.Mathlib.Omega.{arith}
@@ -29,7 +30,8 @@ enum-told c = search needs
 
 returns : tie.Need-returns Inv-loop μ-loop
 returns c =
-    let s = c .before .before .before .before .before .args .board .now in
+    let args = c .before .before .before .before .before .args in
+    let s = args .board .now in
     let at = c .before .before .before .loop .at in
     let e = sym (c .before .before .next-at .ensures) ∙ c .enum-told .given .1 in
     sym (le-ltb mostFunctions (length (partsFrom s 33)) (omega (arith, length-end s at e)))
@@ -39,7 +41,8 @@ enum-told-2 c = search needs
 
 returns-2 : tie.Need-returns-2 Inv-loop μ-loop
 returns-2 c =
-    let s = c .before .before .before .before .before .args .board .now in
+    let args = c .before .before .before .before .before .args in
+    let s = args .board .now in
     let at = c .before .before .before .loop .at in
     let e = sym (c .before .before .next-at .ensures) ∙ c .enum-told2 .given .1 in
     sym (le-ltb mostFunctions (length (partsFrom s 33)) (omega (arith, length-broken s at e)))
@@ -49,9 +52,13 @@ enum-known-n c = search needs
 
 returns-3 : tie.Need-returns-3 Inv-loop μ-loop
 returns-3 c =
-    let s = c .before .before .before .before .before .before .before .args .board .now in
-    let at = c .before .before .before .before .before .loop .at in
-    let e = sym (c .before .before .before .before .next-at .ensures) ∙ c .before .before .n .given .1 in
+    let next-at = c .before .before .before .before .next-at in
+    let at-loop = c .before .before .before .before .before in
+    let loop = at-loop .loop in
+    let args = at-loop .before .before .args in
+    let s = args .board .now in
+    let at = loop .at in
+    let e = sym (next-at .ensures) ∙ c .before .before .n .given .1 in
     sym (lt-ltb mostFunctions (length (partsFrom s 33)) (omega (arith, length-record s at _ e)))
 
 add-count : tie.Need-add-count Inv-loop μ-loop
@@ -59,30 +66,46 @@ add-count c = omega arith
 
 add-at : tie.Need-add-at Inv-loop μ-loop
 add-at c =
-    let s = c .before .before .before .before .before .before .before .args .board .now in
-    let at = c .before .before .before .before .before .loop .at in
-    let e = sym (c .before .before .before .before .next-at .ensures) ∙ c .before .before .n .given .1 in
+    let next-at = c .before .before .before .before .next-at in
+    let at-loop = c .before .before .before .before .before in
+    let loop = at-loop .loop in
+    let args = at-loop .before .before .args in
+    let s = args .board .now in
+    let at = loop .at in
+    let e = sym (next-at .ensures) ∙ c .before .before .n .given .1 in
     omega (arith, fits-at s at _ e)
 
 add-at-2 : tie.Need-add-at-2 Inv-loop μ-loop
 add-at-2 c =
-    let s = c .before .before .before .before .before .before .before .args .board .now in
-    let at = c .before .before .before .before .before .loop .at in
-    let e = sym (c .before .before .before .before .next-at .ensures) ∙ c .before .before .n .given .1 in
+    let next-at = c .before .before .before .before .next-at in
+    let at-loop = c .before .before .before .before .before in
+    let loop = at-loop .loop in
+    let args = at-loop .before .before .args in
+    let s = args .board .now in
+    let at = loop .at in
+    let e = sym (next-at .ensures) ∙ c .before .before .n .given .1 in
     omega (arith, fits-at s at _ e)
 
 loop-less : tie.Need-loop-less Inv-loop μ-loop
 loop-less c =
-    let s = c .before .before .before .before .before .before .before .args .board .now in
-    let at = c .before .before .before .before .before .loop .at in
-    let e = sym (c .before .before .before .before .next-at .ensures) ∙ c .before .before .n .given .1 in
+    let next-at = c .before .before .before .before .next-at in
+    let at-loop = c .before .before .before .before .before in
+    let loop = at-loop .loop in
+    let args = at-loop .before .before .args in
+    let s = args .board .now in
+    let at = loop .at in
+    let e = sym (next-at .ensures) ∙ c .before .before .n .given .1 in
     omega (arith, fits-at s at _ e)
 
 loop-again : tie.Need-loop-again Inv-loop μ-loop
 loop-again c =
-    let s = c .before .before .before .before .before .before .before .args .board .now in
-    let at = c .before .before .before .before .before .loop .at in
-    let e = sym (c .before .before .before .before .next-at .ensures) ∙ c .before .before .n .given .1 in
+    let next-at = c .before .before .before .before .next-at in
+    let at-loop = c .before .before .before .before .before in
+    let loop = at-loop .loop in
+    let args = at-loop .before .before .args in
+    let s = args .board .now in
+    let at = loop .at in
+    let e = sym (next-at .ensures) ∙ c .before .before .n .given .1 in
     omega (arith, length-record s at _ e)
 
 pub too-many-spec : {M : Type 1} → statement M

@@ -1,4 +1,5 @@
--- `board_order::level_of` meets its contract. The invariant: the levels left to search have the answer; the measure is their number. Assumes nothing.
+-- `board_order::level_of` meets its contract. The invariant: the levels left to search have the answer; the measure is their number.
+-- Assumes nothing.
 use Rattle.board_order.proofs.level_of.Statement.{statement}
 use Rattle.board_order.proofs.level_of.Tie as tie
 use native.Mathlib.Omega.{arith}
@@ -29,17 +30,28 @@ element-copy-out-if1 : tie.Need-element-copy-out-if1 Inv-loop μ-loop
 element-copy-out-if1 c = search needs
 
 returns : tie.Need-returns Inv-loop μ-loop
-returns c = sym (found-here (c .before .before .before .before .args .parent) (c .before .before .before .before .args .buses .now) (c .before .before .before .loop .left) (c .before .before .before .loop .left - 1) (omega arith) (c .if1 .taken)) ∙ c .before .before .before .loop .inv .1
+returns c =
+    let loop = c .before .before .before .loop in
+    let args = c .before .before .before .before .args in
+    sym (found-here (args .parent) (args .buses .now) (loop .left) (loop .left - 1) (omega arith) (c .if1 .taken)) ∙ loop .inv .1
 
 loop-less : tie.Need-loop-less Inv-loop μ-loop
 loop-less c = search needs
 
 loop-again : tie.Need-loop-again Inv-loop μ-loop
-loop-again c = (omega arith, sym (found-later (c .before .before .before .before .args .parent) (c .before .before .before .before .args .buses .now) (c .before .before .before .loop .left) (c .before .before .before .loop .left - 1) (omega arith) (c .if1 .left)) ∙ c .before .before .before .loop .inv .1)
+loop-again c =
+    let loop = c .before .before .before .loop in
+    let args = c .before .before .before .before .args in (
+      omega arith,
+      sym (found-later (args .parent) (args .buses .now) (loop .left) (loop .left - 1) (omega arith) (c .if1 .left))
+          ∙ loop .inv .1,
+    )
 
 returns-2 : tie.Need-returns-2 Inv-loop μ-loop
 unfolding foundIn
-returns-2 c = sym (ap (foundIn (c .before .before .args .parent) (c .before .before .args .buses .now)) (c .loop-test .left)) ∙ c .before .loop .inv .1
+returns-2 c =
+    sym (ap (foundIn (c .before .before .args .parent) (c .before .before .args .buses .now)) (c .loop-test .left))
+    ∙ c .before .loop .inv .1
 
 pub level-of-spec : {M : Type 1} → statement M
 level-of-spec =

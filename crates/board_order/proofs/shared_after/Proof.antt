@@ -17,7 +17,12 @@ add-result : tie.Need-add-result
 add-result c = search needs
 
 returns : tie.Need-returns
-returns c = rw (rw (c .before .before .devfn-of .ensures, c .before .header-of .ensures) at (c .if1 .taken), c .before .before .devfn-of .ensures, add-one)
+returns c =
+    rw (
+      rw (c .before .before .devfn-of .ensures, c .before .header-of .ensures) at (c .if1 .taken),
+      c .before .before .devfn-of .ensures,
+      add-one,
+    )
 
 returns-2 : tie.Need-returns-2
 returns-2 c = rw (rw (c .before .before .devfn-of .ensures, c .before .header-of .ensures) at (c .if1 .left))

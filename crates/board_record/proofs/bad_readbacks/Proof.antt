@@ -14,7 +14,10 @@ is-lawful-requires : tie.Need-is-lawful-requires
 is-lawful-requires c κs = search needs
 
 returns : tie.Need-returns
-returns c = readbacks-wrong (c .before .before .before .before .args .part .now) _ _ _ (c .before .before .readbacks-of .ensures) (c .before .slot-count .ensures) (c .is-lawful .ensures)
+returns c =
+    let args = c .before .before .before .before .args in
+    readbacks-wrong (args .part .now) _ _ _ (c .before .before .readbacks-of .ensures) (c .before .slot-count .ensures)
+    (c .is-lawful .ensures)
 
 pub bad-readbacks-spec : {M : Type 1} → statement M
 bad-readbacks-spec =

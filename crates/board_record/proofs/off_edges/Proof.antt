@@ -14,7 +14,9 @@ sub-result : tie.Need-sub-result
 sub-result c = search needs
 
 returns : tie.Need-returns
-returns c = rw (edge-last (c .before .before .args .edge) (c .before .before .args .x .last) (c .before .before .pre))
+returns c =
+    let args = c .before .before .args in
+    rw (edge-last (args .edge) (args .x .last) (c .before .before .pre))
 
 pub off-edges-spec : {M : Type 1} → statement M
 off-edges-spec = tie.close (tie.spec rem-result rem-result-2 sub-result returns)

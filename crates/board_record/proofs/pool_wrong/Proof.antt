@@ -25,7 +25,11 @@ off-edges-requires c κs = omega (arith, c .granule .ensures, granule-pos (c .be
 
 returns-2 : tie.Need-returns-2
 unfolding poolWrong
-returns-2 c = ap₂ _||_ (c .before .before .outside .ensures) (c .off-edges .ensures ∙ ap (λ (g : ℕ). offEdges g (c .before .before .before .before .before .args .x)) (c .before .granule .ensures)) ∙ sym (rw (le-leb (c .before .before .before .before .before .args .x .base) (c .before .before .before .before .before .args .x .last) (c .before .before .before .if1 .left)))
+returns-2 c =
+    let args = c .before .before .before .before .before .args in
+    ap₂ _||_ (c .before .before .outside .ensures)
+    (c .off-edges .ensures ∙ ap (λ (g : ℕ). offEdges g (args .x)) (c .before .granule .ensures))
+    ∙ sym (rw (le-leb (args .x .base) (args .x .last) (c .before .before .before .if1 .left)))
 
 pub pool-wrong-spec : {M : Type 1} → statement M
 pool-wrong-spec =

@@ -23,7 +23,11 @@ same-length : tie.Need-same-length
 same-length c = search needs
 
 returns : tie.Need-returns
-returns c = rw (sym (c .before .before .before .before .before .before .before .find .ensures) ∙ c .before .before .before .before .before .at .given .1) (c .before .before .give-one .ensures)
+returns c =
+    let at-at-place = c .before .before .before .before .before in
+    let at-place = at-at-place .at in
+    let find = at-at-place .before .before .find in
+    rw (sym (find .ensures) ∙ at-place .given .1) (c .before .before .give-one .ensures)
 
 returns-2 : tie.Need-returns-2
 returns-2 c = let e = sym (c .before .before .before .find .ensures) ∙ c .before .n .given .1 in (rw e, rw e)

@@ -1,4 +1,5 @@
--- `capi::cartsundial_plan` meets its contract: with no room for the answer nothing is planned; else by what the planner answers. Assumes nothing.
+-- `capi::cartsundial_plan` meets its contract: with no room for the answer nothing is planned; else by what the planner answers. Assumes
+-- nothing.
 use borrow.Author.Needs.{needs}
 use mathlib.Core.Path.{refl}
 use Rattle.capi.specs.CallsLaws.{planned-nothing, planned}
@@ -11,7 +12,8 @@ plan-refusal-requires c κs = search needs
 returns : tie.Need-returns
 returns c =
     let s = c .before .before .before .before .before .args in
-    planned-nothing (s .board .now) (s .sheet .now) (s .written .now) (c .plan-refusal .result) (c .plan-refusal .ensures) (c .before .if1 .taken)
+    planned-nothing (s .board .now) (s .sheet .now) (s .written .now) (c .plan-refusal .result) (c .plan-refusal .ensures)
+    (c .before .if1 .taken)
 
 plan-requires : tie.Need-plan-requires
 plan-requires c κs = search needs
@@ -36,11 +38,14 @@ same-length-2 c = search needs
 
 returns-2 : tie.Need-returns-2
 returns-2 c =
-    let call = c .before .before .before .before .before .before .before .before .before in
+    let at-n = c .before .before .before .before .before in
+    let n = at-n .n in
+    let place = at-n .before .before .before .before in
+    let call = place in
     let test = call .before .before in
     let s = test .before .before .before .before .args in
-    planned (s .board .now) (s .sheet .now) (s .written .now) (test .if1 .left) (call .plan .result) (call .plan .ensures .0) _ (call .plan .ensures .1) _ _
-    (rw (c .before .before .before .before .before .n .given .1) (c .before .before .give-one .ensures))
+    planned (s .board .now) (s .sheet .now) (s .written .now) (test .if1 .left) (call .plan .result) (call .plan .ensures .0) _
+    (call .plan .ensures .1) _ _ (rw (n .given .1) (c .before .before .give-one .ensures))
 
 same-length-3 : tie.Need-same-length-3
 same-length-3 c = search needs
@@ -50,7 +55,8 @@ returns-3 c =
     let call = c .before .before .before .before .before in
     let test = call .before .before in
     let s = test .before .before .before .before .args in
-    planned (s .board .now) (s .sheet .now) (s .written .now) (test .if1 .left) (call .plan .result) (call .plan .ensures .0) _ (call .plan .ensures .1) _ _
+    planned (s .board .now) (s .sheet .now) (s .written .now) (test .if1 .left) (call .plan .result) (call .plan .ensures .0) _
+    (call .plan .ensures .1) _ _
     (rw (c .before .n2 .given .1) (refl, refl))
 
 pub cartsundial-plan-spec : {M : Type 1} → statement M

@@ -23,7 +23,11 @@ same-length : tie.Need-same-length
 same-length c = search needs
 
 returns : tie.Need-returns
-returns c = rw (sym (c .before .before .before .before .before .before .before .read .ensures) ∙ c .before .before .before .before .before .p .given .1) (c .before .before .give-packet .ensures)
+returns c =
+    let at-p = c .before .before .before .before .before in
+    let p = at-p .p in
+    let read = at-p .before .before .read in
+    rw (sym (read .ensures) ∙ p .given .1) (c .before .before .give-packet .ensures)
 
 returns-2 : tie.Need-returns-2
 returns-2 c = let e = sym (c .before .before .before .read .ensures) ∙ c .before .n .given .1 in (rw e, rw e)

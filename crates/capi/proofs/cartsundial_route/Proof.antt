@@ -23,7 +23,11 @@ same-length : tie.Need-same-length
 same-length c = search needs
 
 returns : tie.Need-returns
-returns c = rw (sym (c .before .before .before .before .before .before .before .route .ensures) ∙ c .before .before .before .before .before .d .given .1) (c .before .before .give-delivery .ensures)
+returns c =
+    let at-d = c .before .before .before .before .before in
+    let d = at-d .d in
+    let route = at-d .before .before .route in
+    rw (sym (route .ensures) ∙ d .given .1) (c .before .before .give-delivery .ensures)
 
 returns-2 : tie.Need-returns-2
 returns-2 c = let e = sym (c .before .before .before .route .ensures) ∙ c .before .n .given .1 in (rw e, rw e)

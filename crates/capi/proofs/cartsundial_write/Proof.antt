@@ -30,15 +30,21 @@ same-length-2 c = search needs
 
 returns : tie.Need-returns
 returns c =
-    let parsed = c .before .before .before .before .before .before .before .before .before .before .fields-of in
-    let s = c .before .before .before .before .before .before .before .before .before .before .before .before .before .before .args in
+    let write-packet = c .before .before .before .before .write-packet in
+    let at-p = c .before .before .before .before .before .before .before .before in
+    let p = at-p .p in
+    let fields-of = at-p .before .before .fields-of in
+    let args = at-p .before .before .before .before .before .before .args in
+    let parsed = fields-of in
+    let s = args in
     let same = fields-agree (s .room .now) (s .packet .now) (parsed .result) (parsed .ensures) in
-    rw (same .0, same .1, c .before .before .before .before .before .before .before .before .p .given .1) (c .before .before .before .before .write-packet .ensures)
+    rw (same .0, same .1, p .given .1) (write-packet .ensures)
 
 returns-2 : tie.Need-returns-2
 returns-2 c =
+    let args = c .before .before .before .before .before .before .before .args in
     let parsed = c .before .before .before .fields-of in
-    let s = c .before .before .before .before .before .before .before .args in
+    let s = args in
     let same = fields-agree (s .room .now) (s .packet .now) (parsed .result) (parsed .ensures) in
     rw (same .0, same .1, c .before .n .given .1) (refl, cond-same (eqb (length (s .written .now)) 0) (s .room .now), refl)
 

@@ -29,14 +29,17 @@ put-packet-requires c κs = search needs
 
 same-length : tie.Need-same-length
 same-length c =
-    let s = c .before .before .before .before .before .before .args in
+    let args = c .before .before .before .before .before .before .args in
+    let s = args in
     let out = s .out .now in
     omega (arith, c .before .before .put-packet .kept .0, length-set (set out 0 (s .number)) 1 (s .bridges), length-set out 0 (s .number))
 
 returns-2 : tie.Need-returns-2
 returns-2 c =
-    let s = c .before .before .before .before .before .before .args in
-    answered-filled (s .number ∷ s .bridges ∷ numbersOf (s .p)) (s .out .now) (omega (arith, length-numbersOf (s .p))) (c .before .before .put-packet .ensures)
+    let args = c .before .before .before .before .before .before .args in
+    let s = args in
+    answered-filled (s .number ∷ s .bridges ∷ numbersOf (s .p)) (s .out .now) (omega (arith, length-numbersOf (s .p)))
+    (c .before .before .put-packet .ensures)
 
 pub give-delivery-spec : {M : Type 1} → statement M
 give-delivery-spec =

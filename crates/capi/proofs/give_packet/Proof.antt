@@ -19,7 +19,8 @@ same-length c = search needs
 
 returns-2 : tie.Need-returns-2
 returns-2 c =
-    let s = c .before .before .before .before .before .before .args in
+    let args = c .before .before .before .before .before .before .args in
+    let s = args in
     answered-filled (numbersOf (s .p)) (s .out .now) (omega (arith, length-numbersOf (s .p))) (c .before .before .put-packet .ensures)
 
 pub give-packet-spec : {M : Type 1} → statement M

@@ -39,11 +39,14 @@ same-length-2 c = search needs
 
 returns : tie.Need-returns
 returns c =
-    let call = c .before .before .before .before .before .before .before .before .before in
+    let at-n = c .before .before .before .before .before in
+    let n = at-n .n in
+    let place = at-n .before .before .before .before in
+    let call = place in
     let lent = call .before .before .space-for in
     let s = call .before .before .before .before .before .args in
-    wrote (s .p) (s .room .now) (s .written .now) (lent .result) (lent .ensures .1) (call .write .result) (call .write .ensures .0) _ (call .write .ensures .1) _ _
-    (rw (c .before .before .before .before .before .n .given .1) (c .before .before .give-one .ensures))
+    wrote (s .p) (s .room .now) (s .written .now) (lent .result) (lent .ensures .1) (call .write .result) (call .write .ensures .0) _
+    (call .write .ensures .1) _ _ (rw (n .given .1) (c .before .before .give-one .ensures))
 
 same-length-3 : tie.Need-same-length-3
 same-length-3 c = search needs
@@ -53,7 +56,8 @@ returns-2 c =
     let call = c .before .before .before .before .before in
     let lent = call .before .before .space-for in
     let s = call .before .before .before .before .before .args in
-    wrote (s .p) (s .room .now) (s .written .now) (lent .result) (lent .ensures .1) (call .write .result) (call .write .ensures .0) _ (call .write .ensures .1) _ _
+    wrote (s .p) (s .room .now) (s .written .now) (lent .result) (lent .ensures .1) (call .write .result) (call .write .ensures .0) _
+    (call .write .ensures .1) _ _
     (rw (c .before .n2 .given .1) (refl, refl))
 
 pub write-packet-spec : {M : Type 1} → statement M

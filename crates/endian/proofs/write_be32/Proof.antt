@@ -18,8 +18,11 @@ same-length c = search needs
 
 returns : tie.Need-returns
 returns c =
-    let start = c .before .before .before .before .before .before .before .before .before in
-    let first = c .before .before .before .before .before .before .write-be16 .ensures in
+    let at-write-be16 = c .before .before .before .before .before .before in
+    let write-be16 = at-write-be16 .write-be16 in
+    let place = at-write-be16 .before .before .before in
+    let start = place in
+    let first = write-be16 .ensures in
     sets-beBytes 2 2 (start .args .out .now) (start .args .at) (start .args .v) first (c .before .before .write-be162 .ensures)
 
 pub write-be32-spec : {M : Type 1} → statement M

@@ -18,8 +18,11 @@ same-length c = search needs
 
 returns : tie.Need-returns
 returns c =
-    let start = c .before .before .before .before .before .before .before .before .before in
-    let first = c .before .before .before .before .before .before .write-be32 .ensures in
+    let at-write-be32 = c .before .before .before .before .before .before in
+    let write-be32 = at-write-be32 .write-be32 in
+    let place = at-write-be32 .before .before .before in
+    let start = place in
+    let first = write-be32 .ensures in
     sets-beBytes 4 4 (start .args .out .now) (start .args .at) (start .args .v) first (c .before .before .write-be322 .ensures)
 
 pub write-be64-spec : {M : Type 1} → statement M

@@ -18,8 +18,11 @@ same-length c = search needs
 
 returns : tie.Need-returns
 returns c =
-    let start = c .before .before .before .before .before .before .before .before .before in
-    let first = c .before .before .before .before .before .before .write-le16 .ensures in
+    let at-write-le16 = c .before .before .before .before .before .before in
+    let write-le16 = at-write-le16 .write-le16 in
+    let place = at-write-le16 .before .before .before in
+    let start = place in
+    let first = write-le16 .ensures in
     sets-leBytes 2 2 (start .args .out .now) (start .args .at) (start .args .v) first (c .before .before .write-le162 .ensures)
 
 pub write-le32-spec : {M : Type 1} → statement M

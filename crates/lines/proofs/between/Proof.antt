@@ -22,8 +22,9 @@ enum-told c = search needs
 returns-2 : tie.Need-returns-2
 unfolding betweenOf
 returns-2 c =
+    let if1 = c .before .before .before .before .if1 in
     let value = c .before .before .before .value-of in
-    rw (ne-eqb _ _ (c .before .before .before .before .if1 .left), sym (value .ensures) ∙ c .before .high .given .1)
+    rw (ne-eqb _ _ (if1 .left), sym (value .ensures) ∙ c .before .high .given .1)
 
 returns-3 : tie.Need-returns-3
 unfolding betweenOf

@@ -21,7 +21,8 @@ enum-told c = search needs
 returns : tie.Need-returns
 unfolding secondOf
 returns c =
-    let value = c .before .before .before .before .value-of in
+    let value-of = c .before .before .before .before .value-of in
+    let value = value-of in
     rw (sym (value .ensures) ∙ c .before .before .low .given .1) (ap Byte (c .joined .ensures))
 
 returns-2 : tie.Need-returns-2

@@ -19,8 +19,9 @@ outcome-given-requires c κs = search needs
 
 returns : tie.Need-returns
 returns c =
+    let args = c .before .before .before .before .args in
     rw (c .before .before .head-above .ensures, c .before .request-above .ensures, c .outcome-given .ensures)
-    (above-parts (c .before .before .before .before .args .numbers .now) (omega arith) (requestMost qword 0 0) absent refl refl)
+    (above-parts (args .numbers .now) (omega arith) (requestMost qword 0 0) absent refl refl)
 
 pub above-by-address-spec : {M : Type 1} → statement M
 above-by-address-spec =

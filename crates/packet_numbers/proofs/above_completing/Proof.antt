@@ -19,8 +19,9 @@ outcome-above-requires c κs = search needs
 
 returns : tie.Need-returns
 returns c =
+    let args = c .before .before .before .before .args in
     rw (c .before .before .head-above .ensures, c .before .request-given .ensures, c .outcome-above .ensures)
-    (above-parts (c .before .before .before .before .args .numbers .now) (omega arith) absent outcomeMost refl refl)
+    (above-parts (args .numbers .now) (omega arith) absent outcomeMost refl refl)
 
 pub above-completing-spec : {M : Type 1} → statement M
 above-completing-spec =

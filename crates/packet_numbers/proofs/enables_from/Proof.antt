@@ -1,4 +1,5 @@
--- `packet_numbers::enables_from` meets its contract: the fields stand at their places, and what was tested to fit is cast whole. Assumes nothing.
+-- `packet_numbers::enables_from` meets its contract: the fields stand at their places, and what was tested to fit is cast whole. Assumes
+-- nothing.
 use borrow.Author.Needs.{needs}
 use Rattle.packet_numbers.specs.Parsing.{enablesFrom}
 use Rattle.packet_numbers.proofs.enables_from.Statement.{statement}

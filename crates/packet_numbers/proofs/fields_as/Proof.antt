@@ -1,5 +1,5 @@
--- `packet_numbers::fields_as` meets its contract: by the kind; where no number is greater than its field's greatest, each part is within its
--- bounds. Assumes nothing.
+-- `packet_numbers::fields_as` meets its contract: by the kind; where no number is greater than its field's greatest, each part is within
+-- its bounds. Assumes nothing.
 use borrow.Author.Needs.{needs}
 use mathlib.Core.Path.{sym, _∙_}
 use native.Mathlib.Omega.{arith}

@@ -1,5 +1,5 @@
--- `packet_numbers::fields_of` meets its contract: the checks in order: fewer than twenty, a kind or form outside the list, then by the kind.
--- Assumes nothing.
+-- `packet_numbers::fields_of` meets its contract: the checks in order: fewer than twenty, a kind or form outside the list, then by the
+-- kind. Assumes nothing.
 use borrow.Author.Needs.{needs}
 use borrow.Author.Tests.{ltb-false}
 use lib.Dec.{ltb}
@@ -32,7 +32,8 @@ kind-at-requires c κs = ltb-false _ _ (or-elim _ _ (c .before .if2 .left) .0)
 
 fields-as-requires : tie.Need-fields-as-requires
 fields-as-requires c κs =
-    let ns = c .before .before .before .before .before .before .before .args .numbers .now in
+    let args = c .before .before .before .before .before .before .before .args in
+    let ns = args .numbers .now in
     let inside = or-elim (ltb 12 (getD ns 0 0)) (ltb 4 (getD ns 1 0)) (c .before .before .if2 .left) in
     (omega arith, ltb-false 4 (getD ns 1 0) (inside .1))
 

@@ -21,10 +21,11 @@ same-length c = search needs
 
 returns : tie.Need-returns
 returns c =
-    let first = c .before .before .before .before .before .before in
+    let place = c .before .before .before .before .before .before in
+    let first = place in
     let s = first .before .before .before .args in
-    sets-append (s .out .now) (s .at) 10 (headNumbers (s .kind) (s .h)) (absent ++ outcomeNumbers (s .o)) refl
-    (first .put-head .ensures) (c .before .before .put-outcome .ensures)
+    sets-append (s .out .now) (s .at) 10 (headNumbers (s .kind) (s .h)) (absent ++ outcomeNumbers (s .o)) refl (first .put-head .ensures)
+    (c .before .before .put-outcome .ensures)
 
 pub put-completion-spec : {M : Type 1} → statement M
 put-completion-spec =

@@ -26,9 +26,12 @@ same-length c = search needs
 
 returns : tie.Need-returns
 returns c =
-    let s = c .before .before .before .before .before .before .before .before .before .before .before .args in
-    sets-append (s .out .now) (s .at) 5 (requestNumbers (s .e) (s .address) (s .target) (s .register)) absent refl
-    (c .before .before .before .before .before .before .put-five .ensures) (c .before .before .put-five2 .ensures)
+    let at-put-five = c .before .before .before .before .before .before in
+    let put-five = at-put-five .put-five in
+    let args = at-put-five .before .before .before .before .before .args in
+    let s = args in
+    sets-append (s .out .now) (s .at) 5 (requestNumbers (s .e) (s .address) (s .target) (s .register)) absent refl (put-five .ensures)
+    (c .before .before .put-five2 .ensures)
 
 pub put-target-spec : {M : Type 1} → statement M
 put-target-spec =

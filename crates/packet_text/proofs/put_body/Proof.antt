@@ -1,4 +1,5 @@
--- `packet_text::put_body` meets its contract: one return for each kind of packet, the texts of its parts one after the other. Assumes nothing.
+-- `packet_text::put_body` meets its contract: one return for each kind of packet, the texts of its parts one after the other. Assumes
+-- nothing.
 use borrow.Author.Needs.{needs}
 use Rattle.packet_text.proofs.put_body.Statement.{statement}
 use Rattle.packet_text.proofs.put_body.Tie as tie
@@ -73,7 +74,9 @@ same-length-4 c = search needs
 
 returns-4 : tie.Need-returns-4
 unfolding bodyText
-returns-4 c = rw (c .before .before .before .before .before .p4 .given .1) (c .before .before .put-outcome .ensures)
+returns-4 c =
+    let p4 = c .before .before .before .before .before .p4 in
+    rw (p4 .given .1) (c .before .before .put-outcome .ensures)
 
 pub put-body-spec : {M : Type 1} → statement M
 put-body-spec =

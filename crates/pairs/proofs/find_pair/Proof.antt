@@ -32,7 +32,10 @@ is-pair-requires : tie.Need-is-pair-requires Inv-loop μ-loop
 is-pair-requires c κs = tt
 
 returns : tie.Need-returns Inv-loop μ-loop
-returns c = first-hit _ _ (omega arith) (c .before .before .before .before .before .rows .ensures) (c .before .is-pair .ensures) (c .if1 .taken) (c .before .before .before .before .loop .inv .1)
+returns c =
+    let loop = c .before .before .before .before .loop in
+    let rows = c .before .before .before .before .before .rows in
+    first-hit _ _ (omega arith) (rows .ensures) (c .before .is-pair .ensures) (c .if1 .taken) (loop .inv .1)
 
 add-i : tie.Need-add-i Inv-loop μ-loop
 add-i c = omega arith
@@ -41,7 +44,10 @@ loop-less : tie.Need-loop-less Inv-loop μ-loop
 loop-less c = omega arith
 
 loop-again : tie.Need-loop-again Inv-loop μ-loop
-loop-again c = (omega arith, first-miss _ _ (omega arith) (c .before .before .before .before .before .rows .ensures) (c .before .is-pair .ensures) (c .if1 .left) (c .before .before .before .before .loop .inv .1))
+loop-again c =
+    let loop = c .before .before .before .before .loop in
+    let rows = c .before .before .before .before .before .rows in
+    (omega arith, first-miss _ _ (omega arith) (rows .ensures) (c .before .is-pair .ensures) (c .if1 .left) (loop .inv .1))
 
 returns-2 : tie.Need-returns-2 Inv-loop μ-loop
 returns-2 c = first-none _ (c .before .loop .i) (omega arith) (omega arith) (c .before .loop .inv .1)

@@ -22,8 +22,10 @@ answer-requires c κs = search needs
 returns : tie.Need-returns
 unfolding rowOf
 returns c =
-    let asked = c .before .before .before .before .args in
-    let wanted = c .before .before .key .ensures ∙ ap (λ (n : ℕ). keyOf n (asked .form)) (c .before .before .before .kind-number .ensures) in
+    let args = c .before .before .before .before .args in
+    let asked = args in
+    let wanted = c .before .before .key .ensures ∙ ap (λ (n : ℕ). keyOf n (asked .form))
+    (c .before .before .before .kind-number .ensures) in
     c .answer .ensures ∙ ap answerOf (c .before .find-key .ensures ∙ ap findKey wanted ∙ find-key (asked .kind) (asked .form))
 
 pub row-of-spec : {M : Type 1} → statement M

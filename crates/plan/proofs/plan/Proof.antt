@@ -33,8 +33,11 @@ feed-requires c κs = search needs
 
 loop-less : tie.Need-loop-less Inv-loop μ-loop
 loop-less c =
-    let read = c .before .before .before .before .before .before .before .before .before .read-piece in
-    subst (Fewer _ _) (c .before .before .before .before .before .count .given .1) (read .ensures) .2
+    let at-count = c .before .before .before .before .before in
+    let count = at-count .count in
+    let read-piece = at-count .before .before .before .before .read-piece in
+    let read = read-piece in
+    subst (Fewer _ _) (count .given .1) (read .ensures) .2
 
 loop-again : tie.Need-loop-again Inv-loop μ-loop
 loop-again c = search needs

@@ -16,7 +16,10 @@ cursor-requires : tie.Need-cursor-requires
 cursor-requires c κs = search needs
 
 start-at-requires : tie.Need-start-at-requires
-start-at-requires c κs = let z = subst SizedSlot (c .before .before .x .given .1) (c .before .before .before .before .pre .0) in (z .bit, z .power)
+start-at-requires c κs =
+    let pre = c .before .before .before .before .pre in
+    let z = subst SizedSlot (c .before .before .x .given .1) (pre .0) in
+    (z .bit, z .power)
 
 end-of-requires : tie.Need-end-of-requires
 end-of-requires c κs = search needs
@@ -34,7 +37,13 @@ returns : tie.Need-returns
 returns c = rw (c .enum-told .given .1) (c .before .before .pre .1)
 
 returns-2 : tie.Need-returns-2
-returns-2 c = rw (c .before .before .before .before .before .x .given .1) (c .with-cursor .ensures ∙ kept-bar (c .before .before .before .before .before .before .before .args .c) (c .before .before .before .before .before .x .given .0 .0) (c .before .before .before .before .before .x .given .0 .1 .0) (c .before .before .before .before .before .x .given .0 .1 .1 .0) _ _ _ (c .before .before .before .before .before .before .before .pre .1) (c .before .before .before .cursor .ensures) (c .before .before .start-at .ensures .0) (c .before .end-of .ensures))
+returns-2 c =
+    let at-x = c .before .before .before .before .before in
+    let x = at-x .x in
+    let args = at-x .before .before .args in
+    let pre = at-x .before .before .pre in
+    rw (x .given .1) (c .with-cursor .ensures ∙ kept-bar (args .c) (x .given .0 .0) (x .given .0 .1 .0) (x .given .0 .1 .1 .0) _ _ _
+    (pre .1) (c .before .before .before .cursor .ensures) (c .before .before .start-at .ensures .0) (c .before .end-of .ensures))
 
 returns-3 : tie.Need-returns-3
 returns-3 c = rw (c .enum-told2 .given .1) (c .before .before .pre .1)

@@ -19,7 +19,10 @@ cursor-requires : tie.Need-cursor-requires
 cursor-requires c κs = search needs
 
 start-at-requires : tie.Need-start-at-requires
-start-at-requires c κs = let z = subst SizedSlot (c .before .before .x .given .1) (c .before .before .before .before .pre) in (z .bit, z .power)
+start-at-requires c κs =
+    let pre = c .before .before .before .before .pre in
+    let z = subst SizedSlot (c .before .before .x .given .1) pre in
+    (z .bit, z .power)
 
 enum-told-2 : tie.Need-enum-told-2
 enum-told-2 c = search needs
@@ -31,7 +34,12 @@ returns : tie.Need-returns
 returns c = rw (c .enum-told .given .1) (refl, omega arith)
 
 returns-2 : tie.Need-returns-2
-returns-2 c = rw (c .before .before .before .x .given .1) (c .start-at .ensures .0 ∙ ap (λ (n : ℕ). cap (alignUp (c .before .before .before .x .given .0 .1 .1 .0) n)) (c .before .cursor .ensures), c .start-at .ensures .1)
+returns-2 c =
+    let x = c .before .before .before .x in
+    rw (x .given .1) (
+      c .start-at .ensures .0 ∙ ap (λ (n : ℕ). cap (alignUp (x .given .0 .1 .1 .0) n)) (c .before .cursor .ensures),
+      c .start-at .ensures .1,
+    )
 
 returns-3 : tie.Need-returns-3
 returns-3 c = rw (c .enum-told2 .given .1) (refl, omega arith)

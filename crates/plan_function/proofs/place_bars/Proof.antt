@@ -1,5 +1,5 @@
--- `place_bars` meets its contract. The loop's invariant is `Placing`: what is stored, with what the slots from i on come to from the cursors at i, is
--- the answer. The measure is what is left of the first n read-backs. Assumes nothing.
+-- `place_bars` meets its contract. The loop's invariant is `Placing`: what is stored, with what the slots from i on come to from the
+-- cursors at i, is the answer. The measure is what is left of the first n read-backs. Assumes nothing.
 use borrow.Author.Needs.{needs}
 use mathlib.Core.Path.{_≡_, sym, subst, _∙_}
 use native.Mathlib.Omega.{arith}
@@ -44,36 +44,63 @@ slice-aggregate-put-registers c = search needs
 
 put-registers-requires : tie.Need-put-registers-requires Inv-loop μ-loop
 put-registers-requires c κs =
-    let a = c .before .before .before .before .before .before .before .args in
-    let l = c .before .before .before .before .before .loop in
+    let slot-at = c .before .before .before .slot-at in
+    let loop-test = c .before .before .before .before .loop-test in
+    let at-loop = c .before .before .before .before .before in
+    let loop = at-loop .loop in
+    let kept = at-loop .before .kept in
+    let args = at-loop .before .before .args in
+    let pre = at-loop .before .before .pre in
+    let a = args in
+    let l = loop in
     let six : length (a .t1) ≡ 6 = search needs in
-    let below = span-le (a .t1) (a .n) (endsOf (c .before .before .before .before .before .before .kept .result)) (l .values) (l .at) (l .i) (l .inv) (c .before .before .before .before .loop-test .taken) (c .before .before .before .before .before .before .before .pre .0) six (c .before .before .before .slot-at .result) (c .before .before .before .slot-at .ensures) in
-    omega (arith, l .inv .six, c .before .before .before .before .before .before .before .pre .0)
+    let below = span-le (a .t1) (a .n) (endsOf (kept .result)) (l .values) (l .at) (l .i) (l .inv) (loop-test .taken) (pre .0) six
+    (slot-at .result) (slot-at .ensures) in
+    omega (arith, l .inv .six, pre .0)
 
 after-bar-requires : tie.Need-after-bar-requires Inv-loop μ-loop
-after-bar-requires c κs = (subst SizedSlot (sym (c .before .before .before .before .before .slot-at .ensures)) (sized-here _), c .before .before .before .before .before .before .before .loop .inv .kept)
+after-bar-requires c κs =
+    let at-slot-at = c .before .before .before .before .before in
+    let slot-at = at-slot-at .slot-at in
+    let loop = at-slot-at .before .before .loop in
+    (subst SizedSlot (sym (slot-at .ensures)) (sized-here _), loop .inv .kept)
 
 span-requires : tie.Need-span-requires Inv-loop μ-loop
 span-requires c κs = search needs
 
 add-i : tie.Need-add-i Inv-loop μ-loop
-add-i c = omega (arith, c .before .before .before .before .before .before .before .before .before .before .before .pre .0)
+add-i c =
+    let pre = c .before .before .before .before .before .before .before .before .before .before .before .pre in
+    omega (arith, pre .0)
 
 loop-less : tie.Need-loop-less Inv-loop μ-loop
 loop-less c = omega arith
 
 loop-again : tie.Need-loop-again Inv-loop μ-loop
 loop-again c =
-    let a = c .before .before .before .before .before .before .before .before .before .before .before .args in
-    let l = c .before .before .before .before .before .before .before .before .before .loop in
+    let put-registers = c .before .before .before .put-registers in
+    let at-value-of = c .before .before .before .before .before in
+    let value-of = at-value-of .value-of in
+    let bar-start = at-value-of .before .bar-start in
+    let slot-at = at-value-of .before .before .slot-at in
+    let loop-test = at-value-of .before .before .before .loop-test in
+    let loop = at-value-of .before .before .before .before .loop in
+    let at-kept = at-value-of .before .before .before .before .before in
+    let kept = at-kept .kept in
+    let args = at-kept .before .args in
+    let pre = at-kept .before .pre in
+    let a = args in
+    let l = loop in
     let six : length (a .t1) ≡ 6 = search needs in
     rw (c .span .ensures .0)
-    (placing-step (a .t1) (a .n) (endsOf (c .before .before .before .before .before .before .before .before .before .before .kept .result)) (l .values) (l .at) (l .i) (l .inv) (c .before .before .before .before .before .before .before .before .loop-test .taken) (c .before .before .before .before .before .before .before .before .before .before .before .pre .0) six (c .before .before .before .before .before .before .before .slot-at .result) (c .before .before .before .before .before .before .before .slot-at .ensures)
-    (c .before .before .before .before .before .before .bar-start .result) (c .before .before .before .before .before .value-of .result) (c .before .before .before .put-registers .last .0) (c .before .after-bar .result)
-    (c .before .before .before .before .before .before .bar-start .ensures .0) (c .before .before .before .before .before .value-of .ensures) (c .before .before .before .put-registers .ensures) (c .before .after-bar .ensures))
+    (placing-step (a .t1) (a .n) (endsOf (kept .result)) (l .values) (l .at) (l .i) (l .inv) (loop-test .taken) (pre .0) six
+    (slot-at .result) (slot-at .ensures) (bar-start .result) (value-of .result) (put-registers .last .0)
+    (c .before .after-bar .result)
+    (bar-start .ensures .0) (value-of .ensures) (put-registers .ensures) (c .before .after-bar .ensures))
 
 returns : tie.Need-returns Inv-loop μ-loop
-returns c = placing-end _ _ _ _ _ _ (c .before .loop .inv) (c .loop-test .left) ∙ bars-placed-kept _ _ _ _ (c .before .before .kept .ensures)
+returns c =
+    placing-end _ _ _ _ _ _ (c .before .loop .inv) (c .loop-test .left) ∙ bars-placed-kept _ _ _ _ (c .before .before .kept .ensures)
 
 pub place-bars-spec : {M : Type 1} → statement M
 place-bars-spec =

@@ -15,7 +15,8 @@ cap-requires-2 c κs = search needs
 
 returns : tie.Need-returns
 returns c =
-    let a = c .before .before .before .before .before .args in
+    let args = c .before .before .before .before .before .args in
+    let a = args in
     cc (window-none (a .q) (a .inner) (a .end) (a .below) (c .before .before .before .if1 .taken))
 
 window-align-requires : tie.Need-window-align-requires
@@ -35,13 +36,17 @@ opened-requires c κs = search needs
 
 returns-2 : tie.Need-returns-2
 returns-2 c =
-    let a = c .before .before .before .before .before .before .before .args in
-    let align = c .before .before .before .before .window-align in
+    let window-align = c .before .before .before .before .window-align in
+    let at-if1 = c .before .before .before .before .before in
+    let if1 = at-if1 .if1 in
+    let args = at-if1 .before .before .args in
+    let a = args in
+    let align = window-align in
     let start = c .before .before .before .start-at in
     let size = c .before .before .window-size in
     let stop = c .before .end-of in
-    cc (window-some (a .q) (a .inner) (a .end) (a .below) (align .result) (size .result) (start .result) (stop .result)
-    (c .before .before .before .before .before .if1 .left) (align .ensures) (size .ensures) (start .ensures .0) (stop .ensures))
+    cc (window-some (a .q) (a .inner) (a .end) (a .below) (align .result) (size .result) (start .result) (stop .result) (if1 .left)
+    (align .ensures) (size .ensures) (start .ensures .0) (stop .ensures))
 
 pub place-window-spec : {M : Type 1} → statement M
 place-window-spec =

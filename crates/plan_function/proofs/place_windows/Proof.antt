@@ -14,7 +14,14 @@ place-window-requires-3 : tie.Need-place-window-requires-3
 place-window-requires-3 c κs = c .before .before .before .before .before .pre Io
 
 returns : tie.Need-returns
-returns c = windows-of-three (c .before .before .before .before .before .before .before .before .before .args .inner) (c .before .before .before .before .before .before .before .before .before .args .c) (c .before .before .before .before .before .before .before .before .before .args .below) (c .before .before .before .before .before .place-window .result) (c .before .before .before .before .place-window2 .result) (c .before .before .before .place-window3 .result) (c .before .before .before .before .before .place-window .ensures) (c .before .before .before .before .place-window2 .ensures) (c .before .before .before .place-window3 .ensures)
+returns c =
+    let place-window3 = c .before .before .before .place-window3 in
+    let place-window2 = c .before .before .before .before .place-window2 in
+    let at-place-window = c .before .before .before .before .before in
+    let place-window = at-place-window .place-window in
+    let args = at-place-window .before .before .before .before .args in
+    windows-of-three (args .inner) (args .c) (args .below) (place-window .result) (place-window2 .result) (place-window3 .result)
+    (place-window .ensures) (place-window2 .ensures) (place-window3 .ensures)
 
 pub place-windows-spec : {M : Type 1} → statement M
 place-windows-spec =

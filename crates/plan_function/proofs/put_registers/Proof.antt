@@ -29,19 +29,28 @@ mul-values-2 : tie.Need-mul-values-2
 mul-values-2 c = search needs
 
 slice-write-values-2 : tie.Need-slice-write-values-2
-slice-write-values-2 c = simp length-set (omega (arith, span-two (c .before .before .before .args .x) (sym (c .before .takes-next .ensures) ∙ c .if1 .taken), c .before .before .before .pre))
+slice-write-values-2 c =
+    simp length-set (omega (
+      arith,
+      span-two (c .before .before .before .args .x) (sym (c .before .takes-next .ensures) ∙ c .if1 .taken),
+      c .before .before .before .pre,
+    ))
 
 same-length : tie.Need-same-length
 same-length c = search needs
 
 returns : tie.Need-returns
-returns c = put-two _ _ (c .before .before .before .args .x) (c .before .before .before .args .v) (sym (c .before .takes-next .ensures) ∙ c .if1 .taken) (omega arith)
+returns c =
+    let args = c .before .before .before .args in
+    put-two _ _ (args .x) (args .v) (sym (c .before .takes-next .ensures) ∙ c .if1 .taken) (omega arith)
 
 same-length-2 : tie.Need-same-length-2
 same-length-2 c = search needs
 
 returns-2 : tie.Need-returns-2
-returns-2 c = put-one _ _ (c .before .before .before .args .x) (c .before .before .before .args .v) (sym (c .before .takes-next .ensures) ∙ c .if1 .left)
+returns-2 c =
+    let args = c .before .before .before .args in
+    put-one _ _ (args .x) (args .v) (sym (c .before .takes-next .ensures) ∙ c .if1 .left)
 
 pub put-registers-spec : {M : Type 1} → statement M
 put-registers-spec =

@@ -15,7 +15,9 @@ add-bus-at : tie.Need-add-bus-at
 add-bus-at c = search needs
 
 bus-at-requires-2 : tie.Need-bus-at-requires-2
-bus-at-requires-2 c κs = (omega (arith, c .before .before .before .pre .2), rw (add-one (c .before .before .before .args .i)) (c .before .before .before .pre .3))
+bus-at-requires-2 c κs =
+    let pre = c .before .before .before .pre in
+    (omega (arith, pre .2), rw (add-one (c .before .before .before .args .i)) (pre .3))
 
 bus-at-requires-3 : tie.Need-bus-at-requires-3
 bus-at-requires-3 c κs = search needs
@@ -24,7 +26,9 @@ id-of-requires : tie.Need-id-of-requires
 id-of-requires c κs = search needs
 
 returns : tie.Need-returns
-returns c = cc (add-one (c .before .before .before .before .before .before .before .before .before .before .args .i))
+returns c =
+    let args = c .before .before .before .before .before .before .before .before .before .before .args in
+    cc (add-one (args .i))
 
 pub bridge-registers-spec : {M : Type 1} → statement M
 bridge-registers-spec =

@@ -20,7 +20,9 @@ loop-holds : tie.Need-loop-holds Inv-loop μ-loop
 loop-holds c = (omega arith, refl, λ k l q. absurd (omega arith))
 
 store-cursors-requires : tie.Need-store-cursors-requires Inv-loop μ-loop
-store-cursors-requires c κs = omega (arith, c .before .before .before .before .pre, c .before .before .loop .inv .1, c .before .loop-test .taken)
+store-cursors-requires c κs =
+    let pre = c .before .before .before .before .pre in
+    omega (arith, pre, c .before .before .loop .inv .1, c .before .loop-test .taken)
 
 add-b : tie.Need-add-b Inv-loop μ-loop
 add-b c = omega arith
@@ -29,7 +31,19 @@ loop-less : tie.Need-loop-less Inv-loop μ-loop
 loop-less c = omega arith
 
 loop-again : tie.Need-loop-again Inv-loop μ-loop
-loop-again c = (omega arith, omega (arith, c .before .before .store-cursors .kept .0, c .before .before .before .before .before .loop .inv .1), rw (add-one (c .before .before .before .before .before .loop .b)) (filled-next (c .before .before .before .before .before .loop .cursors) _ (c .before .before .before .before .before .before .before .args .base) (c .before .before .before .before .before .loop .b) (c .before .before .before .before .before .loop .inv .2) (omega (arith, c .before .before .before .before .before .before .before .pre, c .before .before .before .before .before .loop .inv .1, c .before .before .before .before .loop-test .taken)) (c .before .before .store-cursors .ensures)))
+loop-again c =
+    let store-cursors = c .before .before .store-cursors in
+    let loop-test = c .before .before .before .before .loop-test in
+    let at-loop = c .before .before .before .before .before in
+    let loop = at-loop .loop in
+    let args = at-loop .before .before .args in
+    let pre = at-loop .before .before .pre in (
+      omega arith,
+      omega (arith, store-cursors .kept .0, loop .inv .1),
+      rw (add-one (loop .b))
+          (filled-next (loop .cursors) _ (args .base) (loop .b) (loop .inv .2) (omega (arith, pre, loop .inv .1, loop-test .taken))
+          (store-cursors .ensures)),
+    )
 
 same-length : tie.Need-same-length Inv-loop μ-loop
 same-length c = c .before .loop .inv .1

@@ -14,10 +14,16 @@ cursors-at-requires : tie.Need-cursors-at-requires
 cursors-at-requires c κs = search needs
 
 place-bars-requires : tie.Need-place-bars-requires
-place-bars-requires c κs = (c .before .before .slot-count .ensures .1, cc (c .before .before .slot-count .ensures .0, c .before .before .before .before .before .pre .1))
+place-bars-requires c κs =
+    let slot-count = c .before .before .slot-count in
+    let pre = c .before .before .before .before .before .pre in
+    (slot-count .ensures .1, cc (slot-count .ensures .0, pre .1))
 
 returns : tie.Need-returns
-returns c = bars-in (c .before .before .before .before .before .before .args .cursors .now) (c .before .before .before .before .before .before .args .f) (c .before .before .before .slot-count .ensures .0) (c .before .cursors-at .ensures) (c .place-bars .ensures)
+returns c =
+    let args = c .before .before .before .before .before .before .args in
+    bars-in (args .cursors .now) (args .f) (c .before .before .before .slot-count .ensures .0) (c .before .cursors-at .ensures)
+    (c .place-bars .ensures)
 
 pub own-bars-spec : {M : Type 1} → statement M
 own-bars-spec =

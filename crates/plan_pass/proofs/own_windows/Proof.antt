@@ -21,10 +21,15 @@ cursors-at-requires : tie.Need-cursors-at-requires
 cursors-at-requires c κs = search needs
 
 place-windows-requires : tie.Need-place-windows-requires
-place-windows-requires c κs = λ q. subst (λ (x : Extents). PowerOfTwo (max (granule q) (extentIn x q .align))) (sym (c .before .extents-at .ensures)) (c .before .before .before .before .pre .2 q)
+place-windows-requires c κs =
+    λ q. subst (λ (x : Extents). PowerOfTwo (max (granule q) (extentIn x q .align))) (sym (c .before .extents-at .ensures))
+    (c .before .before .before .before .pre .2 q)
 
 returns : tie.Need-returns
-returns c = windows-in (c .before .before .before .before .before .args .memo .now) (c .before .before .before .before .before .args .cursors .now) (c .before .before .before .before .before .args .i) (c .before .before .before .before .before .args .after) (add-one (c .before .before .before .before .before .args .i)) (c .before .before .extents-at .ensures) (c .before .cursors-at .ensures) (c .place-windows .ensures)
+returns c =
+    let args = c .before .before .before .before .before .args in
+    windows-in (args .memo .now) (args .cursors .now) (args .i) (args .after) (add-one (args .i)) (c .before .before .extents-at .ensures)
+    (c .before .cursors-at .ensures) (c .place-windows .ensures)
 
 pub own-windows-spec : {M : Type 1} → statement M
 own-windows-spec =

@@ -24,13 +24,21 @@ slice-aggregate-place-records : tie.Need-slice-aggregate-place-records
 slice-aggregate-place-records c = search needs
 
 place-records-requires : tie.Need-place-records-requires
-place-records-requires c κs = ready-of-placing _ _ (c .before .before .before .before .before .before .before .before .before .before .pre) (c .before .before .before .before .bases-of .ensures) (c .before .before .before .fill-cursors .ensures) (c .before .before .before .fill-cursors .kept .0)
+place-records-requires c κs =
+    let fill-cursors = c .before .before .before .fill-cursors in
+    let bases-of = c .before .before .before .before .bases-of in
+    let pre = c .before .before .before .before .before .before .before .before .before .before .pre in
+    ready-of-placing _ _ pre (bases-of .ensures) (fill-cursors .ensures) (fill-cursors .kept .0)
 
 same-length : tie.Need-same-length
-same-length c = omega (arith, c .before .before .before .place-records .kept .1 .1 .1 .1 .1 .0, length-set (c .before .before .before .before .before .before .before .before .before .before .before .before .before .before .args .sheet .now) 0 1)
+same-length c =
+    let args = c .before .before .before .before .before .before .before .before .before .before .before .before .before .before .args in
+    omega (arith, c .before .before .before .place-records .kept .1 .1 .1 .1 .1 .0, length-set (args .sheet .now) 0 1)
 
 returns : tie.Need-returns
-returns c = c .before .before .before .place-records .ensures ∙ version-first (c .before .before .before .before .before .before .before .before .before .before .before .before .before .before .args .sheet .now) (planOn (c .before .before .before .before .before .before .before .before .before .before .before .before .before .before .args .board .now))
+returns c =
+    let args = c .before .before .before .before .before .before .before .before .before .before .before .before .before .before .args in
+    c .before .before .before .place-records .ensures ∙ version-first (args .sheet .now) (planOn (args .board .now))
 
 pub place-all-spec : {M : Type 1} → statement M
 place-all-spec =

@@ -16,22 +16,50 @@ last-below-requires : tie.Need-last-below-requires
 last-below-requires c κs = search needs
 
 bridge-registers-requires : tie.Need-bridge-registers-requires
-bridge-registers-requires c κs = (c .before .before .before .before .before .before .before .before .pre .0 .counted, c .before .before .before .before .before .before .before .before .pre .0 .numbered, c .before .before .before .before .before .before .before .before .pre .1 .counted, c .before .before .before .before .before .before .before .before .pre .1 .numbered, rw (c .last-below .ensures) (c .before .before .before .before .before .before .before .before .pre .1 .last-counted), rw (c .last-below .ensures) (c .before .before .before .before .before .before .before .before .pre .1 .last-numbered))
+bridge-registers-requires c κs =
+    let pre = c .before .before .before .before .before .before .before .before .pre in (
+      pre .0 .counted,
+      pre .0 .numbered,
+      pre .1 .counted,
+      pre .1 .numbered,
+      rw (c .last-below .ensures) (pre .1 .last-counted),
+      rw
+          (c .last-below .ensures) (pre .1 .last-numbered),
+    )
 
 cast-store-cursors : tie.Need-cast-store-cursors
 cast-store-cursors c = search needs
 
 store-cursors-requires : tie.Need-store-cursors-requires
-store-cursors-requires c κs = c .before .before .before .before .before .before .before .before .before .before .before .before .pre .0 .room
+store-cursors-requires c κs =
+    let pre = c .before .before .before .before .before .before .before .before .before .before .before .before .pre in
+    pre .0 .room
 
 store-cursors-requires-2 : tie.Need-store-cursors-requires-2
-store-cursors-requires-2 c κs = omega (arith, c .before .before .before .before .before .before .before .before .before .before .before .before .before .before .before .before .before .pre .1 .room, c .before .before .before .before .store-cursors .kept .0)
+store-cursors-requires-2 c κs =
+    let store-cursors = c .before .before .before .before .store-cursors in
+    let at-pre = c .before .before .before .before .before .before .before .before .before .before .before .before .before .before .before .before .before in
+    let pre = at-pre .pre in
+    omega (arith, pre .1 .room, store-cursors .kept .0)
 
 same-length : tie.Need-same-length
 same-length c = search needs
 
 returns : tie.Need-returns
-returns c = (bridge-registers-join _ _ _ _ (c .before .before .before .before .before .before .before .before .before .before .before .before .before .before .before .before .before .before .before .before .pre .2) (c .before .before .before .before .before .before .before .before .before .before .before .before .before .before .own-windows .ensures) _ _ (c .before .before .before .before .before .before .before .before .before .before .before .before .last-below .ensures) (c .before .before .before .before .before .before .before .before .before .before .before .bridge-registers .ensures), bridge-next-join _ _ _ _ (c .before .before .before .before .before .before .before .before .before .before .before .before .before .before .before .before .before .before .before .before .pre .2) (c .before .before .before .before .before .before .before .before .before .before .before .before .before .before .own-windows .ensures) (add-one (c .before .before .before .before .before .before .before .before .before .before .before .before .before .before .before .before .before .before .before .before .args .i)) (c .before .before .before .before .before .before .before .store-cursors .ensures) (c .before .before .store-cursors2 .ensures))
+returns c =
+    let at-store-cursors = c .before .before .before .before .before .before .before in
+    let store-cursors = at-store-cursors .store-cursors in
+    let bridge-registers = at-store-cursors .before .before .before .before .bridge-registers in
+    let at-last-below = at-store-cursors .before .before .before .before .before in
+    let last-below = at-last-below .last-below in
+    let own-windows = at-last-below .before .before .own-windows in
+    let at-args = at-last-below .before .before .before .before .before .before .before .before in
+    let args = at-args .args in
+    let pre = at-args .pre in (
+      bridge-registers-join _ _ _ _ (pre .2) (own-windows .ensures) _ _ (last-below .ensures) (bridge-registers .ensures),
+      bridge-next-join
+          _ _ _ _ (pre .2) (own-windows .ensures) (add-one (args .i)) (store-cursors .ensures) (c .before .before .store-cursors2 .ensures),
+    )
 
 pub place-bridge-spec : {M : Type 1} → statement M
 place-bridge-spec =

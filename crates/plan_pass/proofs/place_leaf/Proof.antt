@@ -17,7 +17,14 @@ same-length : tie.Need-same-length
 same-length c = search needs
 
 returns : tie.Need-returns
-returns c = (leaf-registers-join _ _ _ _ (c .before .before .before .before .before .before .before .before .before .before .pre .1) (c .before .before .before .before .before .before .leaf-registers .ensures), leaf-next-join _ _ (c .before .before .before .before .before .before .before .before .before .before .pre .1) (c .before .before .store-cursors .ensures))
+returns c =
+    let at-leaf-registers = c .before .before .before .before .before .before in
+    let leaf-registers = at-leaf-registers .leaf-registers in
+    let pre = at-leaf-registers .before .before .before .before .pre in (
+      leaf-registers-join _ _ _ _ (pre .1) (leaf-registers .ensures),
+      leaf-next-join _ _ (pre .1)
+          (c .before .before .store-cursors .ensures),
+    )
 
 pub place-leaf-spec : {M : Type 1} → statement M
 place-leaf-spec =

@@ -21,7 +21,13 @@ place-record-requires : tie.Need-place-record-requires
 place-record-requires c κs = search needs
 
 write-record-requires : tie.Need-write-record-requires
-write-record-requires c κs = let io = io-bytes (c .before .before .before .before .before .before .before .before .before .args .first) (c .before .before .before .before .before .before .before .before .before .args .counts .now) (c .before .before .before .before .before .before .before .before .before .args .memo .now) (c .before .before .before .before .before .before .before .before .before .args .cursors .now) (c .before .before .before .before .before .before .before .before .before .args .i) (c .before .before .before .before .before .before .before .before .before .args .f) _ (c .before .before .before .place-record .ensures .0) in (omega (arith, c .before .before .before .before .before .before .before .before .before .pre .1), io .0, io .1)
+write-record-requires c κs =
+    let at-args = c .before .before .before .before .before .before .before .before .before in
+    let args = at-args .args in
+    let pre = at-args .pre in
+    let io = io-bytes (args .first) (args .counts .now) (args .memo .now) (args .cursors .now) (args .i) (args .f) _
+    (c .before .before .before .place-record .ensures .0) in
+    (omega (arith, pre .1), io .0, io .1)
 
 same-length : tie.Need-same-length
 same-length c = search needs
@@ -30,7 +36,14 @@ same-length-2 : tie.Need-same-length-2
 same-length-2 c = search needs
 
 returns : tie.Need-returns
-returns c = (c .before .before .before .before .before .before .place-record .ensures .1, c .before .before .write-record .ensures ∙ ap (λ (r : Registers). sets (c .before .before .before .before .before .before .before .before .before .before .before .before .args .sheet .now) (sheetLength (c .before .before .before .before .before .before .before .before .before .before .before .before .args .i)) (recordBytes (plannedOf r))) (c .before .before .before .before .before .before .place-record .ensures .0))
+returns c =
+    let at-place-record = c .before .before .before .before .before .before in
+    let place-record = at-place-record .place-record in
+    let args = at-place-record .before .before .before .before .before .before .args in (
+      place-record .ensures .1,
+      c .before .before .write-record .ensures
+          ∙ ap (λ (r : Registers). sets (args .sheet .now) (sheetLength (args .i)) (recordBytes (plannedOf r))) (place-record .ensures .0),
+    )
 
 pub write-next-spec : {M : Type 1} → statement M
 write-next-spec =

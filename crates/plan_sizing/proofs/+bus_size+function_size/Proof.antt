@@ -1,7 +1,7 @@
--- `plan_sizing::bus_size` and `plan_sizing::function_size` meet their contracts. The measure is the depth that remains and the records left, and one
--- more for a bus: from a bus to its function neither rises, from a bridge to its bus both fall. The invariant of the loop over a
--- bus is `OnBus`: what is still to come, from what was laid out, comes to what the bus comes to; its measure is the records left. Assumes
--- nothing.
+-- `plan_sizing::bus_size` and `plan_sizing::function_size` meet their contracts. The measure is the depth that remains and the records
+-- left, and one more for a bus: from a bus to its function neither rises, from a bridge to its bus both fall. The invariant of the loop
+-- over a bus is `OnBus`: what is still to come, from what was laid out, comes to what the bus comes to; its measure is the records left.
+-- Assumes nothing.
 use borrow.Author.Needs.{needs}
 use mathlib.Core.Path.{sym, ap, _∙_}
 use Prim.Native.Nat.{ℕ, _+_, _-_, _*_, _<_}
@@ -11,8 +11,10 @@ use lib.Seq.{sets}
 use Rattle.plan_sizing.specs.declared.Laid.{Laid}
 use Rattle.plan_sizing.specs.Memo.{numbersOf}
 use Rattle.plan_sizing.specs.Board.{OnBus}
-use Rattle.plan_sizing.specs.BusLaws.{on-bus-start, on-bus-length, on-bus-end, child-within, child-standing, lt-next-of-turn, on-bus-turn}
-use Rattle.plan_sizing.specs.BridgeLaws.{depth-left, own-bars-of-standing, inside-standing, inner-align-power, leaf-walked, bridge-walked}
+use Rattle.plan_sizing.specs.BusLaws.{on-bus-start, on-bus-length, on-bus-end, child-within, child-standing, lt-next-of-turn}
+use Rattle.plan_sizing.specs.BusLaws.{on-bus-turn}
+use Rattle.plan_sizing.specs.BridgeLaws.{depth-left, own-bars-of-standing, inside-standing, inner-align-power, leaf-walked}
+use Rattle.plan_sizing.specs.BridgeLaws.{bridge-walked}
 use borrow.Fn.Kinds.{In}
 use borrow.Fn.PlainCycle.{Measures, is, falls, and}
 use Rattle.plan_sizing.proofs.bus_size.Reads as bus-size
@@ -86,75 +88,107 @@ bus-size-Inv-loop parents headers readbacks memo₀ bus depth l₀ memo l = OnBu
 abbrev bus-size-μ-loop : bus-size-lts.MeasureT-loop
 bus-size-μ-loop parents headers readbacks memo₀ bus depth l₀ memo l = length parents - l .next
 
-bus-size-loop-holds : (t : ℕ) → bus-size-lts.Need-loop-holds (bus-size-claims t) (bus-size-at t) bus-size.Post bus-size-Inv-loop bus-size-μ-loop
+bus-size-loop-holds : (t : ℕ) → bus-size-lts.Need-loop-holds (bus-size-claims t) (bus-size-at t) bus-size.Post bus-size-Inv-loop
+    bus-size-μ-loop
 bus-size-loop-holds t c = on-bus-start (c .before .before .before .before .pre .1)
 
-bus-size-is-child-requires : (t : ℕ) → bus-size-lts.Need-is-child-requires (bus-size-claims t) (bus-size-at t) bus-size.Post bus-size-Inv-loop bus-size-μ-loop
+bus-size-is-child-requires : (t : ℕ) → bus-size-lts.Need-is-child-requires (bus-size-claims t) (bus-size-at t) bus-size.Post
+    bus-size-Inv-loop bus-size-μ-loop
 bus-size-is-child-requires t c κs = search needs
 
-bus-size-function-size-requires : (t : ℕ) → bus-size-lts.Need-function-size-requires (bus-size-claims t) (bus-size-at t) bus-size.Post bus-size-Inv-loop bus-size-μ-loop
+bus-size-function-size-requires : (t : ℕ) → bus-size-lts.Need-function-size-requires (bus-size-claims t) (bus-size-at t) bus-size.Post
+    bus-size-Inv-loop bus-size-μ-loop
 bus-size-function-size-requires t c κs =
+    let pre = c .before .before .before .before .before .before .before .before .pre in
     let on = c .before .before .before .loop .inv in
     let child = sym (c .before .before .is-child .ensures) ∙ c .before .if1 .taken in
     let here = child-within on child in
-    (omega (arith, c .before .before .before .before .before .before .before .before .pre .0, on .from, here), (child-standing on child, here))
+    (omega (arith, pre .0, on .from, here), (child-standing on child, here))
 
-bus-size-loop-less : (t : ℕ) → bus-size-lts.Need-loop-less (bus-size-claims t) (bus-size-at t) bus-size.Post bus-size-Inv-loop bus-size-μ-loop
+bus-size-loop-less : (t : ℕ) → bus-size-lts.Need-loop-less (bus-size-claims t) (bus-size-at t) bus-size.Post bus-size-Inv-loop
+    bus-size-μ-loop
 bus-size-loop-less t c =
-    let on = c .before .before .before .before .before .before .loop .inv in
-    let child = sym (c .before .before .before .before .before .is-child .ensures) ∙ c .before .before .before .before .if1 .taken in
+    let if1 = c .before .before .before .before .if1 in
+    let at-is-child = c .before .before .before .before .before in
+    let is-child = at-is-child .is-child in
+    let loop = at-is-child .before .loop in
+    let on = loop .inv in
+    let child = sym (is-child .ensures) ∙ if1 .taken in
     omega (arith, child-within on child, lt-next-of-turn on child (c .before .before .function-size .ensures))
 
-bus-size-loop-again : (t : ℕ) → bus-size-lts.Need-loop-again (bus-size-claims t) (bus-size-at t) bus-size.Post bus-size-Inv-loop bus-size-μ-loop
+bus-size-loop-again : (t : ℕ) → bus-size-lts.Need-loop-again (bus-size-claims t) (bus-size-at t) bus-size.Post bus-size-Inv-loop
+    bus-size-μ-loop
 bus-size-loop-again t c =
-    on-bus-turn (c .before .before .before .before .before .before .loop .inv) (sym (c .before .before .before .before .before .is-child .ensures) ∙ c .before .before .before .before .if1 .taken) (c .before .before .function-size .ensures)
+    let if1 = c .before .before .before .before .if1 in
+    let at-is-child = c .before .before .before .before .before in
+    let is-child = at-is-child .is-child in
+    let loop = at-is-child .before .loop in
+    on-bus-turn (loop .inv) (sym (is-child .ensures) ∙ if1 .taken) (c .before .before .function-size .ensures)
 
-bus-size-same-length : (t : ℕ) → bus-size-lts.Need-same-length (bus-size-claims t) (bus-size-at t) bus-size.Post bus-size-Inv-loop bus-size-μ-loop
+bus-size-same-length : (t : ℕ) → bus-size-lts.Need-same-length (bus-size-claims t) (bus-size-at t) bus-size.Post bus-size-Inv-loop
+    bus-size-μ-loop
 bus-size-same-length t c = on-bus-length (c .before .before .loop .inv)
 
 bus-size-returns : (t : ℕ) → bus-size-lts.Need-returns (bus-size-claims t) (bus-size-at t) bus-size.Post bus-size-Inv-loop bus-size-μ-loop
 bus-size-returns t c = on-bus-end (c .before .before .loop .inv) (sym (c .before .is-child .ensures) ∙ c .if1 .left)
 
-function-size-own-bars-requires : (t : ℕ) → function-size-lts.Need-own-bars-requires (function-size-claims t) (function-size-at t) function-size.Post
+function-size-own-bars-requires : (t : ℕ) → function-size-lts.Need-own-bars-requires (function-size-claims t) (function-size-at t)
+    function-size.Post
 function-size-own-bars-requires t c κs = let pre = c .before .before .before .before .pre .1 in own-bars-of-standing (pre .0) (pre .1)
 
-function-size-shared-slice-read-is-bridge : (t : ℕ) → function-size-lts.Need-shared-slice-read-is-bridge (function-size-claims t) (function-size-at t) function-size.Post
+function-size-shared-slice-read-is-bridge : (t : ℕ)
+    → function-size-lts.Need-shared-slice-read-is-bridge (function-size-claims t) (function-size-at t) function-size.Post
 function-size-shared-slice-read-is-bridge t c =
-    let pre = c .before .before .before .before .before .before .pre .1 in
+    let the-pre = c .before .before .before .before .before .before .pre in
+    let pre = the-pre .1 in
     omega (arith, pre .1, pre .0 .board .headers)
 
-function-size-is-bridge-requires : (t : ℕ) → function-size-lts.Need-is-bridge-requires (function-size-claims t) (function-size-at t) function-size.Post
+function-size-is-bridge-requires : (t : ℕ) → function-size-lts.Need-is-bridge-requires (function-size-claims t) (function-size-at t)
+    function-size.Post
 function-size-is-bridge-requires t c κs = search needs
 
-function-size-add-laid-from : (t : ℕ) → function-size-lts.Need-add-laid-from (function-size-claims t) (function-size-at t) function-size.Post
-function-size-add-laid-from t c = omega (arith, c .before .before .before .before .before .before .before .before .pre .1 .1)
+function-size-add-laid-from : (t : ℕ) → function-size-lts.Need-add-laid-from (function-size-claims t) (function-size-at t)
+    function-size.Post
+function-size-add-laid-from t c =
+    let pre = c .before .before .before .before .before .before .before .before .pre in
+    omega (arith, pre .1 .1)
 
-function-size-laid-from-requires : (t : ℕ) → function-size-lts.Need-laid-from-requires (function-size-claims t) (function-size-at t) function-size.Post
+function-size-laid-from-requires : (t : ℕ) → function-size-lts.Need-laid-from-requires (function-size-claims t) (function-size-at t)
+    function-size.Post
 function-size-laid-from-requires t c κs = search needs
 
 function-size-add-bus-size : (t : ℕ) → function-size-lts.Need-add-bus-size (function-size-claims t) (function-size-at t) function-size.Post
-function-size-add-bus-size t c = omega (arith, c .before .before .before .before .before .before .before .before .before .before .pre .1 .1)
+function-size-add-bus-size t c =
+    let pre = c .before .before .before .before .before .before .before .before .before .before .pre in
+    omega (arith, pre .1 .1)
 
 function-size-sub-bus-size : (t : ℕ) → function-size-lts.Need-sub-bus-size (function-size-claims t) (function-size-at t) function-size.Post
 function-size-sub-bus-size t c =
-    let pre = c .before .before .before .before .before .before .before .before .before .before .pre .1 in
+    let the-pre = c .before .before .before .before .before .before .before .before .before .before .pre in
+    let pre = the-pre .1 in
     depth-left (pre .0) (pre .1)
 
-function-size-bus-size-requires : (t : ℕ) → function-size-lts.Need-bus-size-requires (function-size-claims t) (function-size-at t) function-size.Post
+function-size-bus-size-requires : (t : ℕ) → function-size-lts.Need-bus-size-requires (function-size-claims t) (function-size-at t)
+    function-size.Post
 function-size-bus-size-requires t c κs =
-    let pre = c .before .before .before .before .before .before .before .before .before .before .pre in
+    let the-pre = c .before .before .before .before .before .before .before .before .before .before .pre in
+    let pre = the-pre in
     let fresh = c .before .laid-from .ensures in
     let left = depth-left (pre .1 .0) (pre .1 .1) in
     (omega (arith, pre .0, pre .1 .1, left, ap (λ (x : Laid). x .next) fresh), inside-standing (pre .1 .0) (pre .1 .1) fresh)
 
-function-size-store-requires : (t : ℕ) → function-size-lts.Need-store-requires (function-size-claims t) (function-size-at t) function-size.Post
+function-size-store-requires : (t : ℕ) → function-size-lts.Need-store-requires (function-size-claims t) (function-size-at t)
+    function-size.Post
 function-size-store-requires t c κs =
-    let pre = c .before .before .before .before .before .before .before .before .before .before .before .before .before .before .pre .1 in
+    let the-pre = c .before .before .before .before .before .before .before .before .before .before .before .before .before .before .pre in
+    let pre = the-pre .1 in
     omega (arith, pre .0 .room, pre .1, c .before .before .before .bus-size .kept .1 .1 .1 .0)
 
-function-size-with-windows-requires : (t : ℕ) → function-size-lts.Need-with-windows-requires (function-size-claims t) (function-size-at t) function-size.Post
+function-size-with-windows-requires : (t : ℕ) → function-size-lts.Need-with-windows-requires (function-size-claims t) (function-size-at t)
+    function-size.Post
 function-size-with-windows-requires t c κs =
-    let call = c .before .before .before .before .before .before in
+    let place = c .before .before .before .before .before .before in
+    let call = place in
     let fresh = call .before .before in
     let pre = fresh .before .before .before .before .before .before .before .before .before .pre .1 in
     inner-align-power (pre .0) (pre .1) (fresh .laid-from .ensures) (call .bus-size .ensures)
@@ -164,35 +198,42 @@ function-size-same-length t c = search needs
 
 function-size-returns : (t : ℕ) → function-size-lts.Need-returns (function-size-claims t) (function-size-at t) function-size.Post
 function-size-returns t c =
-    let call = c .before .before .before .before .before .before .before in
+    let place = c .before .before .before .before .before .before .before in
+    let call = place in
     let fresh = call .before .before in
     let yes = fresh .before in
     let own = yes .before .before .before in
     let pre = own .before .before .before .before .before .pre .1 in
     bridge-walked (pre .0) (pre .1) (fresh .laid-from .ensures) (call .bus-size .ensures)
-    (sym (yes .before .is-bridge .ensures) ∙ yes .if1 .taken)
-    (own .own-bars .ensures)
-    (c .before .before .before .store .ensures)
+    (sym (yes .before .is-bridge .ensures) ∙ yes .if1 .taken) (own .own-bars .ensures) (c .before .before .before .store .ensures)
     (c .with-windows .ensures)
 
-function-size-laid-from-requires-2 : (t : ℕ) → function-size-lts.Need-laid-from-requires-2 (function-size-claims t) (function-size-at t) function-size.Post
+function-size-laid-from-requires-2 : (t : ℕ) → function-size-lts.Need-laid-from-requires-2 (function-size-claims t) (function-size-at t)
+    function-size.Post
 function-size-laid-from-requires-2 t c κs = search needs
 
-function-size-store-requires-2 : (t : ℕ) → function-size-lts.Need-store-requires-2 (function-size-claims t) (function-size-at t) function-size.Post
+function-size-store-requires-2 : (t : ℕ) → function-size-lts.Need-store-requires-2 (function-size-claims t) (function-size-at t)
+    function-size.Post
 function-size-store-requires-2 t c κs =
-    let pre = c .before .before .before .before .before .before .before .before .before .before .pre .1 in
+    let the-pre = c .before .before .before .before .before .before .before .before .before .before .pre in
+    let pre = the-pre .1 in
     omega (arith, pre .0 .room, pre .1)
 
-function-size-same-length-2 : (t : ℕ) → function-size-lts.Need-same-length-2 (function-size-claims t) (function-size-at t) function-size.Post
+function-size-same-length-2 : (t : ℕ) → function-size-lts.Need-same-length-2 (function-size-claims t) (function-size-at t)
+    function-size.Post
 function-size-same-length-2 t c = search needs
 
 function-size-returns-2 : (t : ℕ) → function-size-lts.Need-returns-2 (function-size-claims t) (function-size-at t) function-size.Post
 function-size-returns-2 t c =
-    let start = c .before .before .before .before .before .before .before .before .before .before .before .before .before in
-    let none = ap (λ (x : Laid). sets (start .args .memo .now) (8 * start .args .l .next) (numbersOf x)) (c .before .before .before .laid-from2 .ensures) in
-    leaf-walked (start .pre .1 .0) (start .pre .1 .1)
-    (sym (c .before .before .before .before .before .before .is-bridge .ensures) ∙ c .before .before .before .before .before .if1 .left)
-    (c .before .before .before .before .before .before .before .before .own-bars .ensures)
+    let at-if1 = c .before .before .before .before .before in
+    let if1 = at-if1 .if1 in
+    let is-bridge = at-if1 .before .is-bridge in
+    let own-bars = at-if1 .before .before .before .own-bars in
+    let place = at-if1 .before .before .before .before .before .before .before .before in
+    let start = place in
+    let none = ap (λ (x : Laid). sets (start .args .memo .now) (8 * start .args .l .next) (numbersOf x))
+    (c .before .before .before .laid-from2 .ensures) in
+    leaf-walked (start .pre .1 .0) (start .pre .1 .1) (sym (is-bridge .ensures) ∙ if1 .left) (own-bars .ensures)
     (c .before .before .store2 .ensures ∙ none)
 
 pub +bus-size+function-size-spec : {M : Type 1} → statement M

@@ -9,13 +9,17 @@ returns : tie.Need-returns
 returns c = sym (ends-past-none (c .before .before .args .last) (c .before .before .args .e) (c .if1 .taken))
 
 returns-2 : tie.Need-returns-2
-returns-2 c = sym (ends-past-before (c .before .before .before .before .args .last) (c .before .before .before .before .args .e) (c .if2 .taken))
+returns-2 c =
+    let args = c .before .before .before .before .args in
+    sym (ends-past-before (args .last) (args .e) (c .if2 .taken))
 
 sub-result : tie.Need-sub-result
 sub-result c = search needs
 
 returns-3 : tie.Need-returns-3
-returns-3 c = sym (ends-past-some (c .before .before .before .before .before .args .last) (c .before .before .before .before .before .args .e) (c .before .before .before .if1 .left))
+returns-3 c =
+    let args = c .before .before .before .before .before .args in
+    sym (ends-past-some (args .last) (args .e) (c .before .before .before .if1 .left))
 
 pub ends-past-spec : {M : Type 1} → statement M
 ends-past-spec = tie.close (tie.spec returns returns-2 sub-result returns-3)

@@ -61,7 +61,11 @@ shared-slice-read-t26 : tie.Need-shared-slice-read-t26
 shared-slice-read-t26 c = search needs
 
 returns : tie.Need-returns
-returns c = sym (set-at (c .before .before .before .before .before .before .args .readbacks .now) (6 * c .before .before .before .before .before .before .args .i) (c .before .before .before .before .before .before .pre))
+returns c =
+    let at-args = c .before .before .before .before .before .before in
+    let args = at-args .args in
+    let pre = at-args .pre in
+    sym (set-at (args .readbacks .now) (6 * args .i) pre)
 
 pub set-at-spec : {M : Type 1} → statement M
 set-at-spec =

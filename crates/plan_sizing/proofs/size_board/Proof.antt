@@ -11,7 +11,8 @@ root-from-requires c κs = search needs
 
 bus-size-requires : tie.Need-bus-size-requires
 bus-size-requires c κs =
-    let start = c .before .before .before .before .before .before in
+    let place = c .before .before .before .before .before .before in
+    let start = place in
     let bases = basesOf (start .args .base-low) (start .args .base-high) (start .args .base-io) in
     root-standing (start .args .memo .now) bases (start .pre .0) (start .pre .1) (omega arith) (c .before .root-from .ensures)
 
@@ -19,7 +20,12 @@ same-length : tie.Need-same-length
 same-length c = search needs
 
 returns : tie.Need-returns
-returns c = let a = c .before .before .before .before .before .before .before .before .before .args in board-sized (a .parents .now) (a .headers .now) (a .readbacks .now) (basesOf (a .base-low) (a .base-high) (a .base-io)) (c .before .before .before .before .root-from .ensures) (c .before .before .bus-size .ensures)
+returns c =
+    let root-from = c .before .before .before .before .root-from in
+    let args = c .before .before .before .before .before .before .before .before .before .args in
+    let a = args in
+    board-sized (a .parents .now) (a .headers .now) (a .readbacks .now) (basesOf (a .base-low) (a .base-high) (a .base-io))
+    (root-from .ensures) (c .before .before .bus-size .ensures)
 
 pub size-board-spec : {M : Type 1} → statement M
 size-board-spec = tie.close (tie.spec root-from-requires bus-size-requires same-length returns)

@@ -83,7 +83,9 @@ same-length : tie.Need-same-length
 same-length c = simp length-set
 
 returns : tie.Need-returns
-returns c = let at = 8 * c .before .before .before .args .i in rw (add-one at, add-two at, add-three at, add-four at, add-five at, add-six at, add-seven at)
+returns c =
+    let at = 8 * c .before .before .before .args .i in rw
+    (add-one at, add-two at, add-three at, add-four at, add-five at, add-six at, add-seven at)
 
 pub store-spec : {M : Type 1} → statement M
 store-spec =

@@ -24,13 +24,25 @@ grow-requires-3 : tie.Need-grow-requires-3
 grow-requires-3 c κs = search needs
 
 returns : tie.Need-returns
-returns c = rw (c .before .enum-told .given .1) (with-bar-at Low (c .before .before .before .before .before .before .args .size) (c .before .before .before .before .before .before .args .l) (c .grow .result) (c .before .before .before .before .before .before .pre .0) (c .grow .ensures))
+returns c =
+    let at-args = c .before .before .before .before .before .before in
+    let args = at-args .args in
+    let pre = at-args .pre in
+    rw (c .before .enum-told .given .1) (with-bar-at Low (args .size) (args .l) (c .grow .result) (pre .0) (c .grow .ensures))
 
 returns-2 : tie.Need-returns-2
-returns-2 c = rw (c .before .enum-told2 .given .1) (with-bar-at High (c .before .before .before .before .before .before .args .size) (c .before .before .before .before .before .before .args .l) (c .grow2 .result) (c .before .before .before .before .before .before .pre .0) (c .grow2 .ensures))
+returns-2 c =
+    let at-args = c .before .before .before .before .before .before in
+    let args = at-args .args in
+    let pre = at-args .pre in
+    rw (c .before .enum-told2 .given .1) (with-bar-at High (args .size) (args .l) (c .grow2 .result) (pre .0) (c .grow2 .ensures))
 
 returns-3 : tie.Need-returns-3
-returns-3 c = rw (c .before .enum-told3 .given .1) (with-bar-at Io (c .before .before .before .before .before .before .args .size) (c .before .before .before .before .before .before .args .l) (c .grow3 .result) (c .before .before .before .before .before .before .pre .0) (c .grow3 .ensures))
+returns-3 c =
+    let at-args = c .before .before .before .before .before .before in
+    let args = at-args .args in
+    let pre = at-args .pre in
+    rw (c .before .enum-told3 .given .1) (with-bar-at Io (args .size) (args .l) (c .grow3 .result) (pre .0) (c .grow3 .ensures))
 
 pub with-bar-spec : {M : Type 1} → statement M
 with-bar-spec =

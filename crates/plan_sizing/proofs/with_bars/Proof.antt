@@ -1,5 +1,5 @@
--- `plan_sizing::with_bars` meets its contract. The invariant: the BARs from place i on, laid out after what is done, come to what all come to.
--- The measure is the places left. Assumes nothing.
+-- `plan_sizing::with_bars` meets its contract. The invariant: the BARs from place i on, laid out after what is done, come to what all come
+-- to. The measure is the places left. Assumes nothing.
 use Rattle.plan_sizing.proofs.with_bars.Statement.{statement}
 use Rattle.plan_sizing.proofs.with_bars.Tie as tie
 use borrow.Author.Needs.{needs}
@@ -15,7 +15,9 @@ use Rattle.plan_sizing.specs.Cut.{says, cut, Whole, addSlot, addBars}
 use Rattle.plan_sizing.specs.CutLaws.{restOf, not-bad-of-lawful, whole-of-cut, bars-turn, bars-done}
 
 abbrev Inv-loop : tie.InvT-loop
-Inv-loop set n done₀ i₀ done i = (Whole done) × ((anyBad (slots (drop i (take n set))) ≡ false) × (cut (addBars (restOf (take n set) i) (says done)) ≡ cut (addBars (barsFrom 0 (slots (take n set))) (says done₀))))
+Inv-loop set n done₀ i₀ done i =
+    (Whole done) × ((anyBad (slots (drop i (take n set))) ≡ false)
+    × (cut (addBars (restOf (take n set) i) (says done)) ≡ cut (addBars (barsFrom 0 (slots (take n set))) (says done₀))))
 
 abbrev μ-loop : tie.MeasureT-loop
 μ-loop set n done₀ i₀ done i = n - i
@@ -27,7 +29,10 @@ slot-at-requires : tie.Need-slot-at-requires Inv-loop μ-loop
 slot-at-requires c κs = search needs
 
 with-slot-requires : tie.Need-with-slot-requires Inv-loop μ-loop
-with-slot-requires c κs = (c .before .before .loop .inv .0, rw (c .slot-at .ensures) (sized-here (drop (c .before .before .loop .i) (take (c .before .before .before .args .n) (c .before .before .before .args .set)))))
+with-slot-requires c κs =
+    let loop = c .before .before .loop in
+    let args = c .before .before .before .args in
+    (loop .inv .0, rw (c .slot-at .ensures) (sized-here (drop (loop .i) (take (args .n) (args .set)))))
 
 span-requires : tie.Need-span-requires Inv-loop μ-loop
 span-requires c κs = search needs
@@ -40,8 +45,10 @@ loop-less c = omega arith
 
 loop-again : tie.Need-loop-again Inv-loop μ-loop
 loop-again c =
-    let start = c .before .before .before .before .before in
-    let loop = c .before .before .before .before .loop in
+    let the-loop = c .before .before .before .before .loop in
+    let place = c .before .before .before .before .before in
+    let start = place in
+    let loop = the-loop in
     let s = take (start .args .n) (start .args .set) in
     let six : length (start .args .set) ≡ 6 = search needs in
     let m = length-first (start .args .set) (start .args .n) six in
@@ -52,7 +59,8 @@ loop-again c =
       whole-of-cut _ (addSlot (found .result) (says (loop .done))) added,
       (
         rw (c .span .ensures .0) (any-bad-step s (loop .i) _ h (found .ensures) good ∙ loop .inv .1 .0),
-        rw (c .span .ensures .0) (bars-turn s (loop .i) _ _ _ h (found .ensures) good added) ∙ loop .inv .1 .1,
+        rw (c .span .ensures .0)
+            (bars-turn s (loop .i) _ _ _ h (found .ensures) good added) ∙ loop .inv .1 .1,
       ),
     )
 

@@ -13,7 +13,10 @@ enum-known-s : tie.Need-enum-known-s
 enum-known-s c = search needs
 
 with-bar-requires : tie.Need-with-bar-requires
-with-bar-requires c κs = let z = rw (c .before .s .given .1) at (c .before .before .before .pre .1) in (c .before .before .before .pre .0, (z .bit, z .power))
+with-bar-requires c κs =
+    let pre = c .before .before .before .pre in
+    let z = rw (c .before .s .given .1) at (pre .1) in
+    (pre .0, (z .bit, z .power))
 
 enum-told-2 : tie.Need-enum-told-2
 enum-told-2 c = search needs
@@ -25,7 +28,9 @@ returns : tie.Need-returns
 returns c = rw (c .enum-told .given .1) (sym (c .before .before .pre .0))
 
 returns-2 : tie.Need-returns-2
-returns-2 c = c .with-bar .ensures ∙ sym (ap (λ (x : Slot). cut (addSlot x (says (c .before .before .before .before .args .l)))) (c .before .before .s .given .1))
+returns-2 c =
+    let args = c .before .before .before .before .args in
+    c .with-bar .ensures ∙ sym (ap (λ (x : Slot). cut (addSlot x (says (args .l)))) (c .before .before .s .given .1))
 
 returns-3 : tie.Need-returns-3
 returns-3 c = rw (c .enum-told2 .given .1) (sym (c .before .before .pre .0))

@@ -22,7 +22,10 @@ grow-requires : tie.Need-grow-requires
 grow-requires c κs = rw (c .window-align .ensures) (c .before .before .before .before .pre)
 
 returns-2 : tie.Need-returns-2
-returns-2 c = c .grow .ensures ∙ rw (c .before .before .window-size .ensures, c .before .window-align .ensures) (cut-window (c .before .before .before .before .before .args .q) (c .before .before .before .before .before .args .e) (c .before .before .before .before .before .args .inner) (c .before .before .before .if1 .left))
+returns-2 c =
+    let args = c .before .before .before .before .before .args in
+    c .grow .ensures ∙ rw (c .before .before .window-size .ensures, c .before .window-align .ensures)
+    (cut-window (args .q) (args .e) (args .inner) (c .before .before .before .if1 .left))
 
 pub with-window-spec : {M : Type 1} → statement M
 with-window-spec =

@@ -1,5 +1,5 @@
--- `plan_tables::count_bridges` meets its contract. The loop's invariant: storing the counts that are left stores all. The measure is how many headers are left.
--- Assumes nothing.
+-- `plan_tables::count_bridges` meets its contract. The loop's invariant: storing the counts that are left stores all. The measure is how
+-- many headers are left. Assumes nothing.
 use borrow.Author.Needs.{needs}
 use mathlib.Core.Path.{_≡_, refl, _∙_}
 use Prim.Native.Nat.{_-_, _≤_}
@@ -13,7 +13,8 @@ use Rattle.plan_tables.proofs.count_bridges.Tie as tie
 
 abbrev Inv-loop : tie.InvT-loop
 Inv-loop headers counts₀ n₀ i₀ counts n i =
-    (i ≤ length headers) × (n ≤ i) × (length counts ≡ length counts₀) × (sets counts i (countsFrom n (drop i headers)) ≡ sets counts₀ 0 (countsOf headers))
+    (i ≤ length headers) × (n ≤ i) × (length counts ≡ length counts₀)
+    × (sets counts i (countsFrom n (drop i headers)) ≡ sets counts₀ 0 (countsOf headers))
 
 abbrev μ-loop : tie.MeasureT-loop
 μ-loop headers counts₀ n₀ i₀ counts n i = length headers - i
@@ -44,11 +45,13 @@ loop-less c = omega arith
 
 loop-again : tie.Need-loop-again Inv-loop μ-loop
 loop-again c =
-    let a = c .before .before .before .before .before .before .args in
+    let args = c .before .before .before .before .before .before .args in
+    let a = args in
     let l = c .before .before .before .loop in (
       omega arith,
       omega (arith, c .weight .ensures .1),
-      length-set (l .counts) (l .i) (l .n) ∙ l .inv .2,
+      length-set (l .counts) (l .i) (l .n)
+          ∙ l .inv .2,
       counts-turn (l .counts) (a .headers .now) (l .i) (l .n) (l .inv .3) _ (c .weight .ensures .0) (omega arith),
     )
 

@@ -1,5 +1,5 @@
--- `plan_tables::fill` meets its contract. The loop's invariant: storing the functions that are left fills the arrays. The measure is what is left of the board.
--- Assumes nothing.
+-- `plan_tables::fill` meets its contract. The loop's invariant: storing the functions that are left fills the arrays. The measure is what
+-- is left of the board. Assumes nothing.
 use borrow.Author.Needs.{needs}
 use mathlib.Core.Path.{sym, ap, _∙_}
 use Prim.Native.Nat.{_-_}
@@ -8,18 +8,24 @@ use lib.ListN.{length}
 use Rattle.records.specs.RecordsLaws.{fits-at, none-here}
 use Rattle.board_record.specs.Function.{functionOfPart, headerWrong}
 use Rattle.plan_tables.specs.Tables.{Filling}
-use Rattle.plan_tables.specs.TablesLaws.{filling-start, filling-parents, filling-headers, filling-readbacks, filled-end, filled-broken, filling-lt, filling-room, filling-record}
+use Rattle.plan_tables.specs.TablesLaws.{filling-start, filling-parents, filling-headers, filling-readbacks, filled-end}
+use Rattle.plan_tables.specs.TablesLaws.{filled-broken, filling-lt, filling-room, filling-record}
 use Rattle.plan_tables.proofs.fill.Statement.{statement}
 use Rattle.plan_tables.proofs.fill.Tie as tie
 
 abbrev Inv-loop : tie.InvT-loop
-Inv-loop board parents₀ headers₀ readbacks₀ at₀ i₀ parents headers readbacks at i = Filling board parents₀ headers₀ readbacks₀ at i parents headers readbacks
+Inv-loop board parents₀ headers₀ readbacks₀ at₀ i₀ parents headers readbacks at i =
+    Filling board parents₀ headers₀ readbacks₀ at i parents headers readbacks
 
 abbrev μ-loop : tie.MeasureT-loop
 μ-loop board parents₀ headers₀ readbacks₀ at₀ i₀ parents headers readbacks at i = length board - at
 
 loop-holds : tie.Need-loop-holds Inv-loop μ-loop
-loop-holds c = let a = c .before .before .before .before .args in filling-start (a .board .now) (a .parents .now) (a .headers .now) (a .readbacks .now) (c .before .before .before .before .pre .0) (c .before .before .before .before .pre .1)
+loop-holds c =
+    let args = c .before .before .before .before .args in
+    let pre = c .before .before .before .before .pre in
+    let a = args in
+    filling-start (a .board .now) (a .parents .now) (a .headers .now) (a .readbacks .now) (pre .0) (pre .1)
 
 next-at-requires : tie.Need-next-at-requires Inv-loop μ-loop
 next-at-requires c κs = search needs
@@ -58,29 +64,70 @@ enum-known-n : tie.Need-enum-known-n Inv-loop μ-loop
 enum-known-n c = search needs
 
 part-at-requires : tie.Need-part-at-requires Inv-loop μ-loop
-part-at-requires c κs = fits-at (c .before .before .before .before .before .before .before .before .before .args .board .now) (c .before .before .before .before .loop .at) _ (sym (c .before .before .before .next-at .ensures) ∙ c .before .n .given .1)
+part-at-requires c κs =
+    let loop = c .before .before .before .before .loop in
+    let args = c .before .before .before .before .before .before .before .before .before .args in
+    fits-at (args .board .now) (loop .at) _ (sym (c .before .before .before .next-at .ensures) ∙ c .before .n .given .1)
 
 put-requires : tie.Need-put-requires Inv-loop μ-loop
 put-requires c κs =
-    let e = sym (c .before .before .before .before .before .before .before .next-at .ensures) ∙ c .before .before .before .before .before .n .given .1 in
-    (ap headerWrong (c .before .before .before .part-at .ensures) ∙ none-here headerWrong (c .before .before .before .before .before .before .before .before .before .before .before .before .before .args .board .now) (c .before .before .before .before .before .before .before .before .loop .at) _ e (c .before .before .before .before .before .before .before .before .loop .inv .lawful), filling-room (c .before .before .before .before .before .before .before .before .loop .inv) _ e)
+    let at-n = c .before .before .before .before .before in
+    let n = at-n .n in
+    let next-at = at-n .before .before .next-at in
+    let loop = at-n .before .before .before .loop in
+    let args = at-n .before .before .before .before .before .before .before .before .args in
+    let e = sym (next-at .ensures) ∙ n .given .1 in (
+      ap headerWrong (c .before .before .before .part-at .ensures)
+          ∙ none-here headerWrong (args .board .now) (loop .at) _ e (loop .inv .lawful),
+      filling-room (loop .inv) _ e,
+    )
 
 add-i : tie.Need-add-i Inv-loop μ-loop
-add-i c = omega (arith, filling-lt (c .before .before .before .before .before .before .before .before .before .before .before .before .before .before .before .loop .inv) _ (sym (c .before .before .before .before .before .before .before .before .before .before .before .before .before .before .next-at .ensures) ∙ c .before .before .before .before .before .before .before .before .before .before .before .before .n .given .1))
+add-i c =
+    let at-n = c .before .before .before .before .before .before .before .before .before .before .before .before in
+    let n = at-n .n in
+    let next-at = at-n .before .before .next-at in
+    let loop = at-n .before .before .before .loop in
+    omega (arith, filling-lt (loop .inv) _ (sym (next-at .ensures) ∙ n .given .1))
 
 add-at : tie.Need-add-at Inv-loop μ-loop
-add-at c = omega (arith, fits-at (c .before .before .before .before .before .before .before .before .before .before .before .before .before .before .before .before .before .before .before .before .args .board .now) (c .before .before .before .before .before .before .before .before .before .before .before .before .before .before .before .loop .at) _ (sym (c .before .before .before .before .before .before .before .before .before .before .before .before .before .before .next-at .ensures) ∙ c .before .before .before .before .before .before .before .before .before .before .before .before .n .given .1))
+add-at c =
+    let at-n = c .before .before .before .before .before .before .before .before .before .before .before .before in
+    let n = at-n .n in
+    let next-at = at-n .before .before .next-at in
+    let loop = at-n .before .before .before .loop in
+    let args = at-n .before .before .before .before .before .before .before .before .args in
+    omega (arith, fits-at (args .board .now) (loop .at) _ (sym (next-at .ensures) ∙ n .given .1))
 
 add-at-2 : tie.Need-add-at-2 Inv-loop μ-loop
-add-at-2 c = omega (arith, fits-at (c .before .before .before .before .before .before .before .before .before .before .before .before .before .before .before .before .before .before .before .before .args .board .now) (c .before .before .before .before .before .before .before .before .before .before .before .before .before .before .before .loop .at) _ (sym (c .before .before .before .before .before .before .before .before .before .before .before .before .before .before .next-at .ensures) ∙ c .before .before .before .before .before .before .before .before .before .before .before .before .n .given .1))
+add-at-2 c =
+    let at-n = c .before .before .before .before .before .before .before .before .before .before .before .before in
+    let n = at-n .n in
+    let next-at = at-n .before .before .next-at in
+    let loop = at-n .before .before .before .loop in
+    let args = at-n .before .before .before .before .before .before .before .before .args in
+    omega (arith, fits-at (args .board .now) (loop .at) _ (sym (next-at .ensures) ∙ n .given .1))
 
 loop-less : tie.Need-loop-less Inv-loop μ-loop
-loop-less c = omega (arith, fits-at (c .before .before .before .before .before .before .before .before .before .before .before .before .before .before .before .before .before .before .before .before .args .board .now) (c .before .before .before .before .before .before .before .before .before .before .before .before .before .before .before .loop .at) _ (sym (c .before .before .before .before .before .before .before .before .before .before .before .before .before .before .next-at .ensures) ∙ c .before .before .before .before .before .before .before .before .before .before .before .before .n .given .1))
+loop-less c =
+    let at-n = c .before .before .before .before .before .before .before .before .before .before .before .before in
+    let n = at-n .n in
+    let next-at = at-n .before .before .next-at in
+    let loop = at-n .before .before .before .loop in
+    let args = at-n .before .before .before .before .before .before .before .before .args in
+    omega (arith, fits-at (args .board .now) (loop .at) _ (sym (next-at .ensures) ∙ n .given .1))
 
 loop-again : tie.Need-loop-again Inv-loop μ-loop
 loop-again c =
-    let e = sym (c .before .before .before .before .before .before .before .before .before .before .before .before .before .before .next-at .ensures) ∙ c .before .before .before .before .before .before .before .before .before .before .before .before .n .given .1 in
-    filling-record (c .before .before .before .before .before .before .before .before .before .before .before .before .before .before .before .loop .inv) _ e (ap functionOfPart (c .before .before .before .before .before .before .before .before .before .before .part-at .ensures)) (c .before .before .before .before .before .before .put .ensures)
+    let at-put = c .before .before .before .before .before .before in
+    let put = at-put .put in
+    let part-at = at-put .before .before .before .before .part-at in
+    let at-n = at-put .before .before .before .before .before .before in
+    let n = at-n .n in
+    let next-at = at-n .before .before .next-at in
+    let loop = at-n .before .before .before .loop in
+    let e = sym (next-at .ensures) ∙ n .given .1 in
+    filling-record (loop .inv) _ e (ap functionOfPart (part-at .ensures)) (put .ensures)
 
 pub fill-spec : {M : Type 1} → statement M
 fill-spec =

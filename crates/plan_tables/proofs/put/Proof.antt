@@ -18,7 +18,9 @@ slice-write-parents : tie.Need-slice-write-parents
 slice-write-parents c = search needs
 
 shared-slice-read-headers : tie.Need-shared-slice-read-headers
-shared-slice-read-headers c = omega (arith, le-length _ (c .before .before .before .before .before .before .pre .0))
+shared-slice-read-headers c =
+    let pre = c .before .before .before .before .before .before .pre in
+    omega (arith, le-length _ (pre .0))
 
 slice-write-headers : tie.Need-slice-write-headers
 slice-write-headers c = search needs
@@ -41,11 +43,15 @@ same-length-3 c = search needs
 returns : tie.Need-returns
 unfolding functionOfPart
 returns c =
-    let a = c .before .before .before .before .before .before .before .before .before .before .args in
+    let at-parent-of = c .before .before .before .before .before in
+    let parent-of = at-parent-of .parent-of in
+    let args = at-parent-of .before .before .before .before .before .args in
+    let a = args in
     record {
-      parents = ap (set (a .parents .now) (a .i)) (c .before .before .before .before .before .parent-of .ensures);
+      parents = ap (set (a .parents .now) (a .i)) (parent-of .ensures);
       headers = refl;
-      readbacks = c .before .before .put-set .ensures;
+      readbacks
+          = c .before .before .put-set .ensures;
     }
 
 pub put-spec : {M : Type 1} → statement M

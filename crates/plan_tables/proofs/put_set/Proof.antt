@@ -1,5 +1,5 @@
--- `plan_tables::put_set` meets its contract. The loop's invariant: storing what is left of the set stores all of it. The measure is how many are left.
--- Assumes nothing.
+-- `plan_tables::put_set` meets its contract. The loop's invariant: storing what is left of the set stores all of it. The measure is how
+-- many are left. Assumes nothing.
 use borrow.Author.Needs.{needs}
 use mathlib.Core.Path.{_≡_, refl, ap, _∙_}
 use Prim.Native.Nat.{ℕ, _+_, _-_, _≤_}
@@ -36,7 +36,9 @@ mul-readbacks : tie.Need-mul-readbacks Inv-loop μ-loop
 mul-readbacks c = search needs
 
 slice-write-readbacks : tie.Need-slice-write-readbacks Inv-loop μ-loop
-slice-write-readbacks c = omega (arith, c .before .before .before .before .before .pre .1, c .before .before .loop .inv .1)
+slice-write-readbacks c =
+    let pre = c .before .before .before .before .before .pre in
+    omega (arith, pre .1, c .before .before .loop .inv .1)
 
 add-j : tie.Need-add-j Inv-loop μ-loop
 add-j c = omega arith
@@ -46,12 +48,15 @@ loop-less c = omega arith
 
 loop-again : tie.Need-loop-again Inv-loop μ-loop
 loop-again c =
-    let a = c .before .before .before .before .before .args in
+    let args = c .before .before .before .before .before .args in
+    let a = args in
     let l = c .before .before .loop in
     let set = functionOfPart (a .part .now) .readbacks in (
       omega arith,
-      length-set (l .readbacks) (a .at + l .j) (c .readback-at .result) ∙ l .inv .1,
-      run-turn (l .readbacks) set (a .at) (l .j) (l .inv .2) (c .readback-at .ensures) (omega (arith, length-readbacks (a .part .now))),
+      length-set (l .readbacks) (a .at + l .j) (c .readback-at .result)
+          ∙ l .inv .1,
+      run-turn (l .readbacks) set (a .at) (l .j) (l .inv .2) (c .readback-at .ensures)
+          (omega (arith, length-readbacks (a .part .now))),
     )
 
 same-length : tie.Need-same-length Inv-loop μ-loop
@@ -61,7 +66,8 @@ returns : tie.Need-returns Inv-loop μ-loop
 returns c =
     let a = c .before .before .before .before .args in
     let l = c .before .loop in
-    run-end (l .readbacks) (functionOfPart (a .part .now) .readbacks) (a .at) (l .j) (l .inv .2) (omega (arith, length-readbacks (a .part .now)))
+    run-end (l .readbacks) (functionOfPart (a .part .now) .readbacks) (a .at) (l .j) (l .inv .2)
+    (omega (arith, length-readbacks (a .part .now)))
 
 pub put-set-spec : {M : Type 1} → statement M
 put-set-spec =

@@ -7,22 +7,39 @@ use mathlib.Core.Path.{sym}
 use lib.Seq.{length-take-le}
 
 slice-aggregate-hs : tie.Need-slice-aggregate-hs
-slice-aggregate-hs c = sym (length-take-le _ _ (c .before .before .before .before .before .before .pre .arrays .headers))
+slice-aggregate-hs c =
+    let pre = c .before .before .before .before .before .before .pre in
+    sym (length-take-le _ _ (pre .arrays .headers))
 
 count-bridges-requires : tie.Need-count-bridges-requires
-count-bridges-requires c κs = let l = length-take-le (c .before .before .before .before .before .before .before .args .n) (c .before .before .before .before .before .before .before .args .headers .now) (c .before .before .before .before .before .before .before .pre .arrays .headers) in (omega (arith, l, c .before .before .before .before .before .before .before .pre .few), omega (arith, l, c .before .before .before .before .before .before .before .pre .counts-room))
+count-bridges-requires c κs =
+    let at-args = c .before .before .before .before .before .before .before in
+    let args = at-args .args in
+    let pre = at-args .pre in
+    let l = length-take-le (args .n) (args .headers .now) (pre .arrays .headers) in
+    (omega (arith, l, pre .few), omega (arith, l, pre .counts-room))
 
 slice-aggregate-ps : tie.Need-slice-aggregate-ps
-slice-aggregate-ps c = sym (length-take-le _ _ (c .before .before .before .before .before .before .before .before .before .before .before .before .before .before .pre .arrays .parents))
+slice-aggregate-ps c =
+    let pre = c .before .before .before .before .before .before .before .before .before .before .before .before .before .before .pre in
+    sym (length-take-le _ _ (pre .arrays .parents))
 
 mul-sets : tie.Need-mul-sets
 mul-sets c = search needs
 
 slice-aggregate-sets : tie.Need-slice-aggregate-sets
-slice-aggregate-sets c = sym (length-take-le _ _ (c .before .before .before .before .before .before .before .before .before .before .before .before .before .before .before .pre .arrays .readbacks))
+slice-aggregate-sets c =
+    let at-pre = c .before .before .before .before .before .before .before .before .before .before .before .before .before .before .before in
+    let pre = at-pre .pre in
+    sym (length-take-le _ _ (pre .arrays .readbacks))
 
 size-board-requires : tie.Need-size-board-requires
-size-board-requires c κs = let l = length-take-le (c .before .before .before .before .before .before .before .before .before .before .before .before .before .before .before .before .args .n) (c .before .before .before .before .before .before .before .before .before .before .before .before .before .before .before .before .args .parents .now) (c .before .before .before .before .before .before .before .before .before .before .before .before .before .before .before .before .pre .arrays .parents) in (c .before .before .before .before .before .before .before .before .before .before .before .before .before .before .before .before .pre .board, omega (arith, l, c .before .before .before .before .before .before .before .before .before .before .before .before .before .before .before .before .pre .memo-room))
+size-board-requires c κs =
+    let at-args = c .before .before .before .before .before .before .before .before .before .before .before .before .before .before .before .before in
+    let args = at-args .args in
+    let pre = at-args .pre in
+    let l = length-take-le (args .n) (args .parents .now) (pre .arrays .parents) in
+    (pre .board, omega (arith, l, pre .memo-room))
 
 mul-t20 : tie.Need-mul-t20
 mul-t20 c = search needs

@@ -27,7 +27,12 @@ slice-aggregate-count-and-size-3 : tie.Need-slice-aggregate-count-and-size-3
 slice-aggregate-count-and-size-3 c = search needs
 
 count-and-size-requires : tie.Need-count-and-size-requires
-count-and-size-requires c κs = measurable _ (c .before .before .before .before .before .before .before .before .before .before .before .before .before .before .before .pre .0 .0) (record { parents = omega arith; headers = omega arith; readbacks = omega arith }) (c .before .before .before .before .before .before .before .before .fill .ensures) _ _ (c .before .before .before .before .before .before .before .before .before .before .before .before .before .before .before .pre .1 .0) (c .before .before .before .before .before .before .before .before .before .before .before .before .before .before .before .pre .1 .1)
+count-and-size-requires c κs =
+    let at-fill = c .before .before .before .before .before .before .before .before in
+    let fill = at-fill .fill in
+    let pre = at-fill .before .before .before .before .before .before .before .pre in
+    measurable _ (pre .0 .0) (record { parents = omega arith; headers = omega arith; readbacks = omega arith }) (fill .ensures) _ _
+    (pre .1 .0) (pre .1 .1)
 
 same-length : tie.Need-same-length
 same-length c = search needs
@@ -36,7 +41,13 @@ same-length-2 : tie.Need-same-length-2
 same-length-2 c = search needs
 
 returns : tie.Need-returns
-returns c = measured _ (c .before .before .before .before .before .before .before .before .before .before .before .before .before .before .before .before .before .before .before .before .pre .0 .0) (record { parents = omega arith; headers = omega arith; readbacks = omega arith }) (c .before .before .before .before .before .before .before .before .before .before .before .before .before .fill .ensures) _ _ (c .before .before .before .before .before .before .before .before .before .before .before .before .before .before .before .before .before .before .before .before .pre .1 .0) (c .before .before .before .before .before .before .before .before .before .before .before .before .before .before .before .before .before .before .before .before .pre .1 .1) (c .before .before .before .before .before .before .before .before .before .before .before .before .before .before .before .before .before .before .before .before .pre .0 .1) (c .before .before .before .before .count-and-size .ensures)
+returns c =
+    let count-and-size = c .before .before .before .before .count-and-size in
+    let at-fill = c .before .before .before .before .before .before .before .before .before .before .before .before .before in
+    let fill = at-fill .fill in
+    let pre = at-fill .before .before .before .before .before .before .before .pre in
+    measured _ (pre .0 .0) (record { parents = omega arith; headers = omega arith; readbacks = omega arith }) (fill .ensures) _ _
+    (pre .1 .0) (pre .1 .1) (pre .0 .1) (count-and-size .ensures)
 
 pub measure-spec : {M : Type 1} → statement M
 measure-spec =

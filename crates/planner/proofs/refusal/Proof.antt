@@ -31,18 +31,47 @@ runs-out-requires-2 c κs = search needs
 
 returns-3 : tie.Need-returns-3
 unfolding refusalBy
-returns-3 c = rw (le-ltb _ _ (c .before .before .before .before .before .if1 .left), sym (c .before .before .before .runs-out .ensures) ∙ c .before .before .if2 .left, sym (c .before .runs-out2 .ensures) ∙ c .if3 .taken)
+returns-3 c =
+    let if1 = c .before .before .before .before .before .if1 in
+    rw (
+      le-ltb _ _ (if1 .left),
+      sym (c .before .before .before .runs-out .ensures)
+          ∙ c .before .before .if2 .left,
+      sym (c .before .runs-out2 .ensures) ∙ c .if3 .taken,
+    )
 
 runs-out-requires-3 : tie.Need-runs-out-requires-3
 runs-out-requires-3 c κs = search needs
 
 returns-4 : tie.Need-returns-4
 unfolding refusalBy
-returns-4 c = rw (le-ltb _ _ (c .before .before .before .before .before .before .before .if1 .left), sym (c .before .before .before .before .before .runs-out .ensures) ∙ c .before .before .before .before .if2 .left, sym (c .before .before .before .runs-out2 .ensures) ∙ c .before .before .if3 .left, sym (c .before .runs-out3 .ensures) ∙ c .if4 .taken)
+returns-4 c =
+    let if2 = c .before .before .before .before .if2 in
+    let at-runs-out = c .before .before .before .before .before in
+    let runs-out = at-runs-out .runs-out in
+    let if1 = at-runs-out .before .before .if1 in
+    rw (
+      le-ltb _ _ (if1 .left),
+      sym (runs-out .ensures) ∙ if2 .left,
+      sym (c .before .before .before .runs-out2 .ensures)
+          ∙ c .before .before .if3 .left,
+      sym (c .before .runs-out3 .ensures) ∙ c .if4 .taken,
+    )
 
 returns-5 : tie.Need-returns-5
 unfolding refusalBy
-returns-5 c = rw (le-ltb _ _ (c .before .before .before .before .before .before .before .if1 .left), sym (c .before .before .before .before .before .runs-out .ensures) ∙ c .before .before .before .before .if2 .left, sym (c .before .before .before .runs-out2 .ensures) ∙ c .before .before .if3 .left, sym (c .before .runs-out3 .ensures) ∙ c .if4 .left)
+returns-5 c =
+    let if2 = c .before .before .before .before .if2 in
+    let at-runs-out = c .before .before .before .before .before in
+    let runs-out = at-runs-out .runs-out in
+    let if1 = at-runs-out .before .before .if1 in
+    rw (
+      le-ltb _ _ (if1 .left),
+      sym (runs-out .ensures) ∙ if2 .left,
+      sym (c .before .before .before .runs-out2 .ensures)
+          ∙ c .before .before .if3 .left,
+      sym (c .before .runs-out3 .ensures) ∙ c .if4 .left,
+    )
 
 pub refusal-spec : {M : Type 1} → statement M
 refusal-spec =

@@ -89,13 +89,14 @@ walk-returns-2 t c =
 
 walk-returns-3 : (t : ℕ) → walk-lts.Need-returns-3 (walk-claims t) (walk-at t) walk.Post
 walk-returns-3 t c =
-    let claimed = c .before .before .before .before .before in
+    let place = c .before .before .before .before .before in
+    let claimed = place in
     let tallied = claimed .before .before in
     let known = tallied .before in
     let entry = known .before in
     walk-window (entry .args .aim) _ (λ i. known .shared-slice-known .given i .fits) (entry .pre .1 .0) (entry .args .bus)
-    (entry .args .crossed) (omega (arith, entry .fits .bus)) (tallied .tally-on .result)
-    (tallied .tally-on .ensures) _ (claimed .claim .given .1) _ _ (c .before .before .claim3 .given .1) _ (c .walk .ensures)
+    (entry .args .crossed) (omega (arith, entry .fits .bus)) (tallied .tally-on .result) (tallied .tally-on .ensures) _
+    (claimed .claim .given .1) _ _ (c .before .before .claim3 .given .1) _ (c .walk .ensures)
 
 walk-returns-4 : (t : ℕ) → walk-lts.Need-returns-4 (walk-claims t) (walk-at t) walk.Post
 walk-returns-4 t c =

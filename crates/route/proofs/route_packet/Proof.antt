@@ -45,7 +45,8 @@ aim-of-requires c κs = search needs
 
 walk-requires : tie.Need-walk-requires
 walk-requires c κs =
-    let counted = c .before .before .before .before .before .before in
+    let place = c .before .before .before .before .before .before in
+    let counted = place in
     (checked-of-zero _ (counted .before .before .pre), omega arith)
 
 enum-known-number : tie.Need-enum-known-number
@@ -59,7 +60,8 @@ enum-known-n c = search needs
 
 returns-3 : tie.Need-returns-3
 returns-3 c =
-    let ended = c .before .before .before .before in
+    let place = c .before .before .before .before in
+    let ended = place in
     let aimed = ended .before in
     let right = aimed .before in
     let typed = right .before in
@@ -69,8 +71,8 @@ returns-3 c =
     let counted = some .before in
     let entry = counted .before .before in
     walk-delivered (entry .args .p) _ _ (counted .count .ensures) (some .if1 .left) (checked-of-zero _ (entry .pre)) _
-    (first .part .ensures) _ (top .bus-of .ensures) _ (typed .type-wrong .ensures) (aimed .aim-of .result)
-    (ended .walk .result) (right .if2 .left) (aimed .aim-of .ensures) (ended .walk .ensures) _ _ _ (c .before .before .number .given .1)
+    (first .part .ensures) _ (top .bus-of .ensures) _ (typed .type-wrong .ensures) (aimed .aim-of .result) (ended .walk .result)
+    (right .if2 .left) (aimed .aim-of .ensures) (ended .walk .ensures) _ _ _ (c .before .before .number .given .1)
     (c .arrived .ensures)
 
 returns-4 : tie.Need-returns-4

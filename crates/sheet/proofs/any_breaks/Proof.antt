@@ -1,5 +1,5 @@
--- `sheet::any_breaks` meets its contract. Invariant: a record starts at the cursor or it is the end, and whether a record from there on breaks the
--- rule is whether one of the sheet does. Measure: the bytes that are left. Assumes nothing.
+-- `sheet::any_breaks` meets its contract. Invariant: a record starts at the cursor or it is the end, and whether a record from there on
+-- breaks the rule is whether one of the sheet does. Measure: the bytes that are left. Assumes nothing.
 use Prim.Native.Nat.{_≤_, _-_}
 use native.Mathlib.Omega.{arith}
 use mathlib.Core.Bool.{true}
@@ -12,7 +12,9 @@ use Rattle.sheet.proofs.any_breaks.Statement.{statement}
 use Rattle.sheet.proofs.any_breaks.Tie as tie
 
 abbrev Inv-loop : tie.InvT-loop
-Inv-loop rule sheet at₀ at = (at ≤ length sheet) × (isFramed (drop at sheet) ≡ true) × (anyBreaks rule (entriesFrom sheet at) ≡ anyBreaks rule (entriesFrom sheet 1))
+Inv-loop rule sheet at₀ at =
+    (at ≤ length sheet) × (isFramed (drop at sheet) ≡ true)
+    × (anyBreaks rule (entriesFrom sheet at) ≡ anyBreaks rule (entriesFrom sheet 1))
 
 abbrev μ-loop : tie.MeasureT-loop
 μ-loop rule sheet at₀ at = length sheet - at
@@ -43,13 +45,18 @@ breaks-requires : tie.Need-breaks-requires Inv-loop μ-loop
 breaks-requires c κs = part-sized _ _ (here (c .before))
 
 returns : tie.Need-returns Inv-loop μ-loop
-returns c = sym (breaks-hit _ _ (here (c .before .before .before)) _ (sym (c .before .breaks .ensures) ∙ c .if1 .taken)) ∙ c .before .before .before .before .loop .inv .2
+returns c =
+    let loop = c .before .before .before .before .loop in
+    sym (breaks-hit _ _ (here (c .before .before .before)) _ (sym (c .before .breaks .ensures) ∙ c .if1 .taken)) ∙ loop .inv .2
 
 loop-less : tie.Need-loop-less Inv-loop μ-loop
 loop-less c = omega (arith, here (c .before .before .before) .fits)
 
 loop-again : tie.Need-loop-again Inv-loop μ-loop
-loop-again c = let h = here (c .before .before .before) in (h .fits, h .rest, sym (breaks-miss _ _ h _ (sym (c .before .breaks .ensures) ∙ c .if1 .left)) ∙ c .before .before .before .before .loop .inv .2)
+loop-again c =
+    let loop = c .before .before .before .before .loop in
+    let h = here (c .before .before .before) in
+    (h .fits, h .rest, sym (breaks-miss _ _ h _ (sym (c .before .breaks .ensures) ∙ c .if1 .left)) ∙ loop .inv .2)
 
 returns-2 : tie.Need-returns-2 Inv-loop μ-loop
 returns-2 c = sym (breaks-past _ _ (c .loop-test .left) _) ∙ c .before .loop .inv .2

@@ -12,7 +12,12 @@ use Rattle.sheet.proofs.check.Tie as tie
 
 -- past the 20s
 framed : (c : tie.Else3) → Framed 1 (c .before .before .before .before .before .before .args .sheet .now)
-framed c = record { inside = omega (arith, c .before .before .before .before .if1 .left); sized = sym (c .before .is-framed .ensures) ∙ not-false _ (c .if3 .left) }
+framed c =
+    record {
+      inside = omega (arith, c .before .before .before .before .if1 .left);
+      sized = sym (c .before .is-framed .ensures)
+          ∙ not-false _ (c .if3 .left);
+    }
 
 returns : tie.Need-returns
 unfolding sheetNumber
@@ -30,18 +35,43 @@ is-framed-requires c κs = search needs
 
 returns-3 : tie.Need-returns-3
 unfolding sheetNumber from21 from20
-returns-3 c = rw (ne-eqb _ _ (c .before .before .before .before .if1 .left), eq-eqb _ _ (c .before .before .if2 .left), sym (c .before .is-framed .ensures) ∙ not-true _ (c .if3 .taken))
+returns-3 c =
+    let if1 = c .before .before .before .before .if1 in
+    rw (ne-eqb _ _ (if1 .left), eq-eqb _ _ (c .before .before .if2 .left), sym (c .before .is-framed .ensures) ∙ not-true _ (c .if3 .taken))
 
 returns-4 : tie.Need-returns-4
 unfolding sheetNumber from21 from20 from22
-returns-4 c = let f = framed (c .before) in rw (ne-eqb _ _ (c .before .before .before .before .before .if1 .left), eq-eqb _ _ (c .before .before .before .if2 .left), f .sized, lt-ltb mostFunctions (length (entriesFrom (c .before .before .before .before .before .before .before .args .sheet .now) 1)) (omega (arith, count-entries _ f, c .if4 .taken)))
+returns-4 c =
+    let at-if1 = c .before .before .before .before .before in
+    let if1 = at-if1 .if1 in
+    let args = at-if1 .before .before .args in
+    let f = framed (c .before) in
+    rw (
+      ne-eqb _ _ (if1 .left),
+      eq-eqb _ _ (c .before .before .before .if2 .left),
+      f .sized,
+      lt-ltb mostFunctions
+          (length (entriesFrom (args .sheet .now) 1)) (omega (arith, count-entries _ f, c .if4 .taken)),
+    )
 
 check-records-requires : tie.Need-check-records-requires
 check-records-requires c κs = framed (c .before)
 
 returns-5 : tie.Need-returns-5
 unfolding sheetNumber from21 from20 from22
-returns-5 c = let f = framed (c .before .before) in rw (ne-eqb _ _ (c .before .before .before .before .before .before .if1 .left), eq-eqb _ _ (c .before .before .before .before .if2 .left), f .sized, le-ltb mostFunctions (length (entriesFrom (c .before .before .before .before .before .before .before .before .args .sheet .now) 1)) (omega (arith, count-entries _ f, c .before .if4 .left))) (c .check-records .ensures)
+returns-5 c =
+    let if2 = c .before .before .before .before .if2 in
+    let at-if1 = c .before .before .before .before .before .before in
+    let if1 = at-if1 .if1 in
+    let args = at-if1 .before .before .args in
+    let f = framed (c .before .before) in
+    rw (
+      ne-eqb _ _ (if1 .left),
+      eq-eqb _ _ (if2 .left),
+      f .sized,
+      le-ltb mostFunctions (length (entriesFrom (args .sheet .now) 1))
+          (omega (arith, count-entries _ f, c .before .if4 .left)),
+    ) (c .check-records .ensures)
 
 pub check-spec : {M : Type 1} → statement M
 check-spec =

@@ -1,4 +1,5 @@
--- `sheet::check_records` meets its contract: the tests in document 01's order, each answer after the tests before it failed. Assumes nothing.
+-- `sheet::check_records` meets its contract: the tests in document 01's order, each answer after the tests before it failed. Assumes
+-- nothing.
 use borrow.Author.Needs.{needs}
 use mathlib.Core.Path.{_≡_, sym, _∙_}
 use mathlib.Core.List.{List}
@@ -15,15 +16,18 @@ past-24 : (c : tie.Else1) → from24 (entries (c .before .before .before)) ≡ f
 unfolding from24
 past-24 c = rw (sym (c .before .any-breaks .ensures) ∙ c .if1 .left)
 
-past-27 : (c : tie.Else2) → from24 (entries (c .before .before .before .before .before)) ≡ from28 (entries (c .before .before .before .before .before))
+past-27 : (c : tie.Else2) → from24 (entries (c .before .before .before .before .before))
+    ≡ from28 (entries (c .before .before .before .before .before))
 unfolding from27
 past-27 c = past-24 (c .before .before) ∙ rw (sym (c .before .any-breaks2 .ensures) ∙ c .if2 .left)
 
-past-28 : (c : tie.Else3) → from24 (entries (c .before .before .before .before .before .before .before)) ≡ from25 (entries (c .before .before .before .before .before .before .before))
+past-28 : (c : tie.Else3) → from24 (entries (c .before .before .before .before .before .before .before))
+    ≡ from25 (entries (c .before .before .before .before .before .before .before))
 unfolding from28
 past-28 c = past-27 (c .before .before) ∙ rw (sym (c .before .id-twice .ensures) ∙ c .if3 .left)
 
-past-25 : (c : tie.Else4) → from24 (entries (c .before .before .before .before .before .before .before .before .before)) ≡ from29 (entries (c .before .before .before .before .before .before .before .before .before))
+past-25 : (c : tie.Else4) → from24 (entries (c .before .before .before .before .before .before .before .before .before))
+    ≡ from29 (entries (c .before .before .before .before .before .before .before .before .before))
 unfolding from25
 past-25 c = past-28 (c .before .before) ∙ rw (sym (c .before .any-breaks3 .ensures) ∙ c .if4 .left)
 

@@ -1,5 +1,5 @@
--- `sheet::find_from` meets its contract. Invariant: a record starts at the cursor or it is the end, and what is found from there on is what is found
--- at all. Measure: the bytes that are left. Assumes nothing.
+-- `sheet::find_from` meets its contract. Invariant: a record starts at the cursor or it is the end, and what is found from there on is what
+-- is found at all. Measure: the bytes that are left. Assumes nothing.
 use Prim.Native.Nat.{_≤_, _-_}
 use native.Mathlib.Omega.{arith}
 use mathlib.Core.Bool.{true}
@@ -12,7 +12,9 @@ use Rattle.sheet.proofs.find_from.Statement.{statement}
 use Rattle.sheet.proofs.find_from.Tie as tie
 
 abbrev Inv-loop : tie.InvT-loop
-Inv-loop sheet from id at₀ at = (at ≤ length sheet) × (isFramed (drop at sheet) ≡ true) × (findFrom id at (entriesFrom sheet at) ≡ findFrom id from (entriesFrom sheet from))
+Inv-loop sheet from id at₀ at =
+    (at ≤ length sheet) × (isFramed (drop at sheet) ≡ true)
+    × (findFrom id at (entriesFrom sheet at) ≡ findFrom id from (entriesFrom sheet from))
 
 abbrev μ-loop : tie.MeasureT-loop
 μ-loop sheet from id at₀ at = length sheet - at
@@ -43,13 +45,18 @@ id-of-requires : tie.Need-id-of-requires Inv-loop μ-loop
 id-of-requires c κs = part-sized _ _ (here (c .before))
 
 returns : tie.Need-returns Inv-loop μ-loop
-returns c = sym (find-hit _ _ (here (c .before .before .before)) _ (sym (c .before .id-of .ensures) ∙ c .if1 .taken)) ∙ c .before .before .before .before .loop .inv .2
+returns c =
+    let loop = c .before .before .before .before .loop in
+    sym (find-hit _ _ (here (c .before .before .before)) _ (sym (c .before .id-of .ensures) ∙ c .if1 .taken)) ∙ loop .inv .2
 
 loop-less : tie.Need-loop-less Inv-loop μ-loop
 loop-less c = omega (arith, here (c .before .before .before) .fits)
 
 loop-again : tie.Need-loop-again Inv-loop μ-loop
-loop-again c = let h = here (c .before .before .before) in (h .fits, h .rest, sym (find-miss _ _ h _ (λ e. c .if1 .left (c .before .id-of .ensures ∙ e))) ∙ c .before .before .before .before .loop .inv .2)
+loop-again c =
+    let loop = c .before .before .before .before .loop in
+    let h = here (c .before .before .before) in
+    (h .fits, h .rest, sym (find-miss _ _ h _ (λ e. c .if1 .left (c .before .id-of .ensures ∙ e))) ∙ loop .inv .2)
 
 returns-2 : tie.Need-returns-2 Inv-loop μ-loop
 returns-2 c = sym (find-past _ _ (c .loop-test .left) _) ∙ c .before .loop .inv .2

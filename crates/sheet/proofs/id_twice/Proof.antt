@@ -1,5 +1,5 @@
--- `sheet::id_twice` meets its contract. Invariant: a record starts at the cursor or it is the end, and whether an ID from there on is marked or comes
--- twice is whether one comes twice in the sheet. Measure: the bytes that are left. Assumes nothing.
+-- `sheet::id_twice` meets its contract. Invariant: a record starts at the cursor or it is the end, and whether an ID from there on is
+-- marked or comes twice is whether one comes twice in the sheet. Measure: the bytes that are left. Assumes nothing.
 use Prim.Native.Nat.{_≤_, _<_, _-_, _/_}
 use native.Mathlib.Omega.{arith}
 use mathlib.Core.Bool.{true}
@@ -14,7 +14,9 @@ use Rattle.sheet.specs.Repeats.{repeats}
 use Rattle.sheet.specs.RepeatsLaws.{repeats-start, repeats-hit, repeats-miss, repeats-past}
 
 abbrev Inv-loop : tie.InvT-loop
-Inv-loop sheet seen₀ at₀ seen at = (at ≤ length sheet) × (isFramed (drop at sheet) ≡ true) × (repeats seen (entriesFrom sheet at) ≡ idTwice (entriesFrom sheet 1)) × (length seen ≡ 1024)
+Inv-loop sheet seen₀ at₀ seen at =
+    (at ≤ length sheet) × (isFramed (drop at sheet) ≡ true) × (repeats seen (entriesFrom sheet at) ≡ idTwice (entriesFrom sheet 1))
+    × (length seen ≡ 1024)
 
 abbrev μ-loop : tie.MeasureT-loop
 μ-loop sheet seen₀ at₀ seen at = length sheet - at
@@ -51,25 +53,42 @@ is-marked-requires : tie.Need-is-marked-requires Inv-loop μ-loop
 is-marked-requires c κs = omega (arith, c .before .before .before .before .loop .inv .3)
 
 returns : tie.Need-returns Inv-loop μ-loop
-returns c = sym (repeats-hit _ _ (here (c .before .before .before .before .before)) _ _ (c .before .before .before .id-of .ensures) (sym (c .before .is-marked .ensures) ∙ c .if1 .taken)) ∙ c .before .before .before .before .before .before .loop .inv .2
+returns c =
+    let place = c .before .before .before .before .before in
+    let loop = place .before .loop in
+    sym (repeats-hit _ _ (here place) _ _ (c .before .before .before .id-of .ensures)
+    (sym (c .before .is-marked .ensures) ∙ c .if1 .taken)) ∙ loop .inv .2
 
 slice-aggregate-mark : tie.Need-slice-aggregate-mark Inv-loop μ-loop
-slice-aggregate-mark c = sym (c .before .before .before .before .before .before .before .loop .inv .3)
+slice-aggregate-mark c =
+    let loop = c .before .before .before .before .before .before .before .loop in
+    sym (loop .inv .3)
 
 mark-requires : tie.Need-mark-requires Inv-loop μ-loop
-mark-requires c κs = omega (arith, c .before .before .before .before .before .before .before .loop .inv .3)
+mark-requires c κs =
+    let loop = c .before .before .before .before .before .before .before .loop in
+    omega (arith, loop .inv .3)
 
 loop-less : tie.Need-loop-less Inv-loop μ-loop
-loop-less c = omega (arith, here (c .before .before .before .before .before .before .before .before) .fits)
+loop-less c =
+    let place = c .before .before .before .before .before .before .before .before in
+    omega (arith, here place .fits)
 
 loop-again : tie.Need-loop-again Inv-loop μ-loop
 loop-again c =
-    let h = here (c .before .before .before .before .before .before .before .before) in
-    let l = c .before .before .before .before .before .before .before .before .before .loop in
-    let small : c .before .before .before .before .before .before .id-of .result / 64 < length (l .seen) = omega (arith, l .inv .3) in (
+    let is-marked = c .before .before .before .before .is-marked in
+    let at-id-of = c .before .before .before .before .before .before in
+    let id-of = at-id-of .id-of in
+    let place = at-id-of .before .before in
+    let loop = place .before .loop in
+    let h = here place in
+    let l = loop in
+    let small : id-of .result / 64 < length (l .seen) = omega (arith, l .inv .3) in (
       h .fits,
       h .rest,
-      sym (repeats-miss _ _ h _ _ (c .before .before .before .before .before .before .id-of .ensures) _ (sym (c .before .before .before .before .is-marked .ensures) ∙ c .before .before .before .if1 .left) small (c .before .mark .ensures)) ∙ l .inv .2,
+      sym
+          (repeats-miss _ _ h _ _ (id-of .ensures) _ (sym (is-marked .ensures) ∙ c .before .before .before .if1 .left) small
+          (c .before .mark .ensures)) ∙ l .inv .2,
       omega (arith, l .inv .3, c .before .mark .kept .0),
     )
 

@@ -37,7 +37,9 @@ part-result-end-2 : tie.Need-part-result-end-2
 part-result-end-2 c = search needs
 
 returns : tie.Need-returns
-returns c = registers-part _ _ _ (sym (c .before .before .before .before .find .ensures) ∙ c .before .before .at .given .1)
+returns c =
+    let find = c .before .before .before .before .find in
+    registers-part _ _ _ (sym (find .ensures) ∙ c .before .before .at .given .1)
 
 returns-2 : tie.Need-returns-2
 returns-2 c = rw (sym (c .before .before .before .find .ensures) ∙ c .before .enum-told .given .1)

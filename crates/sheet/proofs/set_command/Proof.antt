@@ -13,10 +13,14 @@ enum-known-at : tie.Need-enum-known-at
 enum-known-at c = search needs
 
 add-write-le16 : tie.Need-add-write-le16
-add-write-le16 c = omega (arith, registers-fit _ _ _ (sym (c .before .before .before .before .find .ensures) ∙ c .before .before .at .given .1))
+add-write-le16 c =
+    let find = c .before .before .before .before .find in
+    omega (arith, registers-fit _ _ _ (sym (find .ensures) ∙ c .before .before .at .given .1))
 
 write-le16-requires : tie.Need-write-le16-requires
-write-le16-requires c κs = omega (arith, registers-fit _ _ _ (sym (c .before .before .before .before .find .ensures) ∙ c .before .before .at .given .1))
+write-le16-requires c κs =
+    let find = c .before .before .before .before .find in
+    omega (arith, registers-fit _ _ _ (sym (find .ensures) ∙ c .before .before .at .given .1))
 
 enum-known-n : tie.Need-enum-known-n
 enum-known-n c = search needs
@@ -25,7 +29,12 @@ same-length : tie.Need-same-length
 same-length c = search needs
 
 returns : tie.Need-returns
-returns c = let e = sym (c .before .before .before .before .before .before .before .find .ensures) ∙ c .before .before .before .before .before .at .given .1 in (rw e, rw e (c .before .before .write-le16 .ensures))
+returns c =
+    let at-at-place = c .before .before .before .before .before in
+    let at-place = at-at-place .at in
+    let find = at-at-place .before .before .find in
+    let e = sym (find .ensures) ∙ at-place .given .1 in
+    (rw e, rw e (c .before .before .write-le16 .ensures))
 
 same-length-2 : tie.Need-same-length-2
 same-length-2 c = search needs

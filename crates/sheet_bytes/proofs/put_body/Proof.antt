@@ -1,4 +1,5 @@
--- `sheet_bytes::put_body` meets its contract. By the header type: what is written is what `plannedOf` has of such a function. Assumes nothing.
+-- `sheet_bytes::put_body` meets its contract. By the header type: what is written is what `plannedOf` has of such a function. Assumes
+-- nothing.
 use mathlib.Core.Path.{sym, _∙_}
 use Rattle.sheet_bytes.specs.LayoutLaws.{body-of-bridge, body-of-end}
 use borrow.Author.Needs.{needs}
@@ -16,7 +17,8 @@ same-length c = search needs
 
 returns : tie.Need-returns
 returns c =
-    let branch = c .before .before .before .before in
+    let place = c .before .before .before .before in
+    let branch = place in
     let s = branch .before .before .before .args in
     rw (← body-of-bridge (s .r) (sym (branch .before .is-bridge .ensures) ∙ branch .if1 .taken)) (c .before .before .put-bridge .ensures)
 
@@ -28,7 +30,8 @@ same-length-2 c = search needs
 
 returns-2 : tie.Need-returns-2
 returns-2 c =
-    let branch = c .before .before .before .before .before in
+    let place = c .before .before .before .before .before in
+    let branch = place in
     let s = branch .before .before .before .args in
     rw (← body-of-end (s .r) (sym (branch .before .is-bridge .ensures) ∙ branch .if1 .left)) (c .before .before .put-end .ensures)
 

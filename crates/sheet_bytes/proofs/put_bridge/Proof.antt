@@ -41,7 +41,8 @@ same-length c = search needs
 returns : tie.Need-returns
 unfolding dwordBytes leBytes
 returns c =
-    let third = c .before .before .before .before .before .before in
+    let place = c .before .before .before .before .before .before in
+    let third = place in
     let second = third .before .before .before .before .before .before in
     let first = second .before .before .before .before in
     let s = first .before .before .before .before .before .args in

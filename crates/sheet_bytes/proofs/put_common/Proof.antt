@@ -39,7 +39,8 @@ same-length c = search needs
 returns : tie.Need-returns
 unfolding commonBytes leBytes beBytes
 returns c =
-    let third = c .before .before .before .before .before .before in
+    let place = c .before .before .before .before .before .before in
+    let third = place in
     let second = third .before .before .before .before in
     let first = second .before .before .before .before in
     let s = first .before .before .before .args in
@@ -48,8 +49,7 @@ returns c =
     sets-append o (s .at) 14 front (leBytes 2 (s .header)) refl
     (sets-append o (s .at) 6 (zeros 4 ++ leBytes 2 (s .command)) (zeros 8) refl
     (sets-append o (s .at) 4 (zeros 4) (leBytes 2 (s .command)) refl (first .write-le32 .ensures) (second .write-le16 .ensures))
-    (third .write-be64 .ensures))
-    (c .before .before .write-le162 .ensures)
+    (third .write-be64 .ensures)) (c .before .before .write-le162 .ensures)
     ∙ ap (λ (l : List ℕ). sets o (s .at) (front ++ l)) (leBytes-of-byte (s .header) (omega arith))
 
 pub put-common-spec : {M : Type 1} → statement M

@@ -20,10 +20,11 @@ same-length c = search needs
 
 returns : tie.Need-returns
 returns c =
-    let first = c .before .before .before .before .before .before in
+    let place = c .before .before .before .before .before .before in
+    let first = place in
     let s = first .before .before .before .args in
-    sets-append (s .out .now) (s .at) 4 (leBytes 4 (s .a)) (leBytes 4 (s .b)) (length-leBytes 4 (s .a))
-    (first .write-le32 .ensures) (c .before .before .write-le322 .ensures)
+    sets-append (s .out .now) (s .at) 4 (leBytes 4 (s .a)) (leBytes 4 (s .b)) (length-leBytes 4 (s .a)) (first .write-le32 .ensures)
+    (c .before .before .write-le322 .ensures)
 
 pub put-le-pair-spec : {M : Type 1} → statement M
 put-le-pair-spec =

@@ -29,13 +29,15 @@ same-length c = search needs
 returns : tie.Need-returns
 unfolding leBytes
 returns c =
-    let second = c .before .before .before .before .before .before in
+    let place = c .before .before .before .before .before .before in
+    let second = place in
     let first = second .before .before .before .before in
     let s = first .before .before .before .args in
     let high = s .high in
-    sets-append (s .out .now) (s .at) 8 (windowBytes (s .low) ++ windowBytes high) (leBytes 4 (high .«upper_base») ++ leBytes 4 (high .«upper_limit»)) refl
-    (sets-append (s .out .now) (s .at) 4 (windowBytes (s .low)) (windowBytes high) refl (first .put-window .ensures) (second .put-window2 .ensures))
-    (c .before .before .put-le-pair .ensures)
+    sets-append (s .out .now) (s .at) 8 (windowBytes (s .low) ++ windowBytes high)
+    (leBytes 4 (high .«upper_base») ++ leBytes 4 (high .«upper_limit»)) refl
+    (sets-append (s .out .now) (s .at) 4 (windowBytes (s .low)) (windowBytes high) refl (first .put-window .ensures)
+    (second .put-window2 .ensures)) (c .before .before .put-le-pair .ensures)
 
 pub put-memory-spec : {M : Type 1} → statement M
 put-memory-spec =

@@ -26,11 +26,12 @@ same-length c = search needs
 
 returns : tie.Need-returns
 returns c =
-    let first = c .before .before .before .before .before .before .before .before in
+    let place = c .before .before .before .before .before .before .before .before in
+    let first = place in
     let s = first .before .before .before .args in
     let r = s .r in
-    sets-append (s .out .now) (s .at) 4 (r .primary ∷ r .secondary ∷ r .subordinate ∷ 0 ∷ []) (r .io .base ∷ r .io .limit ∷ 0 ∷ 0 ∷ []) refl
-    (first .put-four .ensures) (c .before .before .put-four2 .ensures)
+    sets-append (s .out .now) (s .at) 4 (r .primary ∷ r .secondary ∷ r .subordinate ∷ 0 ∷ []) (r .io .base ∷ r .io .limit ∷ 0 ∷ 0 ∷ [])
+    refl (first .put-four .ensures) (c .before .before .put-four2 .ensures)
 
 pub put-numbers-spec : {M : Type 1} → statement M
 put-numbers-spec =

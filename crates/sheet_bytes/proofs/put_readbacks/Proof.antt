@@ -44,11 +44,12 @@ same-length c = search needs
 
 returns : tie.Need-returns
 returns c =
-    let second = c .before .before .before .before .before .before in
+    let place = c .before .before .before .before .before .before in
+    let second = place in
     let first = second .before .before .before .before in
     let s = first .before .before .before .args in
-    sets-six (beBytes 4) (length-beBytes 4) (s .out .now) (s .at) (s .t3)
-    (first .put-be-pair .ensures) (second .put-be-pair2 .ensures) (c .before .before .put-be-pair3 .ensures)
+    sets-six (beBytes 4) (length-beBytes 4) (s .out .now) (s .at) (s .t3) (first .put-be-pair .ensures) (second .put-be-pair2 .ensures)
+    (c .before .before .put-be-pair3 .ensures)
 
 pub put-readbacks-spec : {M : Type 1} → statement M
 put-readbacks-spec =

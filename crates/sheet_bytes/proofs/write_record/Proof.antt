@@ -4,7 +4,8 @@ use mathlib.Core.List.{_++_}
 use lib.Seq.{sets}
 use Rattle.endian.specs.SetsLaws.{sets-append}
 use Rattle.sheet_bytes.specs.Layout.{plannedOf}
-use Rattle.sheet_bytes.specs.LayoutLaws.{marks, common, body, readbacks, length-marks, length-marks-common, length-marks-body, recordBytes-parts}
+use Rattle.sheet_bytes.specs.LayoutLaws.{marks, common, body, readbacks, length-marks, length-marks-common, length-marks-body}
+use Rattle.sheet_bytes.specs.LayoutLaws.{recordBytes-parts}
 use borrow.Author.Needs.{needs}
 use Rattle.sheet_bytes.proofs.write_record.Statement.{statement}
 use Rattle.sheet_bytes.proofs.write_record.Tie as tie
@@ -36,7 +37,8 @@ same-length c = search needs
 returns : tie.Need-returns
 unfolding plannedOf
 returns c =
-    let third = c .before .before .before .before .before .before .before in
+    let place = c .before .before .before .before .before .before .before in
+    let third = place in
     let second = third .before .before .before .before in
     let first = second .before .before .before .before in
     let s = first .before .before .before .args in
@@ -45,9 +47,7 @@ returns c =
     sets-append o (s .at) 68 (marks p ++ common p ++ body p) (readbacks p) (length-marks-body p)
     (sets-append o (s .at) 20 (marks p ++ common p) (body p) (length-marks-common p)
     (sets-append o (s .at) 4 (marks p) (common p) (length-marks p) (first .put-marks .ensures) (second .put-common .ensures))
-    (third .put-body .ensures))
-    (c .before .before .put-readbacks .ensures)
-    ∙ ap (sets o (s .at)) (recordBytes-parts p)
+    (third .put-body .ensures)) (c .before .before .put-readbacks .ensures) ∙ ap (sets o (s .at)) (recordBytes-parts p)
 
 pub write-record-spec : {M : Type 1} → statement M
 write-record-spec =

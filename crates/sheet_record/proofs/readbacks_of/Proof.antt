@@ -45,12 +45,13 @@ cast-t13 c = search needs
 returns : tie.Need-returns
 unfolding dwords
 returns c =
-    ap₂ _∷_ (c .before .before .before .before .before .read-be32 .ensures .0)
-    (ap₂ _∷_ (c .before .before .before .before .read-be322 .ensures .0)
+    let read-be322 = c .before .before .before .before .read-be322 in
+    let read-be32 = c .before .before .before .before .before .read-be32 in
+    ap₂ _∷_ (read-be32 .ensures .0)
+    (ap₂ _∷_ (read-be322 .ensures .0)
     (ap₂ _∷_ (c .before .before .before .read-be323 .ensures .0)
     (ap₂ _∷_ (c .before .before .read-be324 .ensures .0)
-    (ap₂ _∷_ (c .before .read-be325 .ensures .0)
-    (ap (_∷ []) (c .read-be326 .ensures .0))))))
+    (ap₂ _∷_ (c .before .read-be325 .ensures .0) (ap (_∷ []) (c .read-be326 .ensures .0))))))
 
 pub readbacks-of-spec : {M : Type 1} → statement M
 readbacks-of-spec =

@@ -45,12 +45,13 @@ cast-t13 c = search needs
 returns : tie.Need-returns
 unfolding dwords
 returns c =
-    ap₂ _∷_ (c .before .before .before .before .before .read-le32 .ensures .0)
-    (ap₂ _∷_ (c .before .before .before .before .read-le322 .ensures .0)
+    let read-le322 = c .before .before .before .before .read-le322 in
+    let read-le32 = c .before .before .before .before .before .read-le32 in
+    ap₂ _∷_ (read-le32 .ensures .0)
+    (ap₂ _∷_ (read-le322 .ensures .0)
     (ap₂ _∷_ (c .before .before .before .read-le323 .ensures .0)
     (ap₂ _∷_ (c .before .before .read-le324 .ensures .0)
-    (ap₂ _∷_ (c .before .read-le325 .ensures .0)
-    (ap (_∷ []) (c .read-le326 .ensures .0))))))
+    (ap₂ _∷_ (c .before .read-le325 .ensures .0) (ap (_∷ []) (c .read-le326 .ensures .0))))))
 
 pub values-of-spec : {M : Type 1} → statement M
 values-of-spec =

@@ -77,19 +77,20 @@ returns c =
 returns-2 : tie.Need-returns-2
 unfolding windowOf
 returns-2 c =
+    let enum-told2 = c .before .before .before .before .enum-told2 in
     let base = c .before .before .before .read-le163 .ensures .0 in
     let limit = c .before .before .read-le164 .ensures .0 in
     let upper-base = c .before .read-le32 .ensures .0 in
     let upper-limit = c .read-le322 .ensures .0 in
-    rw (c .before .before .before .before .enum-told2 .given .1)
-    (λ i. record { base = base i; limit = limit i; «upper_base» = upper-base i; «upper_limit» = upper-limit i })
+    rw (enum-told2 .given .1) (λ i. record { base = base i; limit = limit i; «upper_base» = upper-base i; «upper_limit» = upper-limit i })
 
 returns-3 : tie.Need-returns-3
 unfolding windowOf
 returns-3 c =
+    let enum-told3 = c .before .before .before .before .enum-told3 in
     let base = c .before .before .wide .ensures .0 in
     let limit = c .wide2 .ensures .0 in
-    rw (c .before .before .before .before .enum-told3 .given .1) (λ i. record { base = base i; limit = limit i; «upper_base» = 0; «upper_limit» = 0 })
+    rw (enum-told3 .given .1) (λ i. record { base = base i; limit = limit i; «upper_base» = 0; «upper_limit» = 0 })
 
 pub window-of-spec : {M : Type 1} → statement M
 window-of-spec =

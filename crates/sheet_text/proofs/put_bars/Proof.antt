@@ -14,7 +14,9 @@ same-length : tie.Need-same-length
 same-length c = search needs
 
 returns : tie.Need-returns
-returns c = put-append (c .before .before .before .before .before .before .put-text .ensures) (c .before .before .put-words .ensures)
+returns c =
+    let put-text = c .before .before .before .before .before .before .put-text in
+    put-append (put-text .ensures) (c .before .before .put-words .ensures)
 
 pub put-bars-spec : {M : Type 1} → statement M
 put-bars-spec = tie.close (tie.spec put-text-requires put-words-requires same-length returns)

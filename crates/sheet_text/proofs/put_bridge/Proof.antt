@@ -1,4 +1,5 @@
--- `sheet_text::put_bridge` meets its contract: two of the values that were read, the buses, the windows, the end of the line. Assumes nothing.
+-- `sheet_text::put_bridge` meets its contract: two of the values that were read, the buses, the windows, the end of the line. Assumes
+-- nothing.
 use borrow.Author.Needs.{needs}
 use Rattle.text.specs.TextLaws.{put-append}
 use Rattle.sheet_record.specs.Entry.{dwords}
@@ -37,7 +38,17 @@ same-length c = search needs
 
 returns : tie.Need-returns
 unfolding ascii
-returns c = rw (bridgeText-of-bridge _ (c .before .before .before .before .before .before .before .before .before .before .before .before .before .before .before .before .before .before .before .before .before .pre .1) _ (c .before .before .before .before .before .before .before .before .before .before .before .before .before .before .before .before .before .before .values-of .ensures)) (put-append (put-append (put-append (c .before .before .before .before .before .before .before .before .before .before .before .before .before .before .put-bars .ensures) (c .before .before .before .before .before .before .before .before .before .before .put-buses .ensures)) (c .before .before .before .before .before .before .put-windows .ensures)) (c .before .before .put-byte .ensures))
+returns c =
+    let at-put-windows = c .before .before .before .before .before .before in
+    let put-windows = at-put-windows .put-windows in
+    let put-buses = at-put-windows .before .before .before .before .put-buses in
+    let at-put-bars = at-put-windows .before .before .before .before .before .before .before .before in
+    let put-bars = at-put-bars .put-bars in
+    let values-of = at-put-bars .before .before .before .before .values-of in
+    let pre = at-put-bars .before .before .before .before .before .before .before .pre in
+    rw (bridgeText-of-bridge _ (pre .1) _ (values-of .ensures))
+    (put-append (put-append (put-append (put-bars .ensures) (put-buses .ensures)) (put-windows .ensures))
+    (c .before .before .put-byte .ensures))
 
 pub put-bridge-spec : {M : Type 1} → statement M
 put-bridge-spec =

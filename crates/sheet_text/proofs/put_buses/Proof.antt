@@ -33,10 +33,15 @@ same-length c = search needs
 
 returns : tie.Need-returns
 returns c =
-    let d = c .before .before .before .before .before .before .before .primary-of .ensures in
-    let e = c .before .before .before .before .before .before .secondary-of .ensures in
-    let f = c .before .before .before .before .before .subordinate-of .ensures in
-    rw (buses-of-bridge _ (c .before .before .before .before .before .before .before .before .before .before .pre .1) _ _ _ d e f) (c .before .before .put-words .ensures)
+    let at-subordinate-of = c .before .before .before .before .before in
+    let subordinate-of = at-subordinate-of .subordinate-of in
+    let secondary-of = at-subordinate-of .before .secondary-of in
+    let primary-of = at-subordinate-of .before .before .primary-of in
+    let pre = at-subordinate-of .before .before .before .before .before .pre in
+    let d = primary-of .ensures in
+    let e = secondary-of .ensures in
+    let f = subordinate-of .ensures in
+    rw (buses-of-bridge _ (pre .1) _ _ _ d e f) (c .before .before .put-words .ensures)
 
 pub put-buses-spec : {M : Type 1} → statement M
 put-buses-spec =

@@ -20,7 +20,9 @@ same-length c = search needs
 
 returns : tie.Need-returns
 unfolding ascii countText
-returns c = put-append (c .before .before .before .before .before .before .put-named .ensures) (c .before .before .put-byte .ensures)
+returns c =
+    let put-named = c .before .before .before .before .before .before .put-named in
+    put-append (put-named .ensures) (c .before .before .put-byte .ensures)
 
 pub put-count-spec : {M : Type 1} → statement M
 put-count-spec =

@@ -26,7 +26,12 @@ same-length c = search needs
 
 returns : tie.Need-returns
 unfolding ascii
-returns c = rw (endText-of-end _ (c .before .before .before .before .before .before .before .before .before .before .before .before .before .pre .1) _ (c .before .before .before .before .before .before .before .before .before .before .values-of .ensures)) (put-append (c .before .before .before .before .before .before .put-bars .ensures) (c .before .before .put-byte .ensures))
+returns c =
+    let at-put-bars = c .before .before .before .before .before .before in
+    let put-bars = at-put-bars .put-bars in
+    let values-of = at-put-bars .before .before .before .before .values-of in
+    let pre = at-put-bars .before .before .before .before .before .before .before .pre in
+    rw (endText-of-end _ (pre .1) _ (values-of .ensures)) (put-append (put-bars .ensures) (c .before .before .put-byte .ensures))
 
 pub put-end-spec : {M : Type 1} → statement M
 put-end-spec =

@@ -1,5 +1,5 @@
--- `sheet_text::put_plan` meets its contract. Invariant: after the count, the lines of the records that were passed are put. Measure: the records that
--- are left. Assumes nothing.
+-- `sheet_text::put_plan` meets its contract. Invariant: after the count, the lines of the records that were passed are put. Measure: the
+-- records that are left. Assumes nothing.
 use borrow.Author.Needs.{needs}
 use Prim.Native.Nat.{ℕ, _≤_, _<_, _-_}
 use native.Mathlib.Omega.{arith}
@@ -23,8 +23,11 @@ abbrev μ-loop : tie.MeasureT-loop
 μ-loop out₀ at sheet count next₀ k₀ out next k = count - k
 
 -- the record at the cursor
-here : (c : tie.In-loop Inv-loop μ-loop) → c .before .loop .k < length (entriesOf (c .before .before .before .before .before .before .before .before .before .args .sheet .now))
-here c = subst (λ (n : ℕ). c .before .loop .k < n) (c .before .before .before .before .before .before .count .ensures) (c .loop-test .taken)
+here : (c : tie.In-loop Inv-loop μ-loop) → c .before .loop .k < length
+    (entriesOf (c .before .before .before .before .before .before .before .before .before .args .sheet .now))
+here c =
+    let count = c .before .before .before .before .before .before .count in
+    subst (λ (n : ℕ). c .before .loop .k < n) (count .ensures) (c .loop-test .taken)
 
 count-requires : tie.Need-count-requires Inv-loop μ-loop
 count-requires c κs = c .before .before .pre
@@ -37,10 +40,14 @@ unfolding flatMap
 loop-holds c = (omega arith, put-nothing (c .before .before .put-count .ensures))
 
 part-requires : tie.Need-part-requires Inv-loop μ-loop
-part-requires c κs = record-fits _ (c .before .before .before .before .before .before .before .before .before .before .pre) _ (here (c .before))
+part-requires c κs =
+    let pre = c .before .before .before .before .before .before .before .before .before .before .pre in
+    record-fits _ pre _ (here (c .before))
 
 put-record-requires : tie.Need-put-record-requires Inv-loop μ-loop
-put-record-requires c κs = ap length (c .part .ensures) ∙ length-part _ _ (record-fits _ (c .before .before .before .before .before .before .before .before .before .before .before .pre) _ (here (c .before .before)))
+put-record-requires c κs =
+    let pre = c .before .before .before .before .before .before .before .before .before .before .before .pre in
+    ap length (c .part .ensures) ∙ length-part _ _ (record-fits _ pre _ (here (c .before .before)))
 
 add-k : tie.Need-add-k Inv-loop μ-loop
 add-k c = omega arith
@@ -49,14 +56,29 @@ loop-less : tie.Need-loop-less Inv-loop μ-loop
 loop-less c = omega arith
 
 loop-again : tie.Need-loop-again Inv-loop μ-loop
-loop-again c = (omega arith, rw (lines-index _ _ (c .before .before .before .before .before .before .before .before .before .before .before .before .before .before .pre) (here (c .before .before .before .before .before)), ← c .before .before .before .part .ensures) (put-append (c .before .before .before .before .before .before .loop .inv .1) (c .before .before .put-record .ensures)))
+loop-again c =
+    let place = c .before .before .before .before .before in
+    let loop = place .before .loop in
+    let pre = place .before .before .before .before .before .before .before .before .before .pre in (
+      omega arith,
+      rw (lines-index _ _ pre (here place), ← c .before .before .before .part .ensures)
+          (put-append (loop .inv .1) (c .before .before .put-record .ensures)),
+    )
 
 same-length : tie.Need-same-length Inv-loop μ-loop
 same-length c = put-length (c .before .loop .inv .1) ∙ put-length (c .before .before .before .before .put-count .ensures)
 
 returns : tie.Need-returns Inv-loop μ-loop
 unfolding planText
-returns c = let es = entriesOf (c .before .before .before .before .before .before .before .before .before .args .sheet .now) in let k = c .before .loop .k in let all : take k es ≡ es = take-all k es (omega (arith, c .before .before .before .before .before .before .count .ensures, c .loop-test .left)) in rw (← c .before .before .before .before .before .before .count .ensures) (put-append (c .before .before .before .before .put-count .ensures) (rw all at (c .before .loop .inv .1)))
+returns c =
+    let put-count = c .before .before .before .before .put-count in
+    let at-count = c .before .before .before .before .before .before in
+    let count = at-count .count in
+    let args = at-count .before .before .before .args in
+    let es = entriesOf (args .sheet .now) in
+    let k = c .before .loop .k in
+    let all : take k es ≡ es = take-all k es (omega (arith, count .ensures, c .loop-test .left)) in
+    rw (← count .ensures) (put-append (put-count .ensures) (rw all at (c .before .loop .inv .1)))
 
 pub put-plan-spec : {M : Type 1} → statement M
 put-plan-spec =

@@ -24,13 +24,17 @@ same-length : tie.Need-same-length
 same-length c = search needs
 
 returns : tie.Need-returns
-returns c = rw (c .before .before .before .before .before .before .planning .given .1, ← c .before .before .before .front .ensures) (c .before .before .put-sheet .ensures, sheet-le _)
+returns c =
+    let planning = c .before .before .before .before .before .before .planning in
+    rw (planning .given .1, ← c .before .before .before .front .ensures) (c .before .before .put-sheet .ensures, sheet-le _)
 
 same-length-2 : tie.Need-same-length-2
 same-length-2 c = search needs
 
 returns-2 : tie.Need-returns-2
-returns-2 c = rw (c .before .before .before .before .before .planning2 .given .1) (c .before .before .put-refusal .ensures, refusal-le _ (omega arith))
+returns-2 c =
+    let planning2 = c .before .before .before .before .before .planning2 in
+    rw (planning2 .given .1) (c .before .before .put-refusal .ensures, refusal-le _ (omega arith))
 
 pub put-planning-spec : {M : Type 1} → statement M
 put-planning-spec =

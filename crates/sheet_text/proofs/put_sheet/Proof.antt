@@ -16,7 +16,10 @@ same-length : tie.Need-same-length
 same-length c = search needs
 
 returns : tie.Need-returns
-returns c = rw (sheetText-bad _ _ (c .before .before .before .before .before .check .ensures) (c .before .before .before .before .if1 .taken)) (c .before .before .put-refusal .ensures)
+returns c =
+    let if1 = c .before .before .before .before .if1 in
+    let check = c .before .before .before .before .before .check in
+    rw (sheetText-bad _ _ (check .ensures) (if1 .taken)) (c .before .before .put-refusal .ensures)
 
 put-plan-requires : tie.Need-put-plan-requires
 put-plan-requires c κs = checked-of-zero _ (sym (c .before .before .check .ensures) ∙ c .before .if1 .left) .framed
@@ -25,7 +28,10 @@ same-length-2 : tie.Need-same-length-2
 same-length-2 c = search needs
 
 returns-2 : tie.Need-returns-2
-returns-2 c = rw (sheetText-good _ _ (c .before .before .before .before .before .check .ensures) (c .before .before .before .before .if1 .left)) (c .before .before .put-plan .ensures)
+returns-2 c =
+    let if1 = c .before .before .before .before .if1 in
+    let check = c .before .before .before .before .before .check in
+    rw (sheetText-good _ _ (check .ensures) (if1 .left)) (c .before .before .put-plan .ensures)
 
 pub put-sheet-spec : {M : Type 1} → statement M
 put-sheet-spec =

@@ -48,7 +48,21 @@ same-length : tie.Need-same-length
 same-length c = search needs
 
 returns : tie.Need-returns
-returns c = rw (windowText-of-bridge _ (c .before .before .before .before .before .before .before .before .before .before .before .before .before .before .before .before .before .before .before .before .before .before .before .before .before .before .before .pre .1) _ _ _ (c .before .before .before .before .before .before .before .before .before .before .before .before .before .before .before .before .before .before .before .before .before .before .before .before .window-of .ensures) (c .before .before .before .before .before .before .before .before .before .before .before .before .before .before .before .before .before .before .before .before .before .before .before .window-of2 .ensures) (c .before .before .before .before .before .before .before .before .before .before .before .before .before .before .before .before .before .before .before .before .before .before .window-of3 .ensures)) (put-append (put-append (put-append (c .before .before .before .before .before .before .before .before .before .before .before .before .before .before .before .before .before .before .put-pair .ensures) (c .before .before .before .before .before .before .before .before .before .before .before .before .put-pair2 .ensures)) (c .before .before .before .before .before .before .put-pair3 .ensures)) (c .before .before .put-pair4 .ensures))
+returns c =
+    let at-put-pair3 = c .before .before .before .before .before .before in
+    let put-pair3 = at-put-pair3 .put-pair3 in
+    let at-put-pair2 = at-put-pair3 .before .before .before .before .before .before in
+    let put-pair2 = at-put-pair2 .put-pair2 in
+    let at-put-pair = at-put-pair2 .before .before .before .before .before .before in
+    let put-pair = at-put-pair .put-pair in
+    let window-of3 = at-put-pair .before .before .before .before .window-of3 in
+    let at-window-of2 = at-put-pair .before .before .before .before .before in
+    let window-of2 = at-window-of2 .window-of2 in
+    let window-of = at-window-of2 .before .window-of in
+    let pre = at-window-of2 .before .before .before .before .pre in
+    rw (windowText-of-bridge _ (pre .1) _ _ _ (window-of .ensures) (window-of2 .ensures) (window-of3 .ensures))
+    (put-append (put-append (put-append (put-pair .ensures) (put-pair2 .ensures)) (put-pair3 .ensures))
+    (c .before .before .put-pair4 .ensures))
 
 pub put-windows-spec : {M : Type 1} → statement M
 put-windows-spec =

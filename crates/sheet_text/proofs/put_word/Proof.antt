@@ -14,7 +14,9 @@ same-length : tie.Need-same-length
 same-length c = search needs
 
 returns : tie.Need-returns
-returns c = put-append (c .before .before .before .before .before .before .put-byte .ensures) (c .before .before .put-hexadecimal .ensures)
+returns c =
+    let put-byte = c .before .before .before .before .before .before .put-byte in
+    put-append (put-byte .ensures) (c .before .before .put-hexadecimal .ensures)
 
 pub put-word-spec : {M : Type 1} → statement M
 put-word-spec = tie.close (tie.spec put-byte-requires put-hexadecimal-requires same-length returns)

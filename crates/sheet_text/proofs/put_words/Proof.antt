@@ -1,5 +1,5 @@
--- `sheet_text::put_words` meets its contract. Invariant: the words of the numbers that were passed are put. Measure: the numbers that are left.
--- Assumes nothing.
+-- `sheet_text::put_words` meets its contract. Invariant: the words of the numbers that were passed are put. Measure: the numbers that are
+-- left. Assumes nothing.
 use borrow.Author.Needs.{needs}
 use Prim.Native.Nat.{_≤_, _-_}
 use native.Mathlib.Omega.{arith}
@@ -41,7 +41,15 @@ loop-less : tie.Need-loop-less Inv-loop μ-loop
 loop-less c = omega arith
 
 loop-again : tie.Need-loop-again Inv-loop μ-loop
-loop-again c = let turn = c .before .before .before .before .before .before in (omega arith, rw (words-index _ _ (turn .loop .i) (c .before .before .before .before .before .loop-test .taken)) (put-append (turn .loop .inv .1) (c .before .before .put-word .ensures)))
+loop-again c =
+    let at-loop-test = c .before .before .before .before .before in
+    let loop-test = at-loop-test .loop-test in
+    let place = at-loop-test .before in
+    let turn = place in (
+      omega arith,
+      rw (words-index _ _ (turn .loop .i) (loop-test .taken))
+          (put-append (turn .loop .inv .1) (c .before .before .put-word .ensures)),
+    )
 
 same-length : tie.Need-same-length Inv-loop μ-loop
 same-length c = put-length (c .before .loop .inv .1)

@@ -33,8 +33,10 @@ take-requires c κs = search needs
 
 loop-less : tie.Need-loop-less Inv-loop μ-loop
 loop-less c =
-    let read = c .before .before .before .before .before .before .before .before .byte in
-    subst (Nearer _) (c .before .before .before .before .byte2 .given .1) (read .ensures)
+    let byte2 = c .before .before .before .before .byte2 in
+    let byte = c .before .before .before .before .before .before .before .before .byte in
+    let read = byte in
+    subst (Nearer _) (byte2 .given .1) (read .ensures)
 
 loop-again : tie.Need-loop-again Inv-loop μ-loop
 loop-again c = search needs

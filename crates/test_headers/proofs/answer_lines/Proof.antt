@@ -33,7 +33,8 @@ take-requires c κs = search needs
 
 loop-less : tie.Need-loop-less Inv-loop μ-loop
 loop-less c =
-    let read = c .before .before .before .before .before .before .before .byte in
+    let byte = c .before .before .before .before .before .before .before .byte in
+    let read = byte in
     subst (Nearer _) (c .before .before .before .byte2 .given .1) (read .ensures)
 
 loop-again : tie.Need-loop-again Inv-loop μ-loop

@@ -57,16 +57,19 @@ put-hexadecimal-returns : (t : ℕ) → put-hexadecimal-lts.Need-returns (claims
 unfolding hexadecimal
 put-hexadecimal-returns t c = rw (c .before .before .if1 .taken) (c .place .ensures)
 
-put-hexadecimal-sub-put-hexadecimal : (t : ℕ) → put-hexadecimal-lts.Need-sub-put-hexadecimal (claims t) (put-hexadecimal-at t) put-hexadecimal.Post
+put-hexadecimal-sub-put-hexadecimal : (t : ℕ) → put-hexadecimal-lts.Need-sub-put-hexadecimal (claims t) (put-hexadecimal-at t)
+    put-hexadecimal.Post
 put-hexadecimal-sub-put-hexadecimal t c = search needs
 
-put-hexadecimal-put-hexadecimal-requires : (t : ℕ) → put-hexadecimal-lts.Need-put-hexadecimal-requires (claims t) (put-hexadecimal-at t) put-hexadecimal.Post
+put-hexadecimal-put-hexadecimal-requires : (t : ℕ)
+    → put-hexadecimal-lts.Need-put-hexadecimal-requires (claims t) (put-hexadecimal-at t) put-hexadecimal.Post
 put-hexadecimal-put-hexadecimal-requires t c κs = (omega (arith, c .before .before .before .pre .0), tt)
 
 put-hexadecimal-digit-requires : (t : ℕ) → put-hexadecimal-lts.Need-digit-requires (claims t) (put-hexadecimal-at t) put-hexadecimal.Post
 put-hexadecimal-digit-requires t c κs = search needs
 
-put-hexadecimal-put-byte-requires : (t : ℕ) → put-hexadecimal-lts.Need-put-byte-requires (claims t) (put-hexadecimal-at t) put-hexadecimal.Post
+put-hexadecimal-put-byte-requires : (t : ℕ) → put-hexadecimal-lts.Need-put-byte-requires (claims t) (put-hexadecimal-at t)
+    put-hexadecimal.Post
 put-hexadecimal-put-byte-requires t c κs = search needs
 
 put-hexadecimal-same-length-2 : (t : ℕ) → put-hexadecimal-lts.Need-same-length-2 (claims t) (put-hexadecimal-at t) put-hexadecimal.Post
@@ -74,7 +77,8 @@ put-hexadecimal-same-length-2 t c = search needs
 
 put-hexadecimal-returns-2 : (t : ℕ) → put-hexadecimal-lts.Need-returns-2 (claims t) (put-hexadecimal-at t) put-hexadecimal.Post
 put-hexadecimal-returns-2 t c =
-    let digits = c .before .before .before .before .before .before .before in
+    let place = c .before .before .before .before .before .before .before in
+    let digits = place in
     rw (hexadecimal-more _ _ (digits .before .before .if1 .left), ← c .before .before .before .digit .ensures)
     (put-append (digits .put-hexadecimal .ensures) (c .before .before .put-byte .ensures))
 

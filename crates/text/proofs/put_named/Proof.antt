@@ -14,7 +14,9 @@ same-length : tie.Need-same-length
 same-length c = search needs
 
 returns : tie.Need-returns
-returns c = put-append (c .before .before .before .before .before .before .put-text .ensures) (c .before .before .put-decimal .ensures)
+returns c =
+    let put-text = c .before .before .before .before .before .before .put-text in
+    put-append (put-text .ensures) (c .before .before .put-decimal .ensures)
 
 pub put-named-spec : {M : Type 1} → statement M
 put-named-spec = tie.close (tie.spec put-text-requires put-decimal-requires same-length returns)

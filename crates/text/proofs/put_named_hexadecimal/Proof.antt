@@ -14,7 +14,9 @@ same-length : tie.Need-same-length
 same-length c = search needs
 
 returns : tie.Need-returns
-returns c = put-append (c .before .before .before .before .before .before .put-text .ensures) (c .before .before .put-hexadecimal .ensures)
+returns c =
+    let put-text = c .before .before .before .before .before .before .put-text in
+    put-append (put-text .ensures) (c .before .before .put-hexadecimal .ensures)
 
 pub put-named-hexadecimal-spec : {M : Type 1} → statement M
 put-named-hexadecimal-spec =

@@ -1,5 +1,5 @@
--- `text::put_text` meets its contract. The loop's invariant: the part of the text that was passed is put. The measure is what is left of the text.
--- Assumes nothing.
+-- `text::put_text` meets its contract. The loop's invariant: the part of the text that was passed is put. The measure is what is left of
+-- the text. Assumes nothing.
 use borrow.Author.Needs.{needs}
 use Prim.Native.Nat.{_≤_, _-_}
 use native.Mathlib.Numerals.{add-one}
@@ -37,7 +37,8 @@ loop-less c = omega arith
 
 loop-again : tie.Need-loop-again Inv-loop μ-loop
 loop-again c =
-    let turn = c .before .before .before .before .before .before in
+    let place = c .before .before .before .before .before .before in
+    let turn = place in
     let more = take-suc (turn .before .before .before .before .before .args .text .now) (turn .loop .i) 0 (omega arith) in
     (omega arith, rw (add-one, more) (put-append (turn .loop .inv .1) (c .before .before .put-byte .ensures)))
 

@@ -15,7 +15,9 @@ enum-known-row : tie.Need-enum-known-row
 enum-known-row c = search needs
 
 write-lawful-requires : tie.Need-write-lawful-requires
-write-lawful-requires c κs = sym (c .before .before .before .before .judge .ensures) ∙ c .before .before .row .given .1
+write-lawful-requires c κs =
+    let judge = c .before .before .before .before .judge in
+    sym (judge .ensures) ∙ c .before .before .row .given .1
 
 returns : tie.Need-returns
 returns c = outcome-unlawful _ _ _ (sym (c .before .before .before .judge .ensures) ∙ c .before .n .given .1)

@@ -22,15 +22,17 @@ returns c =
 
 put-requires : tie.Need-put-requires
 put-requires c κs =
+    let pre = c .before .before .before .before .before .pre in
     let form = ap (λ (h : Head). h .form) (c .before .before .before .head-of .ensures) in
-    (c .before .before .before .before .before .pre, omega (arith, form, c .before .before .size-of .ensures, c .before .if1 .left))
+    (pre, omega (arith, form, c .before .before .size-of .ensures, c .before .if1 .left))
 
 same-length : tie.Need-same-length
 same-length c = search needs
 
 returns-2 : tie.Need-returns-2
 returns-2 c =
-    let room = c .before .before .before .before in
+    let place = c .before .before .before .before in
+    let room = place in
     let measured = room .before in
     let headed = measured .before in
     let start = headed .before .before in

@@ -27,7 +27,9 @@ add-register c = search needs
 
 returns : tie.Need-returns
 unfolding targetAt
-returns c = rw (c .before .before .before .before .id-at .ensures, c .before .before .wide .ensures .0, c .wide2 .ensures .0)
+returns c =
+    let id-at = c .before .before .before .before .id-at in
+    rw (id-at .ensures, c .before .before .wide .ensures .0, c .wide2 .ensures .0)
 
 pub target-at-spec : {M : Type 1} → statement M
 target-at-spec =

@@ -13,7 +13,9 @@ same-length c = search needs
 
 returns : tie.Need-returns
 unfolding addressBytes
-returns c = rw (eq-eqb _ _ (c .before .before .before .before .if1 .taken)) (c .before .before .write-be64 .ensures)
+returns c =
+    let if1 = c .before .before .before .before .if1 in
+    rw (eq-eqb _ _ (if1 .taken)) (c .before .before .write-be64 .ensures)
 
 write-be32-requires : tie.Need-write-be32-requires
 write-be32-requires c κs = search needs
@@ -23,7 +25,9 @@ same-length-2 c = search needs
 
 returns-2 : tie.Need-returns-2
 unfolding addressBytes
-returns-2 c = rw (ne-eqb _ _ (c .before .before .before .before .if1 .left)) (c .before .before .write-be32 .ensures)
+returns-2 c =
+    let if1 = c .before .before .before .before .if1 in
+    rw (ne-eqb _ _ (if1 .left)) (c .before .before .write-be32 .ensures)
 
 pub put-address-spec : {M : Type 1} → statement M
 put-address-spec =

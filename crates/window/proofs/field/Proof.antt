@@ -20,7 +20,10 @@ rem-result : tie.Need-rem-result
 rem-result c = omega arith
 
 returns : tie.Need-returns
-returns c = (rw (c .before .granule .ensures, c .fields .ensures .0), omega (arith, mod-lt (c .before .before .args .a / c .before .granule .result) (c .fields .ensures .1)))
+returns c = (
+  rw (c .before .granule .ensures, c .fields .ensures .0),
+  omega (arith, mod-lt (c .before .before .args .a / c .before .granule .result) (c .fields .ensures .1)),
+)
 
 pub field-spec : {M : Type 1} → statement M
 field-spec = tie.close (tie.spec granule-requires div-result fields-requires rem-result returns)

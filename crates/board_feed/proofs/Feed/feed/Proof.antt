@@ -47,12 +47,14 @@ loop-less c = omega arith
 
 loop-again : tie.Need-loop-again Inv-loop μ-loop
 loop-again c =
-    let turn = c .before .before .before .before in
+    let place = c .before .before .before .before in
+    let turn = place in
     let inv = turn .before .loop .inv in
     let event = c .before .before .event-of .ensures in (
       omega arith,
       rw (c .stage-after .ensures, event) (sym (stage-at _ _ _ (turn .loop-test .taken)) ∙ inv .1),
-      rw (c .stage-after .ensures, c .before .hear .ensures, event) (sym (heard-at _ _ _ _ _ (turn .loop-test .taken)) ∙ inv .2),
+      rw
+          (c .stage-after .ensures, c .before .hear .ensures, event) (sym (heard-at _ _ _ _ _ (turn .loop-test .taken)) ∙ inv .2),
     )
 
 returns : tie.Need-returns Inv-loop μ-loop

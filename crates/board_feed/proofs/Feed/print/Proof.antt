@@ -19,8 +19,9 @@ same-length c = search needs
 returns : tie.Need-returns
 unfolding answerOf
 returns c =
+    let the-plan = c .before .before .before .before .before .plan in
     let put = c .put-planning .ensures in
-    let plan = c .before .before .before .before .before .plan .ensures in
+    let plan = the-plan .ensures in
     let w = put-whole (omega (arith, c .before .before .put-planning-arg .given .0 .1, c .put-planning .ensures .1)) (put .0) in
     rw (← plan .0, ← plan .1) (w .0, rw (w .0) (w .1), refl)
 

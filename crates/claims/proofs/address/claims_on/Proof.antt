@@ -159,7 +159,9 @@ loop-again-2 c =
     )
 
 with-windows-requires : tie.Need-with-windows-requires Inv-loop μ-loop Inv-records μ-records
-with-windows-requires c κs = whole (c .before .before .before .before .before .before .before)
+with-windows-requires c κs =
+    let place = c .before .before .before .before .before .before .before in
+    whole place
 
 is-several-requires-2 : tie.Need-is-several-requires-2 Inv-loop μ-loop Inv-records μ-records
 is-several-requires-2 c κs = search needs

@@ -23,7 +23,8 @@ enum-known-more c = search needs
 
 slice-read-t20 : tie.Need-slice-read-t20
 slice-read-t20 c =
-    let read = c .before .before .before .before .before .before .read-piece in
+    let read-piece = c .before .before .before .before .before .before .read-piece in
+    let read = read-piece in
     let f = subst (Fewer _ _) (c .before .before .more .given .1) (read .ensures) in
     omega (arith, f)
 
@@ -38,7 +39,8 @@ same-length c = search needs
 
 returns-2 : tie.Need-returns-2
 returns-2 c =
-    let read = c .before .before .before .before .before .before .read-piece in
+    let read-piece = c .before .before .before .before .before .before .read-piece in
+    let read = read-piece in
     let f = subst (Fewer _ _) (c .before .before .more .given .1) (read .ensures) in
     nearer-of-piece 18446744073709551616 _ _ _ _ (f .2) (f .0) (omega arith)
 

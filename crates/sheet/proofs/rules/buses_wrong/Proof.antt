@@ -27,7 +27,10 @@ bus-of-requires c κs = search needs
 
 returns-2 : tie.Need-returns-2
 unfolding entryOf
-returns-2 c = rw (sym (c .before .before .before .before .before .is-bridge .ensures) ∙ not-false _ (c .before .before .before .before .if1 .left), c .bus-of .ensures)
+returns-2 c =
+    let if1 = c .before .before .before .before .if1 in
+    let is-bridge = c .before .before .before .before .before .is-bridge in
+    rw (sym (is-bridge .ensures) ∙ not-false _ (if1 .left), c .bus-of .ensures)
 
 pub buses-wrong-spec : {M : Type 1} → statement M
 buses-wrong-spec =

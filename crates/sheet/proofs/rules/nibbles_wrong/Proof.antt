@@ -33,7 +33,21 @@ is-nibbled-requires-3 c κs = search needs
 
 returns-2 : tie.Need-returns-2
 unfolding entryOf
-returns-2 c = rw (sym (c .before .before .before .before .before .before .before .is-bridge .ensures) ∙ not-false _ (c .before .before .before .before .before .before .if1 .left), c .before .before .is-nibbled .ensures, c .before .is-nibbled2 .ensures, c .is-nibbled3 .ensures, c .before .before .before .before .before .window-of .ensures, c .before .before .before .before .window-of2 .ensures, c .before .before .before .window-of3 .ensures)
+returns-2 c =
+    let window-of2 = c .before .before .before .before .window-of2 in
+    let at-window-of = c .before .before .before .before .before in
+    let window-of = at-window-of .window-of in
+    let if1 = at-window-of .before .if1 in
+    let is-bridge = at-window-of .before .before .is-bridge in
+    rw (
+      sym (is-bridge .ensures) ∙ not-false _ (if1 .left),
+      c .before .before .is-nibbled .ensures,
+      c .before .is-nibbled2 .ensures,
+      c .is-nibbled3 .ensures,
+      window-of .ensures,
+      window-of2 .ensures,
+      c .before .before .before .window-of3 .ensures,
+    )
 
 pub nibbles-wrong-spec : {M : Type 1} → statement M
 nibbles-wrong-spec =

@@ -20,7 +20,14 @@ read-be32-requires-4 c κs = search needs
 
 returns : tie.Need-returns
 unfolding dwords allZero
-returns c = simp (c .before .before .before .read-be32 .ensures .0, c .before .before .read-be322 .ensures .0, c .before .read-be323 .ensures .0, c .read-be324 .ensures .0, and-true)
+returns c =
+    simp (
+      c .before .before .before .read-be32 .ensures .0,
+      c .before .before .read-be322 .ensures .0,
+      c .before .read-be323 .ensures .0,
+      c .read-be324 .ensures .0,
+      and-true,
+    )
 
 pub rest-zero-spec : {M : Type 1} → statement M
 rest-zero-spec =

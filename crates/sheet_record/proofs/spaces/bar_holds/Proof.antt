@@ -19,10 +19,16 @@ in-space-requires : tie.Need-in-space-requires
 in-space-requires c κs = search needs
 
 returns : tie.Need-returns
-returns c = sym (bar-of-other-space _ _ _ _ _ (c .before .before .before .before .x .given .1) _ _ _ (c .before .before .base-of .ensures) (sym (c .before .in-space .ensures) ∙ not-true _ (c .if1 .taken)))
+returns c =
+    let x = c .before .before .before .before .x in
+    sym (bar-of-other-space _ _ _ _ _ (x .given .1) _ _ _ (c .before .before .base-of .ensures)
+    (sym (c .before .in-space .ensures) ∙ not-true _ (c .if1 .taken)))
 
 returns-2 : tie.Need-returns-2
-returns-2 c = sym (bar-above _ _ _ _ _ (c .before .before .before .before .before .x .given .1) _ _ _ (c .before .before .before .base-of .ensures) (sym (c .before .before .in-space .ensures) ∙ not-false _ (c .before .if1 .left)) (c .if2 .taken))
+returns-2 c =
+    let x = c .before .before .before .before .before .x in
+    sym (bar-above _ _ _ _ _ (x .given .1) _ _ _ (c .before .before .before .base-of .ensures)
+    (sym (c .before .before .in-space .ensures) ∙ not-false _ (c .before .if1 .left)) (c .if2 .taken))
 
 enum-told-2 : tie.Need-enum-told-2
 enum-told-2 c = search needs
@@ -34,7 +40,10 @@ returns-3 : tie.Need-returns-3
 returns-3 c = search needs
 
 returns-4 : tie.Need-returns-4
-returns-4 c = bar-by-size _ _ _ _ _ (c .before .before .before .before .before .x .given .1) _ _ _ (c .before .before .before .base-of .ensures) (sym (c .before .before .in-space .ensures) ∙ not-false _ (c .before .if1 .left)) (c .if2 .left)
+returns-4 c =
+    let x = c .before .before .before .before .before .x in
+    bar-by-size _ _ _ _ _ (x .given .1) _ _ _ (c .before .before .before .base-of .ensures)
+    (sym (c .before .before .in-space .ensures) ∙ not-false _ (c .before .if1 .left)) (c .if2 .left)
 
 returns-5 : tie.Need-returns-5
 returns-5 c = search needs

@@ -26,7 +26,12 @@ add-t6 c = search needs
 
 returns-2 : tie.Need-returns-2
 unfolding valueOf
-returns-2 c = rw (sym (c .before .before .before .is-within .ensures) ∙ c .before .before .if1 .left, sym (c .before .is-within2 .ensures) ∙ c .if2 .taken)
+returns-2 c =
+    rw (
+      sym (c .before .before .before .is-within .ensures) ∙ c .before .before .if1 .left,
+      sym (c .before .is-within2 .ensures)
+          ∙ c .if2 .taken,
+    )
 
 is-within-requires-3 : tie.Need-is-within-requires-3
 is-within-requires-3 c κs = search needs
@@ -39,11 +44,27 @@ add-t9 c = search needs
 
 returns-3 : tie.Need-returns-3
 unfolding valueOf
-returns-3 c = rw (sym (c .before .before .before .before .before .is-within .ensures) ∙ c .before .before .before .before .if1 .left, sym (c .before .before .before .is-within2 .ensures) ∙ c .before .before .if2 .left, sym (c .before .is-within3 .ensures) ∙ c .if3 .taken)
+returns-3 c =
+    let if1 = c .before .before .before .before .if1 in
+    let is-within = c .before .before .before .before .before .is-within in
+    rw (
+      sym (is-within .ensures) ∙ if1 .left,
+      sym (c .before .before .before .is-within2 .ensures)
+          ∙ c .before .before .if2 .left,
+      sym (c .before .is-within3 .ensures) ∙ c .if3 .taken,
+    )
 
 returns-4 : tie.Need-returns-4
 unfolding valueOf
-returns-4 c = rw (sym (c .before .before .before .before .before .is-within .ensures) ∙ c .before .before .before .before .if1 .left, sym (c .before .before .before .is-within2 .ensures) ∙ c .before .before .if2 .left, sym (c .before .is-within3 .ensures) ∙ c .if3 .left)
+returns-4 c =
+    let if1 = c .before .before .before .before .if1 in
+    let is-within = c .before .before .before .before .before .is-within in
+    rw (
+      sym (is-within .ensures) ∙ if1 .left,
+      sym (c .before .before .before .is-within2 .ensures)
+          ∙ c .before .before .if2 .left,
+      sym (c .before .is-within3 .ensures) ∙ c .if3 .left,
+    )
 
 pub value-of-spec : {M : Type 1} → statement M
 value-of-spec =
