@@ -15,7 +15,7 @@
  *     any other number   refused, and nothing that was lent has been changed
  *
  * The numbers are document 01's (the enumeration below). What each call returns and what every lent slice holds afterwards is proved, as an
- * equation with a definition: crates/capi/src/lib.rt has the contracts, crates/capi/specs the definitions.
+ * equation with a definition: crates/capi/src/lib.rt has the contracts, crates/capi/specs and crates/capi_answers/specs the definitions.
  *
  * Slices. A pointer and the number of elements behind it, bytes or 64-bit numbers. The proofs stand on what C promises here and nothing checks:
  *   - the pointer is not null, is aligned for its type, and the elements are there, also for a length of 0;

@@ -3,7 +3,6 @@
 use Prim.Native.Nat.{ℕ}
 use mathlib.Core.Bool.{cond}
 use mathlib.Core.List.{List, [], _∷_}
-use lib.ListN.{length}
 use lib.Dec.{ltb, eqb}
 use Rattle.packet_numbers.specs.declared.Parsed.{Parsed}
 use Rattle.packet_numbers.specs.declared.Parsed.the-variants.{Accepted as Taken, Refused as NotTaken}
@@ -25,7 +24,7 @@ use Rattle.route.specs.Route.{routeOf}
 use Rattle.plan_answer.specs.declared.Planning.{Planning}
 use Rattle.plan_answer.specs.declared.Planning.the-variants.{Planned, Refused as NotPlanned}
 use Rattle.plan_answer.specs.Plan.{planning, sheetAfter}
-use Rattle.capi.specs.Answers.{Answer, refuses, gives}
+use Rattle.capi_answers.specs.Answers.{Answer, refuses, gives, leftBeside}
 
 -- ## Reading: the packet's twenty numbers
 
@@ -55,13 +54,16 @@ roomOf (NotTaken n) room = room
 
 -- with no room for the answer nothing is written
 abbrev pub roomLeft : List ℕ → List ℕ → List ℕ → List ℕ
-roomLeft packet room written = cond (eqb (length written) 0) room (roomOf (packetOf packet) room)
+roomLeft packet room written = leftBeside written room (roomOf (packetOf packet) room)
 
 -- ## Lookup: where the 64 register bytes start
 
 abbrev pub onLookup : Lookup → Answer
 onLookup (Registers at) = gives (at ∷ [])
 onLookup (NotFound n) = refuses n
+
+abbrev pub lookupAnswer : List ℕ → ℕ → Answer
+lookupAnswer sheet id = onLookup (lookupOf sheet id)
 
 -- the number for an ID that no function has: the sheet's own, or else 40
 abbrev pub unownedOf : List ℕ → ℕ
@@ -98,4 +100,4 @@ planAnswer board room = onPlanning (planning board room)
 
 -- with no room for the answer nothing is planned
 abbrev pub sheetLeft : List ℕ → List ℕ → List ℕ → List ℕ
-sheetLeft board sheet written = cond (eqb (length written) 0) sheet (sheetAfter board sheet)
+sheetLeft board sheet written = leftBeside written sheet (sheetAfter board sheet)

@@ -1,12 +1,11 @@
 -- The calls one step each, in the words of the code. Assumes nothing.
 use Prim.Native.Nat.{ℕ, _+_, _-_, _<_, _≤_}
 use native.Mathlib.Omega.{arith}
-use native.Mathlib.Nat.{zero-add}
 use mathlib.Core.Path.{_≡_, refl, sym, ap, _∙_}
 use mathlib.Core.Bool.{Bool, true, false, cond}
 use mathlib.Core.List.{List, [], _∷_, _++_, append-nil}
 use lib.ListN.{length, take, drop, drop-of-length-le}
-use lib.Seq.{sets, sets-eq, take-length}
+use lib.Seq.{take-length}
 use lib.Dec.{ltb, eqb}
 use borrow.Author.Tests.{lt-ltb, le-ltb, eq-eqb, ne-eqb, eqb-true}
 use Rattle.endian.specs.Endian.{Bytes}
@@ -26,13 +25,12 @@ use Rattle.packet_numbers.specs.Parsing.{onPair, packetOf}
 use Rattle.packet_numbers.specs.Fields.{fieldsOf, checked, checked-fields}
 use Rattle.tlp.specs.declared.Writing.{Writing}
 use Rattle.tlp.specs.declared.Writing.the-variants.{Written, Refused as NotWritten}
-use Rattle.tlp_layout.specs.Layout.{size}
 use Rattle.tlp_layout.specs.LayoutLaws.{size-of-lawful}
+use Rattle.tlp_layout.specs.Layout.{size}
 use Rattle.tlp.specs.Writing.{writeOf, roomAfter}
 use Rattle.sheet.specs.declared.Found.{Found}
 use Rattle.sheet.specs.declared.Found.the-variants.{At, Nothing}
 use Rattle.sheet.specs.declared.Lookup.the-variants.{Refused as NotFound}
-use Rattle.sheet_record.specs.Places.{stride}
 use Rattle.sheet.specs.Sheet.{Framed, entriesOf, findFrom, sheetNumber, sheetLength}
 use Rattle.sheet.specs.SheetLaws.{checked-of-zero}
 use Rattle.sheet.specs.Lookup.{placed, lookupOf, lookupNumber, withCommand}
@@ -44,44 +42,31 @@ use Rattle.board.specs.ToPlacing.{toHost, toPlacing}
 use Rattle.plan_answer.specs.declared.Planning.{Planning}
 use Rattle.plan_answer.specs.declared.Planning.the-variants.{Planned, Refused as NotPlanned}
 use Rattle.plan_answer.specs.Plan.{onRoom, onBoard, planning, numberOf as planningNumber, sheetAfter}
-use Rattle.capi.specs.Answers.{Answer, refuses, gives, returned, filled}
+use Rattle.capi_answers.specs.Answers.{refuses, returned, filled, leftBeside}
+use Rattle.capi_answers.specs.AnswersLaws.{Answered, answered-short}
 use Rattle.capi.specs.Calls.{onWriting, onParsed, roomOf, unownedOf, word, commandNumber, commandLeft, onPlanning, planAnswer}
 use Rattle.capi.specs.Calls.{sheetLeft}
-
--- what was returned and what the slice holds after, together
-abbrev pub Answered : Answer → List ℕ → ℕ → List ℕ → Type 0
-Answered a slice r after = (r ≡ returned a slice) × (after ≡ filled a slice)
 
 -- the number with no room for the answer
 abbrev shortOf : Writing → ℕ
 shortOf (Written n) = 11
 shortOf (NotWritten n) = n
 
--- ## The answer slice
-
-module _ (ns slice : List ℕ) where
-  pub answered-short : length slice < length ns → Answered (gives ns) slice 11 slice
-  answered-short h = (rw (lt-ltb (length slice) (length ns) h), rw (lt-ltb (length slice) (length ns) h))
-
-  pub answered-filled : {after : List ℕ} → length ns ≤ length slice → after ≡ sets slice 0 ns → Answered (gives ns) slice 0 after
-  answered-filled h e = (
-    rw (le-ltb (length slice) (length ns) h),
-    rw (le-ltb (length slice) (length ns) h)
-        (e ∙ sets-eq ns slice 0 (omega arith) ∙ rw zero-add),
-  )
-
 -- ## Writing
 
-pub cond-same : (b : Bool) (s : List ℕ) → s ≡ cond b s s
-cond-same true s = refl
-cond-same false s = refl
+-- what stays where nothing is written stays
+pub left-same : (slice s : List ℕ) → s ≡ leftBeside slice s s
+left-same slice s = go (eqb (length slice) 0)
+  where
+    go : (b : Bool) → s ≡ cond b s s
+    go true = refl
+    go false = refl
 
 -- the room, the answer and the length's slice after, together
 abbrev pub WroteFor : Packet → List ℕ → List ℕ → ℕ → List ℕ → List ℕ → Type 0
 WroteFor p room written r after slice =
     (r ≡ returned (onWriting (writeOf p (length room))) written)
-    × (after ≡ cond (eqb (length written) 0) room (roomAfter p room))
-    × (slice ≡ filled (onWriting (writeOf p (length room))) written)
+    × ((after ≡ leftBeside written room (roomAfter p room)) × (slice ≡ filled (onWriting (writeOf p (length room))) written))
 
 module _ (p : Packet) (room written : List ℕ) where
   -- with no room for the answer
@@ -118,15 +103,17 @@ module _ (p : Packet) (room written : List ℕ) where
             let refused : w ≡ NotWritten m = e ∙ rw none (write-empty (verdictOf p) refl) in
             let left : part ≡ [] = f ∙ rw none room-empty in
             let given : Answered (refuses m) written r slice = rw refused at a in
-            (given .0 ∙ short .0, rw (z, left, none), given .1 ∙ short .1)
+            (given .0 ∙ short .0, (rw (z, left, none), given .1 ∙ short .1))
         go false z =
             let all : space ≡ length room = lent ∙ rw z in
             let whole : take space room ≡ room = ap (λ (n : ℕ). take n room) all ∙ take-length room in
             let rest : drop space room ≡ [] = drop-of-length-le room {i = space} (omega arith) in
             let wrote-all : w ≡ writeOf p (length room) = e ∙ ap (λ (s : List ℕ). writeOf p (length s)) whole in (
               a .0 ∙ ap (λ (x : Writing). returned (onWriting x) written) wrote-all,
-              rw (z, rest, append-nil part) (f ∙ ap (roomAfter p) whole),
-              a .1 ∙ ap (λ (x : Writing). filled (onWriting x) written) wrote-all,
+              (
+                rw (z, rest, append-nil part) (f ∙ ap (roomAfter p) whole),
+                a .1 ∙ ap (λ (x : Writing). filled (onWriting x) written) wrote-all,
+              ),
             )
 
 -- the writer refuses a kind and form not carried: whether they were looked at before it, the answer and the room are the same
@@ -157,11 +144,11 @@ lookup-wide s id bytes wide = go (eqb (sheetNumber s) 0) refl
     found : Framed 1 s → (x : Found) → findFrom id 1 (entriesOf s) ≡ x → NotFound 40 ≡ placed x
     found f Nothing e = refl
     found f (At at) e =
-        let part = bytes-take (at + stride - (at + 2)) (drop (at + 2) s) (bytes-drop (at + 2) s bytes) in
+        let part = bytes-take (at + 92 - (at + 2)) (drop (at + 2) s) (bytes-drop (at + 2) s bytes) in
         absurd (omega (arith, found-at s 1 id at f e .id-is, be-lt 2 (partFrom s at) 0 part))
 
-    go : (b : Bool) → eqb (sheetNumber s) 0 ≡ b → NotFound (cond b 40 (sheetNumber s))
-        ≡ cond b (placed (findFrom id 1 (entriesOf s))) (NotFound (sheetNumber s))
+    go : (b : Bool) → eqb (sheetNumber s) 0 ≡ b
+        → NotFound (cond b 40 (sheetNumber s)) ≡ cond b (placed (findFrom id 1 (entriesOf s))) (NotFound (sheetNumber s))
     go true z = found (checked-of-zero s (eqb-true (sheetNumber s) 0 z) .framed) (findFrom id 1 (entriesOf s)) refl
     go false z = refl
 
@@ -189,8 +176,8 @@ module _ (s : List ℕ) (id command : ℕ) where
 -- the sheet, the answer and the length's slice after, together
 abbrev pub PlannedFor : List ℕ → List ℕ → List ℕ → ℕ → List ℕ → List ℕ → Type 0
 PlannedFor board sheet written r after slice =
-    (r ≡ returned (planAnswer board (length sheet)) written) × (after ≡ sheetLeft board sheet written)
-    × (slice ≡ filled (planAnswer board (length sheet)) written)
+    (r ≡ returned (planAnswer board (length sheet)) written)
+    × ((after ≡ sheetLeft board sheet written) × (slice ≡ filled (planAnswer board (length sheet)) written))
 
 -- the number with no room for the answer
 abbrev unplannedOf : Planning → ℕ
@@ -226,14 +213,12 @@ module _ (board sheet written : List ℕ) where
       → PlannedFor board sheet written r sheet written
   planned-nothing r e z =
       let a = plan-short z (planning board (length sheet)) in
-      (e ∙ plan-empty (length sheet) ∙ a .0, rw (eq-eqb (length written) 0 z), a .1)
+      (e ∙ plan-empty (length sheet) ∙ a .0, (rw (eq-eqb (length written) 0 z), a .1))
 
   module _ (more : length written ≡ 0 → ⊥) (w : Planning) (e : w ≡ planning board (length sheet)) (after : List ℕ)
       (f : after ≡ sheetAfter board sheet) where
     pub planned : (r : ℕ) (slice : List ℕ) → Answered (onPlanning w) written r slice → PlannedFor board sheet written r after slice
     planned r slice a = (
       a .0 ∙ ap (λ (x : Planning). returned (onPlanning x) written) e,
-      f ∙ sym (rw (ne-eqb (length written) 0 more)),
-      a .1
-          ∙ ap (λ (x : Planning). filled (onPlanning x) written) e,
+      (f ∙ sym (rw (ne-eqb (length written) 0 more)), a .1 ∙ ap (λ (x : Planning). filled (onPlanning x) written) e),
     )

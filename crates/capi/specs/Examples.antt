@@ -6,8 +6,8 @@ use lib.ListN.{replicate}
 use Rattle.endian.specs.Endian.{be, le, beBytes}
 use Rattle.pairs.specs.Pairs.{table, first, findPair, findKind, pairOf, rowOf}
 use Rattle.packet.specs.Widths.{lengthFits, bodyFits, fieldsFit}
-use Rattle.packet.specs.Rules.{reservedSet, fixedWrong, upperZero, enablesWrong, crossesPage, statusWrong, fromRule5, fromRule6, fromRule7}
-use Rattle.packet.specs.Rules.{fromRule8, fromRule9, ruleNumber}
+use Rattle.packet.specs.Rules.{reservedSet, fixedWrong, upperZero, enablesWrong, crossesPage, statusWrong}
+use Rattle.packet.specs.Rules.{fromRule5, fromRule6, fromRule7, fromRule8, fromRule9, ruleNumber}
 use Rattle.packet.specs.Verdict.{onRules, onFields, verdictOf}
 use Rattle.packet_numbers.specs.Numbers.{numbersOf}
 use Rattle.packet_numbers.specs.Parsing.{kinds, kindAt, anyAbove, headFrom, enablesFrom, onKind, fromKind, packetOf}
@@ -23,18 +23,17 @@ use Rattle.lists.specs.Lists.{All, keep}
 use Rattle.walk.specs.Registers.{itemsOf, items, enabledIn}
 use Rattle.walk.specs.Tally.{join, tallyOn}
 use Rattle.walk.specs.Walk.{walkOver, walkFrom}
-use Rattle.sheet_record.specs.Spaces.{barsFrom}
 use Rattle.sheet_record.specs.Entry.{dwords, windowOf, entryOf}
 use Rattle.sheet.specs.Sheet.{allSized, isFramed, entriesFrom, commandsOf, allZero, readBacksWrong, breaks, anyBreaks, hasId, idTwice}
-use Rattle.sheet.specs.Sheet.{findFrom}
-use Rattle.sheet.specs.Sheet.{from29, from25, from28, from27, from24, from22, from20, from21, sheetNumber}
+use Rattle.sheet.specs.Sheet.{findFrom, from29, from25, from28, from27, from24, from22, from20, from21, sheetNumber}
 use Rattle.sheet.specs.Lookup.{lookupOf}
+use Rattle.sheet_record.specs.Spaces.{barsFrom}
 use Rattle.sheet.specs.Spaces.{functionsFrom, nodesFrom}
 use Rattle.sheet.specs.Examples.{p10}
 use Rattle.route.specs.Route.{routeOf, fromSheet, routePacket, from42}
 use Rattle.route.specs.Examples.{MRd, F9000FFC, F9001000}
-use Rattle.capi.specs.Answers.{Answer, refuses, gives, returned}
-use Rattle.capi.specs.Calls.{readAnswer, writeAnswer, roomLeft, onLookup, commandNumber, routeAnswer}
+use Rattle.capi_answers.specs.Answers.{Answer, refuses, gives, returned}
+use Rattle.capi.specs.Calls.{readAnswer, writeAnswer, roomLeft, lookupAnswer, commandNumber, routeAnswer}
 
 -- a read of one dword at an address, as numbers: the register's place, and those of a completion
 abbrev pub read-at : ℕ → ℕ → List ℕ → List ℕ
@@ -75,9 +74,9 @@ examples =
     ∷ answers (writeAnswer (read-at 3 4 no-outcome) 16) (refuses 10)
     ∷ answers (writeAnswer (read-at 3 0 no-outcome) 16) (refuses 4)
     -- P10's sheet
-    ∷ answers (onLookup (lookupOf p10 0x0100)) (gives (97 ∷ []))
-    ∷ answers (onLookup (lookupOf p10 0x10000)) (refuses 40)
-    ∷ answers (onLookup (lookupOf [] 0x10000)) (refuses 20)
+    ∷ answers (lookupAnswer p10 0x0100) (gives (97 ∷ []))
+    ∷ answers (lookupAnswer p10 0x10000) (refuses 40)
+    ∷ answers (lookupAnswer [] 0x10000) (refuses 20)
     ∷ returns (commandNumber [] 0x0100 0x10000) 10
     ∷ returns (commandNumber p10 0x0100 3) 0
     ∷ answers (routeAnswer (MRd F9000FFC) p10) (gives (2 ∷ 1 ∷ p10-read))

@@ -1,6 +1,5 @@
--- The C boundary: what each call returns and what every lent slice then holds; that a refused call changes nothing, that 0 is returned just
--- where a call is accepted, and the round trip through twenty numbers.
-pub mod Answers
+-- The C boundary: what each call returns and what every lent slice then holds; that a refused call changes nothing, that 0 is returned
+-- just where a call is accepted, and the round trip through twenty numbers.
 pub mod Calls
 pub mod Examples
 pub mod CallsLaws

@@ -1,12 +1,13 @@
--- No refusal has the number 0, so a call returns 0 just where it is accepted and its answer slice has room. Assumes nothing.
-use Prim.Native.Nat.{ℕ, zero, suc, _+_, _*_, _<_, _≤_}
+-- No refusal has the number 0, so that a call returns 0 just where it is accepted and its answer slice has room (`given-of-zero` of
+-- capi_answers). Assumes nothing.
+use Prim.Native.Nat.{ℕ, zero, suc, _+_, _*_, _<_}
 use native.Mathlib.Omega.{arith}
 use mathlib.Core.Path.{_≡_, refl}
 use mathlib.Core.Bool.{Bool, true, false, cond, _||_}
-use mathlib.Core.List.{List, _++_}
-use lib.ListN.{length, getD, drop}
+use mathlib.Core.List.{List}
+use lib.ListN.{length, getD}
 use lib.Dec.{ltb, eqb}
-use borrow.Author.Tests.{eqb-false, ltb-false}
+use borrow.Author.Tests.{eqb-false}
 use Rattle.pairs.specs.declared.Kind.{Kind}
 use Rattle.pairs.specs.declared.Kind.the-variants.{Memory as MemoryKind, Io as IoKind, Config as ConfigKind, Completion as CompletionKind}
 use Rattle.pairs.specs.declared.Kind.the-variants.{Msg, MsgD, FetchAdd, Swap, Cas}
@@ -51,30 +52,9 @@ use Rattle.board.specs.ToPlacing.{toHost, toPlacing}
 use Rattle.plan_answer.specs.declared.Planning.{Planning}
 use Rattle.plan_answer.specs.declared.Planning.the-variants.{Planned, Refused as NotPlanned}
 use Rattle.plan_answer.specs.Plan.{onRoom, onBoard, planning}
-use Rattle.capi.specs.Answers.{Answer, refuses, gives, returned, filled}
-use Rattle.capi.specs.Calls.{onReading, readAnswer, onWriting, onParsed, writeAnswer, onLookup, onRouting, routeAnswer, onPlanning}
-use Rattle.capi.specs.Calls.{planAnswer}
-
-abbrev pub Numbered : Answer → Type 0
-Numbered (gives ns) = Unit
-Numbered (refuses n) = 0 < n
-
--- ## What 0 says
-
--- numbers that the slice has room for
-pub record Given (a : Answer) (slice : List ℕ) : Type 0 where
-  pub numbers : List ℕ
-  pub answer-is : a ≡ gives numbers
-  pub fits : length numbers ≤ length slice
-  pub slice-is : filled a slice ≡ numbers ++ drop (length numbers) slice
-
-pub given-of-zero : (a : Answer) (slice : List ℕ) → Numbered a → returned a slice ≡ 0 → Given a slice
-given-of-zero (refuses n) slice h z = absurd (omega arith)
-given-of-zero (gives ns) slice h z = go (ltb (length slice) (length ns)) refl z
-  where
-    go : (b : Bool) → ltb (length slice) (length ns) ≡ b → _≡_ {A = ℕ} (cond b 11 0) 0 → Given (gives ns) slice
-    go true e z = absurd (omega arith)
-    go false e z = record { numbers = ns; answer-is = refl; fits = ltb-false (length slice) (length ns) e; slice-is = rw e }
+use Rattle.capi_answers.specs.AnswersLaws.{Numbered}
+use Rattle.capi.specs.Calls.{onReading, readAnswer, onWriting, onParsed, writeAnswer, onLookup, lookupAnswer, onRouting, routeAnswer}
+use Rattle.capi.specs.Calls.{onPlanning, planAnswer}
 
 -- ## A test between two answers, and a number that is given back where it is not 0
 
@@ -117,8 +97,9 @@ numbered-pair : (pair : Pair) (s : List ℕ) → NumberedReading (readPair pair 
 numbered-pair Unknown s = omega arith
 numbered-pair NotCarried s = omega arith
 numbered-pair (Carried row) s =
-    either NumberedReading (ltb (length s) (4 * row .form)) (NotRead 1) (readAs (kindNamed (row .name)) (row .form) s) (omega arith)
-    (numbered-as (kindNamed (row .name)) (row .form) s)
+    let kind = kindNamed (row .name) in
+    either NumberedReading (ltb (length s) (4 * row .form)) (NotRead 1) (readAs kind (row .form) s) (omega arith)
+    (numbered-as kind (row .form) s)
 
 pub numbered-read : (header : List ℕ) → Numbered (readAnswer header)
 unfolding readOf
@@ -136,8 +117,8 @@ numbered-fields : (row : Row) (p : Packet) → NumberedVerdict (onFields row p)
 unfolding onFields onRules
 numbered-fields row p =
     let n = ruleNumber p in
-    either NumberedVerdict (fieldsFit p) (cond (eqb n 0) (Lawful row) (Unlawful n)) (Unlawful 10)
-    (unless-zero NumberedVerdict n (Lawful row) (Unlawful n) tt (λ h. h)) (omega arith)
+    let ruled = unless-zero NumberedVerdict n (Lawful row) (Unlawful n) tt (λ h. h) in
+    either NumberedVerdict (fieldsFit p) (cond (eqb n 0) (Lawful row) (Unlawful n)) (Unlawful 10) ruled (omega arith)
 
 numbered-verdict : (p : Packet) → NumberedVerdict (verdictOf p)
 unfolding verdictOf
@@ -207,7 +188,7 @@ numbered-write packet room = go (packetOf packet) (numbered-parsed packet)
 abbrev NumberedLookup : Lookup → Type 0
 NumberedLookup l = Numbered (onLookup l)
 
-pub numbered-lookup : (sheet : List ℕ) (id : ℕ) → Numbered (onLookup (lookupOf sheet id))
+pub numbered-lookup : (sheet : List ℕ) (id : ℕ) → Numbered (lookupAnswer sheet id)
 unfolding lookupOf
 numbered-lookup sheet id = unless-zero NumberedLookup (sheetNumber sheet) _ _ (found (findFrom id 1 (entriesOf sheet))) (λ h. h)
   where
@@ -240,9 +221,9 @@ numbered-from-sheet : (p : Packet) (s : List ℕ) → NumberedRouting (fromSheet
 unfolding fromSheet routePacket from42
 numbered-from-sheet p s =
     let walk = answer p (walked (aimOf p) s (root s) 0) in
+    let by-type = cond (typeWrong (root s) p) (NotDelivered 42) walk in
     let typed = either NumberedRouting (typeWrong (root s) p) (NotDelivered 42) walk (omega arith) (numbered-from-walk p s) in
-    let peopled = either NumberedRouting (eqb (length (nodesOf s)) 0) (NotDelivered 40)
-    (cond (typeWrong (root s) p) (NotDelivered 42) walk) (omega arith) typed in
+    let peopled = either NumberedRouting (eqb (length (nodesOf s)) 0) (NotDelivered 40) by-type (omega arith) typed in
     unless-zero NumberedRouting (sheetNumber s) (routePacket p s) (NotDelivered (sheetNumber s)) peopled (λ h. h)
 
 pub numbered-route : (header sheet : List ℕ) → Numbered (routeAnswer header sheet)

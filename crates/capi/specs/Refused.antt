@@ -1,12 +1,10 @@
 -- Demand 1 at the C boundary: a refused call changes nothing that it was lent. Assumes nothing.
 use Prim.Native.Nat.{ℕ}
-use native.Mathlib.Omega.{arith}
 use mathlib.Core.Path.{_≡_, refl, _∙_}
 use mathlib.Core.Bool.{Bool, true, false, cond}
-use mathlib.Core.List.{List, [], _∷_, _++_}
-use lib.ListN.{length, drop}
+use mathlib.Core.List.{List}
+use lib.ListN.{length}
 use lib.Dec.{ltb, eqb}
-use borrow.Author.Tests.{le-ltb, eqb-false}
 use Rattle.packet.specs.declared.Packet.{Packet}
 use Rattle.packet_numbers.specs.declared.Parsed.{Parsed}
 use Rattle.packet_numbers.specs.declared.Parsed.the-variants.{Accepted as Taken, Refused as NotTaken}
@@ -20,49 +18,38 @@ use Rattle.sheet.specs.Lookup.{lookupOf, lookupNumber, withCommand}
 use Rattle.plan_answer.specs.declared.Planning.{Planning}
 use Rattle.plan_answer.specs.declared.Planning.the-variants.{Planned, Refused as NotPlanned}
 use Rattle.plan_answer.specs.Plan.{planning, sheetAs, sheetAfter}
-use Rattle.capi.specs.Answers.{Answer, refuses, gives, returned, filled}
-use Rattle.capi.specs.Calls.{onWriting, onParsed, writeAnswer, roomOf, roomLeft, word, commandNumber, commandLeft, onPlanning}
-use Rattle.capi.specs.Calls.{planAnswer, sheetLeft}
+use Rattle.capi_answers.specs.Answers.{Answer, returned, filled}
+use Rattle.capi_answers.specs.AnswersLaws.{one-given, refused-keeps-slice}
+use Rattle.capi.specs.Calls.{onWriting, onParsed, writeAnswer, roomOf, roomLeft, word, commandNumber, commandLeft}
+use Rattle.capi.specs.Calls.{onPlanning, planAnswer, sheetLeft}
 
 pub record RefusedKeeps : Type 0 where
   -- whatever the answer slice
-  pub answer-slice : (a : Answer) (slice : List ℕ) → (returned a slice ≡ 0 → ⊥) → filled a slice ≡ slice
+  pub answer-slice : (a : Answer) (slice : List ℕ) → ¬ (returned a slice ≡ 0) → filled a slice ≡ slice
   -- the room of a write
-  pub room : (packet room written : List ℕ) → (returned (writeAnswer packet (length room)) written ≡ 0 → ⊥)
+  pub room : (packet room written : List ℕ) → ¬ (returned (writeAnswer packet (length room)) written ≡ 0)
       → roomLeft packet room written ≡ room
   -- the sheet of a plan
-  pub planned-sheet : (board sheet written : List ℕ) → (returned (planAnswer board (length sheet)) written ≡ 0 → ⊥)
+  pub planned-sheet : (board sheet written : List ℕ) → ¬ (returned (planAnswer board (length sheet)) written ≡ 0)
       → sheetLeft board sheet written ≡ sheet
   -- the sheet of a command word
-  pub commanded-sheet : (sheet : List ℕ) (id command : ℕ) → (commandNumber sheet id command ≡ 0 → ⊥) → commandLeft sheet id command ≡ sheet
-
-keeps-slice : (a : Answer) (slice : List ℕ) → (returned a slice ≡ 0 → ⊥) → filled a slice ≡ slice
-keeps-slice (refuses n) slice h = refl
-keeps-slice (gives ns) slice h = go (ltb (length slice) (length ns)) h
-  where
-    go : (b : Bool) → (_≡_ {A = ℕ} (cond b 11 0) 0 → ⊥) → cond b slice (ns ++ drop (length ns) slice) ≡ slice
-    go true h = refl
-    go false h = absurd (h refl)
-
--- an answer of one number has room in a slice that is not empty
-one-given : (n : ℕ) (slice : List ℕ) → eqb (length slice) 0 ≡ false → returned (gives (n ∷ [])) slice ≡ 0
-one-given n slice e = rw (le-ltb (length slice) 1 (omega (arith, eqb-false (length slice) 0 e)))
+  pub commanded-sheet : (sheet : List ℕ) (id command : ℕ) → ¬ (commandNumber sheet id command ≡ 0) → commandLeft sheet id command ≡ sheet
 
 room-as : (p : Packet) (room : List ℕ) → roomAfter p room ≡ roomAs (writeOf p (length room)) p room
 unfolding roomAfter
 room-as p room = refl
 
-keeps-room : (packet room written : List ℕ) → (returned (writeAnswer packet (length room)) written ≡ 0 → ⊥)
+keeps-room : (packet room written : List ℕ) → ¬ (returned (writeAnswer packet (length room)) written ≡ 0)
     → roomLeft packet room written ≡ room
 keeps-room packet room written h = go (eqb (length written) 0) refl
   where
-    by-writing : (p : Packet) (w : Writing) → eqb (length written) 0 ≡ false → writeOf p (length room) ≡ w
-        → (returned (onWriting w) written ≡ 0 → ⊥) → roomAs w p room ≡ room
-    by-writing p (Written n) e q h = absurd (h (one-given n written e))
-    by-writing p (NotWritten n) e q h = refl
+    by-writing : (p : Packet) (w : Writing) → eqb (length written) 0 ≡ false → ¬ (returned (onWriting w) written ≡ 0)
+        → roomAs w p room ≡ room
+    by-writing p (Written n) e h = absurd (h (one-given n written e))
+    by-writing p (NotWritten n) e h = refl
 
-    by-packet : (q : Parsed) → eqb (length written) 0 ≡ false → (returned (onParsed q (length room)) written ≡ 0 → ⊥) → roomOf q room ≡ room
-    by-packet (Taken p) e h = room-as p room ∙ by-writing p (writeOf p (length room)) e refl h
+    by-packet : (q : Parsed) → eqb (length written) 0 ≡ false → ¬ (returned (onParsed q (length room)) written ≡ 0) → roomOf q room ≡ room
+    by-packet (Taken p) e h = room-as p room ∙ by-writing p (writeOf p (length room)) e h
     by-packet (NotTaken n) e h = refl
 
     go : (b : Bool) → eqb (length written) 0 ≡ b → cond b room (roomOf (packetOf packet) room) ≡ room
@@ -73,12 +60,11 @@ sheet-as : (board sheet : List ℕ) → sheetAfter board sheet ≡ sheetAs (plan
 unfolding sheetAfter
 sheet-as board sheet = refl
 
-keeps-planned : (board sheet written : List ℕ) → (returned (planAnswer board (length sheet)) written ≡ 0 → ⊥)
+keeps-planned : (board sheet written : List ℕ) → ¬ (returned (planAnswer board (length sheet)) written ≡ 0)
     → sheetLeft board sheet written ≡ sheet
 keeps-planned board sheet written h = go (eqb (length written) 0) refl
   where
-    by-planning : (a : Planning) → eqb (length written) 0 ≡ false → (returned (onPlanning a) written ≡ 0 → ⊥)
-        → sheetAs a board sheet ≡ sheet
+    by-planning : (a : Planning) → eqb (length written) 0 ≡ false → ¬ (returned (onPlanning a) written ≡ 0) → sheetAs a board sheet ≡ sheet
     by-planning (Planned n) e h = absurd (h (one-given n written e))
     by-planning (NotPlanned n) e h = refl
 
@@ -86,14 +72,15 @@ keeps-planned board sheet written h = go (eqb (length written) 0) refl
     go true e = refl
     go false e = sheet-as board sheet ∙ by-planning (planning board (length sheet)) e h
 
-keeps-sheet : (sheet : List ℕ) (id command : ℕ) → (commandNumber sheet id command ≡ 0 → ⊥) → commandLeft sheet id command ≡ sheet
+keeps-sheet : (sheet : List ℕ) (id command : ℕ) → ¬ (commandNumber sheet id command ≡ 0) → commandLeft sheet id command ≡ sheet
 unfolding commandNumber commandLeft
 keeps-sheet sheet id command = go (ltb word command) (lookupOf sheet id)
   where
-    go : (b : Bool) (l : Lookup) → (cond b 10 (lookupNumber l) ≡ 0 → ⊥) → cond b sheet (withCommand l sheet command) ≡ sheet
+    go : (b : Bool) (l : Lookup) → ¬ (cond b 10 (lookupNumber l) ≡ 0) → cond b sheet (withCommand l sheet command) ≡ sheet
     go true l h = refl
     go false (Registers at) h = absurd (h refl)
     go false (NotFound n) h = refl
 
 pub refused-keeps : RefusedKeeps
-refused-keeps = record { answer-slice = keeps-slice; room = keeps-room; planned-sheet = keeps-planned; commanded-sheet = keeps-sheet }
+refused-keeps =
+    record { answer-slice = refused-keeps-slice; room = keeps-room; planned-sheet = keeps-planned; commanded-sheet = keeps-sheet }

@@ -29,8 +29,9 @@ use Rattle.tlp.specs.Reading.{readOf}
 use Rattle.tlp_layout.specs.Layout.{size}
 use Rattle.tlp.specs.Writing.{writeOf, roomAfter}
 use Rattle.tlp.specs.RoundTrip.{read-write, write-read, read-lawful}
-use Rattle.capi.specs.Answers.{returned, filled}
-use Rattle.capi.specs.Numbered.{Given, given-of-zero, numbered-read, numbered-write}
+use Rattle.capi_answers.specs.Answers.{returned, filled}
+use Rattle.capi_answers.specs.AnswersLaws.{Given, given-of-zero}
+use Rattle.capi.specs.Numbered.{numbered-read, numbered-write}
 use Rattle.capi.specs.Calls.{onReading, readAnswer, onWriting, onParsed, writeAnswer, roomLeft}
 
 -- the header's packet, as it was written into a slice
@@ -91,8 +92,8 @@ module _ (packet room written out : List ℕ) (wide : 20 ≤ length out) where
       record { accepted = rw (read, roomy); same-numbers = rw (read, roomy) (rw (twenty, same)) }
 
   pub read-back : returned (writeAnswer packet (length room)) written ≡ 0 → ReadBack packet room written out
-  read-back ok = on-parsed (packetOf packet) refl
-      (given-of-zero (writeAnswer packet (length room)) written (numbered-write packet (length room)) ok)
+  read-back ok =
+      on-parsed (packetOf packet) refl (given-of-zero (writeAnswer packet (length room)) written (numbered-write packet (length room)) ok)
     where
       on-writing : (p : Packet) (w : Writing) → packetOf packet ≡ Taken p → writeOf p (length room) ≡ w → Given (onWriting w) written
           → ReadBack packet room written out

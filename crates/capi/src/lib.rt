@@ -1,19 +1,14 @@
 // The C boundary. Each call returns 0 or document 01's number, and a refused call changes nothing that it was lent. A slice passes as a
 // pointer and then a length. An answer slice too short is 11, tried last; numbers past the answer's own are left as they were.
 ghost use mathlib.Core.Path.{_≡_};
-ghost use Prim.Native.Nat.{_≤_};
-ghost use mathlib.Core.List.{[], _∷_};
-ghost use mathlib.Core.Bool.{cond};
 ghost use lib.ListN.{length};
-ghost use lib.Dec.{eqb};
-ghost use Rattle.packet_numbers.specs.Numbers.{numbersOf};
 ghost use Rattle.tlp.specs.Writing.{writeOf, roomAfter};
 ghost use Rattle.sheet.specs.Sheet.{sheetNumber};
 ghost use Rattle.sheet.specs.Lookup.{lookupOf};
 ghost use Rattle.plan_answer.specs.Plan.{numberOf as planningNumber, planning};
-ghost use Rattle.capi.specs.Answers.{gives, returned, filled};
-ghost use Rattle.capi.specs.Calls.{readAnswer, onWriting, writeAnswer, roomLeft, onLookup, unownedOf, commandNumber, commandLeft};
-ghost use Rattle.capi.specs.Calls.{routeAnswer, planAnswer, sheetLeft};
+ghost use Rattle.capi_answers.specs.Answers.{returned, filled, leftBeside};
+ghost use Rattle.capi.specs.Calls.{readAnswer, onWriting, writeAnswer, roomLeft, lookupAnswer, unownedOf};
+ghost use Rattle.capi.specs.Calls.{commandNumber, commandLeft, routeAnswer, planAnswer, sheetLeft};
 use packet::Packet;
 use packet_numbers::Parsed;
 use plan_answer::Planning;
@@ -25,13 +20,11 @@ use tlp::Writing;
 // Reads a header's packet as twenty numbers.
 #[no_mangle]
 pub extern "C" fn cartsundial_read(header: &[u8], packet: &mut [u64]) -> u32
-    ensures { λ r. ⌜
-        (r ≡ returned (readAnswer (now (header .entry))) (now (packet .entry)))
-        × (now (packet .exit) ≡ filled (readAnswer (now (header .entry))) (now (packet .entry)))
-        ⌝ }
+    ensures { λ r. ⌜ r ≡ returned (readAnswer (now (header .entry))) (now (packet .entry)) ⌝ }
+    ensures { λ _. ⌜ now (packet .exit) ≡ filled (readAnswer (now (header .entry))) (now (packet .entry)) ⌝ }
 {
     match tlp::read(header) {
-        Reading::Accepted(p) => give_packet(p, packet),
+        Reading::Accepted(p) => capi_answers::give_packet(p, packet),
         Reading::Refused(n) => n as u32,
     }
 }
@@ -40,10 +33,10 @@ pub extern "C" fn cartsundial_read(header: &[u8], packet: &mut [u64]) -> u32
 // fewer than twenty 11, a kind and form not carried 2, a number too large for its field or in a field that the kind does not have 10.
 #[no_mangle]
 pub extern "C" fn cartsundial_write(packet: &[u64], room: &mut [u8], written: &mut [u64]) -> u32
-    ensures { λ r. ⌜
-        (r ≡ returned (writeAnswer (now (packet .entry)) (length (now (room .entry)))) (now (written .entry)))
-        × (now (room .exit) ≡ roomLeft (now (packet .entry)) (now (room .entry)) (now (written .entry)))
-        × (now (written .exit) ≡ filled (writeAnswer (now (packet .entry)) (length (now (room .entry)))) (now (written .entry)))
+    ensures { λ r. ⌜ r ≡ returned (writeAnswer (now (packet .entry)) (length (now (room .entry)))) (now (written .entry)) ⌝ }
+    ensures { λ _. ⌜ now (room .exit) ≡ roomLeft (now (packet .entry)) (now (room .entry)) (now (written .entry)) ⌝ }
+    ensures { λ _. ⌜
+        now (written .exit) ≡ filled (writeAnswer (now (packet .entry)) (length (now (room .entry)))) (now (written .entry))
         ⌝ }
 {
     match packet_numbers::fields_of(packet) {
@@ -55,17 +48,15 @@ pub extern "C" fn cartsundial_write(packet: &[u64], room: &mut [u8], written: &m
 // Plans a board: its sheet, and the sheet's length.
 #[no_mangle]
 pub extern "C" fn cartsundial_plan(board: &[u8], sheet: &mut [u8], written: &mut [u64]) -> u32
-    ensures { λ r. ⌜
-        (r ≡ returned (planAnswer (now (board .entry)) (length (now (sheet .entry)))) (now (written .entry)))
-        × (now (sheet .exit) ≡ sheetLeft (now (board .entry)) (now (sheet .entry)) (now (written .entry)))
-        × (now (written .exit) ≡ filled (planAnswer (now (board .entry)) (length (now (sheet .entry)))) (now (written .entry)))
-        ⌝ }
+    ensures { λ r. ⌜ r ≡ returned (planAnswer (now (board .entry)) (length (now (sheet .entry)))) (now (written .entry)) ⌝ }
+    ensures { λ _. ⌜ now (sheet .exit) ≡ sheetLeft (now (board .entry)) (now (sheet .entry)) (now (written .entry)) ⌝ }
+    ensures { λ _. ⌜ now (written .exit) ≡ filled (planAnswer (now (board .entry)) (length (now (sheet .entry)))) (now (written .entry)) ⌝ }
 {
     if written.len() == 0 {
         return plan_refusal(board);
     }
     match planner::plan(board, sheet) {
-        Planning::Planned(n) => give_one(n as u64, written),
+        Planning::Planned(n) => capi_answers::give_one(n as u64, written),
         Planning::Refused(n) => n as u32,
     }
 }
@@ -81,13 +72,11 @@ pub extern "C" fn cartsundial_check(sheet: &[u8]) -> u32
 // Where the 64 register bytes of the function with an ID start in the sheet.
 #[no_mangle]
 pub extern "C" fn cartsundial_lookup(sheet: &[u8], id: u32, offset: &mut [u64]) -> u32
-    ensures { λ r. ⌜
-        (r ≡ returned (onLookup (lookupOf (now (sheet .entry)) id)) (now (offset .entry)))
-        × (now (offset .exit) ≡ filled (onLookup (lookupOf (now (sheet .entry)) id)) (now (offset .entry)))
-        ⌝ }
+    ensures { λ r. ⌜ r ≡ returned (lookupAnswer (now (sheet .entry)) id) (now (offset .entry)) ⌝ }
+    ensures { λ _. ⌜ now (offset .exit) ≡ filled (lookupAnswer (now (sheet .entry)) id) (now (offset .entry)) ⌝ }
 {
     match find(sheet, id) {
-        Lookup::Registers(at) => give_one(at as u64, offset),
+        Lookup::Registers(at) => capi_answers::give_one(at as u64, offset),
         Lookup::Refused(n) => n as u32,
     }
 }
@@ -95,10 +84,8 @@ pub extern "C" fn cartsundial_lookup(sheet: &[u8], id: u32, offset: &mut [u64]) 
 // Rewrites the command word of the function with an ID, and no other byte. A value above FFFFh is 10, tried before the sheet is read.
 #[no_mangle]
 pub extern "C" fn cartsundial_command(sheet: &mut [u8], id: u32, command: u32) -> u32
-    ensures { λ r. ⌜
-        (r ≡ commandNumber (now (sheet .entry)) id command)
-        × (now (sheet .exit) ≡ commandLeft (now (sheet .entry)) id command)
-        ⌝ }
+    ensures { λ r. ⌜ r ≡ commandNumber (now (sheet .entry)) id command ⌝ }
+    ensures { λ _. ⌜ now (sheet .exit) ≡ commandLeft (now (sheet .entry)) id command ⌝ }
 {
     if WORD < command {
         return 10;
@@ -112,45 +99,34 @@ pub extern "C" fn cartsundial_command(sheet: &mut [u8], id: u32, command: u32) -
 // Walks a header over a sheet: the record that gets the packet, the bridges crossed, and the packet as it arrives, 22 numbers.
 #[no_mangle]
 pub extern "C" fn cartsundial_route(header: &[u8], sheet: &[u8], answer: &mut [u64]) -> u32
-    ensures { λ r. ⌜
-        (r ≡ returned (routeAnswer (now (header .entry)) (now (sheet .entry))) (now (answer .entry)))
-        × (now (answer .exit) ≡ filled (routeAnswer (now (header .entry)) (now (sheet .entry))) (now (answer .entry)))
-        ⌝ }
+    ensures { λ r. ⌜ r ≡ returned (routeAnswer (now (header .entry)) (now (sheet .entry))) (now (answer .entry)) ⌝ }
+    ensures { λ _. ⌜ now (answer .exit) ≡ filled (routeAnswer (now (header .entry)) (now (sheet .entry))) (now (answer .entry)) ⌝ }
 {
     match route::route(header, sheet) {
         Routing::Delivered(d) => {
             let p = d.packet;
-            give_delivery(d.owner, d.bridges, p, answer)
+            capi_answers::give_delivery(d.owner as u64, d.bridges as u64, p, answer)
         }
         Routing::Refused(n) => n as u32,
     }
 }
 
-// ---- what the calls share
+// ---- what the calls are made of
 
 // The greatest ID and the greatest command word.
 const WORD: u32 = 65535;
 
 // With no room for its length the packet is written into an empty room, which is 11 after the packet's own number.
 fn write_packet(p: Packet, room: &mut [u8], written: &mut [u64]) -> u32
-    ensures { λ r. ⌜
-        (r ≡ returned (onWriting (writeOf p (length (now (room .entry))))) (now (written .entry)))
-        × (now (room .exit) ≡ cond (eqb (length (now (written .entry))) 0) (now (room .entry)) (roomAfter p (now (room .entry))))
-        × (now (written .exit) ≡ filled (onWriting (writeOf p (length (now (room .entry))))) (now (written .entry)))
-        ⌝ }
+    ensures { λ r. ⌜ r ≡ returned (onWriting (writeOf p (length (now (room .entry))))) (now (written .entry)) ⌝ }
+    ensures { λ _. ⌜ now (room .exit) ≡ leftBeside (now (written .entry)) (now (room .entry)) (roomAfter p (now (room .entry))) ⌝ }
+    ensures { λ _. ⌜ now (written .exit) ≡ filled (onWriting (writeOf p (length (now (room .entry))))) (now (written .entry)) ⌝ }
 {
-    let space = space_for(written.len(), room.len());
+    let space = capi_answers::space_for(written.len(), room.len());
     match tlp::write(p, &mut room[..space]) {
-        Writing::Written(n) => give_one(n as u64, written),
+        Writing::Written(n) => capi_answers::give_one(n as u64, written),
         Writing::Refused(n) => n as u32,
     }
-}
-
-// The bytes of a room that are used where an answer slice has so many numbers.
-fn space_for(answers: usize, room: usize) -> usize
-    ensures { λ r. ⌜ (r ≤ room) × (r ≡ cond (eqb answers 0) 0 room) ⌝ }
-{
-    if answers == 0 { 0 } else { room }
 }
 
 // The board's own number, or else 11: every sheet has its version byte, so with an empty one the planner ends at its last check and writes
@@ -181,42 +157,4 @@ fn unowned(sheet: &[u8]) -> u8
 {
     let n = sheet::check(sheet);
     if n == 0 { 40 } else { n }
-}
-
-fn give_packet(p: Packet, out: &mut [u64]) -> u32
-    ensures { λ r. ⌜
-        (r ≡ returned (gives (numbersOf p)) (now (out .entry)))
-        × (now (out .exit) ≡ filled (gives (numbersOf p)) (now (out .entry)))
-        ⌝ }
-{
-    if out.len() < packet_numbers::SIZE {
-        return 11;
-    }
-    packet_numbers::put_packet(out, 0, p);
-    0
-}
-
-fn give_delivery(number: u16, bridges: u8, p: Packet, out: &mut [u64]) -> u32
-    ensures { λ r. ⌜
-        (r ≡ returned (gives (number ∷ bridges ∷ numbersOf p)) (now (out .entry)))
-        × (now (out .exit) ≡ filled (gives (number ∷ bridges ∷ numbersOf p)) (now (out .entry)))
-        ⌝ }
-{
-    if out.len() < 2 + packet_numbers::SIZE {
-        return 11;
-    }
-    out[0] = number as u64;
-    out[1] = bridges as u64;
-    packet_numbers::put_packet(out, 2, p);
-    0
-}
-
-fn give_one(n: u64, out: &mut [u64]) -> u32
-    ensures { λ r. ⌜ (r ≡ returned (gives (n ∷ [])) (now (out .entry))) × (now (out .exit) ≡ filled (gives (n ∷ [])) (now (out .entry))) ⌝ }
-{
-    if out.len() < 1 {
-        return 11;
-    }
-    out[0] = n;
-    0
 }

@@ -1,5 +1,5 @@
--- `capi::cartsundial_command` meets its contract: a command word too wide, an ID that no function has, and the sheet's own call. Assumes
--- nothing.
+-- `capi::cartsundial_command` meets its contract: a command word too wide, an ID that no function has, and the sheet's own call.
+-- Assumes nothing.
 use borrow.Author.Needs.{needs}
 use Rattle.capi.specs.CallsLaws.{command-too-wide, command-unowned, commanded}
 use Rattle.capi.proofs.cartsundial_command.Statement.{statement}
@@ -20,11 +20,11 @@ same-length c = search needs
 
 returns-2 : tie.Need-returns-2
 returns-2 c =
-    let slice-known = c .before .before .before .before .slice-known in
     let args = c .before .before .before .before .before .args in
     let s = args in
-    command-unowned (s .sheet .now) (s .id) (s .command) (c .before .before .before .if1 .left) (c .unowned .result)
-    (λ i. slice-known .given i .fits) (c .before .before .if2 .taken) (c .unowned .ensures)
+    let narrow = c .before .before .before in
+    command-unowned (s .sheet .now) (s .id) (s .command) (narrow .if1 .left) (c .unowned .result)
+    (λ i. narrow .before .slice-known .given i .fits) (c .before .before .if2 .taken) (c .unowned .ensures)
 
 cast-set-command : tie.Need-cast-set-command
 cast-set-command c = search needs
@@ -43,11 +43,10 @@ same-length-2 c = search needs
 
 returns-3 : tie.Need-returns-3
 returns-3 c =
-    let at-if1 = c .before .before .before .before .before in
-    let if1 = at-if1 .if1 in
-    let args = at-if1 .before .before .args in
-    let s = args in
-    commanded (s .sheet .now) (s .id) (s .command) (if1 .left) _ _ (c .before .before .set-command .ensures)
+    let place = c .before .before .before .before .before in
+    let narrow = place in
+    let s = narrow .before .before .args in
+    commanded (s .sheet .now) (s .id) (s .command) (narrow .if1 .left) _ _ (c .before .before .set-command .ensures)
 
 pub cartsundial-command-spec : {M : Type 1} → statement M
 cartsundial-command-spec =

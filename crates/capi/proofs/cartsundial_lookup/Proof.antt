@@ -24,10 +24,9 @@ same-length c = search needs
 
 returns : tie.Need-returns
 returns c =
-    let at-at-place = c .before .before .before .before .before in
-    let at-place = at-at-place .at in
-    let find = at-at-place .before .before .find in
-    rw (sym (find .ensures) ∙ at-place .given .1) (c .before .before .give-one .ensures)
+    let place = c .before .before .before .before .before in
+    let found = place in
+    rw (sym (found .before .before .find .ensures) ∙ found .at .given .1) (c .before .before .give-one .ensures)
 
 returns-2 : tie.Need-returns-2
 returns-2 c = let e = sym (c .before .before .before .find .ensures) ∙ c .before .n .given .1 in (rw e, rw e)

@@ -1,5 +1,5 @@
--- `capi::cartsundial_plan` meets its contract: with no room for the answer nothing is planned; else by what the planner answers. Assumes
--- nothing.
+-- `capi::cartsundial_plan` meets its contract: with no room for the answer nothing is planned; else by what the planner answers.
+-- Assumes nothing.
 use borrow.Author.Needs.{needs}
 use mathlib.Core.Path.{refl}
 use Rattle.capi.specs.CallsLaws.{planned-nothing, planned}

@@ -24,10 +24,9 @@ same-length c = search needs
 
 returns : tie.Need-returns
 returns c =
-    let at-p = c .before .before .before .before .before in
-    let p = at-p .p in
-    let read = at-p .before .before .read in
-    rw (sym (read .ensures) ∙ p .given .1) (c .before .before .give-packet .ensures)
+    let place = c .before .before .before .before .before in
+    let accepted = place in
+    rw (sym (accepted .before .before .read .ensures) ∙ accepted .p .given .1) (c .before .before .give-packet .ensures)
 
 returns-2 : tie.Need-returns-2
 returns-2 c = let e = sym (c .before .before .before .read .ensures) ∙ c .before .n .given .1 in (rw e, rw e)

@@ -10,6 +10,12 @@ route-requires c κs = search needs
 enum-known-d : tie.Need-enum-known-d
 enum-known-d c = search needs
 
+cast-give-delivery : tie.Need-cast-give-delivery
+cast-give-delivery c = search needs
+
+cast-give-delivery-2 : tie.Need-cast-give-delivery-2
+cast-give-delivery-2 c = search needs
+
 give-delivery-requires : tie.Need-give-delivery-requires
 give-delivery-requires c κs = search needs
 
@@ -24,10 +30,9 @@ same-length c = search needs
 
 returns : tie.Need-returns
 returns c =
-    let at-d = c .before .before .before .before .before in
-    let d = at-d .d in
-    let route = at-d .before .before .route in
-    rw (sym (route .ensures) ∙ d .given .1) (c .before .before .give-delivery .ensures)
+    let place = c .before .before .before .before .before .before .before in
+    let delivered = place in
+    rw (sym (delivered .before .before .route .ensures) ∙ delivered .d .given .1) (c .before .before .give-delivery .ensures)
 
 returns-2 : tie.Need-returns-2
 returns-2 c = let e = sym (c .before .before .before .route .ensures) ∙ c .before .n .given .1 in (rw e, rw e)
@@ -38,6 +43,8 @@ cartsundial-route-spec =
     (tie.spec
     route-requires
     enum-known-d
+    cast-give-delivery
+    cast-give-delivery-2
     give-delivery-requires
     enum-known-n
     cast-result

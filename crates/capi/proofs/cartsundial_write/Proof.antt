@@ -1,9 +1,7 @@
 -- `capi::cartsundial_write` meets its contract: by what the twenty numbers are taken for. Assumes nothing.
 use borrow.Author.Needs.{needs}
-use lib.Dec.{eqb}
-use lib.ListN.{length}
 use mathlib.Core.Path.{refl}
-use Rattle.capi.specs.CallsLaws.{cond-same, fields-agree}
+use Rattle.capi.specs.CallsLaws.{left-same, fields-agree}
 use Rattle.capi.proofs.cartsundial_write.Statement.{statement}
 use Rattle.capi.proofs.cartsundial_write.Tie as tie
 
@@ -31,14 +29,13 @@ same-length-2 c = search needs
 returns : tie.Need-returns
 returns c =
     let write-packet = c .before .before .before .before .write-packet in
-    let at-p = c .before .before .before .before .before .before .before .before in
-    let p = at-p .p in
-    let fields-of = at-p .before .before .fields-of in
-    let args = at-p .before .before .before .before .before .before .args in
-    let parsed = fields-of in
-    let s = args in
+    let place = c .before .before .before .before .before .before .before .before in
+    let taken = place in
+    let call = taken .before .before in
+    let parsed = call .fields-of in
+    let s = call .before .before .before .before .args in
     let same = fields-agree (s .room .now) (s .packet .now) (parsed .result) (parsed .ensures) in
-    rw (same .0, same .1, p .given .1) (write-packet .ensures)
+    rw (same .0, same .1, taken .p .given .1) (write-packet .ensures)
 
 returns-2 : tie.Need-returns-2
 returns-2 c =
@@ -46,7 +43,7 @@ returns-2 c =
     let parsed = c .before .before .before .fields-of in
     let s = args in
     let same = fields-agree (s .room .now) (s .packet .now) (parsed .result) (parsed .ensures) in
-    rw (same .0, same .1, c .before .n .given .1) (refl, cond-same (eqb (length (s .written .now)) 0) (s .room .now), refl)
+    rw (same .0, same .1, c .before .n .given .1) (refl, (left-same (s .written .now) (s .room .now), refl))
 
 pub cartsundial-write-spec : {M : Type 1} → statement M
 cartsundial-write-spec =

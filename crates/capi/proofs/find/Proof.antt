@@ -12,8 +12,8 @@ unowned-requires c κs = search needs
 returns : tie.Need-returns
 returns c =
     let s = c .before .before .before .args in
-    ap Refused (c .unowned .ensures) ∙ lookup-wide (s .sheet .now) (s .id) (λ i. c .before .before .shared-slice-known .given i .fits)
-    (c .before .if1 .taken)
+    ap Refused (c .unowned .ensures)
+    ∙ lookup-wide (s .sheet .now) (s .id) (λ i. c .before .before .shared-slice-known .given i .fits) (c .before .if1 .taken)
 
 cast-find : tie.Need-cast-find
 cast-find c = search needs

@@ -1,10 +1,10 @@
--- `capi::give_one` meets its contract: one number where the slice has room for it, and nothing else. Assumes nothing.
+-- `capi_answers::give_one` meets its contract: one number where the slice has room for it, and nothing else. Assumes nothing.
 use borrow.Author.Needs.{needs}
 use mathlib.Core.List.{[], _∷_}
 use mathlib.Core.Path.{refl}
-use Rattle.capi.specs.CallsLaws.{answered-short, answered-filled}
-use Rattle.capi.proofs.give_one.Statement.{statement}
-use Rattle.capi.proofs.give_one.Tie as tie
+use Rattle.capi_answers.specs.AnswersLaws.{answered-short, answered-filled}
+use Rattle.capi_answers.proofs.give_one.Statement.{statement}
+use Rattle.capi_answers.proofs.give_one.Tie as tie
 
 returns : tie.Need-returns
 returns c = answered-short (c .before .args .n ∷ []) (c .before .args .out .now) (c .if1 .taken)

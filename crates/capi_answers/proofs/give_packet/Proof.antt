@@ -1,11 +1,11 @@
--- `capi::give_packet` meets its contract: twenty numbers where the slice has room for them, and nothing else. Assumes nothing.
+-- `capi_answers::give_packet` meets its contract: twenty numbers where the slice has room for them, and nothing else. Assumes nothing.
 use borrow.Author.Needs.{needs}
 use native.Mathlib.Omega.{arith}
-use Rattle.capi.specs.CallsLaws.{answered-short, answered-filled}
+use Rattle.capi_answers.specs.AnswersLaws.{answered-short, answered-filled}
 use Rattle.packet_numbers.specs.Numbers.{numbersOf}
 use Rattle.packet_numbers.specs.NumbersLaws.{length-numbersOf}
-use Rattle.capi.proofs.give_packet.Statement.{statement}
-use Rattle.capi.proofs.give_packet.Tie as tie
+use Rattle.capi_answers.proofs.give_packet.Statement.{statement}
+use Rattle.capi_answers.proofs.give_packet.Tie as tie
 
 returns : tie.Need-returns
 returns c =

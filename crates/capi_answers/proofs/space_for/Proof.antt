@@ -1,8 +1,8 @@
--- `capi::space_for` meets its contract: by the test. Assumes nothing.
+-- `capi_answers::space_for` meets its contract: by the test. Assumes nothing.
 use borrow.Author.Tests.{eq-eqb, ne-eqb}
 use native.Mathlib.Omega.{arith}
-use Rattle.capi.proofs.space_for.Statement.{statement}
-use Rattle.capi.proofs.space_for.Tie as tie
+use Rattle.capi_answers.proofs.space_for.Statement.{statement}
+use Rattle.capi_answers.proofs.space_for.Tie as tie
 
 returns : tie.Need-returns
 returns c = (omega arith, rw (eq-eqb (c .before .args .answers) 0 (c .if1 .taken)))

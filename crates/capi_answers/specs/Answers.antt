@@ -4,7 +4,7 @@ use Prim.Native.Nat.{ℕ}
 use mathlib.Core.Bool.{cond}
 use mathlib.Core.List.{List, _++_}
 use lib.ListN.{length, drop}
-use lib.Dec.{ltb}
+use lib.Dec.{ltb, eqb}
 
 pub data Answer : Type 0 where
   refuses : ℕ → Answer
@@ -19,3 +19,7 @@ returned (gives ns) slice = cond (ltb (length slice) (length ns)) 11 0
 abbrev pub filled : Answer → List ℕ → List ℕ
 filled (refuses n) slice = slice
 filled (gives ns) slice = cond (ltb (length slice) (length ns)) slice (ns ++ drop (length ns) slice)
+
+-- what else a call may write, beside an answer of one number: with no room for the answer it stays
+abbrev pub leftBeside : List ℕ → List ℕ → List ℕ → List ℕ
+leftBeside slice before after = cond (eqb (length slice) 0) before after
