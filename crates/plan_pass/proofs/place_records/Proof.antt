@@ -116,13 +116,13 @@ add-at-2 c =
 
 add-i : tie.Need-add-i Inv-loop μ-loop
 add-i c =
-    let at-n = c .before .before .before .before .before .before .before .before .before in
-    let n = at-n .n in
-    let next-at = at-n .before .before .next-at in
-    let loop = at-n .before .before .before .loop in
-    let pre = at-n .before .before .before .before .before .before .before .before .before .pre in
-    let e = sym (next-at .ensures) ∙ n .given .1 in
-    omega (arith, turn-room pre (loop .inv) _ e)
+    let room = turn-room
+    (c .before .before .before .before .before .before .before .before .before .before .before .before .before .before .before .before .before
+    .before .pre)
+    (c .before .before .before .before .before .before .before .before .before .before .before .before .loop .inv) _
+    (sym (c .before .before .before .before .before .before .before .before .before .before .before .next-at .ensures)
+    ∙ c .before .before .before .before .before .before .before .before .before .n .given .1) in
+    omega (arith, room)
 
 loop-less : tie.Need-loop-less Inv-loop μ-loop
 loop-less c =
