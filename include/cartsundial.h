@@ -175,6 +175,13 @@ uint32_t cartsundial_check(const uint8_t *sheet, size_t sheet_len);
 uint32_t cartsundial_lookup(const uint8_t *sheet, size_t sheet_len, uint32_t id, uint64_t *offset, size_t offset_len);
 
 /*
+ * The ID of the function with a record number, from 1 on: bus in bits 15:8, device in 7:3, function in 2:0. It turns the record that
+ * cartsundial_route answers into an ID.
+ * Refused: the sheet's number, then 40 where there is no such record (0 is none), then 11 for an id slice of no numbers.
+ */
+uint32_t cartsundial_id(const uint8_t *sheet, size_t sheet_len, uint32_t record, uint64_t *id, size_t id_len);
+
+/*
  * Rewrites the command word of the function with an ID, and no other byte.
  * Refused: 10 for a command above FFFFh, tried before the sheet is read, then the sheet's number, then 40.
  */

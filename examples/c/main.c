@@ -43,15 +43,17 @@ static uint32_t read_request(uint64_t address, uint8_t header[CARTSUNDIAL_HEADER
 static void route_read(uint64_t address)
 {
     uint8_t header[CARTSUNDIAL_HEADER_BYTES];
-    uint64_t answer[CARTSUNDIAL_ROUTE_NUMBERS];
+    uint64_t answer[CARTSUNDIAL_ROUTE_NUMBERS], id[1] = { 0 };
     size_t header_len = 0;
     uint32_t number = read_request(address, header, &header_len);
 
     if (number == CARTSUNDIAL_ACCEPTED)
         number = cartsundial_route(header, header_len, sheet, sheet_len, answer, CARTSUNDIAL_ROUTE_NUMBERS);
     if (number == CARTSUNDIAL_ACCEPTED)
-        printf("read %08" PRIX64 ": record %" PRIu64 " bridges %" PRIu64 " address %08" PRIX64 "\n", address, answer[0], answer[1],
-               answer[2 + CARTSUNDIAL_ADDRESS]);
+        number = cartsundial_id(sheet, sheet_len, (uint32_t)answer[0], id, 1);
+    if (number == CARTSUNDIAL_ACCEPTED)
+        printf("read %08" PRIX64 ": record %" PRIu64 ", %02X:%02X.%X, bridges %" PRIu64 " address %08" PRIX64 "\n", address, answer[0],
+               (unsigned)(id[0] >> 8), (unsigned)(id[0] >> 3 & 31), (unsigned)(id[0] & 7), answer[1], answer[2 + CARTSUNDIAL_ADDRESS]);
     else
         printf("read %08" PRIX64 ": refused %" PRIu32 "\n", address, number);
 }

@@ -14,10 +14,12 @@ use Rattle.tlp.specs.declared.Writing.{Writing}
 use Rattle.tlp.specs.declared.Writing.the-variants.{Written, Refused as NotWritten}
 use Rattle.tlp.specs.Reading.{readOf}
 use Rattle.tlp.specs.Writing.{writeOf, roomAfter}
+use Rattle.sheet.specs.declared.RecordId.{RecordId}
+use Rattle.sheet.specs.declared.RecordId.the-variants.{Id, Refused as NoRecord}
 use Rattle.sheet.specs.declared.Lookup.{Lookup}
 use Rattle.sheet.specs.declared.Lookup.the-variants.{Registers, Refused as NotFound}
 use Rattle.sheet.specs.Sheet.{sheetNumber}
-use Rattle.sheet.specs.Lookup.{lookupOf, lookupNumber, withCommand}
+use Rattle.sheet.specs.Lookup.{lookupOf, lookupNumber, withCommand, recordId}
 use Rattle.route.specs.declared.Routing.{Routing}
 use Rattle.route.specs.declared.Routing.the-variants.{Delivered, Refused as NotDelivered}
 use Rattle.route.specs.Route.{routeOf}
@@ -64,6 +66,15 @@ onLookup (NotFound n) = refuses n
 
 abbrev pub lookupAnswer : List ℕ → ℕ → Answer
 lookupAnswer sheet id = onLookup (lookupOf sheet id)
+
+-- ## From a record's number to its ID
+
+abbrev pub onRecordId : RecordId → Answer
+onRecordId (Id id) = gives (id ∷ [])
+onRecordId (NoRecord n) = refuses n
+
+abbrev pub idAnswer : List ℕ → ℕ → Answer
+idAnswer sheet number = onRecordId (recordId sheet number)
 
 -- the number for an ID that no function has: the sheet's own, or else 40
 abbrev pub unownedOf : List ℕ → ℕ

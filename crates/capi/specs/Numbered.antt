@@ -4,7 +4,7 @@ use Prim.Native.Nat.{ℕ, zero, suc, _+_, _*_, _<_}
 use native.Mathlib.Omega.{arith}
 use mathlib.Core.Path.{_≡_, refl}
 use mathlib.Core.Bool.{Bool, true, false, cond, _||_}
-use mathlib.Core.List.{List}
+use mathlib.Core.List.{List, [], _∷_}
 use lib.ListN.{length, getD}
 use lib.Dec.{ltb, eqb}
 use borrow.Author.Tests.{eqb-false}
@@ -37,9 +37,11 @@ use Rattle.walk.specs.Tally.{Tally, none, one, several}
 use Rattle.walk.specs.Walk.{settle, walkOver, walkFrom}
 use Rattle.sheet.specs.declared.Found.{Found}
 use Rattle.sheet.specs.declared.Found.the-variants.{At, Nothing}
+use Rattle.sheet.specs.declared.RecordId.{RecordId}
 use Rattle.sheet.specs.declared.Lookup.{Lookup}
 use Rattle.sheet.specs.Sheet.{entriesOf, findFrom, sheetNumber, sheetLength}
-use Rattle.sheet.specs.Lookup.{placed, lookupOf}
+use Rattle.sheet_record.specs.Entry.{Entry}
+use Rattle.sheet.specs.Lookup.{placed, lookupOf, idAt, idOfRecord, recordId}
 use Rattle.sheet.specs.Spaces.{nodesOf}
 use Rattle.claims.specs.Claims.{tallyFor}
 use Rattle.route_arrival.specs.Arrival.{aimOf, typeWrong}
@@ -53,7 +55,7 @@ use Rattle.plan_answer.specs.declared.Planning.{Planning}
 use Rattle.plan_answer.specs.declared.Planning.the-variants.{Planned, Refused as NotPlanned}
 use Rattle.plan_answer.specs.Plan.{onRoom, onBoard, planning}
 use Rattle.capi_answers.specs.AnswersLaws.{Numbered}
-use Rattle.capi.specs.Calls.{onReading, readAnswer, onWriting, onParsed, writeAnswer, onLookup, lookupAnswer, onRouting, routeAnswer}
+use Rattle.capi.specs.Calls.{onReading, readAnswer, onWriting, onParsed, writeAnswer, onLookup, lookupAnswer, onRecordId, idAnswer, onRouting, routeAnswer}
 use Rattle.capi.specs.Calls.{onPlanning, planAnswer}
 
 -- ## A test between two answers, and a number that is given back where it is not 0
@@ -195,6 +197,25 @@ numbered-lookup sheet id = unless-zero NumberedLookup (sheetNumber sheet) _ _ (f
     found : (x : Found) → NumberedLookup (placed x)
     found (At at) = tt
     found Nothing = omega arith
+
+-- ## From a record's number to its ID
+
+abbrev NumberedId : RecordId → Type 0
+NumberedId r = Numbered (onRecordId r)
+
+numbered-id-at : (es : List Entry) (i : ℕ) → NumberedId (idAt es i)
+unfolding idAt
+numbered-id-at [] i = omega arith
+numbered-id-at (e ∷ es) zero = tt
+numbered-id-at (e ∷ es) (suc i) = numbered-id-at es i
+
+pub numbered-id : (sheet : List ℕ) (number : ℕ) → Numbered (idAnswer sheet number)
+unfolding recordId
+numbered-id sheet number = unless-zero NumberedId (sheetNumber sheet) _ _ (of-record number) (λ h. h)
+  where
+    of-record : (k : ℕ) → NumberedId (idOfRecord (entriesOf sheet) k)
+    of-record zero = omega arith
+    of-record (suc i) = numbered-id-at (entriesOf sheet) i
 
 -- ## Routing
 

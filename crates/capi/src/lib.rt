@@ -7,13 +7,14 @@ ghost use Rattle.sheet.specs.Sheet.{sheetNumber};
 ghost use Rattle.sheet.specs.Lookup.{lookupOf};
 ghost use Rattle.plan_answer.specs.Plan.{numberOf as planningNumber, planning};
 ghost use Rattle.capi_answers.specs.Answers.{returned, filled, leftBeside};
-ghost use Rattle.capi.specs.Calls.{readAnswer, onWriting, writeAnswer, roomLeft, lookupAnswer, unownedOf};
+ghost use Rattle.capi.specs.Calls.{readAnswer, onWriting, writeAnswer, roomLeft, lookupAnswer, idAnswer, unownedOf};
 ghost use Rattle.capi.specs.Calls.{commandNumber, commandLeft, routeAnswer, planAnswer, sheetLeft};
 use packet::Packet;
 use packet_numbers::Parsed;
 use plan_answer::Planning;
 use route::Routing;
 use sheet::Lookup;
+use sheet::RecordId;
 use tlp::Reading;
 use tlp::Writing;
 
@@ -78,6 +79,18 @@ pub extern "C" fn cartsundial_lookup(sheet: &[u8], id: u32, offset: &mut [u64]) 
     match find(sheet, id) {
         Lookup::Registers(at) => capi_answers::give_one(at as u64, offset),
         Lookup::Refused(n) => n as u32,
+    }
+}
+
+// The ID of the function with a record number, from 1 on: from the owner that a route answers to its bus, device and function.
+#[no_mangle]
+pub extern "C" fn cartsundial_id(sheet: &[u8], number: u32, id: &mut [u64]) -> u32
+    ensures { λ r. ⌜ r ≡ returned (idAnswer (now (sheet .entry)) number) (now (id .entry)) ⌝ }
+    ensures { λ _. ⌜ now (id .exit) ≡ filled (idAnswer (now (sheet .entry)) number) (now (id .entry)) ⌝ }
+{
+    match sheet::id_of(sheet, number as usize) {
+        RecordId::Id(n) => capi_answers::give_one(n as u64, id),
+        RecordId::Refused(n) => n as u32,
     }
 }
 

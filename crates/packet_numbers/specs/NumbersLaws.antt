@@ -9,6 +9,7 @@ use lib.ListN.{length, getD, drop, length-append}
 use lib.Seq.{drop-cons}
 use lib.Dec.{ltb}
 use borrow.Author.Tests.{lt-ltb, le-ltb, ltb-false}
+use Rattle.lists.specs.BoolLaws.{false-of-or}
 use Rattle.pairs.specs.declared.Kind.{Kind}
 use Rattle.packet.specs.declared.Packet.{Packet}
 use Rattle.packet.specs.declared.Packet.the-variants.{Memory, Io, Config, Completion}
@@ -54,16 +55,12 @@ above-parts ns enough request outcome five five' =
 
 -- ## What the test says of every place
 
-pub or-elim : (a b : Bool) → a || b ≡ false → (a ≡ false) × (b ≡ false)
-or-elim true b e = (e, absurd (let z : _≡_ {A = ℕ} 0 1 = cc in omega arith))
-or-elim false b e = (refl, e)
-
 pub at-most : (ms ns : List ℕ) → anyAbove ms ns ≡ false → length ms ≤ length ns → (i : ℕ) → i < length ms → getD ns i 0 ≤ getD ms i 0
 unfolding anyAbove
 at-most [] ns e l i h = absurd (omega arith)
 at-most (m ∷ ms) [] e l i h = absurd (omega arith)
-at-most (m ∷ ms) (n ∷ ns) e l zero h = ltb-false m n (or-elim (ltb m n) (anyAbove ms ns) e .0)
-at-most (m ∷ ms) (n ∷ ns) e l (suc i) h = at-most ms ns (or-elim (ltb m n) (anyAbove ms ns) e .1) (omega arith) i (omega arith)
+at-most (m ∷ ms) (n ∷ ns) e l zero h = ltb-false m n (false-of-or (ltb m n) (anyAbove ms ns) e .0)
+at-most (m ∷ ms) (n ∷ ns) e l (suc i) h = at-most ms ns (false-of-or (ltb m n) (anyAbove ms ns) e .1) (omega arith) i (omega arith)
 
 none-of-most : (ms ns : List ℕ) → ((i : ℕ) → i < length ms → getD ns i 0 ≤ getD ms i 0) → anyAbove ms ns ≡ false
 unfolding anyAbove

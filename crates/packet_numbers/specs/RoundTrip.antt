@@ -32,12 +32,13 @@ use Rattle.packet.specs.Verdict.{verdictOf}
 use Rattle.packet.specs.Widths.{lengthFits}
 use Rattle.packet.specs.WidthsLaws.{length-in-elim, address-fits-elim, fields-fit-elim}
 use Rattle.packet.specs.VerdictLaws.{lawful-elim, head-of-lawful, memory-of-lawful, io-of-lawful, config-of-lawful, completion-of-lawful}
+use Rattle.lists.specs.BoolLaws.{false-of-or}
 use Rattle.packet_numbers.specs.declared.Parsed.{Parsed}
 use Rattle.packet_numbers.specs.declared.Parsed.the-variants.{Accepted, Refused}
 use Rattle.packet_numbers.specs.Numbers.{bit, headNumbers, bodyNumbers, numbersOf}
 use Rattle.packet_numbers.specs.Parsing.{size, kinds, lastKind, kindAt, headMost, byAddress, byTarget, completing, anyAbove, Within}
 use Rattle.packet_numbers.specs.Parsing.{headFrom, enablesFrom, targetFrom, outcomeFrom, packetAs, onPair, onKind, fromKind, packetOf}
-use Rattle.packet_numbers.specs.NumbersLaws.{length-numbersOf, or-elim, none-of-within, within-of-none}
+use Rattle.packet_numbers.specs.NumbersLaws.{length-numbersOf, none-of-within, within-of-none}
 
 -- ## Bits and kinds
 
@@ -284,7 +285,7 @@ numbers-of-packet ns p e =
     let enough = ltb-false (length ns) size (l .0) in
     let outside = ltb lastKind (getD ns 0 0) || ltb 4 (getD ns 1 0) in
     let k = past outside 2 (onKind ns) p (l .1) in
-    let inside = ltb-false lastKind (getD ns 0 0) (or-elim (ltb lastKind (getD ns 0 0)) (ltb 4 (getD ns 1 0)) (k .0) .0) in
+    let inside = ltb-false lastKind (getD ns 0 0) (false-of-or (ltb lastKind (getD ns 0 0)) (ltb 4 (getD ns 1 0)) (k .0) .0) in
     let kind = kindAt (getD ns 0 0) in
     let written = kind-written (getD ns 0 0) inside in
     (enough, given-by-pair ns enough (rowOf kind (getD ns 1 0)) kind p written (k .1) ∙ sym (take-gets size 0 ns enough))

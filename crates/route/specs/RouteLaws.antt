@@ -18,7 +18,7 @@ use Rattle.walk.specs.WalkLaws.{walk-step}
 use Rattle.walk.specs.IdsLaws.{rising-by-id}
 use Rattle.sheet_record.specs.Places.{recordSize}
 use Rattle.sheet_record.specs.Entry.{Entry, entryOf, busOf}
-use Rattle.sheet.specs.Sheet.{entriesOf, partAt, sheetNumber}
+use Rattle.sheet.specs.Sheet.{entriesOf, partAt, sheetLength, sheetNumber}
 use Rattle.sheet.specs.IndexLaws.{record-fits, length-part, entries-index}
 use Rattle.sheet.specs.SheetLaws.{Checked, zero-of-checked, passes-of-zero}
 use Rattle.sheet.specs.Spaces.{nodesFrom, nodesOf, registersOf, enabledOf}
@@ -93,7 +93,7 @@ module _ (p : Packet) (s : List ℕ) (m : ℕ) (count : m ≡ length (entriesOf 
       first-inside : 0 < length (entriesOf s)
       first-inside = omega arith
 
-      pub first-fits : 92 * 0 + 93 ≤ length s
+      pub first-fits : sheetLength (0 + 1) ≤ length s
       first-fits = record-fits s (c .framed) 0 first-inside
 
       -- f is the first record's part

@@ -12,4 +12,5 @@ pub mod IndexLaws
 pub mod RulesLaws
 pub mod SheetLaws
 pub mod LookupLaws
+pub mod RecordIdLaws
 pub mod CommandsLaws

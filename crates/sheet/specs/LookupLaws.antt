@@ -24,7 +24,7 @@ pub record FoundAt (s : List ℕ) (from id a : ℕ) : Type 0 where
   pub fits : a + stride ≤ length s
   pub id-is : idOf (partFrom s a) ≡ id
 
-id-of-entry : (p : List ℕ) → idOf p ≡ entryOf p .id
+pub id-of-entry : (p : List ℕ) → idOf p ≡ entryOf p .id
 unfolding entryOf
 id-of-entry p = refl
 

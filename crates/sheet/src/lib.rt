@@ -5,11 +5,10 @@ mod rules;
 ghost use mathlib.Core.Path.{_≡_};
 ghost use Prim.Native.Nat.{_+_, _≤_};
 ghost use lib.ListN.{length, drop};
-ghost use Rattle.sheet.specs.Lookup.{lookupOf, lookupNumber, registerBytes, withCommand};
+ghost use Rattle.sheet.specs.Lookup.{lookupOf, lookupNumber, registerBytes, recordId, withCommand};
 ghost use Rattle.sheet.specs.Sheet.{isFramed, Framed, sheetLength, partAt, entriesOf, entriesFrom, anyBreaks, findFrom, idTwice};
 ghost use Rattle.sheet.specs.Sheet.{from24, sheetNumber};
 use records::Next;
-use sheet_record::id_of;
 use sheet_record::places;
 use sheet_record::places::SIZE;
 use sheet_record::places::STRIDE;
@@ -39,6 +38,12 @@ pub enum Found {
 // Where the 64 register bytes of the function with an ID start, or the number.
 pub enum Lookup {
     Registers(usize),
+    Refused(u8),
+}
+
+// The ID of a record, or the number.
+pub enum RecordId {
+    Id(u16),
     Refused(u8),
 }
 
@@ -83,6 +88,23 @@ pub fn registers(sheet: &[u8], id: u16) -> &[u8]
         Lookup::Registers(at) => &sheet[at..at + places::REGISTERS_SIZE],
         Lookup::Refused(_) => &sheet[0..0],
     }
+}
+
+// The ID of the function with this record number, from 1 on: the sheet's number first, then 40 where there is no such record.
+pub fn id_of(sheet: &[u8], number: usize) -> RecordId
+    ensures { λ r. ⌜ r ≡ recordId (now (sheet .entry)) number ⌝ }
+{
+    let n = check(sheet);
+    if n != 0 {
+        return RecordId::Refused(n);
+    }
+    if number == 0 {
+        return RecordId::Refused(40);
+    }
+    if count(sheet) < number {
+        return RecordId::Refused(40);
+    }
+    RecordId::Id(sheet_record::id_of(part(sheet, number - 1)))
 }
 
 // Rewrites the command word of the function with this ID, and no other byte. Refused, by the same numbers, it changes nothing.
@@ -195,7 +217,7 @@ fn id_twice(sheet: &[u8]) -> bool
     while at < sheet.len() {
         let start = at + 2;
         let end = at + STRIDE;
-        let id = id_of(&sheet[start..end]);
+        let id = sheet_record::id_of(&sheet[start..end]);
         if sheet_marks::is_marked(&seen, id) {
             return true;
         }
@@ -214,7 +236,7 @@ fn find_from(sheet: &[u8], from: usize, id: u16) -> Found
     while at < sheet.len() {
         let start = at + 2;
         let end = at + STRIDE;
-        if id_of(&sheet[start..end]) == id {
+        if sheet_record::id_of(&sheet[start..end]) == id {
             return Found::At(at);
         }
         at = end;

@@ -2,7 +2,7 @@
 //!
 //! `cargo run --release --offline --example boot`
 
-use cartsundial::{plan, registers, route, Delivery, Id, Refusal, FULL_SHEET};
+use cartsundial::{functions, plan, route, Delivery, Function, Refusal, FULL_SHEET};
 
 /// Host, a bridge, and a card behind it.
 const BOARD: [u8; 81] = [
@@ -31,17 +31,17 @@ fn main() -> Result<(), Refusal> {
     let length = plan(&BOARD, &mut room)?;
     let sheet = &room[..length];
     println!("planned: a sheet of {length} bytes");
-    for id in [Id(0x0000), Id(0x0100)] {
-        print!("{id} registers 10h to 27h:");
-        for register in registers(sheet, id)?[0x10..0x28].chunks_exact(4) {
+    for Function { record, id, registers } in functions(sheet)? {
+        print!("record {record}, {id}, registers 10h to 27h:");
+        for register in registers[0x10..0x28].chunks_exact(4) {
             print!(" {:08X}", u32::from_le_bytes([register[0], register[1], register[2], register[3]]));
         }
         println!();
     }
     for address in [0xF900_0FFC, 0xF900_1000] {
         match route(&read_of(address), sheet) {
-            Ok(Delivery { record, bridges, packet }) => {
-                println!("{address:08X}: record {record}, bridges crossed {bridges}, {packet}");
+            Ok(Delivery { record, id, bridges, packet }) => {
+                println!("{address:08X}: record {record}, {id}, bridges crossed {bridges}, {packet}");
             }
             Err(refusal) => println!("{address:08X}: {refusal}"),
         }

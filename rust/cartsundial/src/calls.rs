@@ -1,4 +1,4 @@
-//! The library's seven calls as it has them: slices in, numbers out.
+//! The library's eight calls as it has them: slices in, numbers out.
 //!
 //! Each returns 0 or document 01's number. A refused call changes nothing that it was lent. An answer slice that is too
 //! short is 11, tried last; numbers past the answer's own are left as they were.
@@ -40,6 +40,7 @@ mod c {
             offset: *mut u64,
             offset_len: usize,
         ) -> u32;
+        pub fn cartsundial_id(sheet: *const u8, sheet_len: usize, record: u32, id: *mut u64, id_len: usize) -> u32;
         pub fn cartsundial_command(sheet: *mut u8, sheet_len: usize, id: u32, command: u32) -> u32;
         pub fn cartsundial_route(
             header: *const u8,
@@ -102,6 +103,11 @@ pub fn check(sheet: &[u8]) -> u32 {
 /// ID above FFFFh.
 pub fn lookup(sheet: &[u8], id: u32, offset: &mut [u64]) -> u32 {
     unsafe { c::cartsundial_lookup(sheet.as_ptr(), sheet.len(), id, offset.as_mut_ptr(), offset.len()) }
+}
+
+/// Writes to `id` the ID of the function with this record number, from 1.
+pub fn id(sheet: &[u8], record: u32, id: &mut [u64]) -> u32 {
+    unsafe { c::cartsundial_id(sheet.as_ptr(), sheet.len(), record, id.as_mut_ptr(), id.len()) }
 }
 
 /// Rewrites the command word of the function with this ID. A word above FFFFh is 10, before the sheet is read.

@@ -19,6 +19,7 @@
 //! | a board as a register sheet | [`plan`] |
 //! | the record of a board that finds no room | [`what_does_not_fit`] |
 //! | a sheet: is it lawful, a function's registers, its command word | [`check`], [`registers`], [`set_command`] |
+//! | its functions one by one, or from a record to its ID | [`functions()`], [`id_of`] |
 //! | the function that a packet goes to | [`route`] |
 //! | the same calls with numbers in place of types | [`calls`] |
 //!
@@ -42,10 +43,12 @@
 #![deny(unsafe_code, missing_docs)]
 
 pub mod calls;
+mod functions;
 mod packet;
 mod refusal;
 mod unfit;
 
+pub use functions::{functions, Function};
 pub use packet::{Body, CompletionKind, ConfigurationKind, Enables, Form, Id, IoKind, MemoryKind, Packet};
 pub use refusal::Refusal;
 pub use unfit::{what_does_not_fit, Pool, Unfit};
@@ -63,6 +66,8 @@ pub const REGISTERS: usize = 64;
 pub struct Delivery {
     /// The sheet's record of the function that gets the packet, from 1.
     pub record: u16,
+    /// That function's ID.
+    pub id: Id,
     /// How many bridges the packet crosses.
     pub bridges: u8,
     /// The packet as it arrives: configuration type 1 has become type 0, nothing else changes.
@@ -112,6 +117,13 @@ pub fn registers(sheet: &[u8], id: Id) -> Result<&[u8; REGISTERS], Refusal> {
     Ok(part.expect("a function's registers lie inside its sheet"))
 }
 
+/// The ID of the function with this record number, from 1.
+pub fn id_of(sheet: &[u8], record: u16) -> Result<Id, Refusal> {
+    let mut id = [0];
+    accepted(calls::id(sheet, record.into(), &mut id))?;
+    Ok(Id(id[0] as u16))
+}
+
 /// Rewrites the command word of the function with this ID, and no other byte.
 pub fn set_command(sheet: &mut [u8], id: Id, command: u16) -> Result<(), Refusal> {
     accepted(calls::command(sheet, id.0.into(), command.into()))
@@ -122,7 +134,9 @@ pub fn route(header: &[u8], sheet: &[u8]) -> Result<Delivery, Refusal> {
     let mut numbers = [0; DELIVERY];
     accepted(calls::route(header, sheet, &mut numbers))?;
     let [record, bridges, packet @ ..] = numbers;
-    Ok(Delivery { record: record as u16, bridges: bridges as u8, packet: Packet::from_answer(&packet) })
+    let record = record as u16;
+    let id = functions::id_at(sheet, record);
+    Ok(Delivery { record, id, bridges: bridges as u8, packet: Packet::from_answer(&packet) })
 }
 
 /// 0 is accepted, any other number the refusal.

@@ -17,4 +17,4 @@ mod sheet;
 pub use packet::{read, to_numbers, write, write_numbers, Form, Kind, Packet};
 pub use plan::plan;
 pub use route::route;
-pub use sheet::{check, listing, lookup, set_command, Sheet, FULL_SHEET};
+pub use sheet::{check, id_of, listing, lookup, set_command, Sheet, FULL_SHEET};

@@ -314,6 +314,13 @@ pub fn lookup(sheet: &[u8], id: u16) -> Result<usize, u8> {
     Sheet::new(sheet)?.lookup(id)
 }
 
+/// The ID of the function with this record number; functions are numbered from 1.
+pub fn id_of(sheet: &[u8], record: usize) -> Result<u16, u8> {
+    let sheet = Sheet::new(sheet)?;
+    let index = record.checked_sub(1).ok_or(40)?;
+    sheet.records().nth(index).map(|record| record.id()).ok_or(40)
+}
+
 /// Rewrites the command word of the function with this ID; 0 or the refusal.
 pub fn set_command(sheet: &mut [u8], id: u16, command: u16) -> u8 {
     match lookup(sheet, id) {

@@ -54,9 +54,8 @@ enum-told c = search needs
 returns : tie.Need-returns Inv-loop μ-loop
 returns c =
     let loop = c .before .before .before .loop in
-    let place = c .before .before .before .before .before in
+    let start = c .before .before .before .before .before in
     let e = sym (c .before .before .next-at .ensures) ∙ c .enum-told .given .1 in
-    let start = place in
     sym (breaks-end (start .args .rule) (start .args .board .now) (loop .at) e) ∙ loop .inv .1
 
 enum-told-2 : tie.Need-enum-told-2 Inv-loop μ-loop
@@ -65,9 +64,8 @@ enum-told-2 c = search needs
 returns-2 : tie.Need-returns-2 Inv-loop μ-loop
 returns-2 c =
     let loop = c .before .before .before .loop in
-    let place = c .before .before .before .before .before in
+    let start = c .before .before .before .before .before in
     let e = sym (c .before .before .next-at .ensures) ∙ c .enum-told2 .given .1 in
-    let start = place in
     sym (breaks-broken (start .args .rule) (start .args .board .now) (loop .at) e) ∙ loop .inv .1
 
 enum-known-n : tie.Need-enum-known-n Inv-loop μ-loop

@@ -29,8 +29,7 @@ cast-result c = search needs
 
 returns-2 : tie.Need-returns-2
 returns-2 c =
-    let place = c .before .before .before .before in
-    let s = place in
+    let s = c .before .before .before .before in
     c .read-be32 .ensures .0 ∙ readback-read (s .args .part .now) (s .args .j) _ (c .before .before .is-bridge .ensures)
     (c .before .if1 .left) (s .pre .1)
 

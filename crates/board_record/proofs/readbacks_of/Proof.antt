@@ -72,8 +72,7 @@ cast-t20 c = search needs
 
 returns-2 : tie.Need-returns-2
 returns-2 c =
-    let place = c .before .before .before .before .before .before in
-    let no = place in
+    let no = c .before .before .before .before .before .before in
     simp (sym (no .before .is-bridge .ensures) ∙ no .if1 .left) cc
 
 pub readbacks-of-spec : {M : Type 1} → statement M

@@ -43,8 +43,7 @@ same-length-2 c = search needs
 
 returns-3 : tie.Need-returns-3
 returns-3 c =
-    let place = c .before .before .before .before .before in
-    let narrow = place in
+    let narrow = c .before .before .before .before .before in
     let s = narrow .before .before .args in
     commanded (s .sheet .now) (s .id) (s .command) (narrow .if1 .left) _ _ (c .before .before .set-command .ensures)
 

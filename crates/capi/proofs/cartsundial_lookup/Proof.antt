@@ -24,8 +24,7 @@ same-length c = search needs
 
 returns : tie.Need-returns
 returns c =
-    let place = c .before .before .before .before .before in
-    let found = place in
+    let found = c .before .before .before .before .before in
     rw (sym (found .before .before .find .ensures) ∙ found .at .given .1) (c .before .before .give-one .ensures)
 
 returns-2 : tie.Need-returns-2

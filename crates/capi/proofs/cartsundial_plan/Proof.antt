@@ -40,8 +40,7 @@ returns-2 : tie.Need-returns-2
 returns-2 c =
     let at-n = c .before .before .before .before .before in
     let n = at-n .n in
-    let place = at-n .before .before .before .before in
-    let call = place in
+    let call = at-n .before .before .before .before in
     let test = call .before .before in
     let s = test .before .before .before .before .args in
     planned (s .board .now) (s .sheet .now) (s .written .now) (test .if1 .left) (call .plan .result) (call .plan .ensures .0) _

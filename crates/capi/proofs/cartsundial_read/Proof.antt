@@ -24,8 +24,7 @@ same-length c = search needs
 
 returns : tie.Need-returns
 returns c =
-    let place = c .before .before .before .before .before in
-    let accepted = place in
+    let accepted = c .before .before .before .before .before in
     rw (sym (accepted .before .before .read .ensures) ∙ accepted .p .given .1) (c .before .before .give-packet .ensures)
 
 returns-2 : tie.Need-returns-2

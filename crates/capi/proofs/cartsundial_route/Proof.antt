@@ -30,8 +30,7 @@ same-length c = search needs
 
 returns : tie.Need-returns
 returns c =
-    let place = c .before .before .before .before .before .before .before in
-    let delivered = place in
+    let delivered = c .before .before .before .before .before .before .before in
     rw (sym (delivered .before .before .route .ensures) ∙ delivered .d .given .1) (c .before .before .give-delivery .ensures)
 
 returns-2 : tie.Need-returns-2

@@ -29,8 +29,7 @@ same-length-2 c = search needs
 returns : tie.Need-returns
 returns c =
     let write-packet = c .before .before .before .before .write-packet in
-    let place = c .before .before .before .before .before .before .before .before in
-    let taken = place in
+    let taken = c .before .before .before .before .before .before .before .before in
     let call = taken .before .before in
     let parsed = call .fields-of in
     let s = call .before .before .before .before .args in

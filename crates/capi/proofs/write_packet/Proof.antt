@@ -41,8 +41,7 @@ returns : tie.Need-returns
 returns c =
     let at-n = c .before .before .before .before .before in
     let n = at-n .n in
-    let place = at-n .before .before .before .before in
-    let call = place in
+    let call = at-n .before .before .before .before in
     let lent = call .before .before .space-for in
     let s = call .before .before .before .before .before .args in
     wrote (s .p) (s .room .now) (s .written .now) (lent .result) (lent .ensures .1) (call .write .result) (call .write .ensures .0) _

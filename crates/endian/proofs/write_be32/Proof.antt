@@ -20,8 +20,7 @@ returns : tie.Need-returns
 returns c =
     let at-write-be16 = c .before .before .before .before .before .before in
     let write-be16 = at-write-be16 .write-be16 in
-    let place = at-write-be16 .before .before .before in
-    let start = place in
+    let start = at-write-be16 .before .before .before in
     let first = write-be16 .ensures in
     sets-beBytes 2 2 (start .args .out .now) (start .args .at) (start .args .v) first (c .before .before .write-be162 .ensures)
 

@@ -20,8 +20,7 @@ returns : tie.Need-returns
 returns c =
     let at-write-be32 = c .before .before .before .before .before .before in
     let write-be32 = at-write-be32 .write-be32 in
-    let place = at-write-be32 .before .before .before in
-    let start = place in
+    let start = at-write-be32 .before .before .before in
     let first = write-be32 .ensures in
     sets-beBytes 4 4 (start .args .out .now) (start .args .at) (start .args .v) first (c .before .before .write-be322 .ensures)
 

@@ -20,8 +20,7 @@ returns : tie.Need-returns
 returns c =
     let at-write-le16 = c .before .before .before .before .before .before in
     let write-le16 = at-write-le16 .write-le16 in
-    let place = at-write-le16 .before .before .before in
-    let start = place in
+    let start = at-write-le16 .before .before .before in
     let first = write-le16 .ensures in
     sets-leBytes 2 2 (start .args .out .now) (start .args .at) (start .args .v) first (c .before .before .write-le162 .ensures)
 

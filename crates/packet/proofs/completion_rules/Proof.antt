@@ -29,16 +29,14 @@ is-status-requires c κs = search needs
 
 returns-3 : tie.Need-returns-3
 returns-3 c =
-    let place = c .before .before .before .before in
-    let asked = place in
+    let asked = c .before .before .before .before in
     let five = no-length (asked .before .before .before .args .h) (asked .has-no-length .ensures) in
     sym (rule-number-completion _ _ _ ∙ passed 4 refl (asked .before .if1 .left) ∙ passed 5 five (c .before .before .if2 .left)
     ∙ stopped _ (ap not (c .before .is-status .ensures)) (c .if3 .taken))
 
 returns-4 : tie.Need-returns-4
 returns-4 c =
-    let place = c .before .before .before .before in
-    let asked = place in
+    let asked = c .before .before .before .before in
     let five = no-length (asked .before .before .before .args .h) (asked .has-no-length .ensures) in
     sym (rule-number-completion _ _ _ ∙ passed 4 refl (asked .before .if1 .left) ∙ passed 5 five (c .before .before .if2 .left)
     ∙ passed 9 (ap not (c .before .is-status .ensures)) (c .if3 .left))

@@ -6,7 +6,8 @@ use lib.Dec.{ltb}
 use lib.ListN.{getD}
 use mathlib.Core.Path.{_∙_}
 use native.Mathlib.Omega.{arith}
-use Rattle.packet_numbers.specs.NumbersLaws.{or-elim, too-few, outside-list, inside-list}
+use Rattle.lists.specs.BoolLaws.{false-of-or}
+use Rattle.packet_numbers.specs.NumbersLaws.{too-few, outside-list, inside-list}
 use Rattle.packet_numbers.proofs.fields_of.Statement.{statement}
 use Rattle.packet_numbers.proofs.fields_of.Tie as tie
 
@@ -28,13 +29,13 @@ shared-slice-read-kind-at : tie.Need-shared-slice-read-kind-at
 shared-slice-read-kind-at c = search needs
 
 kind-at-requires : tie.Need-kind-at-requires
-kind-at-requires c κs = ltb-false _ _ (or-elim _ _ (c .before .if2 .left) .0)
+kind-at-requires c κs = ltb-false _ _ (false-of-or _ _ (c .before .if2 .left) .0)
 
 fields-as-requires : tie.Need-fields-as-requires
 fields-as-requires c κs =
     let args = c .before .before .before .before .before .before .before .args in
     let ns = args .numbers .now in
-    let inside = or-elim (ltb 12 (getD ns 0 0)) (ltb 4 (getD ns 1 0)) (c .before .before .if2 .left) in
+    let inside = false-of-or (ltb 12 (getD ns 0 0)) (ltb 4 (getD ns 1 0)) (c .before .before .if2 .left) in
     (omega arith, ltb-false 4 (getD ns 1 0) (inside .1))
 
 returns-3 : tie.Need-returns-3

@@ -21,8 +21,7 @@ same-length c = search needs
 
 returns : tie.Need-returns
 returns c =
-    let place = c .before .before .before .before .before .before in
-    let first = place in
+    let first = c .before .before .before .before .before .before in
     let s = first .before .before .before .args in
     sets-append (s .out .now) (s .at) 10 (headNumbers (s .kind) (s .h)) (absent ++ outcomeNumbers (s .o)) refl (first .put-head .ensures)
     (c .before .before .put-outcome .ensures)

@@ -42,8 +42,7 @@ cast-put-five-7 c = search needs
 
 put-five-requires-2 : tie.Need-put-five-requires-2
 put-five-requires-2 c κs =
-    let place = c .before .before .before .before .before .before .before in
-    let first = place in
+    let first = c .before .before .before .before .before .before .before in
     omega (arith, first .put-five .kept .0, first .before .before .before .before .before .before .before .before .pre)
 
 same-length : tie.Need-same-length

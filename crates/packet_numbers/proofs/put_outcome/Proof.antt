@@ -36,8 +36,7 @@ same-length c = search needs
 
 returns : tie.Need-returns
 returns c =
-    let place = c .before .before .before .before .before .before .before .before .before .before in
-    let first = place in
+    let first = c .before .before .before .before .before .before .before .before .before .before in
     let flag = first .before .before in
     let s = flag .before .before .args in
     let o = s .o in

@@ -187,8 +187,7 @@ function-size-store-requires t c κs =
 function-size-with-windows-requires : (t : ℕ) → function-size-lts.Need-with-windows-requires (function-size-claims t) (function-size-at t)
     function-size.Post
 function-size-with-windows-requires t c κs =
-    let place = c .before .before .before .before .before .before in
-    let call = place in
+    let call = c .before .before .before .before .before .before in
     let fresh = call .before .before in
     let pre = fresh .before .before .before .before .before .before .before .before .before .pre .1 in
     inner-align-power (pre .0) (pre .1) (fresh .laid-from .ensures) (call .bus-size .ensures)
@@ -198,8 +197,7 @@ function-size-same-length t c = search needs
 
 function-size-returns : (t : ℕ) → function-size-lts.Need-returns (function-size-claims t) (function-size-at t) function-size.Post
 function-size-returns t c =
-    let place = c .before .before .before .before .before .before .before in
-    let call = place in
+    let call = c .before .before .before .before .before .before .before in
     let fresh = call .before .before in
     let yes = fresh .before in
     let own = yes .before .before .before in
@@ -229,8 +227,7 @@ function-size-returns-2 t c =
     let if1 = at-if1 .if1 in
     let is-bridge = at-if1 .before .is-bridge in
     let own-bars = at-if1 .before .before .before .own-bars in
-    let place = at-if1 .before .before .before .before .before .before .before .before in
-    let start = place in
+    let start = at-if1 .before .before .before .before .before .before .before .before in
     let none = ap (λ (x : Laid). sets (start .args .memo .now) (8 * start .args .l .next) (numbersOf x))
     (c .before .before .before .laid-from2 .ensures) in
     leaf-walked (start .pre .1 .0) (start .pre .1 .1) (sym (is-bridge .ensures) ∙ if1 .left) (own-bars .ensures)

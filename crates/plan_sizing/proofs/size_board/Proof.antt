@@ -11,8 +11,7 @@ root-from-requires c κs = search needs
 
 bus-size-requires : tie.Need-bus-size-requires
 bus-size-requires c κs =
-    let place = c .before .before .before .before .before .before in
-    let start = place in
+    let start = c .before .before .before .before .before .before in
     let bases = basesOf (start .args .base-low) (start .args .base-high) (start .args .base-io) in
     root-standing (start .args .memo .now) bases (start .pre .0) (start .pre .1) (omega arith) (c .before .root-from .ensures)
 

@@ -46,8 +46,7 @@ loop-less c = omega arith
 loop-again : tie.Need-loop-again Inv-loop μ-loop
 loop-again c =
     let the-loop = c .before .before .before .before .loop in
-    let place = c .before .before .before .before .before in
-    let start = place in
+    let start = c .before .before .before .before .before in
     let loop = the-loop in
     let s = take (start .args .n) (start .args .set) in
     let six : length (start .args .set) ≡ 6 = search needs in

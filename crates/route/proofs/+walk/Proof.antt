@@ -89,8 +89,7 @@ walk-returns-2 t c =
 
 walk-returns-3 : (t : ℕ) → walk-lts.Need-returns-3 (walk-claims t) (walk-at t) walk.Post
 walk-returns-3 t c =
-    let place = c .before .before .before .before .before in
-    let claimed = place in
+    let claimed = c .before .before .before .before .before in
     let tallied = claimed .before .before in
     let known = tallied .before in
     let entry = known .before in

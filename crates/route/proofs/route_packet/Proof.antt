@@ -45,8 +45,7 @@ aim-of-requires c κs = search needs
 
 walk-requires : tie.Need-walk-requires
 walk-requires c κs =
-    let place = c .before .before .before .before .before .before in
-    let counted = place in
+    let counted = c .before .before .before .before .before .before in
     (checked-of-zero _ (counted .before .before .pre), omega arith)
 
 enum-known-number : tie.Need-enum-known-number
@@ -60,8 +59,7 @@ enum-known-n c = search needs
 
 returns-3 : tie.Need-returns-3
 returns-3 c =
-    let place = c .before .before .before .before in
-    let ended = place in
+    let ended = c .before .before .before .before in
     let aimed = ended .before in
     let right = aimed .before in
     let typed = right .before in

@@ -20,8 +20,7 @@ same-length c = search needs
 
 returns : tie.Need-returns
 returns c =
-    let place = c .before .before .before .before .before .before in
-    let first = place in
+    let first = c .before .before .before .before .before .before in
     let s = first .before .before .before .args in
     sets-append (s .out .now) (s .at) 4 (beBytes 4 (s .a)) (beBytes 4 (s .b)) (length-beBytes 4 (s .a)) (first .write-be32 .ensures)
     (c .before .before .write-be322 .ensures)

@@ -17,8 +17,7 @@ same-length c = search needs
 
 returns : tie.Need-returns
 returns c =
-    let place = c .before .before .before .before in
-    let branch = place in
+    let branch = c .before .before .before .before in
     let s = branch .before .before .before .args in
     rw (← body-of-bridge (s .r) (sym (branch .before .is-bridge .ensures) ∙ branch .if1 .taken)) (c .before .before .put-bridge .ensures)
 
@@ -30,8 +29,7 @@ same-length-2 c = search needs
 
 returns-2 : tie.Need-returns-2
 returns-2 c =
-    let place = c .before .before .before .before .before in
-    let branch = place in
+    let branch = c .before .before .before .before .before in
     let s = branch .before .before .before .args in
     rw (← body-of-end (s .r) (sym (branch .before .is-bridge .ensures) ∙ branch .if1 .left)) (c .before .before .put-end .ensures)
 

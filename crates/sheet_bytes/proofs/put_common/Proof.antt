@@ -39,8 +39,7 @@ same-length c = search needs
 returns : tie.Need-returns
 unfolding commonBytes leBytes beBytes
 returns c =
-    let place = c .before .before .before .before .before .before in
-    let third = place in
+    let third = c .before .before .before .before .before .before in
     let second = third .before .before .before .before in
     let first = second .before .before .before .before in
     let s = first .before .before .before .args in

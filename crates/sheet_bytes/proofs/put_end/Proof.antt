@@ -29,8 +29,7 @@ same-length c = search needs
 returns : tie.Need-returns
 unfolding dwordBytes leBytes beBytes
 returns c =
-    let place = c .before .before .before .before .before .before in
-    let second = place in
+    let second = c .before .before .before .before .before .before in
     let first = second .before .before .before .before in
     let s = first .before .before .before .args in
     let six = dwordBytes (leBytes 4) 6 (s .values) 0 in

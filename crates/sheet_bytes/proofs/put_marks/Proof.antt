@@ -21,8 +21,7 @@ same-length c = search needs
 
 returns : tie.Need-returns
 returns c =
-    let place = c .before .before .before .before .before .before in
-    let first = place in
+    let first = c .before .before .before .before .before .before in
     let s = first .before .before .before .args in
     sets-append (s .out .now) (s .at) 2 (beBytes 2 recordSize) (beBytes 2 (s .id)) (length-beBytes 2 recordSize)
     (first .write-be16 .ensures) (c .before .before .write-be162 .ensures)

@@ -29,8 +29,7 @@ same-length c = search needs
 returns : tie.Need-returns
 unfolding leBytes
 returns c =
-    let place = c .before .before .before .before .before .before in
-    let second = place in
+    let second = c .before .before .before .before .before .before in
     let first = second .before .before .before .before in
     let s = first .before .before .before .args in
     let high = s .high in

@@ -26,8 +26,7 @@ same-length c = search needs
 
 returns : tie.Need-returns
 returns c =
-    let place = c .before .before .before .before .before .before .before .before in
-    let first = place in
+    let first = c .before .before .before .before .before .before .before .before in
     let s = first .before .before .before .args in
     let r = s .r in
     sets-append (s .out .now) (s .at) 4 (r .primary ∷ r .secondary ∷ r .subordinate ∷ 0 ∷ []) (r .io .base ∷ r .io .limit ∷ 0 ∷ 0 ∷ [])

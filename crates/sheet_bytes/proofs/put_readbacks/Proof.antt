@@ -44,8 +44,7 @@ same-length c = search needs
 
 returns : tie.Need-returns
 returns c =
-    let place = c .before .before .before .before .before .before in
-    let second = place in
+    let second = c .before .before .before .before .before .before in
     let first = second .before .before .before .before in
     let s = first .before .before .before .args in
     sets-six (beBytes 4) (length-beBytes 4) (s .out .now) (s .at) (s .t3) (first .put-be-pair .ensures) (second .put-be-pair2 .ensures)

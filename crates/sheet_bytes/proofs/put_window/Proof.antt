@@ -26,8 +26,7 @@ same-length c = search needs
 
 returns : tie.Need-returns
 returns c =
-    let place = c .before .before .before .before .before .before .before in
-    let first = place in
+    let first = c .before .before .before .before .before .before .before in
     let s = first .before .before .before .before .args in
     sets-append (s .out .now) (s .at) 2 (leBytes 2 (s .w .base)) (leBytes 2 (s .w .limit)) (length-leBytes 2 (s .w .base))
     (first .write-le16 .ensures) (c .before .before .write-le162 .ensures)

@@ -22,8 +22,7 @@ same-length c = search needs
 returns : tie.Need-returns
 unfolding beBytes
 returns c =
-    let place = c .before .before .before .before .before .before in
-    let first = place in
+    let first = c .before .before .before .before .before .before in
     let s = first .before .before .before .args in
     sets-append (s .out .now) (s .at) 8 (zeros 8) (zeros 8) refl (first .write-be64 .ensures) (c .before .before .write-be642 .ensures)
 

@@ -56,8 +56,7 @@ put-decimal-same-length-2 t c = search needs
 
 put-decimal-returns-2 : (t : ℕ) → put-decimal-lts.Need-returns-2 (claims t) (put-decimal-at t) put-decimal.Post
 put-decimal-returns-2 t c =
-    let place = c .before .before .before .before .before .before .before in
-    let digits = place in
+    let digits = c .before .before .before .before .before .before .before in
     rw (decimal-more _ (digits .before .before .if1 .left), ← c .before .before .before .digit2 .ensures)
     (put-append (digits .put-decimal .ensures) (c .before .before .put-byte2 .ensures))
 

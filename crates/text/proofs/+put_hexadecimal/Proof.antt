@@ -77,8 +77,7 @@ put-hexadecimal-same-length-2 t c = search needs
 
 put-hexadecimal-returns-2 : (t : ℕ) → put-hexadecimal-lts.Need-returns-2 (claims t) (put-hexadecimal-at t) put-hexadecimal.Post
 put-hexadecimal-returns-2 t c =
-    let place = c .before .before .before .before .before .before .before in
-    let digits = place in
+    let digits = c .before .before .before .before .before .before .before in
     rw (hexadecimal-more _ _ (digits .before .before .if1 .left), ← c .before .before .before .digit .ensures)
     (put-append (digits .put-hexadecimal .ensures) (c .before .before .put-byte .ensures))
 

@@ -37,8 +37,7 @@ loop-less c = omega arith
 
 loop-again : tie.Need-loop-again Inv-loop μ-loop
 loop-again c =
-    let place = c .before .before .before .before .before .before in
-    let turn = place in
+    let turn = c .before .before .before .before .before .before in
     let more = take-suc (turn .before .before .before .before .before .args .text .now) (turn .loop .i) 0 (omega arith) in
     (omega arith, rw (add-one, more) (put-append (turn .loop .inv .1) (c .before .before .put-byte .ensures)))
 

@@ -31,8 +31,7 @@ same-length c = search needs
 
 returns-2 : tie.Need-returns-2
 returns-2 c =
-    let place = c .before .before .before .before in
-    let room = place in
+    let room = c .before .before .before .before in
     let measured = room .before in
     let headed = measured .before in
     let start = headed .before .before in

@@ -23,8 +23,7 @@ put-front-requires c κs =
 
 put-body-requires : tie.Need-put-body-requires
 put-body-requires c κs =
-    let place = c .before .before .before .before .before .before .before in
-    let start = place in
+    let start = c .before .before .before .before .before .before .before in
     let long = size-of-lawful (start .args .row) (start .args .p) (start .pre .0) in
     let kept = c .before .before .before .put-front .kept .1 .1 .0 in
     (start .pre .0, omega (arith, long, kept, start .pre .1), omega (arith, kept, start .pre .1))

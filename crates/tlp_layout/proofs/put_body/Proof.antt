@@ -13,8 +13,7 @@ enum-known-p c = search needs
 
 put-request-requires : tie.Need-put-request-requires
 put-request-requires c κs =
-    let place = c .before .before .before .before .before in
-    let start = place in
+    let start = c .before .before .before .before .before in
     let b = memory-of-lawful _ _ _ _ _ (rw (c .before .before .p .given .1) at (start .pre .0)) in
     (start .pre .1, b .0 .head .tag, b .0 .last, b .0 .first)
 
@@ -22,8 +21,7 @@ put-address-requires : tie.Need-put-address-requires
 put-address-requires c κs =
     let at-p = c .before .before .before .before .before .before in
     let p = at-p .p in
-    let place = at-p .before .before .before in
-    let start = place in
+    let start = at-p .before .before .before in
     let whole = rw (p .given .1) at (start .pre .2) in
     omega (arith, c .before .before .before .put-request .kept .1 .1 .0, start .pre .1)
 
@@ -32,8 +30,7 @@ enum-known-p-2 c = search needs
 
 put-request-requires-2 : tie.Need-put-request-requires-2
 put-request-requires-2 c κs =
-    let place = c .before .before .before .before .before in
-    let start = place in
+    let start = c .before .before .before .before .before in
     let b = io-of-lawful _ _ _ _ _ (rw (c .before .before .p2 .given .1) at (start .pre .0)) in
     (start .pre .1, b .0 .head .tag, b .0 .last, b .0 .first)
 
@@ -41,8 +38,7 @@ put-address-requires-2 : tie.Need-put-address-requires-2
 put-address-requires-2 c κs =
     let at-p2 = c .before .before .before .before .before .before in
     let p2 = at-p2 .p2 in
-    let place = at-p2 .before .before .before in
-    let start = place in
+    let start = at-p2 .before .before .before in
     let whole = rw (p2 .given .1) at (start .pre .2) in
     omega (arith, c .before .before .before .put-request2 .kept .1 .1 .0, start .pre .1)
 
@@ -51,8 +47,7 @@ enum-known-p-3 c = search needs
 
 put-request-requires-3 : tie.Need-put-request-requires-3
 put-request-requires-3 c κs =
-    let place = c .before .before .before .before .before in
-    let start = place in
+    let start = c .before .before .before .before .before in
     let b = config-of-lawful _ _ _ _ _ (rw (c .before .before .p3 .given .1) at (start .pre .0)) in
     (start .pre .1, b .0 .head .tag, b .0 .last, b .0 .first)
 
@@ -60,8 +55,7 @@ put-target-requires : tie.Need-put-target-requires
 put-target-requires c κs =
     let at-p3 = c .before .before .before .before .before .before in
     let p3 = at-p3 .p3 in
-    let place = at-p3 .before .before .before in
-    let start = place in
+    let start = at-p3 .before .before .before in
     let b = config-of-lawful _ _ _ _ _ (rw (p3 .given .1) at (start .pre .0)) in
     (omega (arith, c .before .before .before .put-request3 .kept .1 .1 .0, start .pre .1), b .2)
 
@@ -70,8 +64,7 @@ enum-known-p-4 c = search needs
 
 put-completion-requires : tie.Need-put-completion-requires
 put-completion-requires c κs =
-    let place = c .before .before .before .before .before in
-    let start = place in
+    let start = c .before .before .before .before .before in
     let b = completion-of-lawful _ _ _ _ (rw (c .before .before .p4 .given .1) at (start .pre .0)) in
     (start .pre .1, b .0 .tag, b .1)
 

@@ -45,7 +45,8 @@ pub fn route(header: &[u8], bytes: &[u8], random: &mut Random, tally: &mut Tally
     assert!(same, "route {} over {}: what was lent", hex(header), hex(bytes));
 
     if random.chance(1, 4) {
-        let typed = cartsundial::route(header, bytes).map(|Delivery { record, bridges, packet }| {
+        let typed = cartsundial::route(header, bytes).map(|Delivery { record, id, bridges, packet }| {
+            assert_eq!(Ok(id.0), plain::id_of(bytes, record.into()), "the ID of {record} in {}", hex(bytes));
             let mut numbers = vec![record.into(), bridges.into()];
             numbers.extend(packet.to_numbers());
             numbers

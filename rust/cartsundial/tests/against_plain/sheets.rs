@@ -12,6 +12,7 @@ pub fn compare(random: &mut Random, rounds: u64, tally: &mut Tally) {
         check(&sheet, random, tally);
         for _ in 0..2 {
             lookup(&sheet, any_id(&sheet, random), random, tally);
+            id(&sheet, any_record(&sheet, random), random, tally);
             any_command(&mut sheet, random, tally);
         }
         check(&sheet, random, tally);
@@ -96,6 +97,35 @@ pub fn lookup(bytes: &[u8], id: u32, random: &mut Random, tally: &mut Tally) {
             (Err(refusal), Err(number)) => assert_eq!(refusal.number(), number),
             (part, answer) => panic!("lookup {id:X} in {}: {part:?}, {answer:?}", hex(bytes)),
         }
+    }
+}
+
+/// A record of the sheet, one before or past them, and rarely any number.
+fn any_record(sheet: &[u8], random: &mut Random) -> u32 {
+    if random.chance(1, 32) {
+        return random.word() as u32;
+    }
+    random.below(sheet.len() as u64 / 92 + 3) as u32
+}
+
+pub fn id(bytes: &[u8], record: u32, random: &mut Random, tally: &mut Tally) {
+    let answer = plain::id_of(bytes, record as usize).map(|id| [id.into()]);
+    let mut sheet = Lent::holding(bytes, random);
+    let before = sheet.clone();
+    let mut id = Lent::answer(1, random);
+    let (number, id_then) = id.expected(&answer);
+    let returned = calls::id(sheet.slice(), record, id.slice());
+    tally.count(Call::Id, returned);
+    assert_eq!(returned, number, "id of {record} in {}", hex(bytes));
+    assert!(id == id_then && sheet == before, "id of {record} in {}: what was lent", hex(bytes));
+
+    let Ok(record) = u16::try_from(record) else { return };
+    let typed = cartsundial::id_of(bytes, record).map(|id| [id.0.into()]).map_err(|refusal| refusal.number());
+    assert_eq!(typed, answer, "id of {record} in {}", hex(bytes));
+    let found = cartsundial::functions(bytes).ok().and_then(|mut all| all.find(|one| one.record == record));
+    assert_eq!(found.map(|one| [one.id.0.into()]), answer.ok(), "function {record} of {}", hex(bytes));
+    if let Some(one) = found {
+        assert_eq!(cartsundial::registers(bytes, one.id), Ok(one.registers), "function {record} of {}", hex(bytes));
     }
 }
 

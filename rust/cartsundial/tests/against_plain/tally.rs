@@ -9,11 +9,13 @@ pub enum Call {
     Plan,
     Check,
     Lookup,
+    Id,
     Command,
     Route,
 }
 
-const CALLS: [Call; 7] = [Call::Read, Call::Write, Call::Plan, Call::Check, Call::Lookup, Call::Command, Call::Route];
+const CALLS: [Call; 8] =
+    [Call::Read, Call::Write, Call::Plan, Call::Check, Call::Lookup, Call::Id, Call::Command, Call::Route];
 
 /// One more than the greatest number.
 const NUMBERS: usize = 43;
@@ -27,6 +29,7 @@ impl Call {
             Call::Plan => &[0, 11, 20, 21, 22, 23, 24, 25, 26, 30, 31, 32, 33],
             Call::Check => &[0, 20, 21, 22, 24, 25, 27, 28, 29],
             Call::Lookup => &[0, 11, 20, 21, 22, 24, 25, 27, 28, 29, 40],
+            Call::Id => &[0, 11, 20, 21, 22, 24, 25, 27, 28, 29, 40],
             Call::Command => &[0, 10, 20, 21, 22, 24, 25, 27, 28, 29, 40],
             Call::Route => &[0, 1, 2, 3, 4, 5, 6, 7, 8, 9, 11, 20, 21, 22, 24, 25, 27, 28, 29, 40, 41, 42],
         }

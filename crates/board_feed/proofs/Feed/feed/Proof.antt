@@ -47,8 +47,7 @@ loop-less c = omega arith
 
 loop-again : tie.Need-loop-again Inv-loop μ-loop
 loop-again c =
-    let place = c .before .before .before .before in
-    let turn = place in
+    let turn = c .before .before .before .before in
     let inv = turn .before .loop .inv in
     let event = c .before .before .event-of .ensures in (
       omega arith,
