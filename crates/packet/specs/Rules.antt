@@ -1,25 +1,38 @@
 -- Rules 4 to 9 of document 01 as far as they speak of fields, in its order. Reader and writer share them. Assumes nothing.
 use Prim.Native.Nat.{ℕ, _+_, _*_, _%_, _^_}
-use mathlib.Core.Bool.{Bool, false, cond, not, _&&_, _||_}
+use mathlib.Core.Bool.{Bool, true, false, cond, not, _&&_, _||_}
 use lib.Dec.{ltb, eqb}
 use Rattle.pairs.specs.declared.CompletionKind.the-variants.{Cpl, CplD, CplLk, CplDLk}
+use Rattle.pairs.specs.declared.MessageKind.the-variants.{Msg, MsgD}
+use Rattle.pairs.specs.declared.MessageRouting.{MessageRouting}
+use Rattle.pairs.specs.declared.MessageRouting.the-variants.{ToRoot, ByAddress, ById, Broadcast, Local, Gathered}
 use Rattle.packet.specs.declared.Head.{Head}
 use Rattle.packet.specs.declared.Enables.{Enables}
 use Rattle.packet.specs.declared.Packet.{Packet}
-use Rattle.packet.specs.declared.Packet.the-variants.{Memory, Io, Config, Completion}
+use Rattle.packet.specs.declared.Packet.the-variants.{Memory, Io, Config, Completion, Message}
 
--- 4: an address's low two bits set, memory AT 11, or completion AT not 00
+-- routing 001: bytes 8 to 15 are an address
+abbrev pub isByAddress : MessageRouting → Bool
+isByAddress ToRoot = false
+isByAddress ByAddress = true
+isByAddress ById = false
+isByAddress Broadcast = false
+isByAddress Local = false
+isByAddress Gathered = false
+
+-- 4: an address's low two bits set, memory AT 11, or completion or message AT not 00
 unfoldable pub reservedSet : Packet → Bool
 reservedSet (Memory k h e a) = not (eqb (a % 4) 0) || eqb (h .at) 3
 reservedSet (Io k h e a) = not (eqb (a % 4) 0)
 reservedSet (Config k h e t) = false
 reservedSet (Completion k h o) = not (eqb (h .at) 0)
+reservedSet (Message k h routing code tail) = not (eqb (h .at) 0) || isByAddress routing && not (eqb (tail % 4) 0)
 
 -- TC, all Attr, AT zero, Length 1, last enables 0
 abbrev pub oneDword : Head → Enables → Bool
 oneDword h e = eqb (h .tc) 0 && eqb (h .attr) 0 && eqb (h .at) 0 && eqb (h .length) 1 && eqb (e .last) 0
 
--- 5: an I/O or configuration request that is not so, or a Cpl or CplLk with a Length
+-- 5: an I/O or configuration request that is not so, or a Cpl, CplLk or Msg with a Length
 unfoldable pub fixedWrong : Packet → Bool
 fixedWrong (Memory k h e a) = false
 fixedWrong (Io k h e a) = not (oneDword h e)
@@ -28,6 +41,8 @@ fixedWrong (Completion Cpl h o) = not (eqb (h .length) 0)
 fixedWrong (Completion CplD h o) = false
 fixedWrong (Completion CplLk h o) = not (eqb (h .length) 0)
 fixedWrong (Completion CplDLk h o) = false
+fixedWrong (Message Msg h routing code tail) = not (eqb (h .length) 0)
+fixedWrong (Message MsgD h routing code tail) = false
 
 -- 6: 64-bit form with upper half zero
 unfoldable pub upperZero : Packet → Bool
@@ -35,6 +50,7 @@ upperZero (Memory k h e a) = eqb (h .form) 4 && ltb a (2 ^ 32)
 upperZero (Io k h e a) = false
 upperZero (Config k h e t) = false
 upperZero (Completion k h o) = false
+upperZero (Message k h routing code tail) = false
 
 -- first enables 1111, 1110, 1100 or 1000
 abbrev pub isFirst : ℕ → Bool
@@ -56,6 +72,7 @@ enablesWrong (Memory k h e a) = not (enablesLawful (h .length) e)
 enablesWrong (Io k h e a) = false
 enablesWrong (Config k h e t) = false
 enablesWrong (Completion k h o) = false
+enablesWrong (Message k h routing code tail) = false
 
 -- 8: a memory request crossing a 4,096-byte boundary; whole dwords from the address
 unfoldable pub crossesPage : Packet → Bool
@@ -63,6 +80,7 @@ crossesPage (Memory k h e a) = ltb 4096 (a % 4096 + 4 * h .length)
 crossesPage (Io k h e a) = false
 crossesPage (Config k h e t) = false
 crossesPage (Completion k h o) = false
+crossesPage (Message k h routing code tail) = false
 
 -- status 000, 001, 010 or 100
 abbrev pub isStatus : ℕ → Bool
@@ -74,6 +92,7 @@ statusWrong (Memory k h e a) = false
 statusWrong (Io k h e a) = false
 statusWrong (Config k h e t) = false
 statusWrong (Completion k h o) = not (isStatus (o .status))
+statusWrong (Message k h routing code tail) = false
 
 -- the number of the first rule broken, or 0
 unfoldable pub fromRule9 : Packet → ℕ

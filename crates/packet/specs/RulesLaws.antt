@@ -8,12 +8,15 @@ use Rattle.pairs.specs.declared.IoKind.{IoKind}
 use Rattle.pairs.specs.declared.ConfigKind.{ConfigKind}
 use Rattle.pairs.specs.declared.CompletionKind.{CompletionKind}
 use Rattle.pairs.specs.declared.CompletionKind.the-variants.{Cpl, CplD, CplLk, CplDLk}
+use Rattle.pairs.specs.declared.MessageKind.{MessageKind}
+use Rattle.pairs.specs.declared.MessageKind.the-variants.{Msg, MsgD}
+use Rattle.pairs.specs.declared.MessageRouting.{MessageRouting}
 use Rattle.packet.specs.declared.Head.{Head}
 use Rattle.packet.specs.declared.Enables.{Enables}
 use Rattle.packet.specs.declared.Target.{Target}
 use Rattle.packet.specs.declared.Outcome.{Outcome}
-use Rattle.packet.specs.declared.Packet.the-variants.{Memory, Io, Config, Completion}
-use Rattle.packet.specs.Rules.{reservedSet, oneDword, fixedWrong, upperZero, enablesLawful, enablesWrong, crossesPage, isStatus}
+use Rattle.packet.specs.declared.Packet.the-variants.{Memory, Io, Config, Completion, Message}
+use Rattle.packet.specs.Rules.{isByAddress, reservedSet, oneDword, fixedWrong, upperZero, enablesLawful, enablesWrong, crossesPage, isStatus}
 use Rattle.packet.specs.Rules.{statusWrong, fromRule9, fromRule8, fromRule7, fromRule6, fromRule5, ruleNumber}
 
 -- a check that answers no leaves those after it; one that answers yes gives its number
@@ -57,6 +60,19 @@ rule-number-completion Cpl h o = refl
 rule-number-completion CplD h o = refl
 rule-number-completion CplLk h o = refl
 rule-number-completion CplDLk h o = refl
+
+-- nor has Msg
+abbrev pub isWithoutData : MessageKind → Bool
+isWithoutData Msg = true
+isWithoutData MsgD = false
+
+pub rule-number-message : (k : MessageKind) (h : Head) (routing : MessageRouting) (code tail : ℕ)
+    → ruleNumber (Message k h routing code tail)
+    ≡ cond (not (eqb (h .at) 0) || isByAddress routing && not (eqb (tail % 4) 0)) 4
+    (cond (isWithoutData k && not (eqb (h .length) 0)) 5 0)
+unfolding ruleNumber fromRule5 fromRule6 fromRule7 fromRule8 fromRule9 reservedSet fixedWrong upperZero enablesWrong crossesPage statusWrong
+rule-number-message Msg h routing code tail = refl
+rule-number-message MsgD h routing code tail = refl
 
 -- ## Tests joined with no branch between them
 

@@ -1,5 +1,5 @@
 -- A lawful packet is one whose row is carried, whose fields fit and which breaks none of rules 4 to 9: both ways. Assumes nothing.
-use Prim.Native.Nat.{ℕ, _<_}
+use Prim.Native.Nat.{ℕ, _<_, _^_}
 use mathlib.Core.Path.{_≡_, refl}
 use mathlib.Core.Bool.{Bool, true, false, cond}
 use borrow.Author.Tests.{eqb-true}
@@ -13,17 +13,19 @@ use Rattle.pairs.specs.declared.MemoryKind.{MemoryKind}
 use Rattle.pairs.specs.declared.IoKind.{IoKind}
 use Rattle.pairs.specs.declared.ConfigKind.{ConfigKind}
 use Rattle.pairs.specs.declared.CompletionKind.{CompletionKind}
+use Rattle.pairs.specs.declared.MessageKind.{MessageKind}
+use Rattle.pairs.specs.declared.MessageRouting.{MessageRouting}
 use Rattle.packet.specs.declared.Head.{Head}
 use Rattle.packet.specs.declared.Enables.{Enables}
 use Rattle.packet.specs.declared.Target.{Target}
 use Rattle.packet.specs.declared.Outcome.{Outcome}
 use Rattle.packet.specs.declared.Packet.{Packet}
-use Rattle.packet.specs.declared.Packet.the-variants.{Memory, Io, Config, Completion}
+use Rattle.packet.specs.declared.Packet.the-variants.{Memory, Io, Config, Completion, Message}
 use Rattle.packet.specs.declared.Verdict.the-variants.{Lawful, Refused}
 use Rattle.packet.specs.Fields.{kindOf, headOf}
 use Rattle.packet.specs.Widths.{enablesFit, addressFits, targetFits, bodyFits, fieldsFit}
 use Rattle.packet.specs.WidthsLaws.{and-elim, HeadBounds, head-bounds-elim, enables-fit-elim, target-fits-elim, OutcomeBounds}
-use Rattle.packet.specs.WidthsLaws.{outcome-bounds-elim, FieldsFit, fields-fit-elim}
+use Rattle.packet.specs.WidthsLaws.{outcome-bounds-elim, content-fits-elim, FieldsFit, fields-fit-elim}
 use Rattle.packet.specs.Rules.{ruleNumber}
 use Rattle.packet.specs.Verdict.{verdictOf, onPair, onFields, onRules}
 
@@ -101,3 +103,11 @@ pub completion-of-lawful : (row : Row) (k : CompletionKind) (h : Head) (o : Outc
 unfolding bodyFits
 completion-of-lawful row k h o l =
     (head-of-lawful row (Completion k h o) l, outcome-bounds-elim o (fit-of-lawful row (Completion k h o) l .body))
+
+pub message-of-lawful : (row : Row) (k : MessageKind) (h : Head) (routing : MessageRouting) (code tail : ℕ)
+    → verdictOf (Message k h routing code tail) ≡ Lawful row → HeadBounds h × (code < 256) × (tail < 2 ^ 64)
+unfolding bodyFits
+message-of-lawful row k h routing code tail l =
+    let p = Message k h routing code tail in
+    let b = content-fits-elim code tail (fit-of-lawful row p l .body) in
+    (head-of-lawful row p l, b .0, b .1)

@@ -1,15 +1,16 @@
 -- Refusal 10: a value too wide for its field, a Length outside 1 to 1,024, or an address of 4 GiB or more in the three-dword form.
--- Cpl and CplLk have no Length value and take only 0. Assumes nothing.
+-- Cpl, CplLk and Msg have no Length value and take only 0. Assumes nothing.
 use Prim.Native.Nat.{ℕ, _^_}
 use mathlib.Core.Bool.{Bool, not, _&&_, _||_}
 use lib.Dec.{ltb, leb, eqb}
 use Rattle.pairs.specs.declared.CompletionKind.the-variants.{Cpl, CplD, CplLk, CplDLk}
+use Rattle.pairs.specs.declared.MessageKind.the-variants.{Msg, MsgD}
 use Rattle.packet.specs.declared.Head.{Head}
 use Rattle.packet.specs.declared.Enables.{Enables}
 use Rattle.packet.specs.declared.Target.{Target}
 use Rattle.packet.specs.declared.Outcome.{Outcome}
 use Rattle.packet.specs.declared.Packet.{Packet}
-use Rattle.packet.specs.declared.Packet.the-variants.{Memory, Io, Config, Completion}
+use Rattle.packet.specs.declared.Packet.the-variants.{Memory, Io, Config, Completion, Message}
 use Rattle.packet.specs.Fields.{headOf}
 
 -- x fits a field of n bits
@@ -31,6 +32,8 @@ lengthFits (Completion Cpl h o) = eqb (h .length) 0
 lengthFits (Completion CplD h o) = lengthIn (h .length)
 lengthFits (Completion CplLk h o) = eqb (h .length) 0
 lengthFits (Completion CplDLk h o) = lengthIn (h .length)
+lengthFits (Message Msg h routing code tail) = eqb (h .length) 0
+lengthFits (Message MsgD h routing code tail) = lengthIn (h .length)
 
 abbrev pub enablesFit : Enables → Bool
 enablesFit e = fits 4 (e .last) && fits 4 (e .first)
@@ -45,11 +48,16 @@ targetFits t = fits 16 (t .id) && fits 10 (t .register)
 abbrev pub outcomeFits : Outcome → Bool
 outcomeFits o = fits 16 (o .completer) && fits 3 (o .status) && fits 12 (o .count) && fits 7 (o .lower)
 
+-- a message's code, and its bytes 8 to 15
+abbrev pub contentFits : ℕ → ℕ → Bool
+contentFits code tail = fits 8 code && fits 64 tail
+
 unfoldable pub bodyFits : Packet → Bool
 bodyFits (Memory k h e a) = enablesFit e && addressFits h a
 bodyFits (Io k h e a) = enablesFit e && addressFits h a
 bodyFits (Config k h e t) = enablesFit e && targetFits t
 bodyFits (Completion k h o) = outcomeFits o
+bodyFits (Message k h routing code tail) = contentFits code tail
 
 unfoldable pub fieldsFit : Packet → Bool
 fieldsFit p = headFits (headOf p) && lengthFits p && bodyFits p

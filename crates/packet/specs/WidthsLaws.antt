@@ -10,7 +10,7 @@ use Rattle.packet.specs.declared.Target.{Target}
 use Rattle.packet.specs.declared.Outcome.{Outcome}
 use Rattle.packet.specs.declared.Packet.{Packet}
 use Rattle.packet.specs.Fields.{headOf}
-use Rattle.packet.specs.Widths.{headFits, lengthIn, lengthFits, enablesFit, addressFits, targetFits, outcomeFits, bodyFits, fieldsFit}
+use Rattle.packet.specs.Widths.{headFits, lengthIn, lengthFits, enablesFit, addressFits, targetFits, outcomeFits, contentFits, bodyFits, fieldsFit}
 
 pub and-elim : (a b : Bool) → a && b ≡ true → (a ≡ true) × (b ≡ true)
 and-elim a b = and-eq-true-iff a b .0
@@ -76,6 +76,12 @@ outcome-bounds-elim o e =
 
 pub outcome-bounds-intro : (o : Outcome) → OutcomeBounds o → outcomeFits o ≡ true
 outcome-bounds-intro o b = simp (lt-ltb _ _ (b .completer), lt-ltb _ _ (b .status), lt-ltb _ _ (b .count), lt-ltb _ _ (b .lower))
+
+pub content-fits-elim : (code tail : ℕ) → contentFits code tail ≡ true → (code < 256) × (tail < 2 ^ 64)
+content-fits-elim code tail q = let a = and-elim _ _ q in (ltb-true _ _ (a .0), ltb-true _ _ (a .1))
+
+pub content-fits-intro : (code tail : ℕ) → code < 256 → tail < 2 ^ 64 → contentFits code tail ≡ true
+content-fits-intro code tail a b = simp (lt-ltb _ _ a, lt-ltb _ _ b)
 
 -- an address fits 64 bits, and 32 in the three-dword form
 pub address-fits-elim : (h : Head) (a : ℕ) → addressFits h a ≡ true → (a < 2 ^ 64) × (h .form ≡ 3 → a < 2 ^ 32)

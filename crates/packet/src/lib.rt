@@ -3,23 +3,25 @@
 // the reader and the writer: the writer's 2 and 10, and rules 4 to 9.
 ghost use mathlib.Core.Path.{_≡_};
 ghost use mathlib.Core.Bool.{cond};
-ghost use Prim.Native.Nat.{_<_};
+ghost use Prim.Native.Nat.{ℕ, _<_};
 ghost use Rattle.pairs.specs.declared.MemoryKind.{MemoryKind};
 ghost use Rattle.pairs.specs.declared.IoKind.{IoKind};
 ghost use Rattle.pairs.specs.declared.ConfigKind.{ConfigKind};
 ghost use Rattle.packet.specs.declared.Target.{Target};
-ghost use Rattle.packet.specs.declared.Packet.the-variants.{Memory, Io, Config, Completion};
+ghost use Rattle.packet.specs.declared.Packet.the-variants.{Memory, Io, Config, Completion, Message};
 ghost use Rattle.packet.specs.Fields.{kindOf, headOf};
-ghost use Rattle.packet.specs.Widths.{headFits, lengthIn, lengthFits, enablesFit, addressFits, targetFits, outcomeFits, bodyFits};
-ghost use Rattle.packet.specs.Widths.{fieldsFit};
-ghost use Rattle.packet.specs.Rules.{oneDword, isFirst, isLast, enablesLawful, isStatus, ruleNumber};
-ghost use Rattle.packet.specs.RulesLaws.{hasNoLength};
+ghost use Rattle.packet.specs.Widths.{headFits, lengthIn, lengthFits, enablesFit, addressFits, targetFits, outcomeFits};
+ghost use Rattle.packet.specs.Widths.{contentFits, bodyFits, fieldsFit};
+ghost use Rattle.packet.specs.Rules.{isByAddress, oneDword, isFirst, isLast, enablesLawful, isStatus, ruleNumber};
+ghost use Rattle.packet.specs.RulesLaws.{hasNoLength, isWithoutData};
 ghost use Rattle.packet.specs.Verdict.{verdictOf, onFields};
 use pairs::CompletionKind;
 use pairs::ConfigKind;
 use pairs::IoKind;
 use pairs::Kind;
 use pairs::MemoryKind;
+use pairs::MessageKind;
+use pairs::MessageRouting;
 use pairs::Pair;
 use pairs::Row;
 
@@ -59,11 +61,14 @@ pub struct Outcome {
     pub lower: u8,
 }
 
+// A message has its routing, its code, and bytes 8 to 15 as one number, where a memory request has its enables and its address: what those
+// bytes say is by the routing, and by the code.
 pub enum Packet {
     Memory(MemoryKind, Head, Enables, u64),
     Io(IoKind, Head, Enables, u64),
     Config(ConfigKind, Head, Enables, Target),
     Completion(CompletionKind, Head, Outcome),
+    Message(MessageKind, Head, MessageRouting, u8, u64),
 }
 
 // The verdict on a packet: lawful, with its row of the table of pairs, or the number of the first
@@ -108,6 +113,7 @@ fn rule_number(p: Packet) -> u8
         Packet::Io(_, h, e, a) => io_rules(h, e, a),
         Packet::Config(_, h, e, _) => config_rules(h, e),
         Packet::Completion(k, h, o) => completion_rules(k, h, o),
+        Packet::Message(k, h, routing, _, tail) => message_rules(k, h, routing, tail),
     }
 }
 
@@ -177,6 +183,19 @@ pub fn completion_rules(k: CompletionKind, h: Head, o: Outcome) -> u8
     0
 }
 
+// Rules 4 and 5.
+pub fn message_rules(k: MessageKind, h: Head, routing: MessageRouting, tail: u64) -> u8
+    ensures { λ r. ⌜ ((code : ℕ) → r ≡ ruleNumber (Message k h routing code tail)) ⌝ }
+{
+    if !(h.at == 0) | (is_by_address(routing) & !(tail % 4 == 0)) {
+        return 4;
+    }
+    if is_without_data(k) & !(h.length == 0) {
+        return 5;
+    }
+    0
+}
+
 pub fn kind_of(p: Packet) -> Kind
     ensures { λ r. ⌜ r ≡ kindOf p ⌝ }
 {
@@ -185,6 +204,7 @@ pub fn kind_of(p: Packet) -> Kind
         Packet::Io(k, _, _, _) => Kind::Io(k),
         Packet::Config(k, _, _, _) => Kind::Config(k),
         Packet::Completion(k, _, _) => Kind::Completion(k),
+        Packet::Message(k, _, routing, _, _) => Kind::Message(k, routing),
     }
 }
 
@@ -196,6 +216,7 @@ pub fn head_of(p: Packet) -> Head
         Packet::Io(_, h, _, _) => h,
         Packet::Config(_, h, _, _) => h,
         Packet::Completion(_, h, _) => h,
+        Packet::Message(_, h, _, _, _) => h,
     }
 }
 
@@ -230,6 +251,10 @@ fn length_fits(p: Packet) -> bool
             CompletionKind::CplLk => h.length == 0,
             CompletionKind::CplDLk => length_in(h.length),
         },
+        Packet::Message(k, h, _, _, _) => match k {
+            MessageKind::Msg => h.length == 0,
+            MessageKind::MsgD => length_in(h.length),
+        },
     }
 }
 
@@ -258,6 +283,13 @@ fn outcome_fits(o: Outcome) -> bool
     (o.status < 8) & (o.count < 4096) & (o.lower < 128)
 }
 
+// A byte and 64 bits always fit.
+fn content_fits(code: u8, tail: u64) -> bool
+    ensures { λ r. ⌜ r ≡ contentFits code tail ⌝ }
+{
+    (code <= 0xff) & (tail <= 0xffff_ffff_ffff_ffff)
+}
+
 fn body_fits(p: Packet) -> bool
     ensures { λ r. ⌜ r ≡ bodyFits p ⌝ }
 {
@@ -266,6 +298,7 @@ fn body_fits(p: Packet) -> bool
         Packet::Io(_, h, e, a) => enables_fit(e) & address_fits(h, a),
         Packet::Config(_, _, e, t) => enables_fit(e) & target_fits(t),
         Packet::Completion(_, _, o) => outcome_fits(o),
+        Packet::Message(_, _, _, code, tail) => content_fits(code, tail),
     }
 }
 
@@ -277,6 +310,28 @@ fn has_no_length(k: CompletionKind) -> bool
         CompletionKind::CplD => false,
         CompletionKind::CplLk => true,
         CompletionKind::CplDLk => false,
+    }
+}
+
+fn is_without_data(k: MessageKind) -> bool
+    ensures { λ r. ⌜ r ≡ isWithoutData k ⌝ }
+{
+    match k {
+        MessageKind::Msg => true,
+        MessageKind::MsgD => false,
+    }
+}
+
+fn is_by_address(routing: MessageRouting) -> bool
+    ensures { λ r. ⌜ r ≡ isByAddress routing ⌝ }
+{
+    match routing {
+        MessageRouting::ToRoot => false,
+        MessageRouting::ByAddress => true,
+        MessageRouting::ById => false,
+        MessageRouting::Broadcast => false,
+        MessageRouting::Local => false,
+        MessageRouting::Gathered => false,
     }
 }
 

@@ -20,7 +20,7 @@ unfolding first
 first-drop p rows i d below = rw (add-one, drop-cons rows i d)
 
 -- `all` is the code's copy of the table
-module _ (p : Row → Bool) (i : ℕ) (below : i < 38) {all : List Row} {b : Bool} (same : all ≡ table) (test : b ≡ p (getD all i noRow)) where
+module _ (p : Row → Bool) (i : ℕ) (below : i < 34) {all : List Row} {b : Bool} (same : all ≡ table) (test : b ≡ p (getD all i noRow)) where
   first-step : first p (drop i table) ≡ cond b (Found (getD all i noRow)) (first p (drop (i + 1) table))
   unfolding table
   first-step = rw (test, same) (first-drop p table i noRow below)
@@ -31,9 +31,9 @@ module _ (p : Row → Bool) (i : ℕ) (below : i < 38) {all : List Row} {b : Boo
   pub first-miss : {whole : Looked} → b ≡ false → first p (drop i table) ≡ whole → first p (drop (i + 1) table) ≡ whole
   first-miss miss rest = sym (rw miss at first-step) ∙ rest
 
-pub first-none : (p : Row → Bool) (i : ℕ) {whole : Looked} → 38 ≤ i → i ≤ 38 → first p (drop i table) ≡ whole → Missing ≡ whole
+pub first-none : (p : Row → Bool) (i : ℕ) {whole : Looked} → 34 ≤ i → i ≤ 34 → first p (drop i table) ≡ whole → Missing ≡ whole
 unfolding first table
-first-none p i low high rest = let end : i ≡ 38 = omega arith in rw end at rest
+first-none p i low high rest = let end : i ≡ 34 = omega arith in rw end at rest
 
 -- two tests that agree find the same
 pub first-same : (p q : Row → Bool) (rows : List Row) → ((row : Row) → p row ≡ q row) → first p rows ≡ first q rows

@@ -10,11 +10,13 @@ use lib.Dec.{eqb, ltb}
 use lib.ListN.{getD}
 use Rattle.pairs.specs.declared.Row.{Row}
 use Rattle.pairs.specs.declared.Kind.{Kind}
-use Rattle.pairs.specs.declared.Kind.the-variants.{Memory, Io, Config, Completion, Msg, MsgD, FetchAdd, Swap, Cas}
+use Rattle.pairs.specs.declared.Kind.the-variants.{Memory, Io, Config, Completion, Message, FetchAdd, Swap, Cas}
 use Rattle.pairs.specs.declared.MemoryKind.the-variants.{MRd, MRdLk, MWr}
 use Rattle.pairs.specs.declared.IoKind.the-variants.{IORd, IOWr}
 use Rattle.pairs.specs.declared.ConfigKind.the-variants.{CfgRd0, CfgWr0, CfgRd1, CfgWr1}
 use Rattle.pairs.specs.declared.CompletionKind.the-variants.{Cpl, CplD, CplLk, CplDLk}
+use Rattle.pairs.specs.declared.MessageKind.the-variants.{Msg, MsgD}
+use Rattle.pairs.specs.declared.MessageRouting.the-variants.{ToRoot, ByAddress, ById, Broadcast, Local, Gathered}
 use Rattle.pairs.specs.declared.Name.{Name}
 use Rattle.pairs.specs.declared.Name.the-variants as name
 use Rattle.pairs.specs.Pairs.{table, kindNamed, kindNumber, keyOf, isKind, isKey, first, findKind, findKey}
@@ -23,7 +25,10 @@ use Rattle.pairs.specs.FirstLaws.{first-same}
 names : List Name
 names =
     name.MRd ∷ name.MRdLk ∷ name.MWr ∷ name.IORd ∷ name.IOWr ∷ name.CfgRd0 ∷ name.CfgWr0 ∷ name.CfgRd1 ∷ name.CfgWr1 ∷ name.Cpl ∷
-    name.CplD ∷ name.CplLk ∷ name.CplDLk ∷ name.Msg ∷ name.MsgD ∷ name.FetchAdd ∷ name.Swap ∷ name.Cas ∷ []
+    name.CplD ∷ name.CplLk ∷ name.CplDLk ∷
+    name.MsgToRoot ∷ name.MsgByAddress ∷ name.MsgById ∷ name.MsgBroadcast ∷ name.MsgLocal ∷ name.MsgGathered ∷
+    name.MsgDToRoot ∷ name.MsgDByAddress ∷ name.MsgDById ∷ name.MsgDBroadcast ∷ name.MsgDLocal ∷ name.MsgDGathered ∷
+    name.FetchAdd ∷ name.Swap ∷ name.Cas ∷ []
 
 -- a kind's number is its name's place among the names, and fits a byte
 abbrev nameOf : Kind → Name
@@ -44,8 +49,18 @@ numbered (Completion Cpl) = (refl, refl)
 numbered (Completion CplD) = (refl, refl)
 numbered (Completion CplLk) = (refl, refl)
 numbered (Completion CplDLk) = (refl, refl)
-numbered Msg = (refl, refl)
-numbered MsgD = (refl, refl)
+numbered (Message Msg ToRoot) = (refl, refl)
+numbered (Message Msg ByAddress) = (refl, refl)
+numbered (Message Msg ById) = (refl, refl)
+numbered (Message Msg Broadcast) = (refl, refl)
+numbered (Message Msg Local) = (refl, refl)
+numbered (Message Msg Gathered) = (refl, refl)
+numbered (Message MsgD ToRoot) = (refl, refl)
+numbered (Message MsgD ByAddress) = (refl, refl)
+numbered (Message MsgD ById) = (refl, refl)
+numbered (Message MsgD Broadcast) = (refl, refl)
+numbered (Message MsgD Local) = (refl, refl)
+numbered (Message MsgD Gathered) = (refl, refl)
 numbered FetchAdd = (refl, refl)
 numbered Swap = (refl, refl)
 numbered Cas = (refl, refl)
@@ -65,8 +80,18 @@ named name.Cpl = refl
 named name.CplD = refl
 named name.CplLk = refl
 named name.CplDLk = refl
-named name.Msg = refl
-named name.MsgD = refl
+named name.MsgToRoot = refl
+named name.MsgByAddress = refl
+named name.MsgById = refl
+named name.MsgBroadcast = refl
+named name.MsgLocal = refl
+named name.MsgGathered = refl
+named name.MsgDToRoot = refl
+named name.MsgDByAddress = refl
+named name.MsgDById = refl
+named name.MsgDBroadcast = refl
+named name.MsgDLocal = refl
+named name.MsgDGathered = refl
 named name.FetchAdd = refl
 named name.Swap = refl
 named name.Cas = refl

@@ -6,11 +6,14 @@ use Prim.Native.Nat.{ℕ, _+_, _*_, _/_}
 use lib.Dec.{eqb}
 use Rattle.pairs.specs.declared.Row.{Row}
 use Rattle.pairs.specs.declared.Kind.{Kind}
-use Rattle.pairs.specs.declared.Kind.the-variants.{Memory, Io, Config, Completion, Msg, MsgD, FetchAdd, Swap, Cas}
+use Rattle.pairs.specs.declared.Kind.the-variants.{Memory, Io, Config, Completion, Message, FetchAdd, Swap, Cas}
 use Rattle.pairs.specs.declared.MemoryKind.the-variants.{MRd, MRdLk, MWr}
 use Rattle.pairs.specs.declared.IoKind.the-variants.{IORd, IOWr}
 use Rattle.pairs.specs.declared.ConfigKind.the-variants.{CfgRd0, CfgWr0, CfgRd1, CfgWr1}
 use Rattle.pairs.specs.declared.CompletionKind.the-variants.{Cpl, CplD, CplLk, CplDLk}
+use Rattle.pairs.specs.declared.MessageKind.the-variants.{Msg, MsgD}
+use Rattle.pairs.specs.declared.MessageRouting.{MessageRouting}
+use Rattle.pairs.specs.declared.MessageRouting.the-variants.{ToRoot, ByAddress, ById, Broadcast, Local, Gathered}
 use Rattle.pairs.specs.declared.Name.{Name}
 use Rattle.pairs.specs.declared.Name.the-variants as name
 use Rattle.pairs.specs.declared.Looked.{Looked}
@@ -25,7 +28,7 @@ carries fmt typ name form = record { byte = fmt * 32 + typ; name = name; form = 
 abbrev pub knows : ℕ → ℕ → Name → ℕ → Row
 knows fmt typ name form = record { byte = fmt * 32 + typ; name = name; form = form; carried = false }
 
--- first the carried pairs, then Type 10rrr and the AtomicOps, which are known but not carried
+-- first the carried pairs, messages (Type 10rrr, rrr from 000 to 101) last, then the AtomicOps, which are known but not carried
 unfoldable pub table : List Row
 table =
     carries 0b000 0b00000 name.MRd 3
@@ -44,22 +47,18 @@ table =
     ∷ carries 0b010 0b01010 name.CplD 3
     ∷ carries 0b000 0b01011 name.CplLk 3
     ∷ carries 0b010 0b01011 name.CplDLk 3
-    ∷ knows 0b001 0b10000 name.Msg 4
-    ∷ knows 0b001 0b10001 name.Msg 4
-    ∷ knows 0b001 0b10010 name.Msg 4
-    ∷ knows 0b001 0b10011 name.Msg 4
-    ∷ knows 0b001 0b10100 name.Msg 4
-    ∷ knows 0b001 0b10101 name.Msg 4
-    ∷ knows 0b001 0b10110 name.Msg 4
-    ∷ knows 0b001 0b10111 name.Msg 4
-    ∷ knows 0b011 0b10000 name.MsgD 4
-    ∷ knows 0b011 0b10001 name.MsgD 4
-    ∷ knows 0b011 0b10010 name.MsgD 4
-    ∷ knows 0b011 0b10011 name.MsgD 4
-    ∷ knows 0b011 0b10100 name.MsgD 4
-    ∷ knows 0b011 0b10101 name.MsgD 4
-    ∷ knows 0b011 0b10110 name.MsgD 4
-    ∷ knows 0b011 0b10111 name.MsgD 4
+    ∷ carries 0b001 0b10000 name.MsgToRoot 4
+    ∷ carries 0b001 0b10001 name.MsgByAddress 4
+    ∷ carries 0b001 0b10010 name.MsgById 4
+    ∷ carries 0b001 0b10011 name.MsgBroadcast 4
+    ∷ carries 0b001 0b10100 name.MsgLocal 4
+    ∷ carries 0b001 0b10101 name.MsgGathered 4
+    ∷ carries 0b011 0b10000 name.MsgDToRoot 4
+    ∷ carries 0b011 0b10001 name.MsgDByAddress 4
+    ∷ carries 0b011 0b10010 name.MsgDById 4
+    ∷ carries 0b011 0b10011 name.MsgDBroadcast 4
+    ∷ carries 0b011 0b10100 name.MsgDLocal 4
+    ∷ carries 0b011 0b10101 name.MsgDGathered 4
     ∷ knows 0b010 0b01100 name.FetchAdd 3
     ∷ knows 0b011 0b01100 name.FetchAdd 4
     ∷ knows 0b010 0b01101 name.Swap 3
@@ -87,11 +86,31 @@ kindNamed name.Cpl = Completion Cpl
 kindNamed name.CplD = Completion CplD
 kindNamed name.CplLk = Completion CplLk
 kindNamed name.CplDLk = Completion CplDLk
-kindNamed name.Msg = Msg
-kindNamed name.MsgD = MsgD
+kindNamed name.MsgToRoot = Message Msg ToRoot
+kindNamed name.MsgByAddress = Message Msg ByAddress
+kindNamed name.MsgById = Message Msg ById
+kindNamed name.MsgBroadcast = Message Msg Broadcast
+kindNamed name.MsgLocal = Message Msg Local
+kindNamed name.MsgGathered = Message Msg Gathered
+kindNamed name.MsgDToRoot = Message MsgD ToRoot
+kindNamed name.MsgDByAddress = Message MsgD ByAddress
+kindNamed name.MsgDById = Message MsgD ById
+kindNamed name.MsgDBroadcast = Message MsgD Broadcast
+kindNamed name.MsgDLocal = Message MsgD Local
+kindNamed name.MsgDGathered = Message MsgD Gathered
 kindNamed name.FetchAdd = FetchAdd
 kindNamed name.Swap = Swap
 kindNamed name.Cas = Cas
+
+-- rrr, the last three bits of a message's Type: 000 to the root complex, 001 by address, 010 by ID, 011 broadcast from the root complex,
+-- 100 local, 101 gathered to the root complex
+abbrev pub routingNumber : MessageRouting → ℕ
+routingNumber ToRoot = 0
+routingNumber ByAddress = 1
+routingNumber ById = 2
+routingNumber Broadcast = 3
+routingNumber Local = 4
+routingNumber Gathered = 5
 
 -- kinds are told apart by number
 abbrev pub kindNumber : Kind → ℕ
@@ -108,11 +127,11 @@ kindNumber (Completion Cpl) = 9
 kindNumber (Completion CplD) = 10
 kindNumber (Completion CplLk) = 11
 kindNumber (Completion CplDLk) = 12
-kindNumber Msg = 13
-kindNumber MsgD = 14
-kindNumber FetchAdd = 15
-kindNumber Swap = 16
-kindNumber Cas = 17
+kindNumber (Message Msg routing) = 13 + routingNumber routing
+kindNumber (Message MsgD routing) = 19 + routingNumber routing
+kindNumber FetchAdd = 25
+kindNumber Swap = 26
+kindNumber Cas = 27
 
 -- a kind's number and a form as one number
 abbrev pub keyOf : ℕ → ℕ → ℕ

@@ -10,7 +10,7 @@ use borrow.Author.Tests.{eqb-true, ltb-true}
 use lib.Dec.{eqb, ltb}
 use Rattle.pairs.specs.declared.Row.{Row}
 use Rattle.pairs.specs.declared.Kind.{Kind}
-use Rattle.pairs.specs.declared.Kind.the-variants.{Memory, Io, Config, Completion, Msg, MsgD, FetchAdd, Swap, Cas}
+use Rattle.pairs.specs.declared.Kind.the-variants.{Memory, Io, Config, Completion, Message, FetchAdd, Swap, Cas}
 use Rattle.pairs.specs.declared.Looked.{Looked}
 use Rattle.pairs.specs.declared.Looked.the-variants.{Found, Missing}
 use Rattle.pairs.specs.declared.Pair.{Pair}
@@ -58,14 +58,13 @@ row-unique a b h =
 
 -- ## What holds of a carried row
 
--- the forms that a kind is carried in: all but memory requests have three dwords, and messages and AtomicOps are not carried
+-- the forms that a kind is carried in: memory requests have both, messages four dwords, all others three; AtomicOps are not carried
 abbrev pub Forms : Kind → ℕ → Type 0
 Forms (Memory k) f = (f ≡ 3) ⊎ (f ≡ 4)
 Forms (Io k) f = f ≡ 3
 Forms (Config k) f = f ≡ 3
 Forms (Completion k) f = f ≡ 3
-Forms Msg f = ⊥
-Forms MsgD f = ⊥
+Forms (Message k routing) f = f ≡ 4
 Forms FetchAdd f = ⊥
 Forms Swap f = ⊥
 Forms Cas f = ⊥
@@ -88,8 +87,7 @@ isForm (Memory k) f = eqb f 3 || eqb f 4
 isForm (Io k) f = eqb f 3
 isForm (Config k) f = eqb f 3
 isForm (Completion k) f = eqb f 3
-isForm Msg f = false
-isForm MsgD f = false
+isForm (Message k routing) f = eqb f 4
 isForm FetchAdd f = false
 isForm Swap f = false
 isForm Cas f = false
@@ -106,8 +104,7 @@ forms-of-test (Memory k) f h = three-or-four f h
 forms-of-test (Io k) f h = eqb-true f 3 h
 forms-of-test (Config k) f h = eqb-true f 3 h
 forms-of-test (Completion k) f h = eqb-true f 3 h
-forms-of-test Msg f h = false≢true h
-forms-of-test MsgD f h = false≢true h
+forms-of-test (Message k routing) f h = eqb-true f 4 h
 forms-of-test FetchAdd f h = false≢true h
 forms-of-test Swap f h = false≢true h
 forms-of-test Cas f h = false≢true h

@@ -1,6 +1,8 @@
 // The Fmt and Type pairs of a TLP header's byte 0: one constant table, searched by byte for the reader and by kind and form for the writer.
 ghost use mathlib.Core.Path.{_≡_};
-ghost use Rattle.pairs.specs.Pairs.{table, kindNamed, kindNumber, keyOf, isPair, isKey, findPair, findKey, answerOf, pairOf, rowOf};
+ghost use Prim.Native.Nat.{_<_};
+ghost use Rattle.pairs.specs.Pairs.{table, kindNamed, routingNumber, kindNumber, keyOf, isPair, isKey, findPair, findKey};
+ghost use Rattle.pairs.specs.Pairs.{answerOf, pairOf, rowOf};
 
 pub enum MemoryKind {
     MRd,
@@ -27,19 +29,33 @@ pub enum CompletionKind {
     CplDLk,
 }
 
+pub enum MessageKind {
+    Msg,
+    MsgD,
+}
+
+// How a message goes, by the last three bits of its Type: 000 to 101. The base specification reserves 110 and 111.
+pub enum MessageRouting {
+    ToRoot,
+    ByAddress,
+    ById,
+    Broadcast,
+    Local,
+    Gathered,
+}
+
 pub enum Kind {
     Memory(MemoryKind),
     Io(IoKind),
     Config(ConfigKind),
     Completion(CompletionKind),
-    Msg,
-    MsgD,
+    Message(MessageKind, MessageRouting),
     FetchAdd,
     Swap,
     Cas,
 }
 
-// What a kind is called: one byte, so that a row is four bytes and a search looks at it by one load.
+// What a kind is called, a message with its routing: one byte, so that a row is four bytes and a search looks at it by one load.
 pub enum Name {
     MRd,
     MRdLk,
@@ -54,8 +70,18 @@ pub enum Name {
     CplD,
     CplLk,
     CplDLk,
-    Msg,
-    MsgD,
+    MsgToRoot,
+    MsgByAddress,
+    MsgById,
+    MsgBroadcast,
+    MsgLocal,
+    MsgGathered,
+    MsgDToRoot,
+    MsgDByAddress,
+    MsgDById,
+    MsgDBroadcast,
+    MsgDLocal,
+    MsgDGathered,
     FetchAdd,
     Swap,
     Cas,
@@ -86,8 +112,8 @@ pub enum Pair {
 // Fmt 100 is a TLP prefix, whatever the Type: known and not carried.
 const PREFIX_FMT: u8 = 0b100;
 
-// The rows in document 01's order: the carried pairs, then Type 10rrr and the AtomicOps.
-const ROWS: usize = 38;
+// The rows in document 01's order: the carried pairs, messages (Type 10rrr) last, then the AtomicOps.
+const ROWS: usize = 34;
 
 const TABLE: [Row; ROWS] = [
     Row {
@@ -188,99 +214,75 @@ const TABLE: [Row; ROWS] = [
     },
     Row {
         byte: 0b001_10000,
-        name: Name::Msg,
+        name: Name::MsgToRoot,
         form: 4,
-        carried: false,
+        carried: true,
     },
     Row {
         byte: 0b001_10001,
-        name: Name::Msg,
+        name: Name::MsgByAddress,
         form: 4,
-        carried: false,
+        carried: true,
     },
     Row {
         byte: 0b001_10010,
-        name: Name::Msg,
+        name: Name::MsgById,
         form: 4,
-        carried: false,
+        carried: true,
     },
     Row {
         byte: 0b001_10011,
-        name: Name::Msg,
+        name: Name::MsgBroadcast,
         form: 4,
-        carried: false,
+        carried: true,
     },
     Row {
         byte: 0b001_10100,
-        name: Name::Msg,
+        name: Name::MsgLocal,
         form: 4,
-        carried: false,
+        carried: true,
     },
     Row {
         byte: 0b001_10101,
-        name: Name::Msg,
+        name: Name::MsgGathered,
         form: 4,
-        carried: false,
-    },
-    Row {
-        byte: 0b001_10110,
-        name: Name::Msg,
-        form: 4,
-        carried: false,
-    },
-    Row {
-        byte: 0b001_10111,
-        name: Name::Msg,
-        form: 4,
-        carried: false,
+        carried: true,
     },
     Row {
         byte: 0b011_10000,
-        name: Name::MsgD,
+        name: Name::MsgDToRoot,
         form: 4,
-        carried: false,
+        carried: true,
     },
     Row {
         byte: 0b011_10001,
-        name: Name::MsgD,
+        name: Name::MsgDByAddress,
         form: 4,
-        carried: false,
+        carried: true,
     },
     Row {
         byte: 0b011_10010,
-        name: Name::MsgD,
+        name: Name::MsgDById,
         form: 4,
-        carried: false,
+        carried: true,
     },
     Row {
         byte: 0b011_10011,
-        name: Name::MsgD,
+        name: Name::MsgDBroadcast,
         form: 4,
-        carried: false,
+        carried: true,
     },
     Row {
         byte: 0b011_10100,
-        name: Name::MsgD,
+        name: Name::MsgDLocal,
         form: 4,
-        carried: false,
+        carried: true,
     },
     Row {
         byte: 0b011_10101,
-        name: Name::MsgD,
+        name: Name::MsgDGathered,
         form: 4,
-        carried: false,
-    },
-    Row {
-        byte: 0b011_10110,
-        name: Name::MsgD,
-        form: 4,
-        carried: false,
-    },
-    Row {
-        byte: 0b011_10111,
-        name: Name::MsgD,
-        form: 4,
-        carried: false,
+        carried: true,
     },
     Row {
         byte: 0b010_01100,
@@ -362,8 +364,18 @@ pub fn kind_named(name: Name) -> Kind
         Name::CplD => Kind::Completion(CompletionKind::CplD),
         Name::CplLk => Kind::Completion(CompletionKind::CplLk),
         Name::CplDLk => Kind::Completion(CompletionKind::CplDLk),
-        Name::Msg => Kind::Msg,
-        Name::MsgD => Kind::MsgD,
+        Name::MsgToRoot => Kind::Message(MessageKind::Msg, MessageRouting::ToRoot),
+        Name::MsgByAddress => Kind::Message(MessageKind::Msg, MessageRouting::ByAddress),
+        Name::MsgById => Kind::Message(MessageKind::Msg, MessageRouting::ById),
+        Name::MsgBroadcast => Kind::Message(MessageKind::Msg, MessageRouting::Broadcast),
+        Name::MsgLocal => Kind::Message(MessageKind::Msg, MessageRouting::Local),
+        Name::MsgGathered => Kind::Message(MessageKind::Msg, MessageRouting::Gathered),
+        Name::MsgDToRoot => Kind::Message(MessageKind::MsgD, MessageRouting::ToRoot),
+        Name::MsgDByAddress => Kind::Message(MessageKind::MsgD, MessageRouting::ByAddress),
+        Name::MsgDById => Kind::Message(MessageKind::MsgD, MessageRouting::ById),
+        Name::MsgDBroadcast => Kind::Message(MessageKind::MsgD, MessageRouting::Broadcast),
+        Name::MsgDLocal => Kind::Message(MessageKind::MsgD, MessageRouting::Local),
+        Name::MsgDGathered => Kind::Message(MessageKind::MsgD, MessageRouting::Gathered),
         Name::FetchAdd => Kind::FetchAdd,
         Name::Swap => Kind::Swap,
         Name::Cas => Kind::Cas,
@@ -396,11 +408,27 @@ pub fn kind_number(kind: Kind) -> u8
             CompletionKind::CplLk => 11,
             CompletionKind::CplDLk => 12,
         },
-        Kind::Msg => 13,
-        Kind::MsgD => 14,
-        Kind::FetchAdd => 15,
-        Kind::Swap => 16,
-        Kind::Cas => 17,
+        Kind::Message(k, routing) => match k {
+            MessageKind::Msg => 13 + routing_number(routing),
+            MessageKind::MsgD => 19 + routing_number(routing),
+        },
+        Kind::FetchAdd => 25,
+        Kind::Swap => 26,
+        Kind::Cas => 27,
+    }
+}
+
+// The last three bits of a message's Type.
+pub fn routing_number(routing: MessageRouting) -> u8
+    ensures { λ r. ⌜ (r ≡ routingNumber routing) × (r < 6) ⌝ }
+{
+    match routing {
+        MessageRouting::ToRoot => 0,
+        MessageRouting::ByAddress => 1,
+        MessageRouting::ById => 2,
+        MessageRouting::Broadcast => 3,
+        MessageRouting::Local => 4,
+        MessageRouting::Gathered => 5,
     }
 }
 
@@ -486,10 +514,20 @@ fn name_number(name: Name) -> u8
         Name::CplD => 10,
         Name::CplLk => 11,
         Name::CplDLk => 12,
-        Name::Msg => 13,
-        Name::MsgD => 14,
-        Name::FetchAdd => 15,
-        Name::Swap => 16,
-        Name::Cas => 17,
+        Name::MsgToRoot => 13,
+        Name::MsgByAddress => 14,
+        Name::MsgById => 15,
+        Name::MsgBroadcast => 16,
+        Name::MsgLocal => 17,
+        Name::MsgGathered => 18,
+        Name::MsgDToRoot => 19,
+        Name::MsgDByAddress => 20,
+        Name::MsgDById => 21,
+        Name::MsgDBroadcast => 22,
+        Name::MsgDLocal => 23,
+        Name::MsgDGathered => 24,
+        Name::FetchAdd => 25,
+        Name::Swap => 26,
+        Name::Cas => 27,
     }
 }

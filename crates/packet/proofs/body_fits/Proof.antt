@@ -37,6 +37,12 @@ enum-known-p-4 c = search needs
 outcome-fits-requires : tie.Need-outcome-fits-requires
 outcome-fits-requires c κs = search needs
 
+enum-known-p-5 : tie.Need-enum-known-p-5
+enum-known-p-5 c = search needs
+
+content-fits-requires : tie.Need-content-fits-requires
+content-fits-requires c κs = search needs
+
 returns : tie.Need-returns
 unfolding bodyFits
 returns c = rw (c .before .before .before .p .given .1) (rw (c .before .enables-fit .ensures, c .address-fits .ensures))
@@ -53,6 +59,10 @@ returns-4 : tie.Need-returns-4
 unfolding bodyFits
 returns-4 c = rw (c .before .before .p4 .given .1) (c .outcome-fits .ensures)
 
+returns-5 : tie.Need-returns-5
+unfolding bodyFits
+returns-5 c = rw (c .before .before .p5 .given .1) (c .content-fits .ensures)
+
 pub body-fits-spec : {M : Type 1} → statement M
 body-fits-spec =
     tie.close
@@ -68,7 +78,10 @@ body-fits-spec =
     target-fits-requires
     enum-known-p-4
     outcome-fits-requires
+    enum-known-p-5
+    content-fits-requires
     returns
     returns-2
     returns-3
-    returns-4)
+    returns-4
+    returns-5)

@@ -15,6 +15,9 @@ enum-known-p-3 c = search needs
 enum-known-p-4 : tie.Need-enum-known-p-4
 enum-known-p-4 c = search needs
 
+enum-known-p-5 : tie.Need-enum-known-p-5
+enum-known-p-5 c = search needs
+
 returns : tie.Need-returns
 returns c = rw (c .before .p .given .1)
 
@@ -27,6 +30,9 @@ returns-3 c = rw (c .before .p3 .given .1)
 returns-4 : tie.Need-returns-4
 returns-4 c = rw (c .before .p4 .given .1)
 
+returns-5 : tie.Need-returns-5
+returns-5 c = rw (c .before .p5 .given .1)
+
 pub kind-of-spec : {M : Type 1} → statement M
 kind-of-spec =
     tie.close
@@ -35,7 +41,9 @@ kind-of-spec =
     enum-known-p-2
     enum-known-p-3
     enum-known-p-4
+    enum-known-p-5
     returns
     returns-2
     returns-3
-    returns-4)
+    returns-4
+    returns-5)

@@ -43,6 +43,18 @@ enum-told-4 c = search needs
 length-in-requires-5 : tie.Need-length-in-requires-5
 length-in-requires-5 c κs = search needs
 
+enum-known-p-5 : tie.Need-enum-known-p-5
+enum-known-p-5 c = search needs
+
+enum-told-5 : tie.Need-enum-told-5
+enum-told-5 c = search needs
+
+enum-told-6 : tie.Need-enum-told-6
+enum-told-6 c = search needs
+
+length-in-requires-6 : tie.Need-length-in-requires-6
+length-in-requires-6 c κs = search needs
+
 returns : tie.Need-returns
 unfolding lengthFits
 returns c = rw (c .before .before .p .given .1) (c .length-in .ensures)
@@ -71,6 +83,14 @@ returns-7 : tie.Need-returns-7
 unfolding lengthFits
 returns-7 c = rw (c .before .before .before .before .p4 .given .1, c .before .enum-told4 .given .1) (c .length-in5 .ensures)
 
+returns-8 : tie.Need-returns-8
+unfolding lengthFits
+returns-8 c = rw (c .before .before .before .before .p5 .given .1, c .before .enum-told5 .given .1)
+
+returns-9 : tie.Need-returns-9
+unfolding lengthFits
+returns-9 c = rw (c .before .before .before .before .p5 .given .1, c .before .enum-told6 .given .1) (c .length-in6 .ensures)
+
 pub length-fits-spec : {M : Type 1} → statement M
 length-fits-spec =
     tie.close
@@ -88,10 +108,16 @@ length-fits-spec =
     enum-told-3
     enum-told-4
     length-in-requires-5
+    enum-known-p-5
+    enum-told-5
+    enum-told-6
+    length-in-requires-6
     returns
     returns-2
     returns-3
     returns-4
     returns-5
     returns-6
-    returns-7)
+    returns-7
+    returns-8
+    returns-9)

@@ -27,6 +27,12 @@ enum-known-p-4 c = search needs
 completion-rules-requires : tie.Need-completion-rules-requires
 completion-rules-requires c κs = search needs
 
+enum-known-p-5 : tie.Need-enum-known-p-5
+enum-known-p-5 c = search needs
+
+message-rules-requires : tie.Need-message-rules-requires
+message-rules-requires c κs = search needs
+
 returns : tie.Need-returns
 returns c = rw (c .before .before .p .given .1) (c .memory-rules .ensures _)
 
@@ -38,6 +44,9 @@ returns-3 c = rw (c .before .before .p3 .given .1) (c .config-rules .ensures _ _
 
 returns-4 : tie.Need-returns-4
 returns-4 c = rw (c .before .before .p4 .given .1) (c .completion-rules .ensures)
+
+returns-5 : tie.Need-returns-5
+returns-5 c = rw (c .before .before .p5 .given .1) (c .message-rules .ensures _)
 
 pub rule-number-spec : {M : Type 1} → statement M
 rule-number-spec =
@@ -51,7 +60,10 @@ rule-number-spec =
     config-rules-requires
     enum-known-p-4
     completion-rules-requires
+    enum-known-p-5
+    message-rules-requires
     returns
     returns-2
     returns-3
-    returns-4)
+    returns-4
+    returns-5)

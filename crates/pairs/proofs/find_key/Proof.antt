@@ -10,10 +10,10 @@ use Rattle.pairs.proofs.find_key.Statement.{statement}
 use Rattle.pairs.proofs.find_key.Tie as tie
 
 abbrev Inv-loop : tie.InvT-loop
-Inv-loop wanted all i₀ i = (i ≤ 38) × (first (isKey wanted) (drop i table) ≡ findKey wanted)
+Inv-loop wanted all i₀ i = (i ≤ 34) × (first (isKey wanted) (drop i table) ≡ findKey wanted)
 
 abbrev μ-loop : tie.MeasureT-loop
-μ-loop wanted all i₀ i = 38 - i
+μ-loop wanted all i₀ i = 34 - i
 
 rows-requires : tie.Need-rows-requires Inv-loop μ-loop
 rows-requires c κs = tt

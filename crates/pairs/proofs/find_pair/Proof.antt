@@ -10,10 +10,10 @@ use Rattle.pairs.proofs.find_pair.Statement.{statement}
 use Rattle.pairs.proofs.find_pair.Tie as tie
 
 abbrev Inv-loop : tie.InvT-loop
-Inv-loop byte all i₀ i = (i ≤ 38) × (first (isPair byte) (drop i table) ≡ findPair byte)
+Inv-loop byte all i₀ i = (i ≤ 34) × (first (isPair byte) (drop i table) ≡ findPair byte)
 
 abbrev μ-loop : tie.MeasureT-loop
-μ-loop byte all i₀ i = 38 - i
+μ-loop byte all i₀ i = 34 - i
 
 rows-requires : tie.Need-rows-requires Inv-loop μ-loop
 rows-requires c κs = tt
