@@ -6,15 +6,15 @@ use lib.ListN.{length, getD}
 use lib.Dec.{ltb, eqb}
 use Rattle.pairs.specs.declared.Kind.{Kind}
 use Rattle.pairs.specs.declared.Kind.the-variants.{Memory as MemoryKind, Io as IoKind, Config as ConfigKind, Completion as CompletionKind}
-use Rattle.pairs.specs.declared.Kind.the-variants.{Msg, MsgD, FetchAdd, Swap, Cas}
+use Rattle.pairs.specs.declared.Kind.the-variants.{Message as MessageKind, FetchAdd, Swap, Cas}
 use Rattle.pairs.specs.declared.Pair.{Pair}
 use Rattle.pairs.specs.declared.Pair.the-variants.{Carried, NotCarried, Unknown}
 use Rattle.pairs.specs.Pairs.{kindNamed, pairOf}
 use Rattle.packet.specs.declared.Packet.{Packet}
-use Rattle.packet.specs.declared.Packet.the-variants.{Memory, Io, Config, Completion}
+use Rattle.packet.specs.declared.Packet.the-variants.{Memory, Io, Config, Completion, Message}
 use Rattle.packet.specs.Rules.{ruleNumber}
-use Rattle.tlp_fields.specs.Fields.{requestHeadAt, completionHeadAt, enablesAt, addressAt, targetAt, outcomeAt, unnamed, unnamedTarget}
-use Rattle.tlp_fields.specs.Fields.{unnamedLower}
+use Rattle.tlp_fields.specs.Fields.{requestHeadAt, completionHeadAt, messageHeadAt, messageCodeAt, enablesAt, addressAt, targetAt}
+use Rattle.tlp_fields.specs.Fields.{outcomeAt, unnamed, unnamedTarget, unnamedLower}
 use Rattle.tlp.specs.declared.Reading.{Reading}
 use Rattle.tlp.specs.declared.Reading.the-variants.{Accepted, Refused}
 
@@ -32,8 +32,8 @@ readAs (MemoryKind k) form s = judged (unnamed s) (Memory k (requestHeadAt form 
 readAs (IoKind k) form s = judged (unnamed s) (Io k (requestHeadAt form s) (enablesAt s) (addressAt form s))
 readAs (ConfigKind k) form s = judged (unnamed s || unnamedTarget s) (Config k (requestHeadAt form s) (enablesAt s) (targetAt s))
 readAs (CompletionKind k) form s = judged (unnamed s || unnamedLower s) (Completion k (completionHeadAt k form s) (outcomeAt s))
-readAs Msg form s = Refused 3
-readAs MsgD form s = Refused 3
+readAs (MessageKind k routing) form s =
+    judged (unnamed s) (Message k (messageHeadAt k form s) routing (messageCodeAt s) (addressAt form s))
 readAs FetchAdd form s = Refused 3
 readAs Swap form s = Refused 3
 readAs Cas form s = Refused 3

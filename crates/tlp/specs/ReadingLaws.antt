@@ -9,13 +9,16 @@ use borrow.Author.Tests.{eqb-true, le-ltb, ltb-false, not-false}
 use lib.Dec.{eqb, ltb}
 use lib.ListN.{length, getD, take, drop, length-append}
 use Rattle.lists.specs.BoolLaws.{false-of-or}
-use Rattle.endian.specs.Endian.{Bytes, be}
+use Rattle.endian.specs.Endian.{Bytes, be, beBytes}
 use Rattle.pairs.specs.declared.Row.{Row}
 use Rattle.pairs.specs.declared.Kind.{Kind}
 use Rattle.pairs.specs.declared.Kind.the-variants.{Memory as MemoryKind, Io as IoKind, Config as ConfigKind, Completion as CompletionKind}
-use Rattle.pairs.specs.declared.Kind.the-variants.{Msg, MsgD, FetchAdd, Swap, Cas}
+use Rattle.pairs.specs.declared.Kind.the-variants.{Message as MessageKind, FetchAdd, Swap, Cas}
 use Rattle.pairs.specs.declared.CompletionKind.{CompletionKind as Completing}
 use Rattle.pairs.specs.declared.CompletionKind.the-variants.{Cpl, CplD, CplLk, CplDLk}
+use Rattle.pairs.specs.declared.MessageKind.{MessageKind as Messaging}
+use Rattle.pairs.specs.declared.MessageKind.the-variants.{Msg, MsgD}
+use Rattle.pairs.specs.declared.MessageRouting.{MessageRouting}
 use Rattle.pairs.specs.declared.Pair.{Pair}
 use Rattle.pairs.specs.declared.Pair.the-variants.{Carried, NotCarried, Unknown}
 use Rattle.pairs.specs.Pairs.{kindNamed, pairOf, rowOf}
@@ -23,7 +26,7 @@ use Rattle.pairs.specs.PairsLaws.{CarriedRow, row-pair, pair-row, forms-of-kind
 use Rattle.packet.specs.declared.Head.{Head}
 use Rattle.packet.specs.declared.Enables.{Enables}
 use Rattle.packet.specs.declared.Packet.{Packet}
-use Rattle.packet.specs.declared.Packet.the-variants.{Memory, Io, Config, Completion}
+use Rattle.packet.specs.declared.Packet.the-variants.{Memory, Io, Config, Completion, Message}
 use Rattle.packet.specs.declared.Verdict.the-variants.{Lawful}
 use Rattle.packet.specs.Fields.{kindOf, headOf}
 use Rattle.packet.specs.Widths.{lengthIn, lengthFits, enablesFit, addressFits, bodyFits}
@@ -31,18 +34,20 @@ use Rattle.packet.specs.WidthsLaws.{and-intro, FieldsFit, fields-fit-intro, fie
 use Rattle.packet.specs.Rules.{reservedSet, fixedWrong, fromRule6, fromRule5, ruleNumber}
 use Rattle.packet.specs.Verdict.{verdictOf}
 use Rattle.packet.specs.VerdictLaws.{lawful-intro, lawful-elim, RequestBounds, memory-of-lawful, io-of-lawful, config-of-lawful}
-use Rattle.packet.specs.VerdictLaws.{completion-of-lawful}
+use Rattle.packet.specs.VerdictLaws.{completion-of-lawful, message-of-lawful}
 use Rattle.tlp.specs.declared.Reading.the-variants.{Accepted, Refused}
-use Rattle.tlp_layout.specs.Layout.{frontBytes, requestBytes, addressBytes, targetBytes, completionBytes, bodyBytes, layout, size}
-use Rattle.tlp_layout.specs.LayoutLaws.{form-of-lawful, size-of-lawful, layout-carried, length-layout}
+use Rattle.tlp_layout.specs.Layout.{frontBytes, requestBytes, addressBytes, targetBytes, completionBytes, messageBytes, bodyBytes, layout, size}
+use Rattle.tlp_layout.specs.LayoutLaws.{form-of-lawful, form-of-message, size-of-lawful, layout-carried, length-layout}
 use Rattle.tlp_fields.specs.Fields.{codeAt, lengthOf, completionLength, headAt, requestHeadAt, completionHeadAt, enablesAt, addressAt}
-use Rattle.tlp_fields.specs.Fields.{targetAt, outcomeAt, unnamed, unnamedTarget, unnamedLower}
+use Rattle.tlp_fields.specs.Fields.{messageLength, messageHeadAt, messageCodeAt, targetAt, outcomeAt, unnamed, unnamedTarget, unnamedLower}
 use Rattle.tlp.specs.Reading.{judged, readAs, readPair, readOf}
 use Rattle.tlp_fields.specs.FieldsLaws.{unnamed-front, requestHeadAt-request, enablesAt-request, addressAt-address, targetAt-target}
 use Rattle.tlp_fields.specs.FieldsLaws.{unnamed-target, outcomeAt-completion, unnamed-completion, completionHeadAt-completion, append-take}
 use Rattle.tlp_fields.specs.FieldsLaws.{frontBytes-headAt, requestBytes-requestHeadAt, addressBytes-addressAt, targetBytes-targetAt}
 use Rattle.tlp_fields.specs.FieldsLaws.{completionBytes-completionHeadAt, requestHeadAt-fits, completionHeadAt-fits, enablesAt-fits}
 use Rattle.tlp_fields.specs.FieldsLaws.{addressAt-fits, targetAt-fits, outcomeAt-fits, lengthOf-fits, code-of-length, code-of-completion}
+use Rattle.tlp_fields.specs.FieldsLaws.{messageHeadAt-message, messageCodeAt-message, addressAt-message, messageBytes-messageHeadAt}
+use Rattle.tlp_fields.specs.FieldsLaws.{tail-addressAt, messageHeadAt-fits, contentAt-fits, code-of-message}
 
 -- ## A lawful packet is read back from its layout
 
@@ -95,6 +100,16 @@ read-as-layout row (Completion k h o) rest lawful =
     let outcome = outcomeAt-completion row h o (b .1) rest in
     let clean = ap₂ _||_ (unnamed-front row h (b .0) (completionBytes h o ++ rest)) (unnamed-completion row h o (b .1) rest) in
     judged-intro _ _ _ clean (λ i. Completion k (head i) (outcome i)) (l .rules)
+read-as-layout row (Message k h routing code tail) rest lawful =
+    let p = Message k h routing code tail in
+    let l = lawful-elim row p lawful in
+    let b = message-of-lawful row k h routing code tail lawful in
+    let after = beBytes 8 tail ++ rest in
+    let head = messageHeadAt-message row k h routing code tail after (b .0) (fields-fit-elim p (l .fits) .length) in
+    let content = messageCodeAt-message row k h routing code tail after in
+    let address = addressAt-message row k h routing code tail rest (form-of-message row k h routing code tail lawful) (b .2) in
+    let clean = unnamed-front row h (b .0) (messageBytes h code ++ after) in
+    rw append-assoc (judged-intro _ _ _ clean (λ i. Message k (head i) routing (content i) (address i)) (l .rules))
 
 -- the pair found and the bytes there, the rest of the reading is by kind
 read-row : (s : List ℕ) (row : Row) → pairOf (getD s 0 0) ≡ Carried row → 12 ≤ length s → 4 * row .form ≤ length s
@@ -209,6 +224,12 @@ module _ (s : List ℕ) (bytes : Bytes s) (row : Row) (c : CarriedRow row)
       let four : 4 ≤ length s = omega (arith, three-le-form) in
       frontBytes-headAt s bytes row (row .form) (completionLength k (codeAt s)) (be 2 s 8) (getD s 10 0) four clean pair code
 
+  message-front : (k : Messaging) → unnamed s ≡ false → frontBytes row (messageHeadAt k (row .form) s) ≡ take 4 s
+  message-front k clean =
+      let code = code-of-message s bytes k in
+      let four : 4 ≤ length s = omega (arith, three-le-form) in
+      frontBytes-headAt s bytes row (row .form) (messageLength k (codeAt s)) (be 2 s 4) (getD s 6 0) four clean pair code
+
   -- memory and I/O requests alike
   request-body : let h = requestHeadAt (row .form) s in
       requestBytes h (enablesAt s) ++ addressBytes h (addressAt (row .form) s) ≡ take (4 * row .form - 4) (drop 4 s)
@@ -234,6 +255,26 @@ module _ (s : List ℕ) (bytes : Bytes s) (row : Row) (c : CarriedRow row)
   completion-length-fits CplLk rules =
       not-false _ (fixed-right (Completion CplLk (completionHeadAt CplLk (row .form) s) (outcomeAt s)) rules)
   completion-length-fits CplDLk rules = lengthOf-fits s bytes
+
+  -- and Msg
+  message-length-fits : (k : Messaging) (routing : MessageRouting)
+      → let p = Message k (messageHeadAt k (row .form) s) routing (messageCodeAt s) (addressAt (row .form) s) in
+      ruleNumber p ≡ 0 → lengthFits p ≡ true
+  unfolding lengthFits fixedWrong headAt
+  message-length-fits Msg routing rules =
+      not-false _
+      (fixed-right (Message Msg (messageHeadAt Msg (row .form) s) routing (messageCodeAt s) (addressAt (row .form) s)) rules)
+  message-length-fits MsgD routing rules = lengthOf-fits s bytes
+
+  message-body : (k : Messaging) → row .form ≡ 4
+      → messageBytes (messageHeadAt k (row .form) s) (messageCodeAt s) ++ beBytes 8 (addressAt (row .form) s)
+      ≡ take (4 * row .form - 4) (drop 4 s)
+  message-body k four =
+      let sum : 12 ≡ 4 * row .form - 4 = omega arith in
+      append-take 4 8 s 4
+      (messageBytes-messageHeadAt s bytes k (row .form) (omega arith))
+      (tail-addressAt s bytes (row .form) four (omega arith))
+      ∙ ap (λ (n : ℕ). take n (drop 4 s)) sum
 
   -- the reader's packet q is the one that it answered with
   judged-back : (stray : Bool) (q p : Packet) → judged stray q ≡ Accepted p
@@ -278,8 +319,15 @@ module _ (s : List ℕ) (bytes : Bytes s) (row : Row) (c : CarriedRow row)
       let fits : FieldsFit q = record { head = head; length = completion-length-fits k rules; body = outcomeAt-fits s bytes } in
       let body = completionBytes-completionHeadAt s bytes k (row .form) (omega arith) (each .1) in
       written-back q kind refl fits rules (completion-front k (each .0)) (three-dwords form body))
-  read-as-back p Msg kind e = refused-not-accepted e
-  read-as-back p MsgD kind e = refused-not-accepted e
+  read-as-back p (MessageKind k routing) kind e =
+      let form : row .form ≡ 4 = forms-of-kind c kind in
+      let q = Message k (messageHeadAt k (row .form) s) routing (messageCodeAt s) (addressAt (row .form) s) in
+      judged-back (unnamed s) q p e
+      (λ clean rules.
+      let head = messageHeadAt-fits s bytes k (row .form) in
+      let content = contentAt-fits s bytes (row .form) in
+      let fits : FieldsFit q = record { head = head; length = message-length-fits k routing rules; body = content } in
+      written-back q kind refl fits rules (message-front k clean) (message-body k form))
   read-as-back p FetchAdd kind e = refused-not-accepted e
   read-as-back p Swap kind e = refused-not-accepted e
   read-as-back p Cas kind e = refused-not-accepted e

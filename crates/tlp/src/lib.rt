@@ -3,7 +3,7 @@
 ghost use mathlib.Core.Path.{_≡_};
 ghost use Prim.Native.Nat.{_≤_, _*_};
 ghost use lib.ListN.{length};
-ghost use Rattle.pairs.specs.declared.Kind.the-variants.{Memory, Io, Config, Completion};
+ghost use Rattle.pairs.specs.declared.Kind.the-variants.{Memory, Io, Config, Completion, Message};
 ghost use Rattle.pairs.specs.declared.Pair.the-variants.{Carried};
 ghost use Rattle.tlp.specs.Reading.{numberOf as readingNumber, readOf, readPair, readAs, judged};
 ghost use Rattle.tlp.specs.Writing.{numberOf as writingNumber, writeOf, roomAfter};
@@ -17,6 +17,8 @@ use pairs::ConfigKind;
 use pairs::IoKind;
 use pairs::Kind;
 use pairs::MemoryKind;
+use pairs::MessageKind;
+use pairs::MessageRouting;
 use pairs::Pair;
 use pairs::Row;
 
@@ -102,8 +104,7 @@ fn read_as(kind: Kind, form: u8, s: &[u8]) -> Reading
         Kind::Io(k) => read_io(k, form, s),
         Kind::Config(k) => read_config(k, form, s),
         Kind::Completion(k) => read_completion(k, form, s),
-        Kind::Msg => Reading::Refused(3),
-        Kind::MsgD => Reading::Refused(3),
+        Kind::Message(k, routing) => read_message(k, routing, form, s),
         Kind::FetchAdd => Reading::Refused(3),
         Kind::Swap => Reading::Refused(3),
         Kind::Cas => Reading::Refused(3),
@@ -157,6 +158,18 @@ fn read_completion(k: CompletionKind, form: u8, s: &[u8]) -> Reading
     let stray = tlp_fields::unnamed(s) | tlp_fields::unnamed_lower(s);
     let n = packet::completion_rules(k, h, o);
     judge(stray, n, Packet::Completion(k, h, o))
+}
+
+fn read_message(k: MessageKind, routing: MessageRouting, form: u8, s: &[u8]) -> Reading
+    requires { ⌜ (12 ≤ length (now s)) × (4 * form ≤ length (now s)) ⌝ }
+    ensures { λ r. ⌜ r ≡ readAs (Message k routing) form (now (s .entry)) ⌝ }
+{
+    let h = tlp_fields::message_head_at(k, form, s);
+    let code = tlp_fields::message_code_at(s);
+    let tail = tlp_fields::address_at(form, s);
+    let stray = tlp_fields::unnamed(s);
+    let n = packet::message_rules(k, h, routing, tail);
+    judge(stray, n, Packet::Message(k, h, routing, code, tail))
 }
 
 // 4 for a bit that the layout does not name, then n: what rules 4 to 9 say of the packet.

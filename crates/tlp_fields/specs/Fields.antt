@@ -8,6 +8,8 @@ use lib.Dec.{eqb}
 use Rattle.endian.specs.Endian.{be}
 use Rattle.pairs.specs.declared.CompletionKind.{CompletionKind as Completing}
 use Rattle.pairs.specs.declared.CompletionKind.the-variants.{Cpl, CplD, CplLk, CplDLk}
+use Rattle.pairs.specs.declared.MessageKind.{MessageKind as Messaging}
+use Rattle.pairs.specs.declared.MessageKind.the-variants.{Msg, MsgD}
 use Rattle.packet.specs.declared.Head.{Head}
 use Rattle.packet.specs.declared.Enables.{Enables}
 use Rattle.packet.specs.declared.Target.{Target}
@@ -31,6 +33,11 @@ completionLength CplD code = lengthOf code
 completionLength CplLk code = code
 completionLength CplDLk code = lengthOf code
 
+-- nor has Msg
+abbrev pub messageLength : Messaging → ℕ → ℕ
+messageLength Msg code = code
+messageLength MsgD code = lengthOf code
+
 unfoldable pub headAt : ℕ → ℕ → ℕ → ℕ → List ℕ → Head
 headAt form dwords requester tag s =
     record {
@@ -50,6 +57,12 @@ requestHeadAt form s = headAt form (lengthOf (codeAt s)) (be 2 s 4) (getD s 6 0)
 
 abbrev pub completionHeadAt : Completing → ℕ → List ℕ → Head
 completionHeadAt k form s = headAt form (completionLength k (codeAt s)) (be 2 s 8) (getD s 10 0) s
+
+abbrev pub messageHeadAt : Messaging → ℕ → List ℕ → Head
+messageHeadAt k form s = headAt form (messageLength k (codeAt s)) (be 2 s 4) (getD s 6 0) s
+
+abbrev pub messageCodeAt : List ℕ → ℕ
+messageCodeAt s = getD s 7 0
 
 unfoldable pub enablesAt : List ℕ → Enables
 enablesAt s = record { last = getD s 7 0 / 16; first = getD s 7 0 % 16 }

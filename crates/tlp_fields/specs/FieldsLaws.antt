@@ -18,19 +18,23 @@ use Rattle.endian.specs.EndianLaws.{be-lt, be-beBytes-at, beBytes-be}
 use Rattle.pairs.specs.declared.Row.{Row}
 use Rattle.pairs.specs.declared.CompletionKind.{CompletionKind as Completing}
 use Rattle.pairs.specs.declared.CompletionKind.the-variants.{Cpl, CplD, CplLk, CplDLk}
+use Rattle.pairs.specs.declared.MessageKind.{MessageKind as Messaging}
+use Rattle.pairs.specs.declared.MessageKind.the-variants.{Msg, MsgD}
+use Rattle.pairs.specs.declared.MessageRouting.{MessageRouting}
 use Rattle.packet.specs.declared.Head.{Head}
 use Rattle.packet.specs.declared.Enables.{Enables}
 use Rattle.packet.specs.declared.Target.{Target}
 use Rattle.packet.specs.declared.Outcome.{Outcome}
-use Rattle.packet.specs.declared.Packet.the-variants.{Completion}
-use Rattle.packet.specs.Widths.{headFits, lengthIn, lengthFits, enablesFit, addressFits, targetFits, outcomeFits}
+use Rattle.packet.specs.declared.Packet.the-variants.{Completion, Message}
+use Rattle.packet.specs.Widths.{headFits, lengthIn, lengthFits, enablesFit, addressFits, targetFits, outcomeFits, contentFits}
 use Rattle.packet.specs.WidthsLaws.{HeadBounds, OutcomeBounds, head-bounds-intro, length-in-intro, length-in-elim, address-fits-elim}
-use Rattle.packet.specs.WidthsLaws.{enables-fit-intro, address-fits-intro, target-fits-intro, outcome-bounds-intro}
+use Rattle.packet.specs.WidthsLaws.{enables-fit-intro, address-fits-intro, target-fits-intro, outcome-bounds-intro, content-fits-intro}
 use Rattle.packet.specs.VerdictLaws.{RequestBounds}
 use Rattle.tlp_layout.specs.LayoutLaws.{bit-le-one}
 use Rattle.tlp_layout.specs.Layout.{bit, lengthCode, frontBytes, requestBytes, addressBytes, targetBytes, outcomeBytes, completionBytes}
+use Rattle.tlp_layout.specs.Layout.{messageBytes}
 use Rattle.tlp_fields.specs.Fields.{isSet, codeAt, lengthOf, completionLength, headAt, requestHeadAt, completionHeadAt, enablesAt}
-use Rattle.tlp_fields.specs.Fields.{addressAt, targetAt, outcomeAt, unnamed, unnamedTarget, unnamedLower}
+use Rattle.tlp_fields.specs.Fields.{messageLength, messageHeadAt, messageCodeAt, addressAt, targetAt, outcomeAt, unnamed, unnamedTarget, unnamedLower}
 
 -- ## Bits
 
@@ -99,6 +103,13 @@ completionLength-lengthCode Cpl h o f = let z = eqb-true (h .length) 0 f in omeg
 completionLength-lengthCode CplD h o f = let n = length-in-elim (h .length) f in lengthOf-lengthCode (h .length) (n .0) (n .1)
 completionLength-lengthCode CplLk h o f = let z = eqb-true (h .length) 0 f in omega arith
 completionLength-lengthCode CplDLk h o f = let n = length-in-elim (h .length) f in lengthOf-lengthCode (h .length) (n .0) (n .1)
+
+pub messageLength-lengthCode : (k : Messaging) (h : Head) (routing : MessageRouting) (code tail : ℕ)
+    → lengthFits (Message k h routing code tail) ≡ true → messageLength k (lengthCode (h .length)) ≡ h .length
+unfolding lengthFits
+messageLength-lengthCode Msg h routing code tail f = let z = eqb-true (h .length) 0 f in omega arith
+messageLength-lengthCode MsgD h routing code tail f =
+    let n = length-in-elim (h .length) f in lengthOf-lengthCode (h .length) (n .0) (n .1)
 
 -- ## A field is read back from the bytes that the layout gives it
 
@@ -211,6 +222,26 @@ module _ (row : Row) (h : Head) (o : Outcome) (b : OutcomeBounds o) (t : List �
       (be-beBytes-at 2 (h .requester) (frontBytes row h ++ outcomeBytes o) (h .tag ∷ o .lower ∷ t) (head .requester))
       refl
 
+module _ (row : Row) (k : Messaging) (h : Head) (routing : MessageRouting) (code tail : ℕ) (t : List ℕ) where
+  pub messageHeadAt-message : HeadBounds h → lengthFits (Message k h routing code tail) ≡ true
+      → messageHeadAt k (h .form) (frontBytes row h ++ (messageBytes h code ++ t)) ≡ h
+  unfolding frontBytes messageBytes beBytes
+  messageHeadAt-message head fits =
+      headAt-front row h head (messageBytes h code ++ t)
+      (ap (messageLength k) (code-front row h head (messageBytes h code ++ t)) ∙ messageLength-lengthCode k h routing code tail fits)
+      (be-beBytes-at 2 (h .requester) (frontBytes row h) (h .tag ∷ code ∷ t) (head .requester))
+      refl
+
+  pub messageCodeAt-message : messageCodeAt (frontBytes row h ++ (messageBytes h code ++ t)) ≡ code
+  unfolding frontBytes messageBytes beBytes
+  messageCodeAt-message = refl
+
+  pub addressAt-message : h .form ≡ 4 → tail < 2 ^ 64
+      → addressAt (h .form) (frontBytes row h ++ (messageBytes h code ++ (beBytes 8 tail ++ t))) ≡ tail
+  unfolding frontBytes messageBytes beBytes addressAt
+  addressAt-message four below =
+      rw (eq-eqb (h .form) 4 four) (be-beBytes-at 8 tail (frontBytes row h ++ messageBytes h code) t below)
+
 -- ## A byte is spelled by the fields that are read from it
 
 -- two bytes of a list
@@ -304,6 +335,16 @@ module _ (s : List ℕ) (bytes : Bytes s) where
       let four = append-take 2 2 s 4 (beBytes-be 2 s 4 bytes (omega arith)) (take-two s 6 (omega arith) status low) in
       append-take 6 2 s 4 (append-take 4 2 s 4 four (beBytes-be 2 s 8 bytes (omega arith))) (take-two s 10 fits refl lower)
 
+  pub messageBytes-messageHeadAt : (k : Messaging) (form : ℕ) → 8 ≤ length s
+      → messageBytes (messageHeadAt k form s) (messageCodeAt s) ≡ take 4 (drop 4 s)
+  unfolding messageBytes headAt
+  messageBytes-messageHeadAt k form fits =
+      append-take 2 2 s 4 (beBytes-be 2 s 4 bytes (omega arith)) (take-two s 6 (omega arith) refl refl)
+
+  pub tail-addressAt : (form : ℕ) → form ≡ 4 → 16 ≤ length s → beBytes 8 (addressAt form s) ≡ take 8 (drop 8 s)
+  unfolding addressAt
+  tail-addressAt form four fits = rw four (beBytes-be 8 s 8 bytes fits)
+
   -- what is read fits its field
 
   headAt-fits : (form dwords requester tag : ℕ) → requester < 65536 → tag < 256 → headFits (headAt form dwords requester tag s) ≡ true
@@ -318,17 +359,27 @@ module _ (s : List ℕ) (bytes : Bytes s) where
   pub completionHeadAt-fits : (k : Completing) (form : ℕ) → headFits (completionHeadAt k form s) ≡ true
   completionHeadAt-fits k form = headAt-fits form (completionLength k (codeAt s)) (be 2 s 8) (getD s 10 0) (be-lt 2 s 8 bytes) (bytes 10)
 
+  addressAt-lt : (form : ℕ) → addressAt form s < 2 ^ 64
+  unfolding addressAt
+  addressAt-lt form = wide (eqb form 4)
+    where
+      wide : (b : Bool) → cond b (be 8 s 8) (be 4 s 8) < 2 ^ 64
+      wide true = be-lt 8 s 8 bytes
+      wide false = omega (arith, be-lt 4 s 8 bytes)
+
+  pub messageHeadAt-fits : (k : Messaging) (form : ℕ) → headFits (messageHeadAt k form s) ≡ true
+  messageHeadAt-fits k form = headAt-fits form (messageLength k (codeAt s)) (be 2 s 4) (getD s 6 0) (be-lt 2 s 4 bytes) (bytes 6)
+
+  pub contentAt-fits : (form : ℕ) → contentFits (messageCodeAt s) (addressAt form s) ≡ true
+  contentAt-fits form = content-fits-intro (messageCodeAt s) (addressAt form s) (bytes 7) (addressAt-lt form)
+
   pub enablesAt-fits : enablesFit (enablesAt s) ≡ true
   unfolding enablesAt
   enablesAt-fits = enables-fit-intro (enablesAt s) (omega (arith, bytes 7)) (omega arith)
 
   pub addressAt-fits : (h : Head) → addressFits h (addressAt (h .form) s) ≡ true
   unfolding addressAt
-  addressAt-fits h = address-fits-intro h (addressAt (h .form) s) (wide (eqb (h .form) 4)) (λ three. rw three (be-lt 4 s 8 bytes))
-    where
-      wide : (b : Bool) → cond b (be 8 s 8) (be 4 s 8) < 2 ^ 64
-      wide true = be-lt 8 s 8 bytes
-      wide false = omega (arith, be-lt 4 s 8 bytes)
+  addressAt-fits h = address-fits-intro h (addressAt (h .form) s) (addressAt-lt (h .form)) (λ three. rw three (be-lt 4 s 8 bytes))
 
   pub targetAt-fits : targetFits (targetAt s) ≡ true
   unfolding targetAt
@@ -360,6 +411,10 @@ module _ (s : List ℕ) (bytes : Bytes s) where
   code-of-completion CplD = code-of-length
   code-of-completion CplLk = omega (arith, code-lt)
   code-of-completion CplDLk = code-of-length
+
+  pub code-of-message : (k : Messaging) → lengthCode (messageLength k (codeAt s)) ≡ codeAt s
+  code-of-message Msg = omega (arith, code-lt)
+  code-of-message MsgD = code-of-length
 
 -- an address's lower dword stands inside a header as long as its form says
 pub low-fits : (form n : ℕ) → 12 ≤ n → 4 * form ≤ n → cond (eqb form 4) 12 8 + 4 ≤ n

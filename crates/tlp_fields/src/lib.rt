@@ -9,9 +9,12 @@ ghost use Rattle.tlp_fields.specs.Fields.{
   codeAt,
   lengthOf,
   completionLength,
+  messageLength,
   headAt,
   requestHeadAt,
   completionHeadAt,
+  messageHeadAt,
+  messageCodeAt,
   enablesAt,
   addressAt,
   targetAt,
@@ -25,6 +28,7 @@ use packet::Head;
 use packet::Outcome;
 use packet::Target;
 use pairs::CompletionKind;
+use pairs::MessageKind;
 
 pub fn request_head_at(form: u8, s: &[u8]) -> Head
     requires { ⌜ 12 ≤ length (now s) ⌝ }
@@ -44,6 +48,23 @@ pub fn completion_head_at(k: CompletionKind, form: u8, s: &[u8]) -> Head
     let requester = id_at(s, 8);
     let tag = wide(s[10]);
     head_at(form, dwords, requester, tag, s)
+}
+
+pub fn message_head_at(k: MessageKind, form: u8, s: &[u8]) -> Head
+    requires { ⌜ 12 ≤ length (now s) ⌝ }
+    ensures { λ r. ⌜ r ≡ messageHeadAt k form (now (s .entry)) ⌝ }
+{
+    let dwords = message_length(k, code_at(s));
+    let requester = id_at(s, 4);
+    let tag = wide(s[6]);
+    head_at(form, dwords, requester, tag, s)
+}
+
+pub fn message_code_at(s: &[u8]) -> u8
+    requires { ⌜ 12 ≤ length (now s) ⌝ }
+    ensures { λ r. ⌜ r ≡ messageCodeAt (now (s .entry)) ⌝ }
+{
+    s[7]
 }
 
 pub fn enables_at(s: &[u8]) -> Enables
@@ -141,6 +162,15 @@ fn completion_length(k: CompletionKind, code: u16) -> u16
         CompletionKind::CplD => length_of(code),
         CompletionKind::CplLk => code,
         CompletionKind::CplDLk => length_of(code),
+    }
+}
+
+fn message_length(k: MessageKind, code: u16) -> u16
+    ensures { λ r. ⌜ r ≡ messageLength k code ⌝ }
+{
+    match k {
+        MessageKind::Msg => code,
+        MessageKind::MsgD => length_of(code),
     }
 }
 

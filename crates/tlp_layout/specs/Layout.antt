@@ -13,7 +13,7 @@ use Rattle.packet.specs.declared.Enables.{Enables}
 use Rattle.packet.specs.declared.Target.{Target}
 use Rattle.packet.specs.declared.Outcome.{Outcome}
 use Rattle.packet.specs.declared.Packet.{Packet}
-use Rattle.packet.specs.declared.Packet.the-variants.{Memory, Io, Config, Completion}
+use Rattle.packet.specs.declared.Packet.the-variants.{Memory, Io, Config, Completion, Message}
 use Rattle.packet.specs.Fields.{kindOf, headOf}
 
 abbrev pub bit : Bool → ℕ
@@ -53,11 +53,16 @@ outcomeBytes o = beBytes 2 (o .completer) ++ ((o .status * 32 + bit (o .bcm) * 1
 unfoldable pub completionBytes : Head → Outcome → List ℕ
 completionBytes h o = outcomeBytes o ++ beBytes 2 (h .requester) ++ (h .tag ∷ o .lower ∷ [])
 
+-- messages: bytes 4-5 requester ID, 6 tag, 7 message code
+unfoldable pub messageBytes : Head → ℕ → List ℕ
+messageBytes h code = beBytes 2 (h .requester) ++ (h .tag ∷ code ∷ [])
+
 abbrev pub bodyBytes : Packet → List ℕ
 bodyBytes (Memory k h e a) = requestBytes h e ++ addressBytes h a
 bodyBytes (Io k h e a) = requestBytes h e ++ addressBytes h a
 bodyBytes (Config k h e t) = requestBytes h e ++ targetBytes t
 bodyBytes (Completion k h o) = completionBytes h o
+bodyBytes (Message k h routing code tail) = messageBytes h code ++ beBytes 8 tail
 
 -- a packet whose kind and form are not carried has no layout
 abbrev pub layoutAs : Pair → Packet → List ℕ

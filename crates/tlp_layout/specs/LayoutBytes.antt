@@ -14,14 +14,15 @@ use Rattle.packet.specs.declared.Enables.{Enables}
 use Rattle.packet.specs.declared.Target.{Target}
 use Rattle.packet.specs.declared.Outcome.{Outcome}
 use Rattle.packet.specs.declared.Packet.{Packet}
-use Rattle.packet.specs.declared.Packet.the-variants.{Memory, Io, Config, Completion}
+use Rattle.packet.specs.declared.Packet.the-variants.{Memory, Io, Config, Completion, Message}
 use Rattle.packet.specs.declared.Verdict.the-variants.{Lawful}
 use Rattle.packet.specs.Fields.{headOf}
 use Rattle.packet.specs.WidthsLaws.{HeadBounds, OutcomeBounds}
 use Rattle.packet.specs.Verdict.{verdictOf}
 use Rattle.packet.specs.VerdictLaws.{RequestBounds, head-of-lawful, memory-of-lawful, io-of-lawful, config-of-lawful, completion-of-lawful}
+use Rattle.packet.specs.VerdictLaws.{message-of-lawful}
 use Rattle.tlp_layout.specs.Layout.{bit, lengthCode, frontBytes, requestBytes, addressBytes, targetBytes, outcomeBytes}
-use Rattle.tlp_layout.specs.Layout.{completionBytes, bodyBytes, layout}
+use Rattle.tlp_layout.specs.Layout.{completionBytes, messageBytes, bodyBytes, layout}
 use Rattle.tlp_layout.specs.LayoutLaws.{bit-le-one, row-of-lawful, layout-carried}
 
 bytes-two : (x y : ℕ) → x < 256 → y < 256 → Bytes (x ∷ y ∷ [])
@@ -72,6 +73,10 @@ bytes-completion h o head b =
     (bytes-outcome o b)
     (bytes-id-two (h .requester) (h .tag) (o .lower) (head .tag) (omega arith)))
 
+bytes-message : (h : Head) (code : ℕ) → HeadBounds h → code < 256 → Bytes (messageBytes h code)
+unfolding messageBytes
+bytes-message h code head below = bytes-id-two (h .requester) (h .tag) code (head .tag) below
+
 bytes-body : (row : Row) (p : Packet) → verdictOf p ≡ Lawful row → Bytes (bodyBytes p)
 bytes-body row (Memory k h e a) l =
     let b = memory-of-lawful row k h e a l in
@@ -83,6 +88,9 @@ bytes-body row (Config k h e t) l =
     let b = config-of-lawful row k h e t l in
     bytes-append (requestBytes h e) (targetBytes t) (bytes-request h e (b .0)) (bytes-target t (b .2))
 bytes-body row (Completion k h o) l = let b = completion-of-lawful row k h o l in bytes-completion h o (b .0) (b .1)
+bytes-body row (Message k h routing code tail) l =
+    let b = message-of-lawful row k h routing code tail l in
+    bytes-append (messageBytes h code) (beBytes 8 tail) (bytes-message h code (b .0) (b .1)) (bytes-beBytes 8 tail)
 
 pub bytes-layout : (row : Row) (p : Packet) → verdictOf p ≡ Lawful row → Bytes (layout p)
 bytes-layout row p lawful =

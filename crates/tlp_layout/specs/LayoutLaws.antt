@@ -7,20 +7,23 @@ use mathlib.Core.List.{_++_}
 use lib.ListN.{length, length-append}
 use native.Mathlib.Omega.{arith}
 use Rattle.endian.specs.Endian.{beBytes}
+use Rattle.endian.specs.EndianLaws.{length-beBytes}
 use Rattle.pairs.specs.declared.Row.{Row}
 use Rattle.pairs.specs.PairsLaws.{row-pair, row-forms, Forms, CarriedRow}
+use Rattle.pairs.specs.declared.MessageKind.{MessageKind}
+use Rattle.pairs.specs.declared.MessageRouting.{MessageRouting}
 use Rattle.packet.specs.declared.Head.{Head}
 use Rattle.packet.specs.declared.Enables.{Enables}
 use Rattle.packet.specs.declared.Target.{Target}
 use Rattle.packet.specs.declared.Outcome.{Outcome}
 use Rattle.packet.specs.declared.Packet.{Packet}
-use Rattle.packet.specs.declared.Packet.the-variants.{Memory, Io, Config, Completion}
+use Rattle.packet.specs.declared.Packet.the-variants.{Memory, Io, Config, Completion, Message}
 use Rattle.packet.specs.declared.Verdict.the-variants.{Lawful}
 use Rattle.packet.specs.Fields.{kindOf, headOf}
 use Rattle.packet.specs.Verdict.{verdictOf}
 use Rattle.packet.specs.VerdictLaws.{lawful-elim}
 use Rattle.tlp_layout.specs.Layout.{bit, frontBytes, requestBytes, addressBytes, targetBytes, outcomeBytes, completionBytes}
-use Rattle.tlp_layout.specs.Layout.{bodyBytes, layout, size}
+use Rattle.tlp_layout.specs.Layout.{messageBytes, bodyBytes, layout, size}
 
 pub bit-le-one : (b : Bool) → bit b ≤ 1
 bit-le-one true = omega arith
@@ -46,6 +49,10 @@ pub length-completion : (h : Head) (o : Outcome) → length (completionBytes h o
 unfolding completionBytes outcomeBytes beBytes
 length-completion h o = refl
 
+pub length-message : (h : Head) (code : ℕ) → length (messageBytes h code) ≡ 4
+unfolding messageBytes beBytes
+length-message h code = refl
+
 -- an address takes what the front and the request leave of the form's dwords
 pub length-address : (h : Head) (a : ℕ) → (h .form ≡ 3) ⊎ (h .form ≡ 4) → 8 + length (addressBytes h a) ≡ 4 * h .form
 unfolding addressBytes beBytes
@@ -65,12 +72,20 @@ pub layout-carried : (row : Row) (p : Packet) → verdictOf p ≡ Lawful row →
 unfolding layout
 layout-carried row p l = rw (lawful-elim row p l .carried)
 
+-- a message has the four-dword form
+pub form-of-message : (row : Row) (k : MessageKind) (h : Head) (routing : MessageRouting) (code tail : ℕ)
+    → verdictOf (Message k h routing code tail) ≡ Lawful row → h .form ≡ 4
+form-of-message row k h routing code tail l =
+    let p = Message k h routing code tail in
+    row-forms (kindOf p) (h .form) (lawful-elim row p l .carried)
+
 length-body : (p : Packet) → (headOf p .form ≡ 3) ⊎ (headOf p .form ≡ 4) → Forms (kindOf p) (headOf p .form)
     → 4 + length (bodyBytes p) ≡ size p
 length-body (Memory k h e a) f w = rw (length-append, length-request h e) (omega (arith, length-address h a f))
 length-body (Io k h e a) f w = rw (length-append, length-request h e) (omega (arith, length-address h a f))
 length-body (Config k h e t) f w = rw (length-append, length-request h e, length-target t, w)
 length-body (Completion k h o) f w = rw (length-completion h o, w)
+length-body (Message k h routing code tail) f w = rw (length-append, length-message h code, length-beBytes 8 tail, w)
 
 pub length-layout : (row : Row) (p : Packet) → verdictOf p ≡ Lawful row → length (layout p) ≡ size p
 length-layout row p l =

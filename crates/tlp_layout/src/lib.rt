@@ -14,6 +14,7 @@ ghost use Rattle.tlp_layout.specs.Layout.{
   targetBytes,
   outcomeBytes,
   completionBytes,
+  messageBytes,
   bodyBytes,
   layout,
   size,
@@ -69,6 +70,10 @@ fn put_body(row: Row, p: Packet, room: &mut [u8])
         Packet::Completion(_, h, o) => {
             put_completion(h, o, room);
         }
+        Packet::Message(_, h, _, code, tail) => {
+            put_message(h, code, room);
+            endian::write_be64(room, 8, tail);
+        }
     }
 }
 
@@ -123,6 +128,16 @@ fn put_outcome(o: Outcome, room: &mut [u8])
     endian::write_be16(room, 4, o.completer as u64);
     room[6] = o.status * 32 + bcm * 16 + (o.count / 256) as u8;
     room[7] = (o.count % 256) as u8;
+}
+
+// Bytes 4 to 7 of a message.
+fn put_message(h: Head, code: u8, room: &mut [u8])
+    requires { ⌜ (12 ≤ length (now room)) × (h .tag < 256) ⌝ }
+    ensures { λ _. ⌜ now (room .exit) ≡ sets (now (room .entry)) 4 (messageBytes h code) ⌝ }
+{
+    endian::write_be16(room, 4, h.requester as u64);
+    room[6] = h.tag as u8;
+    room[7] = code;
 }
 
 fn bit(b: bool) -> u8

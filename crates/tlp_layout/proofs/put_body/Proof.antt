@@ -2,9 +2,10 @@
 use borrow.Author.Needs.{needs}
 use Rattle.tlp_layout.proofs.put_body.Statement.{statement}
 use Rattle.tlp_layout.proofs.put_body.Tie as tie
-use Rattle.packet.specs.VerdictLaws.{memory-of-lawful, io-of-lawful, config-of-lawful, completion-of-lawful}
-use Rattle.tlp_layout.specs.Layout.{requestBytes, addressBytes, targetBytes}
-use Rattle.tlp_layout.specs.LayoutLaws.{length-request}
+use Rattle.packet.specs.VerdictLaws.{memory-of-lawful, io-of-lawful, config-of-lawful, completion-of-lawful, message-of-lawful}
+use Rattle.tlp_layout.specs.Layout.{requestBytes, addressBytes, targetBytes, messageBytes}
+use Rattle.tlp_layout.specs.LayoutLaws.{length-request, length-message, form-of-message}
+use Rattle.endian.specs.Endian.{beBytes}
 use Rattle.endian.specs.SetsLaws.{sets-append}
 use native.Mathlib.Omega.{arith}
 
@@ -68,6 +69,24 @@ put-completion-requires c κs =
     let b = completion-of-lawful _ _ _ _ (rw (c .before .before .p4 .given .1) at (start .pre .0)) in
     (start .pre .1, b .0 .tag, b .1)
 
+enum-known-p-5 : tie.Need-enum-known-p-5
+enum-known-p-5 c = search needs
+
+put-message-requires : tie.Need-put-message-requires
+put-message-requires c κs =
+    let start = c .before .before .before .before .before in
+    let b = message-of-lawful _ _ _ _ _ _ (rw (c .before .before .p5 .given .1) at (start .pre .0)) in
+    (start .pre .1, b .0 .tag)
+
+write-be64-requires : tie.Need-write-be64-requires
+write-be64-requires c κs =
+    let at-p5 = c .before .before .before .before .before .before in
+    let p5 = at-p5 .p5 in
+    let start = at-p5 .before .before .before in
+    let four = form-of-message _ _ _ _ _ _ (rw (p5 .given .1) at (start .pre .0)) in
+    let whole = rw (p5 .given .1) at (start .pre .2) in
+    omega (arith, c .before .before .before .put-message .kept .1 .1 .0, four)
+
 same-length : tie.Need-same-length
 same-length c = search needs
 
@@ -124,6 +143,22 @@ returns-4 c =
     let p4 = c .before .before .before .before .before .p4 in
     rw (p4 .given .1) (c .before .before .put-completion .ensures)
 
+same-length-5 : tie.Need-same-length-5
+same-length-5 c = search needs
+
+returns-5 : tie.Need-returns-5
+returns-5 c =
+    let last = c .before .before in
+    let four = last .before .before .before .before in
+    let room = four .before .before .before .before .before .before .args .room .now in
+    let p = four .before .before .before .p5 .given in
+    let h = p .0 .1 .0 in
+    let code = p .0 .1 .1 .1 .0 in
+    let tail = p .0 .1 .1 .1 .1 .0 in
+    rw (p .1)
+    (sets-append room 4 4 (messageBytes h code) (beBytes 8 tail) (length-message h code)
+    (four .put-message .ensures) (last .write-be64 .ensures))
+
 pub put-body-spec : {M : Type 1} → statement M
 put-body-spec =
     tie.close
@@ -139,6 +174,9 @@ put-body-spec =
     put-target-requires
     enum-known-p-4
     put-completion-requires
+    enum-known-p-5
+    put-message-requires
+    write-be64-requires
     same-length
     returns
     same-length-2
@@ -146,4 +184,6 @@ put-body-spec =
     same-length-3
     returns-3
     same-length-4
-    returns-4)
+    returns-4
+    same-length-5
+    returns-5)
