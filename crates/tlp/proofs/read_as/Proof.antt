@@ -27,6 +27,12 @@ enum-known-kind-4 c = search needs
 read-completion-requires : tie.Need-read-completion-requires
 read-completion-requires c κs = search needs
 
+enum-known-kind-5 : tie.Need-enum-known-kind-5
+enum-known-kind-5 c = search needs
+
+read-message-requires : tie.Need-read-message-requires
+read-message-requires c κs = search needs
+
 enum-told : tie.Need-enum-told
 enum-told c = search needs
 
@@ -35,12 +41,6 @@ enum-told-2 c = search needs
 
 enum-told-3 : tie.Need-enum-told-3
 enum-told-3 c = search needs
-
-enum-told-4 : tie.Need-enum-told-4
-enum-told-4 c = search needs
-
-enum-told-5 : tie.Need-enum-told-5
-enum-told-5 c = search needs
 
 returns : tie.Need-returns
 returns c = rw (c .before .before .kind .given .1) (c .read-memory .ensures)
@@ -55,7 +55,7 @@ returns-4 : tie.Need-returns-4
 returns-4 c = rw (c .before .before .kind4 .given .1) (c .read-completion .ensures)
 
 returns-5 : tie.Need-returns-5
-returns-5 c = search needs
+returns-5 c = rw (c .before .before .kind5 .given .1) (c .read-message .ensures)
 
 returns-6 : tie.Need-returns-6
 returns-6 c = search needs
@@ -65,9 +65,6 @@ returns-7 c = search needs
 
 returns-8 : tie.Need-returns-8
 returns-8 c = search needs
-
-returns-9 : tie.Need-returns-9
-returns-9 c = search needs
 
 pub read-as-spec : {M : Type 1} → statement M
 read-as-spec =
@@ -81,11 +78,11 @@ read-as-spec =
     read-config-requires
     enum-known-kind-4
     read-completion-requires
+    enum-known-kind-5
+    read-message-requires
     enum-told
     enum-told-2
     enum-told-3
-    enum-told-4
-    enum-told-5
     returns
     returns-2
     returns-3
@@ -93,5 +90,4 @@ read-as-spec =
     returns-5
     returns-6
     returns-7
-    returns-8
-    returns-9)
+    returns-8)
