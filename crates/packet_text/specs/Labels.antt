@@ -7,17 +7,20 @@ use Prim.Native.String.{String}
 use Rattle.text.specs.Text.{ascii, decimal, hexadecimal}
 use Rattle.pairs.specs.declared.Kind.{Kind}
 use Rattle.pairs.specs.declared.Kind.the-variants.{Memory as MemoryKind, Io as IoKind, Config as ConfigKind, Completion as CompletionKind}
-use Rattle.pairs.specs.declared.Kind.the-variants.{Msg, MsgD, FetchAdd, Swap, Cas}
+use Rattle.pairs.specs.declared.Kind.the-variants.{Message as MessageKind, FetchAdd, Swap, Cas}
 use Rattle.pairs.specs.declared.MemoryKind.the-variants.{MRd, MRdLk, MWr}
 use Rattle.pairs.specs.declared.IoKind.the-variants.{IORd, IOWr}
 use Rattle.pairs.specs.declared.ConfigKind.the-variants.{CfgRd0, CfgWr0, CfgRd1, CfgWr1}
 use Rattle.pairs.specs.declared.CompletionKind.the-variants.{Cpl, CplD, CplLk, CplDLk}
+use Rattle.pairs.specs.declared.MessageKind.the-variants.{Msg, MsgD}
+use Rattle.pairs.specs.declared.MessageRouting.{MessageRouting}
+use Rattle.pairs.specs.Pairs.{routingNumber}
 use Rattle.packet.specs.declared.Head.{Head}
 use Rattle.packet.specs.declared.Enables.{Enables}
 use Rattle.packet.specs.declared.Target.{Target}
 use Rattle.packet.specs.declared.Outcome.{Outcome}
 use Rattle.packet.specs.declared.Packet.{Packet}
-use Rattle.packet.specs.declared.Packet.the-variants.{Memory, Io, Config, Completion}
+use Rattle.packet.specs.declared.Packet.the-variants.{Memory, Io, Config, Completion, Message}
 use Rattle.packet.specs.Fields.{kindOf, headOf}
 
 -- a name, and a number in decimal
@@ -47,8 +50,8 @@ kindText (CompletionKind Cpl) = ascii "Cpl"
 kindText (CompletionKind CplD) = ascii "CplD"
 kindText (CompletionKind CplLk) = ascii "CplLk"
 kindText (CompletionKind CplDLk) = ascii "CplDLk"
-kindText Msg = ascii "Msg"
-kindText MsgD = ascii "MsgD"
+kindText (MessageKind Msg routing) = ascii "Msg"
+kindText (MessageKind MsgD routing) = ascii "MsgD"
 kindText FetchAdd = ascii "FetchAdd"
 kindText Swap = ascii "Swap"
 kindText Cas = ascii "CAS"
@@ -79,6 +82,11 @@ countText o = named " bcm " (bitOf (o .bcm)) ++ (named " count " (o .count) ++ n
 unfoldable pub outcomeText : Outcome → List ℕ
 outcomeText o = namedHexadecimal " completer " 4 (o .completer) ++ (named " status " (o .status) ++ countText o)
 
+-- a message's routing, its code, and its bytes 8 to 15
+unfoldable pub contentText : MessageRouting → ℕ → ℕ → List ℕ
+contentText routing code tail =
+    named " routing " (routingNumber routing) ++ (namedHexadecimal " code " 2 code ++ namedHexadecimal " tail " 16 tail)
+
 -- ## The packet
 
 -- what its kind has
@@ -87,6 +95,7 @@ bodyText (Memory k h e a) = enablesText e ++ addressText a
 bodyText (Io k h e a) = enablesText e ++ addressText a
 bodyText (Config k h e t) = enablesText e ++ targetText t
 bodyText (Completion k h o) = outcomeText o
+bodyText (Message k h routing code tail) = contentText routing code tail
 
 unfoldable pub packetText : Packet → List ℕ
 packetText p = kindText (kindOf p) ++ (headText (headOf p) ++ bodyText p)

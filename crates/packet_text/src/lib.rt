@@ -1,11 +1,12 @@
 // A packet as text: its kind and form, then each field by name, in a line that the caller ends.
-// Counts and small fields are decimal; IDs, tags, byte enables, registers and addresses are
-// hexadecimal. The text stands in specs/Labels.
+// Counts and small fields are decimal; IDs, tags, byte enables, registers, addresses, and a message's
+// code and tail are hexadecimal. The text stands in specs/Labels.
 ghost use mathlib.Core.Path.{_≡_};
 ghost use lib.ListN.{getD, take};
 ghost use Rattle.text.specs.Text.{Put};
 ghost use Rattle.packet_text.specs.Labels.{bitOf, kindText, marksText, transactionText, headText};
-ghost use Rattle.packet_text.specs.Labels.{enablesText, addressText, targetText, countText, outcomeText, bodyText, packetText};
+ghost use Rattle.packet_text.specs.Labels.{enablesText, addressText, targetText, countText, outcomeText, contentText, bodyText};
+ghost use Rattle.packet_text.specs.Labels.{packetText};
 use packet::Enables;
 use packet::Head;
 use packet::Outcome;
@@ -16,6 +17,8 @@ use pairs::ConfigKind;
 use pairs::IoKind;
 use pairs::Kind;
 use pairs::MemoryKind;
+use pairs::MessageKind;
+use pairs::MessageRouting;
 use text::front;
 use text::put_named;
 use text::put_named_hexadecimal;
@@ -65,8 +68,10 @@ fn name_of(kind: Kind) -> [u8; 9]
             CompletionKind::CplLk => [b'C', b'p', b'l', b'L', b'k', 0, 0, 0, 5],
             CompletionKind::CplDLk => [b'C', b'p', b'l', b'D', b'L', b'k', 0, 0, 6],
         },
-        Kind::Msg => [b'M', b's', b'g', 0, 0, 0, 0, 0, 3],
-        Kind::MsgD => [b'M', b's', b'g', b'D', 0, 0, 0, 0, 4],
+        Kind::Message(k, _) => match k {
+            MessageKind::Msg => [b'M', b's', b'g', 0, 0, 0, 0, 0, 3],
+            MessageKind::MsgD => [b'M', b's', b'g', b'D', 0, 0, 0, 0, 4],
+        },
         Kind::FetchAdd => [b'F', b'e', b't', b'c', b'h', b'A', b'd', b'd', 8],
         Kind::Swap => [b'S', b'w', b'a', b'p', 0, 0, 0, 0, 4],
         Kind::Cas => [b'C', b'A', b'S', 0, 0, 0, 0, 0, 3],
@@ -91,6 +96,7 @@ fn put_body(out: &mut [u8], start: usize, p: Packet) -> usize
             put_target(out, at, t)
         }
         Packet::Completion(_, _, o) => put_outcome(out, start, o),
+        Packet::Message(_, _, routing, code, tail) => put_content(out, start, routing, code, tail),
     }
 }
 
@@ -154,6 +160,19 @@ fn put_count(out: &mut [u8], start: usize, o: Outcome) -> usize
     let mut at = put_named(out, start, b" bcm ", bit(o.bcm));
     at = put_named(out, at, b" count ", o.count as u64);
     put_named_hexadecimal(out, at, b" lower ", 2, o.lower as u64)
+}
+
+fn put_content(out: &mut [u8], start: usize, routing: MessageRouting, code: u8, tail: u64) -> usize
+    ensures { λ r. ⌜ Put (now (out .entry)) start (contentText routing code tail) (now (out .exit)) r ⌝ }
+{
+    let mut at = put_named(
+        out,
+        start,
+        b" routing ",
+        pairs::routing_number(routing) as u64,
+    );
+    at = put_named_hexadecimal(out, at, b" code ", 2, code as u64);
+    put_named_hexadecimal(out, at, b" tail ", 16, tail)
 }
 
 fn bit(b: bool) -> u64

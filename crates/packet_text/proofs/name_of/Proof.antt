@@ -55,6 +55,9 @@ enum-told-12 c = search needs
 enum-told-13 : tie.Need-enum-told-13
 enum-told-13 c = search needs
 
+enum-known-kind-5 : tie.Need-enum-known-kind-5
+enum-known-kind-5 c = search needs
+
 enum-told-14 : tie.Need-enum-told-14
 enum-told-14 c = search needs
 
@@ -124,11 +127,11 @@ returns-13 c = rw (c .before .before .before .kind4 .given .1, c .enum-told13 .g
 
 returns-14 : tie.Need-returns-14
 unfolding ascii
-returns-14 c = rw (c .enum-told14 .given .1)
+returns-14 c = rw (c .before .before .before .kind5 .given .1, c .enum-told14 .given .1)
 
 returns-15 : tie.Need-returns-15
 unfolding ascii
-returns-15 c = rw (c .enum-told15 .given .1)
+returns-15 c = rw (c .before .before .before .kind5 .given .1, c .enum-told15 .given .1)
 
 returns-16 : tie.Need-returns-16
 unfolding ascii
@@ -163,6 +166,7 @@ name-of-spec =
     enum-told-11
     enum-told-12
     enum-told-13
+    enum-known-kind-5
     enum-told-14
     enum-told-15
     enum-told-16

@@ -39,6 +39,12 @@ enum-known-p-4 c = search needs
 put-outcome-requires : tie.Need-put-outcome-requires
 put-outcome-requires c κs = search needs
 
+enum-known-p-5 : tie.Need-enum-known-p-5
+enum-known-p-5 c = search needs
+
+put-content-requires : tie.Need-put-content-requires
+put-content-requires c κs = search needs
+
 same-length : tie.Need-same-length
 same-length c = search needs
 
@@ -78,6 +84,15 @@ returns-4 c =
     let p4 = c .before .before .before .before .before .p4 in
     rw (p4 .given .1) (c .before .before .put-outcome .ensures)
 
+same-length-5 : tie.Need-same-length-5
+same-length-5 c = search needs
+
+returns-5 : tie.Need-returns-5
+unfolding bodyText
+returns-5 c =
+    let p5 = c .before .before .before .before .before .p5 in
+    rw (p5 .given .1) (c .before .before .put-content .ensures)
+
 pub put-body-spec : {M : Type 1} → statement M
 put-body-spec =
     tie.close
@@ -93,6 +108,8 @@ put-body-spec =
     put-target-requires
     enum-known-p-4
     put-outcome-requires
+    enum-known-p-5
+    put-content-requires
     same-length
     returns
     same-length-2
@@ -100,4 +117,6 @@ put-body-spec =
     same-length-3
     returns-3
     same-length-4
-    returns-4)
+    returns-4
+    same-length-5
+    returns-5)
