@@ -44,7 +44,7 @@ pub mod plain_calls {
     }
 
     #[inline(never)]
-    pub fn route(header: &[u8], sheet: &[u8]) -> Result<(u16, u8, plain::Packet), u8> {
+    pub fn route(header: &[u8], sheet: &[u8]) -> Result<plain::Arrival, u8> {
         plain::route(header, sheet)
     }
 }
@@ -170,8 +170,8 @@ impl Backplane {
         assert_eq!(sheet[..self.sheet.len()], self.sheet);
         let delivery = cartsundial::route(&self.header, &self.sheet).expect("the request has an owner");
         assert_eq!((usize::from(delivery.record), usize::from(delivery.bridges)), (functions, self.depth));
-        let (record, bridges, _) = plain::route(&self.header, &self.sheet).expect("the request has an owner");
-        assert_eq!((record, bridges), (delivery.record, delivery.bridges));
+        let arrival = plain::route(&self.header, &self.sheet).expect("the request has an owner");
+        assert_eq!(arrival.numbers()[..2], [delivery.record.into(), delivery.bridges.into()]);
         self
     }
 }

@@ -102,6 +102,9 @@ pub const CPL: u8 = 0x0A;
 pub const CPLD: u8 = 0x4A;
 pub const CPLLK: u8 = 0x0B;
 pub const CPLDLK: u8 = 0x4B;
+/// Messages, with routing 000.
+pub const MSG: u8 = 0x30;
+pub const MSGD: u8 = 0x70;
 
 /// A request of one dword at an address, in the form that the address needs.
 pub fn request(byte0: u8, address: u64) -> Vec<u8> {
@@ -127,5 +130,13 @@ pub fn completion(byte0: u8, requester: u16) -> Vec<u8> {
     let mut header = vec![byte0, 0, 0, length, 0x01, 0x00, 0x00, 0x04];
     header.extend(requester.to_be_bytes());
     header.extend([0x33, 0x40]);
+    header
+}
+
+/// A message, with one dword of data if it has any; `tail` is bytes 8 to 15.
+pub fn message(byte0: u8, routing: u8, code: u8, tail: u64) -> Vec<u8> {
+    let length = byte0 >> 6;
+    let mut header = vec![byte0 | routing, 0, 0, length, 0x02, 0x10, 0x45, code];
+    header.extend(tail.to_be_bytes());
     header
 }

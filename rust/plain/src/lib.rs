@@ -1,8 +1,9 @@
-//! Document 01 in plain, safe Rust: the header codec, the board planner and the packet router.
+//! Document 01, with request E1 of document 02, in plain, safe Rust: the header codec, the board planner and the packet
+//! router.
 //!
-//! Written from the document and the readings of its open points in docs/DECISIONS.md, not from the proved code. The
-//! proved library is compared with it, and the stored answers of the test
-//! programs come from it. Every refusal is document 01's number.
+//! Written from the documents and the readings of their open points in docs/DECISIONS.md, not from the proved code. The
+//! proved library is compared with it, and the stored answers of the test programs come from it. Every refusal is the
+//! documents' number.
 
 #![forbid(unsafe_code)]
 
@@ -16,5 +17,5 @@ mod sheet;
 
 pub use packet::{read, to_numbers, write, write_numbers, Form, Kind, Packet};
 pub use plan::plan;
-pub use route::route;
+pub use route::{route, Arrival};
 pub use sheet::{check, id_of, listing, lookup, set_command, Sheet, FULL_SHEET};

@@ -19,6 +19,8 @@ pub enum Kind {
     CplD,
     CplLk,
     CplDLk,
+    Msg,
+    MsgD,
 }
 
 /// The header's length: three or four dwords.
@@ -36,10 +38,11 @@ pub(crate) enum Family {
     Io,
     Configuration,
     Completion,
+    Message,
 }
 
 impl Kind {
-    pub const ALL: [Kind; 13] = [
+    pub const ALL: [Kind; 15] = [
         Kind::MRd,
         Kind::MRdLk,
         Kind::MWr,
@@ -53,6 +56,8 @@ impl Kind {
         Kind::CplD,
         Kind::CplLk,
         Kind::CplDLk,
+        Kind::Msg,
+        Kind::MsgD,
     ];
 
     pub(crate) const fn family(self) -> Family {
@@ -61,17 +66,19 @@ impl Kind {
             Kind::IORd | Kind::IOWr => Family::Io,
             Kind::CfgRd0 | Kind::CfgWr0 | Kind::CfgRd1 | Kind::CfgWr1 => Family::Configuration,
             Kind::Cpl | Kind::CplD | Kind::CplLk | Kind::CplDLk => Family::Completion,
+            Kind::Msg | Kind::MsgD => Family::Message,
         }
     }
 
-    /// Cpl and CplLk carry no data and have no Length.
+    /// Cpl, CplLk and Msg carry no data and have no Length.
     const fn has_length(self) -> bool {
-        !matches!(self, Kind::Cpl | Kind::CplLk)
+        !matches!(self, Kind::Cpl | Kind::CplLk | Kind::Msg)
     }
 
-    /// Byte 0 of the header, Fmt 7:5 and Type 4:0, where this kind is carried in this form.
+    /// Byte 0 of the header, Fmt 7:5 and Type 4:0, where this kind is carried in this form. Of a message, whose Type
+    /// 2:0 is its routing, that of routing 000.
     const fn byte0(self, form: Form) -> Option<u8> {
-        let three = match self {
+        let shortest = match self {
             Kind::MRd => 0b000_00000,
             Kind::MRdLk => 0b000_00001,
             Kind::MWr => 0b010_00000,
@@ -85,13 +92,26 @@ impl Kind {
             Kind::CplD => 0b010_01010,
             Kind::CplLk => 0b000_01011,
             Kind::CplDLk => 0b010_01011,
+            Kind::Msg => 0b001_10000,
+            Kind::MsgD => 0b011_10000,
         };
-        match (form, self.family()) {
-            (Form::Three, _) => Some(three),
-            (Form::Four, Family::Memory) => Some(three | 0b001_00000),
-            (Form::Four, _) => None,
+        match (self.family(), form) {
+            (Family::Memory, Form::Four) => Some(shortest | 0b001_00000),
+            (Family::Message, Form::Four) => Some(shortest),
+            (Family::Message, Form::Three) | (_, Form::Four) => None,
+            (_, Form::Three) => Some(shortest),
         }
     }
+}
+
+/// A message's routing, Type 2:0. 000 and 101, the others that are carried, go up.
+pub(crate) mod routing {
+    pub const BY_ADDRESS: u8 = 0b001;
+    pub const BY_ID: u8 = 0b010;
+    pub const BROADCAST: u8 = 0b011;
+    pub const LOCAL: u8 = 0b100;
+    /// The first of the two that have no meaning, 110 and 111.
+    pub const RESERVED: u8 = 0b110;
 }
 
 /// What byte 0 stands for.
@@ -110,7 +130,6 @@ const fn pairs() -> [Pair; 256] {
     let mut byte0 = 0;
     while byte0 < 256 {
         let known = match (byte0 >> 5, byte0 & 31) {
-            (0b001 | 0b011, 0b10000..=0b10111) => true,
             (0b010 | 0b011, 0b01100..=0b01110) => true,
             (fmt, _) => fmt == 0b100,
         };
@@ -126,7 +145,12 @@ const fn pairs() -> [Pair; 256] {
             pairs[byte0 as usize] = Pair::Carried(kind, Form::Three);
         }
         if let Some(byte0) = kind.byte0(Form::Four) {
-            pairs[byte0 as usize] = Pair::Carried(kind, Form::Four);
+            let routings = if matches!(kind.family(), Family::Message) { routing::RESERVED } else { 1 };
+            let mut routing = 0;
+            while routing < routings {
+                pairs[(byte0 | routing) as usize] = Pair::Carried(kind, Form::Four);
+                routing += 1;
+            }
         }
         i += 1;
     }
@@ -144,7 +168,7 @@ pub struct Packet {
     pub td: bool,
     pub ep: bool,
     pub at: u8,
-    /// In dwords, 1 to 1,024; 0 for Cpl and CplLk.
+    /// In dwords, 1 to 1,024; 0 for Cpl, CplLk and Msg.
     pub length: u16,
     pub requester: u16,
     pub tag: u8,
@@ -168,6 +192,12 @@ pub struct Packet {
     pub byte_count: u16,
     /// Completions.
     pub lower_address: u8,
+    /// Messages: Type 2:0, 0 to 5.
+    pub routing: u8,
+    /// Messages: byte 7.
+    pub code: u8,
+    /// Messages: bytes 8 to 15 as one number, by routing an address, an ID in its top 16 bits, or anything.
+    pub tail: u64,
 }
 
 /// Reads the header at the start of `header`.
@@ -213,6 +243,9 @@ pub fn read(header: &[u8]) -> Result<Packet, u8> {
         bcm: false,
         byte_count: 0,
         lower_address: 0,
+        routing: 0,
+        code: 0,
+        tail: 0,
     };
     match kind.family() {
         Family::Memory | Family::Io => packet.address = address,
@@ -237,6 +270,13 @@ pub fn read(header: &[u8]) -> Result<Packet, u8> {
             packet.tag = (third >> 8) as u8;
             packet.lower_address = (third & 0x7F) as u8;
         }
+        Family::Message => {
+            packet.last_enables = 0;
+            packet.first_enables = 0;
+            packet.routing = head[0] & 7;
+            packet.code = head[7];
+            packet.tail = address;
+        }
     }
     packet.judge()?;
     Ok(packet)
@@ -244,7 +284,7 @@ pub fn read(header: &[u8]) -> Result<Packet, u8> {
 
 /// Writes the packet's 12 or 16 bytes at the start of `room` and returns their number.
 pub fn write(packet: &Packet, room: &mut [u8]) -> Result<usize, u8> {
-    let byte0 = packet.kind.byte0(packet.form).ok_or(2)?;
+    let byte0 = packet.byte0().ok_or(2)?;
     if !packet.fits() {
         return Err(10);
     }
@@ -258,6 +298,16 @@ pub fn write(packet: &Packet, room: &mut [u8]) -> Result<usize, u8> {
 }
 
 impl Packet {
+    /// Byte 0, where the kind is carried in this form and, for a message, with this routing.
+    fn byte0(&self) -> Option<u8> {
+        let byte0 = self.kind.byte0(self.form)?;
+        match (self.kind.family(), self.routing) {
+            (Family::Message, routing::RESERVED..=7) => None,
+            (Family::Message, routing) => Some(byte0 | routing & 7),
+            _ => Some(byte0),
+        }
+    }
+
     /// Whether every value fits its field, and every field that the kind does not have is 0.
     fn fits(&self) -> bool {
         let family = self.kind.family();
@@ -269,15 +319,18 @@ impl Packet {
         let no_target = self.target == 0 && self.register == 0;
         let no_completion =
             self.completer == 0 && self.status == 0 && !self.bcm && self.byte_count == 0 && self.lower_address == 0;
+        let no_message = self.routing == 0 && self.code == 0 && self.tail == 0;
         let address = self.form == Form::Four || self.address >> 32 == 0;
         common
             && match family {
-                Family::Memory | Family::Io => request && address && no_target && no_completion,
-                Family::Configuration => request && no_address && self.register < 1024 && no_completion,
+                Family::Memory | Family::Io => request && address && no_target && no_completion && no_message,
+                Family::Configuration => request && no_address && self.register < 1024 && no_completion && no_message,
+                Family::Message => no_request && no_address && no_target && no_completion && self.routing < 8,
                 Family::Completion => {
                     no_request
                         && no_address
                         && no_target
+                        && no_message
                         && self.status < 8
                         && self.byte_count < 4096
                         && self.lower_address < 128
@@ -305,6 +358,15 @@ impl Packet {
                     Err(5)
                 } else if !matches!(self.status, 0b000 | 0b001 | 0b010 | 0b100) {
                     Err(9)
+                } else {
+                    Ok(())
+                }
+            }
+            Family::Message => {
+                if self.at != 0 || (self.routing == routing::BY_ADDRESS && self.tail & 3 != 0) {
+                    Err(4)
+                } else if !self.kind.has_length() && self.length != 0 {
+                    Err(5)
                 } else {
                     Ok(())
                 }
@@ -366,13 +428,22 @@ impl Packet {
                     | u32::from(self.byte_count);
                 [first, second, requester << 16 | tag << 8 | u32::from(self.lower_address), 0]
             }
+            Family::Message => {
+                let second = requester << 16 | tag << 8 | u32::from(self.code);
+                [first, second, (self.tail >> 32) as u32, self.tail as u32]
+            }
         }
     }
 }
 
 /// The packet as 20 numbers: kind, form, tc, attr, td, ep, at, length, requester, tag, last enables, first enables,
-/// address, target, register, completer, status, bcm, byte count, lower address.
+/// address, target, register, completer, status, bcm, byte count, lower address. In place of enables and address a
+/// message has routing, code and tail.
 pub fn to_numbers(packet: &Packet) -> [u64; 20] {
+    let shared = match packet.kind.family() {
+        Family::Message => [packet.routing.into(), packet.code.into(), packet.tail],
+        _ => [packet.last_enables.into(), packet.first_enables.into(), packet.address],
+    };
     [
         packet.kind as u64,
         packet.form as u64,
@@ -384,9 +455,9 @@ pub fn to_numbers(packet: &Packet) -> [u64; 20] {
         packet.length.into(),
         packet.requester.into(),
         packet.tag.into(),
-        packet.last_enables.into(),
-        packet.first_enables.into(),
-        packet.address,
+        shared[0],
+        shared[1],
+        shared[2],
         packet.target.into(),
         packet.register.into(),
         packet.completer.into(),
@@ -399,7 +470,7 @@ pub fn to_numbers(packet: &Packet) -> [u64; 20] {
 
 /// Writes the packet that [`to_numbers`] would give as `numbers`.
 pub fn write_numbers(numbers: &[u64; 20], room: &mut [u8]) -> Result<usize, u8> {
-    let [kind, form, tc, attr, td, ep, at, length, requester, tag, last, first, address, target, register, completer, status, bcm, count, lower] =
+    let [kind, form, tc, attr, td, ep, at, length, requester, tag, place10, place11, place12, target, register, completer, status, bcm, count, lower] =
         *numbers;
     let kind = *usize::try_from(kind).ok().and_then(|kind| Kind::ALL.get(kind)).ok_or(2)?;
     let form = match form {
@@ -408,6 +479,14 @@ pub fn write_numbers(numbers: &[u64; 20], room: &mut [u8]) -> Result<usize, u8> 
         _ => return Err(2),
     };
     kind.byte0(form).ok_or(2)?;
+    let places = [place10, place11, place12];
+    let ([last, first, address], [routing, code, tail]) = match kind.family() {
+        Family::Message => ([0; 3], places),
+        _ => (places, [0; 3]),
+    };
+    if matches!(routing, 6 | 7) {
+        return Err(2);
+    }
     let packet = Packet {
         kind,
         form,
@@ -429,6 +508,9 @@ pub fn write_numbers(numbers: &[u64; 20], room: &mut [u8]) -> Result<usize, u8> 
         bcm: bit(bcm)?,
         byte_count: narrow(count)?,
         lower_address: narrow(lower)?,
+        routing: narrow(routing)?,
+        code: narrow(code)?,
+        tail,
     };
     write(&packet, room)
 }
@@ -445,7 +527,7 @@ fn bit(number: u64) -> Result<bool, u8> {
     }
 }
 
-/// One line: `MRd 3dw tc 0 ... first F address 00000000F9000FFC`.
+/// One line: `MRd 3dw tc 0 ... first F address 00000000F9000FFC`, `Msg 4dw tc 0 ... routing 4 code 20 tail 00..`.
 impl fmt::Display for Packet {
     fn fmt(&self, f: &mut fmt::Formatter<'_>) -> fmt::Result {
         write!(
@@ -473,6 +555,9 @@ impl fmt::Display for Packet {
                 self.byte_count,
                 self.lower_address
             );
+        }
+        if family == Family::Message {
+            return write!(f, " routing {} code {:02X} tail {:016X}", self.routing, self.code, self.tail);
         }
         write!(f, " last {:X} first {:X}", self.last_enables, self.first_enables)?;
         if family == Family::Configuration {

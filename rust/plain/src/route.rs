@@ -1,12 +1,51 @@
 //! The router: the walk of a packet from the host over a sheet's registers.
 
+use std::fmt;
+
 use crate::bar::{self, Bar};
-use crate::packet::{self, Family, Kind, Packet};
+use crate::packet::{self, routing, Family, Kind, Packet};
 use crate::pool::Pool;
 use crate::sheet::{Record, Sheet};
 
-/// Routes the header over the sheet: the owner's record number, the bridges crossed, and the packet as it arrives.
-pub fn route(header: &[u8], sheet: &[u8]) -> Result<(u16, u8, Packet), u8> {
+/// Where a packet goes, and the packet as it arrives there.
+#[derive(Clone, Copy, Debug, PartialEq, Eq)]
+pub enum Arrival {
+    /// One function, by its record number, and the bridges crossed.
+    Function { record: u16, bridges: u8, packet: Packet },
+    /// Every function of the sheet, of which there are so many: records 1 and up.
+    Every { functions: u16, packet: Packet },
+    /// The port that receives it, and nothing beyond.
+    Port { packet: Packet },
+}
+
+impl Arrival {
+    /// As the C boundary gives it: record and bridges, the packet's twenty, and for every function their records.
+    pub fn numbers(&self) -> Vec<u64> {
+        let (record, bridges, packet, records) = match *self {
+            Arrival::Function { record, bridges, ref packet } => (record, bridges.into(), packet, 0),
+            Arrival::Every { functions, ref packet } => (0, functions, packet, functions),
+            Arrival::Port { ref packet } => (0, 0, packet, 0),
+        };
+        let mut numbers = vec![record.into(), bridges.into()];
+        numbers.extend(packet::to_numbers(packet));
+        numbers.extend((1..=records).map(u64::from));
+        numbers
+    }
+}
+
+/// One line: `record 2 bridges 1 MRd ...`, `all 2 Msg ...` or `port Msg ...`.
+impl fmt::Display for Arrival {
+    fn fmt(&self, f: &mut fmt::Formatter<'_>) -> fmt::Result {
+        match self {
+            Arrival::Function { record, bridges, packet } => write!(f, "record {record} bridges {bridges} {packet}"),
+            Arrival::Every { functions, packet } => write!(f, "all {functions} {packet}"),
+            Arrival::Port { packet } => write!(f, "port {packet}"),
+        }
+    }
+}
+
+/// Routes the header over the sheet.
+pub fn route(header: &[u8], sheet: &[u8]) -> Result<Arrival, u8> {
     let packet = packet::read(header)?;
     Sheet::new(sheet)?.route(packet)
 }
@@ -44,7 +83,7 @@ impl Space {
 
 impl Sheet<'_> {
     /// Routes an accepted packet.
-    pub fn route(&self, mut packet: Packet) -> Result<(u16, u8, Packet), u8> {
+    pub fn route(&self, mut packet: Packet) -> Result<Arrival, u8> {
         let root = self.records().next().ok_or(40)?.bus();
         let (index, bridges) = match packet.kind.family() {
             Family::Memory => self.walk_by_address(root, Space::Memory, packet.address)?,
@@ -64,9 +103,18 @@ impl Sheet<'_> {
                 };
                 owner
             }
+            Family::Message => match packet.routing {
+                routing::BY_ADDRESS => self.walk_by_address(root, Space::Memory, packet.tail)?,
+                // Bytes 8 and 9.
+                routing::BY_ID => self.walk_by_id(root, (packet.tail >> 48) as u16)?,
+                routing::BROADCAST => return Ok(Arrival::Every { functions: self.records().count() as u16, packet }),
+                routing::LOCAL => return Ok(Arrival::Port { packet }),
+                // To the root complex, or gathered on the way there.
+                _ => return Err(43),
+            },
         };
         // A sheet has at most 256 records.
-        Ok((index as u16 + 1, bridges, packet))
+        Ok(Arrival::Function { record: index as u16 + 1, bridges, packet })
     }
 
     /// The bus number rises at each bridge, so there are at most 255.

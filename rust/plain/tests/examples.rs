@@ -90,9 +90,8 @@ fn p10() {
          0100 end F9000000 4000000C 00000002 00004001 00000000 00000000\n"
     );
     let header = hex("00 00 00 01 01 00 05 0F F9 00 0F FC");
-    let (record, bridges, packet) = plain::route(&header, &sheet).unwrap();
-    assert_eq!((record, bridges), (2, 1));
-    assert_eq!(Ok(packet), plain::read(&header));
+    let packet = plain::read(&header).unwrap();
+    assert_eq!(plain::route(&header, &sheet), Ok(plain::Arrival::Function { record: 2, bridges: 1, packet }));
     assert_eq!(
         packet.to_string(),
         "MRd 3dw tc 0 attr 0 td 0 ep 0 at 0 length 1 requester 0100 tag 005 last 0 first F address 00000000F9000FFC"

@@ -32,11 +32,14 @@ fn fields() {
 
 #[test]
 fn every_byte_0() {
-    let carried = [0x00, 0x20, 0x01, 0x21, 0x40, 0x60, 0x02, 0x42, 0x04, 0x44, 0x05, 0x45, 0x0A, 0x4A, 0x0B, 0x4B];
+    let requests = [0x00, 0x20, 0x01, 0x21, 0x40, 0x60, 0x02, 0x42, 0x04, 0x44, 0x05, 0x45];
+    let completions = [0x0A, 0x4A, 0x0B, 0x4B];
+    let messages = [0x30, 0x31, 0x32, 0x33, 0x34, 0x35, 0x70, 0x71, 0x72, 0x73, 0x74, 0x75];
+    let carried = [&requests[..], &completions, &messages].concat();
     for byte0 in 0..=255 {
         let mut header = [0; 16];
         header[0] = byte0;
-        let known = matches!(byte0, 0x30..=0x37 | 0x70..=0x77 | 0x4C..=0x4E | 0x6C..=0x6E | 0x80..=0x9F);
+        let known = matches!(byte0, 0x4C..=0x4E | 0x6C..=0x6E | 0x80..=0x9F);
         let number = read(&header).err();
         let expected = if carried.contains(&byte0) {
             number.filter(|number| *number > 3)
@@ -146,7 +149,7 @@ fn written(header: &[u8], changes: &[(usize, u64)]) -> Result<usize, u8> {
 fn writer_refuses() {
     assert_eq!(written(&READ, &[]), Ok(12));
     assert_eq!(written(&READ64, &[]), Ok(16));
-    for changes in [[(0, 13)], [(0, u64::MAX)], [(1, 2)], [(1, 5)]] {
+    for changes in [[(0, 15)], [(0, u64::MAX)], [(1, 2)], [(1, 5)]] {
         assert_eq!(written(&READ, &changes), Err(2));
     }
     for header in [&IO, &CONFIGURATION, &COMPLETION] {

@@ -206,7 +206,10 @@ fn route_40_41_42() {
     let bridge = Record::bridge(0x0000, 1, 1).low(0xF900, 0xF900);
     let end = Record::end(0x0100).bar(0, memory(12), 0xF900_0000);
     let route = |records: &[Record], header: Vec<u8>| {
-        plain::route(&header, &sheet(records)).map(|(record, bridges, packet)| (record, bridges, packet.kind))
+        plain::route(&header, &sheet(records)).map(|arrival| match arrival {
+            plain::Arrival::Function { record, bridges, packet } => (record, bridges, packet.kind),
+            other => panic!("{other}"),
+        })
     };
     let good = [bridge.clone(), end.clone()];
     assert_eq!(route(&good, request(MRD, 0xF900_0000)), Ok((2, 1, plain::Kind::MRd)));

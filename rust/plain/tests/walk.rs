@@ -1,10 +1,10 @@
 //! The router: demand 3 on planned sheets, and any sheet against the walk written out word for word.
 
 use inputs::board::{self, Board, Style};
-use inputs::foreign::{completion, configuration, request};
+use inputs::foreign::{completion, configuration, message, request, MSG, MSGD};
 use inputs::random::Random;
 use inputs::registers;
-use plain::Kind;
+use plain::{Arrival, Kind, Packet};
 
 /// A function of a sheet as the rules see it; ranges over 128-bit numbers, ends inside.
 struct Function {
@@ -63,19 +63,33 @@ fn function(record: &[u8]) -> Function {
     }
 }
 
-/// The walk: record and bridges.
-fn walk(functions: &[Function], packet: &plain::Packet) -> Result<(u16, u8), u8> {
+/// The whole answer.
+fn walk(functions: &[Function], mut packet: Packet) -> Result<Arrival, u8> {
     let root = (functions.first().ok_or(40)?.id >> 8) as u8;
     let is_io = matches!(packet.kind, Kind::IORd | Kind::IOWr);
-    match packet.kind {
+    let (record, bridges) = match packet.kind {
         Kind::MRd | Kind::MRdLk | Kind::MWr | Kind::IORd | Kind::IOWr => {
-            by_address(functions, root, is_io, packet.address.into(), 0)
+            by_address(functions, root, is_io, packet.address.into(), 0)?
         }
-        Kind::Cpl | Kind::CplD | Kind::CplLk | Kind::CplDLk => by_id(functions, root, packet.requester, 0),
-        Kind::CfgRd0 | Kind::CfgWr0 if (packet.target >> 8) as u8 != root => Err(42),
-        Kind::CfgRd1 | Kind::CfgWr1 if (packet.target >> 8) as u8 == root => Err(42),
-        _ => by_id(functions, root, packet.target, 0),
-    }
+        Kind::Cpl | Kind::CplD | Kind::CplLk | Kind::CplDLk => by_id(functions, root, packet.requester, 0)?,
+        Kind::CfgRd0 | Kind::CfgWr0 if (packet.target >> 8) as u8 != root => return Err(42),
+        Kind::CfgRd1 | Kind::CfgWr1 if (packet.target >> 8) as u8 == root => return Err(42),
+        Kind::CfgRd0 | Kind::CfgWr0 | Kind::CfgRd1 | Kind::CfgWr1 => by_id(functions, root, packet.target, 0)?,
+        Kind::Msg | Kind::MsgD => match packet.routing {
+            0b001 => by_address(functions, root, false, packet.tail.into(), 0)?,
+            0b010 => by_id(functions, root, (packet.tail >> 48) as u16, 0)?,
+            0b011 => return Ok(Arrival::Every { functions: functions.len() as u16, packet }),
+            0b100 => return Ok(Arrival::Port { packet }),
+            0b000 | 0b101 => return Err(43),
+            routing => panic!("routing {routing} was accepted"),
+        },
+    };
+    packet.kind = match packet.kind {
+        Kind::CfgRd1 => Kind::CfgRd0,
+        Kind::CfgWr1 => Kind::CfgWr0,
+        kind => kind,
+    };
+    Ok(Arrival::Function { record, bridges, packet })
 }
 
 fn by_address(functions: &[Function], bus: u8, is_io: bool, address: u128, crossed: u8) -> Result<(u16, u8), u8> {
@@ -147,6 +161,11 @@ fn requests(functions: &[Function], numbers: &mut Random) -> Vec<Vec<u8>> {
                     let byte0 = [[0x00, 0x40], [0x02, 0x42]][usize::from(is_io)][numbers.below(2) as usize];
                     headers.push(request(byte0, address as u64));
                 }
+                // By address a message is a memory request, also where the range is one of I/O.
+                if address < limit && numbers.chance(1, 3) {
+                    let byte0 = [MSG, MSGD][numbers.below(2) as usize];
+                    headers.push(message(byte0, 0b001, numbers.word() as u8, address as u64));
+                }
             }
         }
     }
@@ -156,7 +175,8 @@ fn requests(functions: &[Function], numbers: &mut Random) -> Vec<Vec<u8>> {
 #[test]
 fn demand_3() {
     let mut numbers = Random::new(5);
-    let (mut delivered, mut refused) = (0, 0);
+    // Of requests, then of messages.
+    let (mut delivered, mut refused) = ([0; 2], [0; 2]);
     for _ in 0..600 {
         let Some((board, mut sheet)) = planned(&mut numbers) else { continue };
         for _ in 0..numbers.below(3) {
@@ -168,7 +188,8 @@ fn demand_3() {
         for header in requests(&functions, &mut numbers) {
             let packet = plain::read(&header).unwrap();
             let is_io = matches!(packet.kind, Kind::IORd | Kind::IOWr);
-            let address = u128::from(packet.address);
+            let is_message = matches!(packet.kind, Kind::Msg | Kind::MsgD);
+            let address = u128::from(if is_message { packet.tail } else { packet.address });
             let owners: Vec<usize> = (0..functions.len())
                 .filter(|&index| {
                     functions[index].bars.iter().any(|bar| bar.0 == is_io && bar.1 <= address && address <= bar.2)
@@ -185,23 +206,24 @@ fn demand_3() {
                     above = board.functions[usize::from(above) - 1].parent;
                 }
                 if all {
-                    expected = Ok((owner as u16 + 1, count, packet));
+                    expected = Ok(Arrival::Function { record: owner as u16 + 1, bridges: count, packet });
                 }
             }
             assert_eq!(plain::route(&header, &sheet), expected);
             match expected {
-                Ok(_) => delivered += 1,
-                Err(_) => refused += 1,
+                Ok(_) => delivered[usize::from(is_message)] += 1,
+                Err(_) => refused[usize::from(is_message)] += 1,
             }
         }
     }
-    assert!(delivered > 10_000 && refused > 10_000, "{delivered} {refused}");
+    let least = delivered.into_iter().chain(refused).min();
+    assert!(least > Some(3_000), "{delivered:?} {refused:?}");
 }
 
 #[test]
 fn any_sheet() {
     let mut numbers = Random::new(6);
-    let mut seen = [0; 43];
+    let mut seen = [0; 44];
     let mut sheets = 0;
     for _ in 0..6000 {
         let Some((_, mut sheet)) = planned(&mut numbers) else { continue };
@@ -219,19 +241,16 @@ fn any_sheet() {
             let byte0 = [0x04, 0x44, 0x05, 0x45][numbers.below(4) as usize];
             headers.push(configuration(byte0, id, numbers.below(1024) as u16));
             headers.push(completion([0x0A, 0x4A, 0x0B, 0x4B][numbers.below(4) as usize], id));
+            let (byte0, routing) = ([MSG, MSGD][numbers.below(2) as usize], numbers.below(6) as u8);
+            let tail = if routing == 0b010 { u64::from(id) << 48 | numbers.word() >> 16 } else { numbers.word() & !3 };
+            headers.push(message(byte0, routing, numbers.word() as u8, tail));
         }
         for header in headers {
-            let mut packet = plain::read(&header).unwrap();
-            let expected = walk(&functions, &packet);
-            packet.kind = match packet.kind {
-                Kind::CfgRd1 => Kind::CfgRd0,
-                Kind::CfgWr1 => Kind::CfgWr0,
-                kind => kind,
-            };
+            let expected = walk(&functions, plain::read(&header).unwrap());
             seen[usize::from(expected.err().unwrap_or(0))] += 1;
-            assert_eq!(plain::route(&header, &sheet), expected.map(|(record, bridges)| (record, bridges, packet)));
+            assert_eq!(plain::route(&header, &sheet), expected);
         }
     }
     assert!(sheets > 1000, "{sheets}");
-    assert!([0, 40, 41, 42].iter().all(|&number| seen[number] > 300), "{seen:?}");
+    assert!([0, 40, 41, 42, 43].iter().all(|&number| seen[number] > 300), "{seen:?}");
 }

@@ -24,11 +24,7 @@ pub fn compare(random: &mut Random, rounds: u64, tally: &mut Tally) {
 
 pub fn route(header: &[u8], bytes: &[u8], random: &mut Random, tally: &mut Tally) {
     let answer = plain::route(header, bytes);
-    let numbers = answer.map(|(record, bridges, packet)| {
-        let mut numbers = vec![record.into(), bridges.into()];
-        numbers.extend(plain::to_numbers(&packet));
-        numbers
-    });
+    let numbers = answer.map(|arrival| arrival.numbers());
     let mut lent_header = Lent::holding(header, random);
     let header_before = lent_header.clone();
     let mut sheet = Lent::holding(bytes, random);
@@ -37,7 +33,7 @@ pub fn route(header: &[u8], bytes: &[u8], random: &mut Random, tally: &mut Tally
     let (number, delivery_then) = delivery.expected(&numbers);
     let returned = calls::route(lent_header.slice(), sheet.slice(), delivery.slice());
     tally.count(Call::Route, returned);
-    if let (0, Ok((_, bridges, _))) = (returned, answer) {
+    if let (0, Ok(plain::Arrival::Function { bridges, .. })) = (returned, answer) {
         tally.delivered(bridges);
     }
     assert_eq!(returned, number, "route {} over {}", hex(header), hex(bytes));

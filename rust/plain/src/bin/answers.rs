@@ -5,7 +5,8 @@
 //! - `sheet HEX` makes the bytes the current sheet and prints `sheet N` with the number of its check.
 //! - `command ID VALUE` rewrites a command word of the current sheet and prints `command N`.
 //! - `lookup ID` prints `lookup OFFSET` or `refused N`.
-//! - `header HEX` prints `record R bridges B` and the packet as it arrives, or `refused N`.
+//! - `header HEX` prints `record R bridges B`, for a broadcast `all N`, for a message that ends at the port `port`, and
+//!   the packet as it arrives, or `refused N`.
 //!
 //! Blank lines and lines that start with `#` are skipped. Any other line is an error.
 
@@ -67,7 +68,7 @@ fn answer(line: &str, sheet: &mut Vec<u8>) -> Option<String> {
             Err(number) => refused(number),
         },
         "header" => match plain::route(&bytes(rest)?, sheet) {
-            Ok((record, bridges, packet)) => format!("record {record} bridges {bridges} {packet}\n"),
+            Ok(arrival) => format!("{arrival}\n"),
             Err(number) => refused(number),
         },
         _ => return None,
