@@ -1,5 +1,6 @@
 //! Headers for what a sheet's registers name, and for what lies next to it.
 
+use crate::damage;
 use crate::header;
 use crate::numbers::{self, Numbers, KIND, REQUESTER, TARGET};
 use crate::random::Random;
@@ -13,15 +14,20 @@ pub fn header(sheet: &[u8], random: &mut Random) -> Vec<u8> {
         return header::any(random);
     }
     let record = &sheet[1 + RECORD * random.below(count as u64) as usize..][..RECORD];
-    let packet = if random.chance(1, 3) {
-        by_id(sheet, record, random)
-    } else {
-        match range(record, random) {
+    let packet = match random.below(12) {
+        // Of any routing: mostly one that names nothing on the sheet.
+        0 => numbers::message(random),
+        1..=4 => by_id(sheet, record, random),
+        _ => match range(record, random) {
             Some(range) => at_edge(range, random),
             None => by_id(sheet, record, random),
-        }
+        },
     };
-    numbers::header(&packet)
+    let mut bytes = numbers::header(&packet);
+    if random.chance(1, 32) {
+        damage::bits(&mut bytes, random);
+    }
+    bytes
 }
 
 /// An ID that the sheet has, or one like it.
@@ -44,13 +50,21 @@ fn near(record: &[u8], random: &mut Random) -> u16 {
     }
 }
 
-/// A configuration request or a completion.
+/// A configuration request, a completion or a message.
 fn by_id(sheet: &[u8], record: &[u8], random: &mut Random) -> Numbers {
     let id = near(record, random);
-    if random.chance(1, 3) {
-        let mut packet = numbers::completion(random);
-        packet[REQUESTER] = id.into();
-        return packet;
+    match random.below(4) {
+        0 => {
+            let mut packet = numbers::completion(random);
+            packet[REQUESTER] = id.into();
+            return packet;
+        }
+        1 => {
+            // Bytes 8 and 9 are the ID, whatever follows.
+            let rest = if random.chance(1, 2) { 0 } else { random.word() >> 16 };
+            return numbers::message_by(random, 0b010, u64::from(id) << 48 | rest);
+        }
+        _ => {}
     }
     let mut packet = numbers::configuration(random);
     packet[TARGET] = id.into();
@@ -119,6 +133,10 @@ fn at_edge((is_io, first, last): Range, random: &mut Random) -> Numbers {
         4 => first ^ 1 << [random.below(64), 16 + random.below(16), 32 + random.below(32)][random.below(3) as usize],
         _ => first.wrapping_add(random.word() % last.wrapping_sub(first).max(1)),
     };
+    // A message goes by memory address, also where the range is one of I/O.
+    if random.chance(1, 4) {
+        return numbers::message_by(random, 0b001, address);
+    }
     numbers::request(random, is_io, address)
 }
 

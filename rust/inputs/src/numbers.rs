@@ -26,20 +26,37 @@ pub const STATUS: usize = 16;
 pub const BCM: usize = 17;
 pub const COUNT: usize = 18;
 pub const LOWER: usize = 19;
+/// Those of a message, in place of enables and address.
+pub const ROUTING: usize = 10;
+pub const CODE: usize = 11;
+pub const TAIL: usize = 12;
 
-/// Byte 0 of each kind in the three-dword form.
-const BYTE0: [u32; 13] = [0x00, 0x01, 0x40, 0x02, 0x42, 0x04, 0x44, 0x05, 0x45, 0x0A, 0x4A, 0x0B, 0x4B];
+/// The kinds of messages, Msg and MsgD.
+const MESSAGES: Range<u64> = 13..15;
 
-/// How many bits each field has in a header.
+/// Byte 0 of each kind in the three-dword form, which no message has; a message's with routing 000.
+const BYTE0: [u32; 15] = [0x00, 0x01, 0x40, 0x02, 0x42, 0x04, 0x44, 0x05, 0x45, 0x0A, 0x4A, 0x0B, 0x4B, 0x10, 0x50];
+
+/// How many bits each field has in a header, and in a message's.
 const WIDTHS: [u32; 20] = [8, 3, 3, 3, 1, 1, 2, 10, 16, 8, 4, 4, 64, 16, 10, 16, 3, 1, 12, 7];
+const MESSAGE_WIDTHS: [u32; 20] = [8, 3, 3, 3, 1, 1, 2, 10, 16, 8, 3, 8, 64, 16, 10, 16, 3, 1, 12, 7];
+
+fn widths(kind: u64) -> &'static [u32; 20] {
+    if MESSAGES.contains(&kind) {
+        &MESSAGE_WIDTHS
+    } else {
+        &WIDTHS
+    }
+}
 
 /// A lawful packet of any kind.
 pub fn lawful(random: &mut Random) -> Numbers {
-    match random.below(8) {
+    match random.below(10) {
         0..=3 => memory(random),
         4 => io(random),
         5 => configuration(random),
-        _ => completion(random),
+        6 | 7 => completion(random),
+        _ => message(random),
     }
 }
 
@@ -126,6 +143,37 @@ pub fn completion(random: &mut Random) -> Numbers {
     numbers
 }
 
+/// A lawful message of any routing and code.
+pub fn message(random: &mut Random) -> Numbers {
+    let routing = random.below(6);
+    let tail = match random.below(4) {
+        0 => 0,
+        // An address below 4 GiB.
+        1 => random.below(1 << 32),
+        2 => upper(random) << 32 | random.below(1 << 32),
+        _ => random.word(),
+    };
+    message_by(random, routing, tail)
+}
+
+/// A lawful message with this routing, for what bytes 8 to 15 name: an address is taken without its low two bits.
+pub fn message_by(random: &mut Random, routing: u64, tail: u64) -> Numbers {
+    let mut numbers = start(random, MESSAGES);
+    numbers[FORM] = 4;
+    numbers[TC] = random.below(8);
+    numbers[ATTR] = random.below(8);
+    // Msg has no Length.
+    numbers[LENGTH] = match numbers[KIND] {
+        13 => 0,
+        _ if random.chance(1, 4) => 1024,
+        _ => 1 + random.below(1024),
+    };
+    numbers[ROUTING] = routing;
+    numbers[CODE] = random.below(1 << 8);
+    numbers[TAIL] = if routing == 0b001 { tail & !3 } else { tail };
+    numbers
+}
+
 /// What every kind has.
 fn start(random: &mut Random, kinds: Range<u64>) -> Numbers {
     let mut numbers = [0; 20];
@@ -159,13 +207,14 @@ pub fn request(random: &mut Random, is_io: bool, address: u64) -> Numbers {
 pub fn spoil(numbers: &mut Numbers, random: &mut Random) {
     for _ in 0..1 + random.below(2) {
         let field = random.below(20) as usize;
-        let most = u64::MAX >> (64 - WIDTHS[field]);
+        let width = widths(numbers[KIND])[field];
+        let most = u64::MAX >> (64 - width);
         numbers[field] = match random.below(10) {
             0 => 0,
             1 => 1,
             2 => most,
             3 => most.wrapping_add(1),
-            4 => numbers[field] ^ 1 << random.below(u64::from(WIDTHS[field])),
+            4 => numbers[field] ^ 1 << random.below(u64::from(width)),
             5 => [0xFF, 0x100, 0xFFFF, 0x1_0000, 0xFFFF_FFFF, 1 << 32][random.below(6) as usize],
             6 => u64::MAX,
             7 => numbers[field].wrapping_add(1),
@@ -177,10 +226,12 @@ pub fn spoil(numbers: &mut Numbers, random: &mut Random) {
 
 /// The header of these numbers by the layout alone: of a value too wide for its field the low bits are taken.
 pub fn header(numbers: &Numbers) -> Vec<u8> {
-    let field = |field: usize| (numbers[field] & (u64::MAX >> (64 - WIDTHS[field]))) as u32;
-    let kind = numbers[KIND] as usize % BYTE0.len();
+    let kind = numbers[KIND] % BYTE0.len() as u64;
+    let widths = widths(kind);
+    let field = |field: usize| (numbers[field] & (u64::MAX >> (64 - widths[field]))) as u32;
     let has_four = numbers[FORM] == 4;
-    let first = (BYTE0[kind] | u32::from(has_four) << 5) << 24
+    let routing = if MESSAGES.contains(&kind) { field(ROUTING) } else { 0 };
+    let first = (BYTE0[kind as usize] | u32::from(has_four) << 5 | routing) << 24
         | field(TC) << 20
         | (field(ATTR) & 4) << 16
         | field(TD) << 15
@@ -194,9 +245,11 @@ pub fn header(numbers: &Numbers) -> Vec<u8> {
     let mut dwords = match kind {
         0..=4 => vec![first, request, numbers[ADDRESS] as u32],
         5..=8 => vec![first, request, field(TARGET) << 16 | field(REGISTER) << 2],
-        _ => vec![first, completion, asker | field(LOWER)],
+        9..=12 => vec![first, completion, asker | field(LOWER)],
+        _ => vec![first, asker | field(CODE), numbers[TAIL] as u32],
     };
     if has_four {
+        // The address's upper half, or the tail's.
         dwords.insert(2, (numbers[ADDRESS] >> 32) as u32);
     }
     dwords.into_iter().flat_map(u32::to_be_bytes).collect()

@@ -3,6 +3,7 @@
 use inputs::board::{self, memory, Board};
 use inputs::foreign::{message, sheet, Record, MSG, MSGD};
 use inputs::random::Random;
+use inputs::{aim, header, numbers, registers};
 use plain::{read, route, to_numbers, write, write_numbers, Arrival, Form, Kind, Packet};
 
 /// Assert_INTA, routing 100; MsgD by ID to 01:00.0.
@@ -389,4 +390,72 @@ fn foreign_sheets() {
     assert_eq!(numbers.len(), 22 + 256);
     assert_eq!(numbers[..2], [0, 256]);
     assert!(numbers[22..].iter().copied().eq(1..=256));
+}
+
+/// The random packets have messages of both kinds, every routing and every code, and spoilt ones get every number.
+#[test]
+fn random_packets() {
+    let mut random = Random::new(10);
+    let (mut routings, mut codes, mut answers) = ([[0; 6]; 2], [0; 256], [0; 12]);
+    for _ in 0..200_000 {
+        let mut packet = numbers::lawful(&mut random);
+        assert_eq!(read(&numbers::header(&packet)).map(|packet| to_numbers(&packet)), Ok(packet));
+        if packet[numbers::KIND] < 13 {
+            continue;
+        }
+        routings[packet[numbers::KIND] as usize - 13][packet[numbers::ROUTING] as usize] += 1;
+        codes[packet[numbers::CODE] as usize] += 1;
+        numbers::spoil(&mut packet, &mut random);
+        answers[usize::from(write_numbers(&packet, &mut [0; 16]).err().unwrap_or(0))] += 1;
+    }
+    assert!(routings.iter().flatten().all(|&count| count > 1000), "{routings:?}");
+    assert!(codes.iter().all(|&count| count > 50), "{codes:?}");
+    assert!([0, 2, 4, 10].iter().all(|&number| answers[number] > 100), "{answers:?}");
+}
+
+/// The random headers have messages that get every number a message can get, and ones aimed at a sheet every answer.
+#[test]
+fn random_headers() {
+    let mut random = Random::new(11);
+    let mut numbers = [0; 12];
+    for _ in 0..200_000 {
+        let bytes = header::any(&mut random);
+        if let Some(0x30..=0x37 | 0x70..=0x77) = bytes.first() {
+            numbers[usize::from(read(&bytes).err().unwrap_or(0))] += 1;
+        }
+    }
+    assert!([0, 1, 2, 4, 5].iter().all(|&number| numbers[number] > 100), "{numbers:?}");
+    assert_eq!(numbers.iter().sum::<u32>(), [0, 1, 2, 4, 5].iter().map(|&number| numbers[number]).sum());
+
+    let mut seen = [[0; 7]; 6];
+    for _ in 0..20_000 {
+        let sheet = registers::foreign(&mut random);
+        for _ in 0..8 {
+            let bytes = aim::header(&sheet, &mut random);
+            let Ok(Packet { kind: Kind::Msg | Kind::MsgD, routing, .. }) = read(&bytes) else { continue };
+            let answer = match route(&bytes, &sheet) {
+                Ok(Arrival::Function { .. }) => 0,
+                Ok(Arrival::Every { .. }) => 1,
+                Ok(Arrival::Port { .. }) => 2,
+                Err(40) => 3,
+                Err(41) => 4,
+                Err(43) => 5,
+                Err(number) => {
+                    assert_eq!(number, plain::check(&sheet));
+                    6
+                }
+            };
+            seen[usize::from(routing)][answer] += 1;
+        }
+    }
+    // By routing: a function, every function, the port, 40, 41, 43, the sheet's number.
+    let can = [
+        [0, 0, 0, 1, 0, 1, 1],
+        [1, 0, 0, 1, 1, 0, 1],
+        [1, 0, 0, 1, 1, 0, 1],
+        [0, 1, 0, 1, 0, 0, 1],
+        [0, 0, 1, 1, 0, 0, 1],
+        [0, 0, 0, 1, 0, 1, 1],
+    ];
+    assert_eq!(seen.map(|answers| answers.map(|count| u8::from(count > 0))), can, "{seen:?}");
 }
