@@ -2,6 +2,7 @@
 
 #![forbid(unsafe_code)]
 
+mod messages;
 mod planning;
 mod routing;
 mod script;

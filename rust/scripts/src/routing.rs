@@ -1,5 +1,7 @@
-//! The router's script: planned sheets at their edges, command words, sheets that no planner wrote, and refusals.
+//! The router's script: planned sheets at their edges, command words, sheets that no planner wrote, refusals, and
+//! messages last.
 
+use crate::messages;
 use crate::script::Script;
 use inputs::board::{self, memory, wide, Board, Style};
 use inputs::foreign::*;
@@ -25,11 +27,12 @@ pub fn script() -> String {
     damaged_sheets(&mut script);
     two_faults(&mut script);
     full_sheets(&mut script);
+    messages::groups(&mut script);
     script.0
 }
 
 /// A sheet, then headers over it.
-fn put(script: &mut Script, why: &str, records: &[Record], headers: &[Vec<u8>]) {
+pub fn put(script: &mut Script, why: &str, records: &[Record], headers: &[Vec<u8>]) {
     script.note(why);
     script.sheet(&sheet(records));
     for header in headers {
@@ -259,7 +262,7 @@ fn window_edges(record: &[u8], requests: &mut Vec<Vec<u8>>) {
 }
 
 /// A bridge to bus 1 with a low window of 16 MiB at F9000000, and a function behind it.
-fn bridge_and_end() -> [Record; 2] {
+pub fn bridge_and_end() -> [Record; 2] {
     [Record::bridge(0x0000, 1, 1).low(0xF900, 0xF9F0), Record::end(0x0100).bar(0, memory(12), 0xF900_0000)]
 }
 
@@ -641,6 +644,9 @@ fn long_chains(script: &mut Script) {
                 request(IORD, 0x3000),
                 configuration(CFGRD1, count << 8, 0),
                 completion(CPL, (count - 1) << 8),
+                message(MSG, 0b001, 0x50, 0x1000_0010),
+                message(MSGD, 0b010, 0x7E, u64::from(count) << 56),
+                message(MSG, 0b011, 0x19, 0),
             ],
         );
         script.command((count - 1) << 8, 2);
@@ -668,46 +674,47 @@ fn no_functions(script: &mut Script) {
     script.command(0x0000, 0x0003);
 }
 
+/// A header with some of its bytes changed.
+pub fn changed(mut header: Vec<u8>, changes: &[(usize, u8)]) -> Vec<u8> {
+    for &(at, byte) in changes {
+        header[at] = byte;
+    }
+    header
+}
+
 fn damaged_headers(script: &mut Script) {
-    let with = |header: Vec<u8>, changes: &[(usize, u8)]| {
-        let mut header = header;
-        for &(at, byte) in changes {
-            header[at] = byte;
-        }
-        header
-    };
     let low = || request(MRD, 0xF900_0000);
     let high = || request(MRD, 0x2_4000_0000);
     let headers: Vec<Vec<u8>> = vec![
         low()[..11].to_vec(),
         high()[..15].to_vec(),
         high()[..12].to_vec(),
-        with(low(), &[(0, 0x1F)]),
-        with(low(), &[(0, 0x22)]),
-        with(low(), &[(0, 0xA0)]),
-        with(low(), &[(0, 0x30)]),
-        with(low(), &[(0, 0x80)]),
-        with(low(), &[(0, 0x6D)]),
-        with(low(), &[(1, 0x80)]),
-        with(low(), &[(1, 0x01)]),
-        with(low(), &[(2, 0x0C)]),
-        with(low(), &[(11, 0x02)]),
-        with(request(IORD, 0x4000), &[(11, 0x01)]),
-        with(configuration(CFGRD1, 0x0100, 0), &[(10, 0x10)]),
-        with(completion(CPL, 0x0100), &[(2, 0x04)]),
-        with(request(IORD, 0x4000), &[(2, 0x0C)]),
-        with(request(IORD, 0x4000), &[(3, 2)]),
-        with(configuration(CFGRD1, 0x0100, 0), &[(1, 0x04)]),
-        with(configuration(CFGRD1, 0x0100, 0), &[(7, 0x1F)]),
-        with(completion(CPLLK, 0x0100), &[(3, 1)]),
-        with(high(), &[(11, 0)]),
-        with(low(), &[(7, 0x1F)]),
-        with(low(), &[(3, 3), (7, 0xF5)]),
-        with(low(), &[(3, 2), (7, 0xF0)]),
-        with(low(), &[(2, 3), (3, 0xFF), (7, 0xFF), (11, 8)]),
-        with(low(), &[(3, 0), (7, 0xFF), (11, 4)]),
-        with(completion(CPL, 0x0100), &[(6, 0x60)]),
-        with(completion(CPLD, 0x0100), &[(6, 0xA0)]),
+        changed(low(), &[(0, 0x1F)]),
+        changed(low(), &[(0, 0x22)]),
+        changed(low(), &[(0, 0xA0)]),
+        changed(low(), &[(0, 0x30)]),
+        changed(low(), &[(0, 0x80)]),
+        changed(low(), &[(0, 0x6D)]),
+        changed(low(), &[(1, 0x80)]),
+        changed(low(), &[(1, 0x01)]),
+        changed(low(), &[(2, 0x0C)]),
+        changed(low(), &[(11, 0x02)]),
+        changed(request(IORD, 0x4000), &[(11, 0x01)]),
+        changed(configuration(CFGRD1, 0x0100, 0), &[(10, 0x10)]),
+        changed(completion(CPL, 0x0100), &[(2, 0x04)]),
+        changed(request(IORD, 0x4000), &[(2, 0x0C)]),
+        changed(request(IORD, 0x4000), &[(3, 2)]),
+        changed(configuration(CFGRD1, 0x0100, 0), &[(1, 0x04)]),
+        changed(configuration(CFGRD1, 0x0100, 0), &[(7, 0x1F)]),
+        changed(completion(CPLLK, 0x0100), &[(3, 1)]),
+        changed(high(), &[(11, 0)]),
+        changed(low(), &[(7, 0x1F)]),
+        changed(low(), &[(3, 3), (7, 0xF5)]),
+        changed(low(), &[(3, 2), (7, 0xF0)]),
+        changed(low(), &[(2, 3), (3, 0xFF), (7, 0xFF), (11, 8)]),
+        changed(low(), &[(3, 0), (7, 0xFF), (11, 4)]),
+        changed(completion(CPL, 0x0100), &[(6, 0x60)]),
+        changed(completion(CPLD, 0x0100), &[(6, 0xA0)]),
     ];
     script.note("damaged headers over P10's sheet");
     script.board(&board::p10().bytes());
@@ -862,6 +869,12 @@ fn full_sheets(script: &mut Script) {
         request(IORD, 0xF0F0),
         configuration(CFGRD1, 0x1070, 0),
         completion(CPL, 0x1070),
+        message(MSG, 0b001, 0x50, 0x80F0_EFFC),
+        message(MSGD, 0b010, 0x7E, 0x1070 << 48),
+        message(MSG, 0b011, 0x19, 0),
+        message(MSGD, 0b011, 0x7F, 0),
+        message(MSG, 0b100, 0x20, 0),
+        message(MSG, 0b000, 0x18, 0),
     ] {
         script.header(&header);
     }
@@ -873,5 +886,5 @@ fn full_sheets(script: &mut Script) {
     let mut records: Vec<Record> = (0..257).map(Record::end).collect();
     records[200].registers[0x0E] = 5;
     records[256].id = 0;
-    put(script, "22 before 24 and 28", &records, &[request(MRD, 0)]);
+    put(script, "22 before 24 and 28", &records, &[request(MRD, 0), message(MSG, 0b011, 0x19, 0)]);
 }
