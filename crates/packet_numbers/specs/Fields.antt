@@ -8,16 +8,16 @@ use lib.ListN.{length, getD}
 use lib.Dec.{ltb}
 use Rattle.pairs.specs.declared.Kind.{Kind}
 use Rattle.pairs.specs.declared.Kind.the-variants.{Memory as MemoryKind, Io as IoKind, Config as ConfigKind, Completion as CompletionKind}
-use Rattle.pairs.specs.declared.Kind.the-variants.{Msg, MsgD, FetchAdd, Swap, Cas}
+use Rattle.pairs.specs.declared.Kind.the-variants.{Message as MessageKind, FetchAdd, Swap, Cas}
 use Rattle.pairs.specs.declared.Pair.{Pair}
 use Rattle.pairs.specs.declared.Pair.the-variants.{Carried, NotCarried, Unknown}
 use Rattle.pairs.specs.Pairs.{rowOf}
 use Rattle.packet.specs.declared.Packet.{Packet}
-use Rattle.packet.specs.declared.Packet.the-variants.{Memory, Io, Config, Completion}
+use Rattle.packet.specs.declared.Packet.the-variants.{Memory, Io, Config, Completion, Message}
 use Rattle.packet.specs.Fields.{kindOf, headOf}
 use Rattle.packet_numbers.specs.declared.Parsed.{Parsed}
 use Rattle.packet_numbers.specs.declared.Parsed.the-variants.{Accepted, Refused}
-use Rattle.packet_numbers.specs.Parsing.{size, lastKind, kindAt, byAddress, byTarget, completing, anyAbove}
+use Rattle.packet_numbers.specs.Parsing.{size, lastKind, kindAt, isReserved, byAddress, byTarget, completing, messaging, anyAbove}
 use Rattle.packet_numbers.specs.Parsing.{headFrom, enablesFrom, targetFrom, outcomeFrom, packetAs, onPair, onKind, fromKind, packetOf}
 
 -- anyAbove by places, as the parts of a packet are tested: some number before a place is too large, or one from it on
@@ -35,7 +35,7 @@ fieldsAs kind ns = packetAs (tooLarge kind ns) kind ns
 unfoldable pub fieldsOf : List ℕ → Parsed
 fieldsOf ns =
     cond (ltb (length ns) size) (Refused 11)
-    (cond (ltb lastKind (getD ns 0 0) || ltb 4 (getD ns 1 0)) (Refused 2) (fieldsAs (kindAt (getD ns 0 0)) ns))
+    (cond (ltb lastKind (getD ns 0 0) || ltb 4 (getD ns 1 0)) (Refused 2) (fieldsAs (kindAt (getD ns 0 0) (getD ns 10 0)) ns))
 
 -- ## The kind and form looked at afterwards
 
@@ -65,8 +65,18 @@ checked-kind (ConfigKind k) ns =
     checked-test (anyAbove byTarget ns) (rowOf (ConfigKind k) (getD ns 1 0)) (Config k (headFrom ns) (enablesFrom ns) (targetFrom ns)) refl
 checked-kind (CompletionKind k) ns =
     checked-test (anyAbove completing ns) (rowOf (CompletionKind k) (getD ns 1 0)) (Completion k (headFrom ns) (outcomeFrom ns)) refl
-checked-kind Msg ns = not-carried (rowOf Msg (getD ns 1 0))
-checked-kind MsgD ns = not-carried (rowOf MsgD (getD ns 1 0))
+checked-kind (MessageKind k routing) ns = go (isReserved (getD ns 10 0))
+  where
+    pair : Pair
+    pair = rowOf (MessageKind k routing) (getD ns 1 0)
+
+    p : Packet
+    p = Message k (headFrom ns) routing (getD ns 11 0) (getD ns 12 0)
+
+    go : (reserved : Bool) → onPair pair (cond reserved (Refused 2) (cond (anyAbove messaging ns) (Refused 10) (Accepted p)))
+        ≡ checked (cond reserved (Refused 2) (cond (anyAbove messaging ns) (onPair pair (Refused 10)) (Accepted p)))
+    go true = not-carried pair
+    go false = checked-test (anyAbove messaging ns) pair p refl
 checked-kind FetchAdd ns = not-carried (rowOf FetchAdd (getD ns 1 0))
 checked-kind Swap ns = not-carried (rowOf Swap (getD ns 1 0))
 checked-kind Cas ns = not-carried (rowOf Cas (getD ns 1 0))
@@ -76,7 +86,7 @@ unfolding packetOf fromKind onKind fieldsOf
 checked-fields ns = go (ltb (length ns) size) (ltb lastKind (getD ns 0 0) || ltb 4 (getD ns 1 0))
   where
     kind : Kind
-    kind = kindAt (getD ns 0 0)
+    kind = kindAt (getD ns 0 0) (getD ns 10 0)
 
     go : (few outside : Bool)
         → cond few (Refused 11) (cond outside (Refused 2) (onPair (rowOf kind (getD ns 1 0)) (packetAs (Refused 10) kind ns)))

@@ -12,7 +12,7 @@ use borrow.Author.Tests.{lt-ltb, le-ltb, ltb-false}
 use Rattle.lists.specs.BoolLaws.{false-of-or}
 use Rattle.pairs.specs.declared.Kind.{Kind}
 use Rattle.packet.specs.declared.Packet.{Packet}
-use Rattle.packet.specs.declared.Packet.the-variants.{Memory, Io, Config, Completion}
+use Rattle.packet.specs.declared.Packet.the-variants.{Memory, Io, Config, Completion, Message}
 use Rattle.packet_numbers.specs.declared.Parsed.the-variants.{Refused}
 use Rattle.packet_numbers.specs.Numbers.{numbersOf}
 use Rattle.packet_numbers.specs.Parsing.{size, lastKind, kindAt, headMost, mostOf, anyAbove, Within}
@@ -25,6 +25,7 @@ length-numbersOf (Memory k h e a) = refl
 length-numbersOf (Io k h e a) = refl
 length-numbersOf (Config k h e t) = refl
 length-numbersOf (Completion k h o) = refl
+length-numbersOf (Message k h routing code tail) = refl
 
 -- ## The test by parts, in the words of the code
 
@@ -88,6 +89,15 @@ none-of-within ms ns w = none-of-most ms ns (λ i h. rw (zero-add i) at (within-
 
 -- ## What numbers are taken for, in the words of the code
 
+-- n is none of the first k numbers
+abbrev pub NoneOf : ℕ → ℕ → Type 0
+NoneOf zero n = Unit
+NoneOf (suc k) n = NoneOf k n × (n ≡ k → ⊥)
+
+pub le-of-none : (k n : ℕ) → NoneOf k n → k ≤ n
+le-of-none zero n none = omega arith
+le-of-none (suc k) n none = let l = le-of-none k n (none .0) in let d = none .1 in omega (arith, l, d)
+
 pub too-few : (ns : List ℕ) → length ns < size → Refused 11 ≡ fieldsOf ns
 unfolding fieldsOf
 too-few ns h = rw (lt-ltb (length ns) size h)
@@ -97,7 +107,7 @@ module _ (ns : List ℕ) (enough : size ≤ length ns) where
   unfolding fieldsOf
   outside-list e = rw (le-ltb (length ns) size enough, e)
 
-  pub inside-list : ltb lastKind (getD ns 0 0) || ltb 4 (getD ns 1 0) ≡ false → (kind : Kind) → kind ≡ kindAt (getD ns 0 0)
+  pub inside-list : ltb lastKind (getD ns 0 0) || ltb 4 (getD ns 1 0) ≡ false → (kind : Kind) → kind ≡ kindAt (getD ns 0 0) (getD ns 10 0)
       → fieldsAs kind ns ≡ fieldsOf ns
   unfolding fieldsOf
   inside-list e kind named = rw (le-ltb (length ns) size enough, e, named)

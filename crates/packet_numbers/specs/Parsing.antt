@@ -1,6 +1,6 @@
--- What any numbers are taken for: fewer than twenty are 11, then a kind and form not carried 2, then a number too large for the
--- packet's field, or other than 0 where the kind has no such field, 10. Widths below those of the packet's fields are the packet's own
--- check. Assumes nothing.
+-- What any numbers are taken for: fewer than twenty are 11, then a kind and form not carried, or routing 6 or 7 of a message, 2, then a
+-- number too large for the packet's field, or other than 0 where the kind has no such field, 10. Widths below those of the packet's fields
+-- are the packet's own check. Assumes nothing.
 use Prim.Native.Nat.{ℕ, suc, _≤_}
 use mathlib.Core.Bool.{Bool, false, cond, _||_}
 use mathlib.Core.List.{List, [], _∷_, _++_}
@@ -8,11 +8,14 @@ use lib.ListN.{length, getD}
 use lib.Dec.{ltb, eqb}
 use Rattle.pairs.specs.declared.Kind.{Kind}
 use Rattle.pairs.specs.declared.Kind.the-variants.{Memory as MemoryKind, Io as IoKind, Config as ConfigKind, Completion as CompletionKind}
-use Rattle.pairs.specs.declared.Kind.the-variants.{Msg, MsgD, FetchAdd, Swap, Cas}
+use Rattle.pairs.specs.declared.Kind.the-variants.{Message as MessageKind, FetchAdd, Swap, Cas}
 use Rattle.pairs.specs.declared.MemoryKind.the-variants.{MRd, MRdLk, MWr}
 use Rattle.pairs.specs.declared.IoKind.the-variants.{IORd, IOWr}
 use Rattle.pairs.specs.declared.ConfigKind.the-variants.{CfgRd0, CfgWr0, CfgRd1, CfgWr1}
 use Rattle.pairs.specs.declared.CompletionKind.the-variants.{Cpl, CplD, CplLk, CplDLk}
+use Rattle.pairs.specs.declared.MessageKind.the-variants.{Msg, MsgD}
+use Rattle.pairs.specs.declared.MessageRouting.{MessageRouting}
+use Rattle.pairs.specs.declared.MessageRouting.the-variants.{ToRoot, ByAddress, ById, Broadcast, Local, Gathered}
 use Rattle.pairs.specs.declared.Pair.{Pair}
 use Rattle.pairs.specs.declared.Pair.the-variants.{Carried, NotCarried, Unknown}
 use Rattle.pairs.specs.Pairs.{rowOf}
@@ -20,7 +23,7 @@ use Rattle.packet.specs.declared.Head.{Head}
 use Rattle.packet.specs.declared.Enables.{Enables}
 use Rattle.packet.specs.declared.Target.{Target}
 use Rattle.packet.specs.declared.Outcome.{Outcome}
-use Rattle.packet.specs.declared.Packet.the-variants.{Memory, Io, Config, Completion}
+use Rattle.packet.specs.declared.Packet.the-variants.{Memory, Io, Config, Completion, Message}
 use Rattle.packet_numbers.specs.declared.Parsed.{Parsed}
 use Rattle.packet_numbers.specs.declared.Parsed.the-variants.{Accepted, Refused}
 use Rattle.packet_numbers.specs.Numbers.{absent}
@@ -31,25 +34,42 @@ size = 20
 
 -- ## The kind
 
--- in the order of their numbers
-unfoldable pub kinds : List Kind
-kinds =
+-- a message's routing, in the order of rrr
+unfoldable pub routings : List MessageRouting
+routings = ToRoot ∷ ByAddress ∷ ById ∷ Broadcast ∷ Local ∷ Gathered ∷ []
+
+-- past the list any: 6 and 7 are refused as reserved, later numbers as too large, whatever routing is taken
+unfoldable pub routingAt : ℕ → MessageRouting
+routingAt n = getD routings n ToRoot
+
+abbrev pub isReserved : ℕ → Bool
+isReserved n = eqb n 6 || eqb n 7
+
+-- in the order of their numbers, messages with their routing
+unfoldable pub kinds : MessageRouting → List Kind
+kinds routing =
     MemoryKind MRd ∷ MemoryKind MRdLk ∷ MemoryKind MWr
     ∷ IoKind IORd ∷ IoKind IOWr
     ∷ ConfigKind CfgRd0 ∷ ConfigKind CfgWr0 ∷ ConfigKind CfgRd1 ∷ ConfigKind CfgWr1
     ∷ CompletionKind Cpl ∷ CompletionKind CplD ∷ CompletionKind CplLk ∷ CompletionKind CplDLk
+    ∷ MessageKind Msg routing ∷ MessageKind MsgD routing
     ∷ []
 
 abbrev pub lastKind : ℕ
-lastKind = 12
+lastKind = 14
 
-unfoldable pub kindAt : ℕ → Kind
-kindAt n = getD kinds n (MemoryKind MRd)
+-- by the numbers at places 0 and 10
+unfoldable pub kindAt : ℕ → ℕ → Kind
+kindAt n routing = getD (kinds (routingAt routing)) n (MemoryKind MRd)
 
 -- ## The greatest numbers that a packet's fields hold
 
 abbrev pub flag : ℕ
 flag = 1
+
+-- rrr is three bits
+abbrev pub rrr : ℕ
+rrr = 7
 
 abbrev pub byte : ℕ
 byte = 255
@@ -68,6 +88,10 @@ headMost = byte ∷ byte ∷ flag ∷ flag ∷ byte ∷ word ∷ word ∷ word �
 abbrev pub requestMost : ℕ → ℕ → ℕ → List ℕ
 requestMost address target register = byte ∷ byte ∷ address ∷ target ∷ register ∷ []
 
+-- the same places of a message
+abbrev pub messageMost : List ℕ
+messageMost = rrr ∷ byte ∷ qword ∷ 0 ∷ 0 ∷ []
+
 -- places 15 to 19
 abbrev pub outcomeMost : List ℕ
 outcomeMost = word ∷ byte ∷ flag ∷ word ∷ byte ∷ []
@@ -84,6 +108,9 @@ byTarget = mostOf (requestMost 0 word word) absent
 
 abbrev pub completing : List ℕ
 completing = mostOf absent outcomeMost
+
+abbrev pub messaging : List ℕ
+messaging = mostOf messageMost absent
 
 -- some number is greater than the greatest at its place
 unfoldable pub anyAbove : List ℕ → List ℕ → Bool
@@ -136,8 +163,9 @@ packetAs large (MemoryKind k) ns = cond (anyAbove byAddress ns) large (Accepted 
 packetAs large (IoKind k) ns = cond (anyAbove byAddress ns) large (Accepted (Io k (headFrom ns) (enablesFrom ns) (getD ns 12 0)))
 packetAs large (ConfigKind k) ns = cond (anyAbove byTarget ns) large (Accepted (Config k (headFrom ns) (enablesFrom ns) (targetFrom ns)))
 packetAs large (CompletionKind k) ns = cond (anyAbove completing ns) large (Accepted (Completion k (headFrom ns) (outcomeFrom ns)))
-packetAs large Msg ns = Refused 2
-packetAs large MsgD ns = Refused 2
+packetAs large (MessageKind k routing) ns =
+    cond (isReserved (getD ns 10 0)) (Refused 2)
+    (cond (anyAbove messaging ns) large (Accepted (Message k (headFrom ns) routing (getD ns 11 0) (getD ns 12 0))))
 packetAs large FetchAdd ns = Refused 2
 packetAs large Swap ns = Refused 2
 packetAs large Cas ns = Refused 2
@@ -148,7 +176,7 @@ onPair NotCarried q = Refused 2
 onPair Unknown q = Refused 2
 
 unfoldable pub onKind : List ℕ → Parsed
-onKind ns = let kind = kindAt (getD ns 0 0) in onPair (rowOf kind (getD ns 1 0)) (packetAs (Refused 10) kind ns)
+onKind ns = let kind = kindAt (getD ns 0 0) (getD ns 10 0) in onPair (rowOf kind (getD ns 1 0)) (packetAs (Refused 10) kind ns)
 
 -- a kind or a form outside the list
 unfoldable pub fromKind : List ℕ → Parsed

@@ -2,10 +2,10 @@
 -- its numbers. Assumes nothing.
 use Prim.Native.Nat.{ℕ, zero, suc, _+_, _≤_, _<_}
 use native.Mathlib.Omega.{arith}
-use native.Mathlib.Nat.{add-zero, add-suc, suc-add}
+use native.Mathlib.Nat.{add-zero, zero-add, add-suc, suc-add}
 use mathlib.Core.Path.{_≡_, refl, sym, ap, _∙_}
 use mathlib.Core.Logic.{_⊎_, ⊎-elim}
-use mathlib.Core.Bool.{Bool, true, false, cond, _&&_, _||_, and-eq-true-iff}
+use mathlib.Core.Bool.{Bool, true, false, cond, _||_, false≢true}
 use mathlib.Core.List.{List, [], _∷_, _++_}
 use lib.ListN.{length, getD, take, drop, length-append}
 use lib.Seq.{drop-cons}
@@ -13,30 +13,35 @@ use lib.Dec.{ltb, eqb}
 use borrow.Author.Tests.{le-ltb, eqb-true, eqb-false, ltb-false}
 use Rattle.pairs.specs.declared.Kind.{Kind}
 use Rattle.pairs.specs.declared.Kind.the-variants.{Memory as MemoryKind, Io as IoKind, Config as ConfigKind, Completion as CompletionKind}
-use Rattle.pairs.specs.declared.Kind.the-variants.{Msg, MsgD, FetchAdd, Swap, Cas}
+use Rattle.pairs.specs.declared.Kind.the-variants.{Message as MessageKind, FetchAdd, Swap, Cas}
 use Rattle.pairs.specs.declared.MemoryKind.the-variants.{MRd, MRdLk, MWr}
 use Rattle.pairs.specs.declared.IoKind.the-variants.{IORd, IOWr}
 use Rattle.pairs.specs.declared.ConfigKind.the-variants.{CfgRd0, CfgWr0, CfgRd1, CfgWr1}
 use Rattle.pairs.specs.declared.CompletionKind.the-variants.{Cpl, CplD, CplLk, CplDLk}
+use Rattle.pairs.specs.declared.MessageKind.the-variants.{Msg, MsgD}
+use Rattle.pairs.specs.declared.MessageRouting.{MessageRouting}
+use Rattle.pairs.specs.declared.MessageRouting.the-variants.{ToRoot, ByAddress, ById, Broadcast, Local, Gathered}
 use Rattle.pairs.specs.declared.Row.{Row}
 use Rattle.pairs.specs.declared.Pair.{Pair}
 use Rattle.pairs.specs.declared.Pair.the-variants.{Carried, NotCarried, Unknown}
-use Rattle.pairs.specs.Pairs.{kindNumber, rowOf}
+use Rattle.pairs.specs.Pairs.{routingNumber, kindNumber, rowOf}
 use Rattle.pairs.specs.PairsLaws.{row-pair}
 use Rattle.packet.specs.declared.Head.{Head}
 use Rattle.packet.specs.declared.Packet.{Packet}
-use Rattle.packet.specs.declared.Packet.the-variants.{Memory, Io, Config, Completion}
+use Rattle.packet.specs.declared.Packet.the-variants.{Memory, Io, Config, Completion, Message}
 use Rattle.packet.specs.declared.Verdict.the-variants.{Lawful}
 use Rattle.packet.specs.Fields.{kindOf, headOf}
 use Rattle.packet.specs.Verdict.{verdictOf}
 use Rattle.packet.specs.Widths.{lengthFits}
 use Rattle.packet.specs.WidthsLaws.{length-in-elim, address-fits-elim, fields-fit-elim}
 use Rattle.packet.specs.VerdictLaws.{lawful-elim, head-of-lawful, memory-of-lawful, io-of-lawful, config-of-lawful, completion-of-lawful}
+use Rattle.packet.specs.VerdictLaws.{message-of-lawful}
 use Rattle.lists.specs.BoolLaws.{false-of-or}
 use Rattle.packet_numbers.specs.declared.Parsed.{Parsed}
 use Rattle.packet_numbers.specs.declared.Parsed.the-variants.{Accepted, Refused}
-use Rattle.packet_numbers.specs.Numbers.{bit, headNumbers, bodyNumbers, numbersOf}
-use Rattle.packet_numbers.specs.Parsing.{size, kinds, lastKind, kindAt, headMost, byAddress, byTarget, completing, anyAbove, Within}
+use Rattle.packet_numbers.specs.Numbers.{bit, messageCode, kindCode, headNumbers, bodyNumbers, numbersOf}
+use Rattle.packet_numbers.specs.Parsing.{size, routings, routingAt, isReserved, kinds, lastKind, kindAt}
+use Rattle.packet_numbers.specs.Parsing.{headMost, byAddress, byTarget, completing, messaging, anyAbove, Within}
 use Rattle.packet_numbers.specs.Parsing.{headFrom, enablesFrom, targetFrom, outcomeFrom, packetAs, onPair, onKind, fromKind, packetOf}
 use Rattle.packet_numbers.specs.NumbersLaws.{length-numbersOf, none-of-within, within-of-none}
 
@@ -57,49 +62,102 @@ bit-of n h = go (eqb n 1) refl
     go true e = sym (eqb-true n 1 e)
     go false e = omega (arith, eqb-false n 1 e)
 
--- a packet's kind stands in the list at its own number
-kind-read : (p : Packet) → (kindNumber (kindOf p) ≤ lastKind) × (kindAt (kindNumber (kindOf p)) ≡ kindOf p)
+-- a routing stands in the list at its own number
+routing-read : (routing : MessageRouting) → routingAt (routingNumber routing) ≡ routing
+unfolding routingAt routings
+routing-read ToRoot = refl
+routing-read ByAddress = refl
+routing-read ById = refl
+routing-read Broadcast = refl
+routing-read Local = refl
+routing-read Gathered = refl
+
+routing-not-reserved : (routing : MessageRouting) → isReserved (routingNumber routing) ≡ false
+routing-not-reserved ToRoot = refl
+routing-not-reserved ByAddress = refl
+routing-not-reserved ById = refl
+routing-not-reserved Broadcast = refl
+routing-not-reserved Local = refl
+routing-not-reserved Gathered = refl
+
+routing-most : (routing : MessageRouting) → routingNumber routing ≤ 7
+routing-most ToRoot = omega arith
+routing-most ByAddress = omega arith
+routing-most ById = omega arith
+routing-most Broadcast = omega arith
+routing-most Local = omega arith
+routing-most Gathered = omega arith
+
+-- a packet's kind stands in the list at its own number, and a message's with the routing at place 10
+kind-read : (p : Packet) (rest : List ℕ) → (kindCode p ≤ lastKind) × (kindAt (kindCode p) (getD (bodyNumbers p ++ rest) 0 0) ≡ kindOf p)
 unfolding kindAt kinds
-kind-read (Memory MRd h e a) = (omega arith, refl)
-kind-read (Memory MRdLk h e a) = (omega arith, refl)
-kind-read (Memory MWr h e a) = (omega arith, refl)
-kind-read (Io IORd h e a) = (omega arith, refl)
-kind-read (Io IOWr h e a) = (omega arith, refl)
-kind-read (Config CfgRd0 h e t) = (omega arith, refl)
-kind-read (Config CfgWr0 h e t) = (omega arith, refl)
-kind-read (Config CfgRd1 h e t) = (omega arith, refl)
-kind-read (Config CfgWr1 h e t) = (omega arith, refl)
-kind-read (Completion Cpl h o) = (omega arith, refl)
-kind-read (Completion CplD h o) = (omega arith, refl)
-kind-read (Completion CplLk h o) = (omega arith, refl)
-kind-read (Completion CplDLk h o) = (omega arith, refl)
+kind-read (Memory MRd h e a) rest = (omega arith, refl)
+kind-read (Memory MRdLk h e a) rest = (omega arith, refl)
+kind-read (Memory MWr h e a) rest = (omega arith, refl)
+kind-read (Io IORd h e a) rest = (omega arith, refl)
+kind-read (Io IOWr h e a) rest = (omega arith, refl)
+kind-read (Config CfgRd0 h e t) rest = (omega arith, refl)
+kind-read (Config CfgWr0 h e t) rest = (omega arith, refl)
+kind-read (Config CfgRd1 h e t) rest = (omega arith, refl)
+kind-read (Config CfgWr1 h e t) rest = (omega arith, refl)
+kind-read (Completion Cpl h o) rest = (omega arith, refl)
+kind-read (Completion CplD h o) rest = (omega arith, refl)
+kind-read (Completion CplLk h o) rest = (omega arith, refl)
+kind-read (Completion CplDLk h o) rest = (omega arith, refl)
+kind-read (Message Msg h routing code tail) rest = (omega arith, ap (MessageKind Msg) (routing-read routing))
+kind-read (Message MsgD h routing code tail) rest = (omega arith, ap (MessageKind MsgD) (routing-read routing))
 
--- the kinds from a number on are numbered so
-numbered : ℕ → List Kind → Bool
-numbered k [] = true
-numbered k (x ∷ xs) = eqb (kindNumber x) k && numbered (suc k) xs
+-- what stands at a number of the list has that number, and a message the list's routing
+abbrev Listed : MessageRouting → ℕ → Kind → Type 0
+Listed routing n (MemoryKind k) = kindNumber (MemoryKind k) ≡ n
+Listed routing n (IoKind k) = kindNumber (IoKind k) ≡ n
+Listed routing n (ConfigKind k) = kindNumber (ConfigKind k) ≡ n
+Listed routing n (CompletionKind k) = kindNumber (CompletionKind k) ≡ n
+Listed routing n (MessageKind k own) = (messageCode k ≡ n) × (own ≡ routing)
+Listed routing n FetchAdd = Unit
+Listed routing n Swap = Unit
+Listed routing n Cas = Unit
 
-numbered-at : (k : ℕ) (xs : List Kind) (d : Kind) → numbered k xs ≡ true → (i : ℕ) → i < length xs → kindNumber (getD xs i d) ≡ k + i
-unfolding numbered
-numbered-at k [] d e i h = absurd (omega arith)
-numbered-at k (x ∷ xs) d e zero h =
-    let both = and-eq-true-iff (eqb (kindNumber x) k) (numbered (suc k) xs) .0 e in
-    eqb-true (kindNumber x) k (both .0) ∙ sym (add-zero k)
-numbered-at k (x ∷ xs) d e (suc i) h =
-    let both = and-eq-true-iff (eqb (kindNumber x) k) (numbered (suc k) xs) .0 e in
-    numbered-at (suc k) xs d (both .1) i (omega arith) ∙ suc-add k i ∙ sym (add-suc k i)
+abbrev ListedFrom : MessageRouting → ℕ → List Kind → Type 0
+ListedFrom routing k [] = Unit
+ListedFrom routing k (x ∷ xs) = Listed routing k x × ListedFrom routing (suc k) xs
 
-kinds-numbered : numbered 0 kinds ≡ true
-unfolding numbered kinds
-kinds-numbered = refl
+listed-at : (routing : MessageRouting) (k : ℕ) (xs : List Kind) (d : Kind) → ListedFrom routing k xs → (i : ℕ) → i < length xs
+    → Listed routing (k + i) (getD xs i d)
+listed-at routing k [] d l i h = absurd (omega arith)
+listed-at routing k (x ∷ xs) d l zero h = rw (add-zero k) (l .0)
+listed-at routing k (x ∷ xs) d l (suc i) h = rw (add-suc k i, ← suc-add k i) (listed-at routing (suc k) xs d (l .1) i (omega arith))
 
-kinds-thirteen : length kinds ≡ 13
+messages-listed : (routing : MessageRouting) → ListedFrom routing 13 (MessageKind Msg routing ∷ MessageKind MsgD routing ∷ [])
+messages-listed routing = ((refl, refl), ((refl, refl), tt))
+
+kinds-listed : (routing : MessageRouting) → ListedFrom routing 0 (kinds routing)
 unfolding kinds
-kinds-thirteen = refl
+kinds-listed routing =
+    (refl, (refl, (refl, (refl, (refl, (refl, (refl, (refl, (refl, (refl, (refl, (refl, (refl, messages-listed routing)))))))))))))
 
-kind-written : (n : ℕ) → n ≤ lastKind → kindNumber (kindAt n) ≡ n
+kinds-fifteen : (routing : MessageRouting) → length (kinds routing) ≡ 15
+unfolding kinds
+kinds-fifteen routing = refl
+
+kind-written : (n routing : ℕ) → n ≤ lastKind → Listed (routingAt routing) n (kindAt n routing)
 unfolding kindAt
-kind-written n h = numbered-at 0 kinds (MemoryKind MRd) kinds-numbered n (omega (arith, kinds-thirteen)) ∙ (omega arith)
+kind-written n routing h =
+    let own = routingAt routing in
+    rw (zero-add n) at (listed-at own 0 (kinds own) (MemoryKind MRd) (kinds-listed own) n (omega (arith, kinds-fifteen own)))
+
+-- a number that fits and is not reserved is its routing's
+routing-written : (n : ℕ) → isReserved n ≡ false → n ≤ 7 → routingNumber (routingAt n) ≡ n
+unfolding routingAt routings
+routing-written zero e h = refl
+routing-written (suc zero) e h = refl
+routing-written (suc (suc zero)) e h = refl
+routing-written (suc (suc (suc zero))) e h = refl
+routing-written (suc (suc (suc (suc zero)))) e h = refl
+routing-written (suc (suc (suc (suc (suc zero))))) e h = refl
+routing-written (suc (suc (suc (suc (suc (suc zero)))))) e h = absurd (false≢true (sym e))
+routing-written (suc (suc (suc (suc (suc (suc (suc zero))))))) e h = absurd (false≢true (sym e))
+routing-written (suc (suc (suc (suc (suc (suc (suc (suc n)))))))) e h = absurd (omega arith)
 
 -- ## A packet's numbers are taken for the packet
 
@@ -121,6 +179,8 @@ length-of-fits (Completion Cpl h o) f = omega (arith, eqb-true (h .length) 0 f)
 length-of-fits (Completion CplD h o) f = length-in-elim (h .length) f .1
 length-of-fits (Completion CplLk h o) f = omega (arith, eqb-true (h .length) 0 f)
 length-of-fits (Completion CplDLk h o) f = length-in-elim (h .length) f .1
+length-of-fits (Message Msg h routing code tail) f = omega (arith, eqb-true (h .length) 0 f)
+length-of-fits (Message MsgD h routing code tail) f = length-in-elim (h .length) f .1
 
 length-most : (row : Row) (p : Packet) → verdictOf p ≡ Lawful row → headOf p .length ≤ 1024
 length-most row p l = length-of-fits p (fields-fit-elim p (lawful-elim row p l .fits) .length)
@@ -128,10 +188,10 @@ length-most row p l = length-of-fits p (fields-fit-elim p (lawful-elim row p l .
 -- ## A lawful packet's numbers are taken for the packet
 
 head-within : (row : Row) (p : Packet) → verdictOf p ≡ Lawful row
-    → Within 0 (lastKind ∷ 4 ∷ headMost) (headNumbers (kindNumber (kindOf p)) (headOf p))
+    → Within 0 (lastKind ∷ 4 ∷ headMost) (headNumbers (kindCode p) (headOf p))
 head-within row p l =
     let b = head-of-lawful row p l in
-    let kind = kind-read p .0 in
+    let kind = kind-read p [] .0 in
     let form = form-most row p l in
     let dwords = length-most row p l in
     let td = bit-most (headOf p .td) in
@@ -172,17 +232,25 @@ module _ (row : Row) (rest : List ℕ) where
       let n = kindNumber (CompletionKind k) in
       let after = bodyNumbers p ++ rest in
       rw (none-of-within completing (headNumbers n h ++ after) (omega arith), head-read n h after, bit-read (o .bcm))
+  taken (Message k h routing code tail) l =
+      let p = Message k h routing code tail in
+      let head = head-within row p l in
+      let b = message-of-lawful row k h routing code tail l in
+      let three = routing-most routing in
+      let n = messageCode k in
+      let after = bodyNumbers p ++ rest in
+      rw (routing-not-reserved routing, none-of-within messaging (headNumbers n h ++ after) (omega arith), head-read n h after)
 
   -- a lawful packet's numbers are taken for it, whatever follows them
   pub packet-of-numbers : (p : Packet) → verdictOf p ≡ Lawful row → packetOf (numbersOf p ++ rest) ≡ Accepted p
   unfolding packetOf fromKind onKind numbersOf
   packet-of-numbers p l =
       let head = head-within row p l in
-      let kind = kind-read p in
+      let kind = kind-read p rest in
       let enough : 20 ≤ length (numbersOf p ++ rest) = omega (arith, length-append (numbersOf p) rest, length-numbersOf p) in
       rw (
         le-ltb (length (numbersOf p ++ rest)) 20 enough,
-        le-ltb lastKind (kindNumber (kindOf p)) (kind .0),
+        le-ltb lastKind (kindCode p) (kind .0),
         le-ltb 4 (headOf p .form) (omega arith),
         kind .1,
         lawful-elim row p l .carried,
@@ -213,7 +281,7 @@ zero-at : (ns : List ℕ) (i : ℕ) → getD ns i 0 ≤ 0 → getD ns i 0 ≡ 0
 zero-at ns i h = omega arith
 
 module _ (ns : List ℕ) (enough : size ≤ length ns) where
-  given : (kind : Kind) (p : Packet) → kindNumber kind ≡ getD ns 0 0 → packetAs (Refused 10) kind ns ≡ Accepted p
+  given : (kind : Kind) (p : Packet) → Listed (routingAt (getD ns 10 0)) (getD ns 0 0) kind → packetAs (Refused 10) kind ns ≡ Accepted p
       → numbersOf p ≡ gets size 0 ns
   unfolding numbersOf headFrom enablesFrom targetFrom outcomeFrom
   given (MemoryKind k) p n e =
@@ -265,13 +333,27 @@ module _ (ns : List ℕ) (enough : size ≤ length ns) where
         zero-at ns 13 (omega arith),
         zero-at ns 14 (omega arith),
       ))
-  given Msg p n e = absurd (let z : _≡_ {A = ℕ} 0 1 = cc in omega arith)
-  given MsgD p n e = absurd (let z : _≡_ {A = ℕ} 0 1 = cc in omega arith)
+  given (MessageKind k routing) p n e =
+      let packet = Message k (headFrom ns) routing (getD ns 11 0) (getD ns 12 0) in
+      let r = past (isReserved (getD ns 10 0)) 2 (cond (anyAbove messaging ns) (Refused 10) (Accepted packet)) p e in
+      let q = passed (anyAbove messaging ns) 10 packet p (r .1) in
+      let w = within-of-none messaging ns (q .0) enough in
+      let own : routingNumber routing ≡ getD ns 10 0 = ap routingNumber (n .1) ∙ routing-written (getD ns 10 0) (r .0) (omega arith) in
+      rw (← q .1, n .0, own, bit-of (getD ns 4 0) (omega arith), bit-of (getD ns 5 0) (omega arith))
+      (rw (
+        zero-at ns 13 (omega arith),
+        zero-at ns 14 (omega arith),
+        zero-at ns 15 (omega arith),
+        zero-at ns 16 (omega arith),
+        zero-at ns 17 (omega arith),
+        zero-at ns 18 (omega arith),
+        zero-at ns 19 (omega arith),
+      ))
   given FetchAdd p n e = absurd (let z : _≡_ {A = ℕ} 0 1 = cc in omega arith)
   given Swap p n e = absurd (let z : _≡_ {A = ℕ} 0 1 = cc in omega arith)
   given Cas p n e = absurd (let z : _≡_ {A = ℕ} 0 1 = cc in omega arith)
 
-  given-by-pair : (pair : Pair) (kind : Kind) (p : Packet) → kindNumber kind ≡ getD ns 0 0
+  given-by-pair : (pair : Pair) (kind : Kind) (p : Packet) → Listed (routingAt (getD ns 10 0)) (getD ns 0 0) kind
       → onPair pair (packetAs (Refused 10) kind ns) ≡ Accepted p → numbersOf p ≡ gets size 0 ns
   given-by-pair (Carried row) kind p n e = given kind p n e
   given-by-pair NotCarried kind p n e = absurd (let z : _≡_ {A = ℕ} 0 1 = cc in omega arith)
@@ -286,6 +368,6 @@ numbers-of-packet ns p e =
     let outside = ltb lastKind (getD ns 0 0) || ltb 4 (getD ns 1 0) in
     let k = past outside 2 (onKind ns) p (l .1) in
     let inside = ltb-false lastKind (getD ns 0 0) (false-of-or (ltb lastKind (getD ns 0 0)) (ltb 4 (getD ns 1 0)) (k .0) .0) in
-    let kind = kindAt (getD ns 0 0) in
-    let written = kind-written (getD ns 0 0) inside in
+    let kind = kindAt (getD ns 0 0) (getD ns 10 0) in
+    let written = kind-written (getD ns 0 0) (getD ns 10 0) inside in
     (enough, given-by-pair ns enough (rowOf kind (getD ns 1 0)) kind p written (k .1) ∙ sym (take-gets size 0 ns enough))

@@ -1,16 +1,19 @@
 // A packet as twenty numbers, for callers that have no enums: kind, form, TC, Attr, TD, EP, AT, Length, requester, tag, last enables,
-// first enables, address, target, register, completer, status, BCM, byte count, lower address. A field that the kind does not have is 0.
+// first enables, address, target, register, completer, status, BCM, byte count, lower address. A message has its routing, its code and its
+// bytes 8 to 15 where a request has its enables and its address. A field that the kind does not have is 0.
 ghost use mathlib.Core.Path.{_≡_};
 ghost use mathlib.Core.Bool.{false};
 ghost use mathlib.Core.List.{[], _∷_, _++_};
 ghost use Prim.Native.Nat.{_+_, _≤_};
 ghost use lib.ListN.{length, getD};
 ghost use lib.Seq.{sets};
-ghost use Rattle.packet_numbers.specs.Numbers.{bit as bitOf, headNumbers, requestNumbers, outcomeNumbers, absent, numbersOf};
-ghost use Rattle.packet_numbers.specs.Parsing.{byte, word, lastKind, headMost, requestMost, outcomeMost, byAddress, byTarget};
-ghost use Rattle.packet_numbers.specs.Parsing.{completing};
-ghost use Rattle.packet_numbers.specs.Parsing.{kindAt, anyAbove, Within, headFrom, enablesFrom, targetFrom, outcomeFrom};
+ghost use Rattle.packet_numbers.specs.Numbers.{bit as bitOf, messageCode, headNumbers, requestNumbers, messageNumbers};
+ghost use Rattle.packet_numbers.specs.Numbers.{outcomeNumbers, absent, numbersOf};
+ghost use Rattle.packet_numbers.specs.Parsing.{byte, word, lastKind, headMost, requestMost, messageMost, outcomeMost};
+ghost use Rattle.packet_numbers.specs.Parsing.{byAddress, byTarget, completing, messaging, isReserved, routingAt, kindAt};
+ghost use Rattle.packet_numbers.specs.Parsing.{anyAbove, Within, headFrom, enablesFrom, targetFrom, outcomeFrom};
 ghost use Rattle.packet_numbers.specs.Fields.{orAbove, tooLarge, fieldsAs, fieldsOf};
+ghost use Rattle.pairs.specs.declared.Kind.the-variants.{Message as MessageOf};
 use packet::Enables;
 use packet::Head;
 use packet::Outcome;
@@ -21,6 +24,8 @@ use pairs::ConfigKind;
 use pairs::IoKind;
 use pairs::Kind;
 use pairs::MemoryKind;
+use pairs::MessageKind;
+use pairs::MessageRouting;
 use pairs::Pair;
 
 // Numbers that were taken for a packet, or the number of the first check that they fail.
@@ -32,10 +37,12 @@ pub enum Parsed {
 // How many numbers a packet has.
 pub const SIZE: usize = 20;
 
-const LAST_KIND: u64 = 12;
+const LAST_KIND: u64 = 14;
 
 // The greatest number that each type of field holds.
 const FLAG: u64 = 1;
+
+const RRR: u64 = 7;
 
 const BYTE: u64 = 255;
 
@@ -46,8 +53,8 @@ const QWORD: u64 = 18446744073709551615;
 // ---- numbers to a packet
 
 // The packet that the first twenty numbers are, for the writer, which looks at the kind and form itself: 11 for fewer, 2 for a kind or
-// a form outside the list, 10 for a number too large for its field or in a field that the kind does not have. Later numbers are not
-// looked at.
+// a form outside the list or a message's routing that is reserved, 10 for a number too large for its field or in a field that the kind
+// does not have. Later numbers are not looked at.
 pub fn fields_of(numbers: &[u64]) -> Parsed
     ensures { λ r. ⌜ r ≡ fieldsOf (now (numbers .entry)) ⌝ }
 {
@@ -57,13 +64,13 @@ pub fn fields_of(numbers: &[u64]) -> Parsed
     if (LAST_KIND < numbers[0]) | (4 < numbers[1]) {
         return Parsed::Refused(2);
     }
-    fields_as(kind_at(numbers[0] as usize), numbers)
+    fields_as(kind_at(numbers[0] as usize, numbers[10] as usize), numbers)
 }
 
 // The kinds in the order of their numbers.
-fn kind_at(n: usize) -> Kind
-    requires { ⌜ n ≤ 12 ⌝ }
-    ensures { λ r. ⌜ r ≡ kindAt n ⌝ }
+fn kind_at(n: usize, routing: usize) -> Kind
+    requires { ⌜ n ≤ 14 ⌝ }
+    ensures { λ r. ⌜ r ≡ kindAt n routing ⌝ }
 {
     match n {
         0 => Kind::Memory(MemoryKind::MRd),
@@ -78,7 +85,23 @@ fn kind_at(n: usize) -> Kind
         9 => Kind::Completion(CompletionKind::Cpl),
         10 => Kind::Completion(CompletionKind::CplD),
         11 => Kind::Completion(CompletionKind::CplLk),
-        _ => Kind::Completion(CompletionKind::CplDLk),
+        12 => Kind::Completion(CompletionKind::CplDLk),
+        13 => Kind::Message(MessageKind::Msg, routing_at(routing)),
+        _ => Kind::Message(MessageKind::MsgD, routing_at(routing)),
+    }
+}
+
+fn routing_at(n: usize) -> MessageRouting
+    ensures { λ r. ⌜ r ≡ routingAt n ⌝ }
+{
+    match n {
+        0 => MessageRouting::ToRoot,
+        1 => MessageRouting::ByAddress,
+        2 => MessageRouting::ById,
+        3 => MessageRouting::Broadcast,
+        4 => MessageRouting::Local,
+        5 => MessageRouting::Gathered,
+        _ => MessageRouting::ToRoot,
     }
 }
 
@@ -121,12 +144,36 @@ fn fields_as(kind: Kind, numbers: &[u64]) -> Parsed
             }
             Parsed::Accepted(Packet::Completion(k, head_from(numbers), outcome_from(numbers)))
         }
-        Kind::Msg => Parsed::Refused(2),
-        Kind::MsgD => Parsed::Refused(2),
+        Kind::Message(k, routing) => message_as(k, routing, numbers),
         Kind::FetchAdd => Parsed::Refused(2),
         Kind::Swap => Parsed::Refused(2),
         Kind::Cas => Parsed::Refused(2),
     }
+}
+
+fn message_as(k: MessageKind, routing: MessageRouting, numbers: &[u64]) -> Parsed
+    requires { ⌜ (20 ≤ length (now numbers)) × (getD (now numbers) 1 0 ≤ 4) ⌝ }
+    ensures { λ r. ⌜ r ≡ fieldsAs (MessageOf k routing) (now (numbers .entry)) ⌝ }
+{
+    if is_reserved(numbers[10]) {
+        return Parsed::Refused(2);
+    }
+    if above_messaging(numbers) {
+        return too_large(Kind::Message(k, routing), numbers);
+    }
+    Parsed::Accepted(Packet::Message(
+        k,
+        head_from(numbers),
+        routing,
+        numbers[11] as u8,
+        numbers[12],
+    ))
+}
+
+fn is_reserved(routing: u64) -> bool
+    ensures { λ r. ⌜ r ≡ isReserved routing ⌝ }
+{
+    (routing == 6) | (routing == 7)
 }
 
 // A kind and form not carried come before a number too large.
@@ -164,6 +211,13 @@ fn above_completing(numbers: &[u64]) -> bool
     head_above(numbers) | request_given(numbers) | outcome_above(numbers)
 }
 
+fn above_messaging(numbers: &[u64]) -> bool
+    requires { ⌜ 20 ≤ length (now numbers) ⌝ }
+    ensures { λ r. ⌜ r ≡ anyAbove messaging (now (numbers .entry)) ⌝ }
+{
+    head_above(numbers) | message_above(numbers) | outcome_given(numbers)
+}
+
 // The tests are joined with no branch between them.
 fn head_above(numbers: &[u64]) -> bool
     requires { ⌜ 20 ≤ length (now numbers) ⌝ }
@@ -190,6 +244,17 @@ fn request_above(numbers: &[u64], address: u64, target: u64, register: u64) -> b
         | (address < numbers[12])
         | (target < numbers[13])
         | (register < numbers[14])
+}
+
+fn message_above(numbers: &[u64]) -> bool
+    requires { ⌜ 20 ≤ length (now numbers) ⌝ }
+    ensures { λ r. ⌜ r ≡ orAbove false 10 messageMost (now (numbers .entry)) ⌝ }
+{
+    (RRR < numbers[10])
+        | (BYTE < numbers[11])
+        | (QWORD < numbers[12])
+        | (0 < numbers[13])
+        | (0 < numbers[14])
 }
 
 fn request_given(numbers: &[u64]) -> bool
@@ -285,43 +350,36 @@ pub fn put_packet(out: &mut [u64], at: usize, p: Packet)
     ensures { λ _. ⌜ now (out .exit) ≡ sets (now (out .entry)) at (numbersOf p) ⌝ }
 {
     match p {
-        Packet::Memory(k, h, e, a) => put_request(
-            out,
-            at,
-            pairs::kind_number(Kind::Memory(k)),
-            h,
-            e,
-            a,
-            0,
-            0,
-        ),
-        Packet::Io(k, h, e, a) => put_request(
-            out,
-            at,
-            pairs::kind_number(Kind::Io(k)),
-            h,
-            e,
-            a,
-            0,
-            0,
-        ),
-        Packet::Config(k, h, e, t) => put_request(
-            out,
-            at,
-            pairs::kind_number(Kind::Config(k)),
-            h,
-            e,
-            0,
-            t.id as u64,
-            t.register as u64,
-        ),
-        Packet::Completion(k, h, o) => put_completion(
-            out,
-            at,
-            pairs::kind_number(Kind::Completion(k)),
-            h,
-            o,
-        ),
+        Packet::Memory(k, h, e, a) => {
+            let kind = pairs::kind_number(Kind::Memory(k));
+            put_request(out, at, kind, h, e, a, 0, 0)
+        }
+        Packet::Io(k, h, e, a) => {
+            let kind = pairs::kind_number(Kind::Io(k));
+            put_request(out, at, kind, h, e, a, 0, 0)
+        }
+        Packet::Config(k, h, e, t) => {
+            let kind = pairs::kind_number(Kind::Config(k));
+            put_request(out, at, kind, h, e, 0, t.id as u64, t.register as u64)
+        }
+        Packet::Completion(k, h, o) => {
+            let kind = pairs::kind_number(Kind::Completion(k));
+            put_completion(out, at, kind, h, o)
+        }
+        Packet::Message(k, h, routing, code, tail) => {
+            let kind = message_code(k);
+            put_message(out, at, kind, h, routing, code, tail)
+        }
+    }
+}
+
+// A message's number, whatever its routing.
+fn message_code(k: MessageKind) -> u8
+    ensures { λ r. ⌜ r ≡ messageCode k ⌝ }
+{
+    match k {
+        MessageKind::Msg => 13,
+        MessageKind::MsgD => 14,
     }
 }
 
@@ -376,6 +434,24 @@ fn put_completion(out: &mut [u64], at: usize, kind: u8, h: Head, o: Outcome)
 {
     put_head(out, at, kind, h);
     put_outcome(out, at + 10, o);
+}
+
+fn put_message(
+    out: &mut [u64],
+    at: usize,
+    kind: u8,
+    h: Head,
+    routing: MessageRouting,
+    code: u8,
+    tail: u64,
+)
+    requires { ⌜ at + 20 ≤ length (now out) ⌝ }
+    ensures { λ _. ⌜ now (out .exit) ≡ sets (now (out .entry)) at (headNumbers kind h ++ (messageNumbers routing code tail ++ absent)) ⌝ }
+{
+    let rrr = pairs::routing_number(routing);
+    put_head(out, at, kind, h);
+    put_five(out, at + 10, rrr as u64, code as u64, tail, 0, 0);
+    put_five(out, at + 15, 0, 0, 0, 0, 0);
 }
 
 // Enables, address, target and register of a request.

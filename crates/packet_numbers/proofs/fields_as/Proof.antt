@@ -36,8 +36,8 @@ enables-from-requires c κs =
     let w = within-of-none byAddress (tested .before .before .before .before .before .args .numbers .now) none (omega arith) in
     omega arith
 
-shared-slice-read-t12 : tie.Need-shared-slice-read-t12
-shared-slice-read-t12 c = search needs
+shared-slice-read-t14 : tie.Need-shared-slice-read-t14
+shared-slice-read-t14 c = search needs
 
 enum-known-kind-2 : tie.Need-enum-known-kind-2
 enum-known-kind-2 c = search needs
@@ -67,8 +67,8 @@ enables-from-requires-2 c κs =
     let w = within-of-none byAddress (tested .before .before .before .before .before .args .numbers .now) none (omega arith) in
     omega arith
 
-shared-slice-read-t18 : tie.Need-shared-slice-read-t18
-shared-slice-read-t18 c = search needs
+shared-slice-read-t20 : tie.Need-shared-slice-read-t20
+shared-slice-read-t20 c = search needs
 
 enum-known-kind-3 : tie.Need-enum-known-kind-3
 enum-known-kind-3 c = search needs
@@ -133,6 +133,12 @@ outcome-from-requires c κs =
     let w = within-of-none completing (tested .before .before .before .before .before .args .numbers .now) none (omega arith) in
     omega arith
 
+enum-known-kind-5 : tie.Need-enum-known-kind-5
+enum-known-kind-5 c = search needs
+
+message-as-requires : tie.Need-message-as-requires
+message-as-requires c κs = search needs
+
 enum-told : tie.Need-enum-told
 enum-told c = search needs
 
@@ -141,12 +147,6 @@ enum-told-2 c = search needs
 
 enum-told-3 : tie.Need-enum-told-3
 enum-told-3 c = search needs
-
-enum-told-4 : tie.Need-enum-told-4
-enum-told-4 c = search needs
-
-enum-told-5 : tie.Need-enum-told-5
-enum-told-5 c = search needs
 
 returns-5 : tie.Need-returns-5
 returns-5 c =
@@ -183,19 +183,16 @@ returns-8 c =
     rw (inside .before .before .before .kind4 .given .1, none, head .head-from4 .ensures, c .outcome-from .ensures)
 
 returns-9 : tie.Need-returns-9
-returns-9 c = rw (c .enum-told .given .1)
+returns-9 c = rw (c .before .before .kind5 .given .1) (c .message-as .ensures)
 
 returns-10 : tie.Need-returns-10
-returns-10 c = rw (c .enum-told2 .given .1)
+returns-10 c = rw (c .enum-told .given .1)
 
 returns-11 : tie.Need-returns-11
-returns-11 c = rw (c .enum-told3 .given .1)
+returns-11 c = rw (c .enum-told2 .given .1)
 
 returns-12 : tie.Need-returns-12
-returns-12 c = rw (c .enum-told4 .given .1)
-
-returns-13 : tie.Need-returns-13
-returns-13 c = rw (c .enum-told5 .given .1)
+returns-12 c = rw (c .enum-told3 .given .1)
 
 pub fields-as-spec : {M : Type 1} → statement M
 fields-as-spec =
@@ -207,14 +204,14 @@ fields-as-spec =
     returns
     head-from-requires
     enables-from-requires
-    shared-slice-read-t12
+    shared-slice-read-t14
     enum-known-kind-2
     above-by-address-requires-2
     too-large-requires-2
     returns-2
     head-from-requires-2
     enables-from-requires-2
-    shared-slice-read-t18
+    shared-slice-read-t20
     enum-known-kind-3
     above-by-target-requires
     too-large-requires-3
@@ -228,11 +225,11 @@ fields-as-spec =
     returns-4
     head-from-requires-4
     outcome-from-requires
+    enum-known-kind-5
+    message-as-requires
     enum-told
     enum-told-2
     enum-told-3
-    enum-told-4
-    enum-told-5
     returns-5
     returns-6
     returns-7
@@ -240,5 +237,4 @@ fields-as-spec =
     returns-9
     returns-10
     returns-11
-    returns-12
-    returns-13)
+    returns-12)

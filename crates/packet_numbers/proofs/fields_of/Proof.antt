@@ -8,6 +8,7 @@ use mathlib.Core.Path.{_∙_}
 use native.Mathlib.Omega.{arith}
 use Rattle.lists.specs.BoolLaws.{false-of-or}
 use Rattle.packet_numbers.specs.NumbersLaws.{too-few, outside-list, inside-list}
+use Rattle.packet_numbers.specs.Parsing.{lastKind}
 use Rattle.packet_numbers.proofs.fields_of.Statement.{statement}
 use Rattle.packet_numbers.proofs.fields_of.Tie as tie
 
@@ -28,20 +29,23 @@ returns-2 c =
 shared-slice-read-kind-at : tie.Need-shared-slice-read-kind-at
 shared-slice-read-kind-at c = search needs
 
+shared-slice-read-kind-at-2 : tie.Need-shared-slice-read-kind-at-2
+shared-slice-read-kind-at-2 c = search needs
+
 kind-at-requires : tie.Need-kind-at-requires
-kind-at-requires c κs = ltb-false _ _ (false-of-or _ _ (c .before .if2 .left) .0)
+kind-at-requires c κs = ltb-false _ _ (false-of-or _ _ (c .before .before .if2 .left) .0)
 
 fields-as-requires : tie.Need-fields-as-requires
 fields-as-requires c κs =
-    let args = c .before .before .before .before .before .before .before .args in
+    let args = c .before .before .before .before .before .before .before .before .args in
     let ns = args .numbers .now in
-    let inside = false-of-or (ltb 12 (getD ns 0 0)) (ltb 4 (getD ns 1 0)) (c .before .before .if2 .left) in
+    let inside = false-of-or (ltb lastKind (getD ns 0 0)) (ltb 4 (getD ns 1 0)) (c .before .before .before .if2 .left) in
     (omega arith, ltb-false 4 (getD ns 1 0) (inside .1))
 
 returns-3 : tie.Need-returns-3
 returns-3 c =
     let named = c .before .kind-at in
-    let inside = c .before .before .before in
+    let inside = c .before .before .before .before in
     let enough = inside .before .before .before in
     c .fields-as .ensures
     ∙ inside-list (enough .before .before .args .numbers .now) (enough .if1 .left) (inside .if2 .left) (named .result) (named .ensures)
@@ -55,6 +59,7 @@ fields-of-spec =
     shared-slice-read-if2-2
     returns-2
     shared-slice-read-kind-at
+    shared-slice-read-kind-at-2
     kind-at-requires
     fields-as-requires
     returns-3)

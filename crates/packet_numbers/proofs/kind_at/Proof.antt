@@ -1,10 +1,17 @@
 -- `packet_numbers::kind_at` meets its contract: each arm is its place in the list of `specs/`, computed. Assumes nothing.
-use Prim.Native.Nat.{ℕ, zero, suc, _≤_}
+use borrow.Author.Needs.{needs}
 use mathlib.Core.Path.{_≡_}
 use native.Mathlib.Omega.{arith}
+use Rattle.packet_numbers.specs.NumbersLaws.{le-of-none}
 use Rattle.packet_numbers.specs.Parsing.{kinds, kindAt}
 use Rattle.packet_numbers.proofs.kind_at.Statement.{statement}
 use Rattle.packet_numbers.proofs.kind_at.Tie as tie
+
+routing-at-requires : tie.Need-routing-at-requires
+routing-at-requires c κs = search needs
+
+routing-at-requires-2 : tie.Need-routing-at-requires-2
+routing-at-requires-2 c κs = search needs
 
 returns : tie.Need-returns
 unfolding kindAt kinds
@@ -54,23 +61,27 @@ returns-12 : tie.Need-returns-12
 unfolding kindAt kinds
 returns-12 c = rw (c .match .keys12)
 
--- n is none of the first k numbers
-abbrev NoneOf : ℕ → ℕ → Type 0
-NoneOf zero n = Unit
-NoneOf (suc k) n = NoneOf k n × (n ≡ k → ⊥)
-
-le-of-none : (k n : ℕ) → NoneOf k n → k ≤ n
-le-of-none zero n none = omega arith
-le-of-none (suc k) n none = let l = le-of-none k n (none .0) in let d = none .1 in omega (arith, l, d)
-
 returns-13 : tie.Need-returns-13
 unfolding kindAt kinds
-returns-13 c = let e : c .before .args .n ≡ 12 = omega (arith, le-of-none 12 (c .before .args .n) (c .match .rest), c .before .pre) in rw e
+returns-13 c = rw (c .match .keys13)
+
+returns-14 : tie.Need-returns-14
+unfolding kindAt kinds
+returns-14 c = rw (c .before .match .keys14, c .routing-at .ensures)
+
+returns-15 : tie.Need-returns-15
+unfolding kindAt kinds
+returns-15 c =
+    let entry = c .before .before in
+    let e : entry .args .n ≡ 14 = omega (arith, le-of-none 14 (entry .args .n) (c .before .match .rest), entry .pre) in
+    rw (e, c .routing-at2 .ensures)
 
 pub kind-at-spec : {M : Type 1} → statement M
 kind-at-spec =
     tie.close
     (tie.spec
+    routing-at-requires
+    routing-at-requires-2
     returns
     returns-2
     returns-3
@@ -83,4 +94,6 @@ kind-at-spec =
     returns-10
     returns-11
     returns-12
-    returns-13)
+    returns-13
+    returns-14
+    returns-15)

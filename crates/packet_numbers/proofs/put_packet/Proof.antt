@@ -46,6 +46,15 @@ kind-number-requires-4 c κs = search needs
 put-completion-requires : tie.Need-put-completion-requires
 put-completion-requires c κs = search needs
 
+enum-known-p-5 : tie.Need-enum-known-p-5
+enum-known-p-5 c = search needs
+
+message-code-requires : tie.Need-message-code-requires
+message-code-requires c κs = search needs
+
+put-message-requires : tie.Need-put-message-requires
+put-message-requires c κs = search needs
+
 same-length : tie.Need-same-length
 same-length c = search needs
 
@@ -53,7 +62,7 @@ returns : tie.Need-returns
 unfolding numbersOf
 returns c =
     let call = c .before .before in
-    let number = call .before .kind-number .ensures in
+    let number = call .before .before .kind-number .ensures in
     rw (call .before .before .before .before .p .given .1) (rw number at (call .put-request .ensures))
 
 same-length-2 : tie.Need-same-length-2
@@ -63,7 +72,7 @@ returns-2 : tie.Need-returns-2
 unfolding numbersOf
 returns-2 c =
     let call = c .before .before in
-    let number = call .before .kind-number2 .ensures in
+    let number = call .before .before .kind-number2 .ensures in
     rw (call .before .before .before .before .p2 .given .1) (rw number at (call .put-request2 .ensures))
 
 same-length-3 : tie.Need-same-length-3
@@ -73,7 +82,7 @@ returns-3 : tie.Need-returns-3
 unfolding numbersOf
 returns-3 c =
     let call = c .before .before in
-    let number = call .before .before .before .kind-number3 .ensures in
+    let number = call .before .before .before .before .kind-number3 .ensures in
     rw (call .before .before .before .before .before .before .p3 .given .1) (rw number at (call .put-request3 .ensures))
 
 same-length-4 : tie.Need-same-length-4
@@ -83,8 +92,18 @@ returns-4 : tie.Need-returns-4
 unfolding numbersOf
 returns-4 c =
     let call = c .before .before in
-    let number = call .before .kind-number4 .ensures in
+    let number = call .before .before .kind-number4 .ensures in
     rw (call .before .before .before .before .p4 .given .1) (rw number at (call .put-completion .ensures))
+
+same-length-5 : tie.Need-same-length-5
+same-length-5 c = search needs
+
+returns-5 : tie.Need-returns-5
+unfolding numbersOf
+returns-5 c =
+    let call = c .before .before in
+    let number = call .before .before .message-code .ensures in
+    rw (call .before .before .before .before .p5 .given .1) (rw number at (call .put-message .ensures))
 
 pub put-packet-spec : {M : Type 1} → statement M
 put-packet-spec =
@@ -104,6 +123,9 @@ put-packet-spec =
     enum-known-p-4
     kind-number-requires-4
     put-completion-requires
+    enum-known-p-5
+    message-code-requires
+    put-message-requires
     same-length
     returns
     same-length-2
@@ -111,4 +133,6 @@ put-packet-spec =
     same-length-3
     returns-3
     same-length-4
-    returns-4)
+    returns-4
+    same-length-5
+    returns-5)
