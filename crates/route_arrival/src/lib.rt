@@ -1,20 +1,31 @@
 // A packet on its way: what it is looked for by, whether its configuration type is wrong, and how it arrives.
 ghost use mathlib.Core.Path.{_≡_};
-ghost use Rattle.route_arrival.specs.Arrival.{aimOf, kindWrong, typeWrong, lastKind, arrived as arrivedOf};
+ghost use Rattle.route_arrival.specs.Arrival.{idIn, headingOf, messageHeading, kindWrong, typeWrong, lastKind, arrived as arrivedOf};
 use claims::Aim;
 use packet::Packet;
 use pairs::ConfigKind;
+use pairs::MessageRouting;
 use pools::Space;
 
-// Memory and I/O go by their start address, the others by ID. A completion's is its requester.
-pub fn aim_of(p: Packet) -> Aim
-    ensures { λ r. ⌜ r ≡ aimOf p ⌝ }
+// Where a packet from the host is headed: for who has an address or an ID, up only, to every function, or for the port it came in by.
+pub enum Heading {
+    Aimed(Aim),
+    Up,
+    Every,
+    Port,
+}
+
+// Memory and I/O go by their start address, configuration and completions by ID, messages by their routing. A completion's ID is its
+// requester.
+pub fn heading_of(p: Packet) -> Heading
+    ensures { λ r. ⌜ r ≡ headingOf p ⌝ }
 {
     match p {
-        Packet::Memory(_, _, _, a) => Aim::Address(Space::Memory, a),
-        Packet::Io(_, _, _, a) => Aim::Address(Space::Io, a),
-        Packet::Config(_, _, _, t) => Aim::Id(t.id),
-        Packet::Completion(_, h, _) => Aim::Id(h.requester),
+        Packet::Memory(_, _, _, a) => Heading::Aimed(Aim::Address(Space::Memory, a)),
+        Packet::Io(_, _, _, a) => Heading::Aimed(Aim::Address(Space::Io, a)),
+        Packet::Config(_, _, _, t) => Heading::Aimed(Aim::Id(t.id)),
+        Packet::Completion(_, h, _) => Heading::Aimed(Aim::Id(h.requester)),
+        Packet::Message(_, _, routing, _, tail) => message_heading(routing, tail),
     }
 }
 
@@ -27,6 +38,7 @@ pub fn type_wrong(p: Packet, root: u8) -> bool
         Packet::Io(_, _, _, _) => false,
         Packet::Config(k, _, _, t) => kind_wrong(k, t.id / 256 == root as u16),
         Packet::Completion(_, _, _) => false,
+        Packet::Message(_, _, _, _, _) => false,
     }
 }
 
@@ -39,6 +51,7 @@ pub fn arrived(p: Packet) -> Packet
         Packet::Io(k, h, e, a) => Packet::Io(k, h, e, a),
         Packet::Config(k, h, e, t) => Packet::Config(last_kind(k), h, e, t),
         Packet::Completion(k, h, o) => Packet::Completion(k, h, o),
+        Packet::Message(k, h, routing, code, tail) => Packet::Message(k, h, routing, code, tail),
     }
 }
 
@@ -64,4 +77,26 @@ fn last_kind(kind: ConfigKind) -> ConfigKind
         ConfigKind::CfgRd1 => ConfigKind::CfgRd0,
         ConfigKind::CfgWr1 => ConfigKind::CfgWr0,
     }
+}
+
+// ---- by a message's routing
+
+fn message_heading(routing: MessageRouting, tail: u64) -> Heading
+    ensures { λ r. ⌜ r ≡ messageHeading routing tail ⌝ }
+{
+    match routing {
+        MessageRouting::ToRoot => Heading::Up,
+        MessageRouting::ByAddress => Heading::Aimed(Aim::Address(Space::Memory, tail)),
+        MessageRouting::ById => Heading::Aimed(Aim::Id(id_in(tail))),
+        MessageRouting::Broadcast => Heading::Every,
+        MessageRouting::Local => Heading::Port,
+        MessageRouting::Gathered => Heading::Up,
+    }
+}
+
+// Bytes 8-9, of bytes 8 to 15.
+fn id_in(tail: u64) -> u16
+    ensures { λ r. ⌜ r ≡ idIn tail ⌝ }
+{
+    (tail >> 48) as u16
 }

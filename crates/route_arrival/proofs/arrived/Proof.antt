@@ -18,6 +18,9 @@ last-kind-requires c κs = search needs
 enum-known-p-4 : tie.Need-enum-known-p-4
 enum-known-p-4 c = search needs
 
+enum-known-p-5 : tie.Need-enum-known-p-5
+enum-known-p-5 c = search needs
+
 returns : tie.Need-returns
 returns c = rw (c .before .p .given .1)
 
@@ -30,6 +33,9 @@ returns-3 c = rw (c .before .before .p3 .given .1, c .last-kind .ensures)
 returns-4 : tie.Need-returns-4
 returns-4 c = rw (c .before .p4 .given .1)
 
+returns-5 : tie.Need-returns-5
+returns-5 c = rw (c .before .p5 .given .1)
+
 pub arrived-spec : {M : Type 1} → statement M
 arrived-spec =
     tie.close
@@ -39,7 +45,9 @@ arrived-spec =
     enum-known-p-3
     last-kind-requires
     enum-known-p-4
+    enum-known-p-5
     returns
     returns-2
     returns-3
-    returns-4)
+    returns-4
+    returns-5)

@@ -18,6 +18,9 @@ kind-wrong-requires c κs = search needs
 enum-told-3 : tie.Need-enum-told-3
 enum-told-3 c = search needs
 
+enum-told-4 : tie.Need-enum-told-4
+enum-told-4 c = search needs
+
 returns : tie.Need-returns
 returns c = rw (c .enum-told .given .1)
 
@@ -30,6 +33,9 @@ returns-3 c = rw (c .before .before .before .p .given .1) (c .kind-wrong .ensure
 returns-4 : tie.Need-returns-4
 returns-4 c = rw (c .enum-told3 .given .1)
 
+returns-5 : tie.Need-returns-5
+returns-5 c = rw (c .enum-told4 .given .1)
+
 pub type-wrong-spec : {M : Type 1} → statement M
 type-wrong-spec =
     tie.close
@@ -39,7 +45,9 @@ type-wrong-spec =
     enum-known-p
     kind-wrong-requires
     enum-told-3
+    enum-told-4
     returns
     returns-2
     returns-3
-    returns-4)
+    returns-4
+    returns-5)
