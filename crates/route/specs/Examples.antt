@@ -1,13 +1,14 @@
--- Worked examples of routing, as one table under one claim: P10's reads, foreign sheets, routing by ID, and each number in its order.
--- Assumes nothing.
+-- Worked examples of routing, as five tables under one claim: P10's reads and foreign sheets, routing by ID, messages of each routing,
+-- each number in its order, and a broadcast's list. Assumes nothing.
 use mathlib.Core.Path.{_≡_, refl}
 use mathlib.Core.List.{List, [], _∷_, flatMap}
-use Prim.Native.Nat.{ℕ}
-use lib.ListN.{set}
+use Prim.Native.Nat.{ℕ, _+_}
+use lib.ListN.{length, set}
 use Rattle.endian.specs.Endian.{be, le}
 use Rattle.pairs.specs.Pairs.{table, first, findPair, pairOf}
 use Rattle.packet.specs.Rules.{reservedSet, fixedWrong, upperZero, enablesWrong, crossesPage, statusWrong}
 use Rattle.packet.specs.Rules.{fromRule5, fromRule6, fromRule7, fromRule8, fromRule9, ruleNumber}
+use Rattle.packet.specs.declared.Packet.{Packet}
 use Rattle.tlp.specs.declared.Reading.{Reading}
 use Rattle.tlp.specs.declared.Reading.the-variants.{Accepted, Refused as NotRead}
 use Rattle.tlp_fields.specs.Fields.{headAt, enablesAt, addressAt, targetAt, outcomeAt, unnamed, unnamedTarget, unnamedLower}
@@ -28,8 +29,9 @@ use Rattle.sheet.specs.Sheet.{from29, from25, from28, from27, from24, from22, f
 use Rattle.sheet.specs.Spaces.{functionsFrom, nodesFrom}
 use Rattle.sheet.specs.Examples.{p8, p10, sunk}
 use Rattle.route.specs.declared.Routing.{Routing}
-use Rattle.route.specs.declared.Routing.the-variants.{Delivered, Refused}
-use Rattle.route.specs.Route.{routeOf, fromSheet, routePacket, from42}
+use Rattle.route.specs.declared.Routing.the-variants.{Delivered, Broadcast, Port, Refused}
+use Rattle.route.specs.Route.{numberOf, routeOf, fromSheet, routePacket, from42}
+use Rattle.route.specs.Listed.{onRoom, listAfter}
 
 -- ## Headers of twelve bytes, by byte 0
 
@@ -69,6 +71,27 @@ FA000000 = 0xFA ∷ 0 ∷ 0 ∷ 0 ∷ []
 abbrev pub h4000 : List ℕ
 h4000 = 0 ∷ 0 ∷ 0x40 ∷ 0 ∷ []
 
+-- ## Messages, of sixteen bytes, by their routing
+
+-- with no data, and what their bytes 8 to 15 are
+abbrev pub Msg : ℕ → List ℕ → List ℕ
+Msg routing tail = (0x30 + routing) ∷ 0 ∷ 0 ∷ 0 ∷ 0 ∷ 0 ∷ 0 ∷ 0x14 ∷ tail
+
+-- with one dword
+abbrev pub MsgD : ℕ → List ℕ → List ℕ
+MsgD routing tail = (0x70 + routing) ∷ 0 ∷ 0 ∷ 1 ∷ 0 ∷ 0 ∷ 0 ∷ 0x7E ∷ tail
+
+abbrev pub zeros : List ℕ
+zeros = 0 ∷ 0 ∷ 0 ∷ 0 ∷ 0 ∷ 0 ∷ 0 ∷ 0 ∷ []
+
+-- an ID in bytes 8-9
+abbrev pub toId : ℕ → ℕ → List ℕ
+toId bus devfn = bus ∷ devfn ∷ 0 ∷ 0 ∷ 0 ∷ 0 ∷ 0 ∷ 0 ∷ []
+
+-- an address below 4 GiB, which a memory request of sixteen bytes may not have
+abbrev pub toAddress : List ℕ → List ℕ
+toAddress low = 0 ∷ 0 ∷ 0 ∷ 0 ∷ low
+
 -- ## P10's sheet rewritten
 
 -- the bridge's command word, and the function's
@@ -86,26 +109,45 @@ bar-outside = set p10 116 0xFA
 abbrev pub two-windows : List ℕ
 two-windows = set (set (set (set (set p10 42 0xF9) 43 0x01) 44 0xF9) 45 0) 49 0
 
--- ## The table
+-- ## The tables
 
--- a header over a sheet goes to a record over so many bridges and arrives as another header would be read, or is refused by number
-pub data Claim : Type 0 where
-  goes : List ℕ → List ℕ → ℕ → ℕ → List ℕ → Claim
-  refuses : List ℕ → List ℕ → ℕ → Claim
-
-abbrev pub delivers : ℕ → ℕ → Reading → Routing
-delivers number crossed (Accepted p) = Delivered (record { owner = number; bridges = crossed; packet = p })
-delivers number crossed (NotRead n) = Refused n
+-- a header over a sheet, and what becomes of it
+pub record Claim : Type 0 where
+  pub header : List ℕ
+  pub sheet : List ℕ
+  pub routing : Routing
 
 abbrev pub Holds : Claim → Type 0
-Holds (goes h s number bridges arrives) = routeOf h s ≡ delivers number bridges (readOf arrives)
-Holds (refuses h s n) = routeOf h s ≡ Refused n
+Holds c = routeOf (c .header) (c .sheet) ≡ c .routing
+
+-- with the packet that is read: of a header that is not accepted no such claim holds
+abbrev pub with : (Packet → Routing) → Reading → Routing
+with routing (Accepted p) = routing p
+with routing (NotRead n) = Refused 0
+
+-- to the function with this record number, after so many bridges
+abbrev pub delivers : ℕ → ℕ → Packet → Routing
+delivers number crossed p = Delivered (record { owner = number; bridges = crossed; packet = p })
+
+-- it arrives as another header would be read
+abbrev pub goes : List ℕ → List ℕ → ℕ → ℕ → List ℕ → Claim
+goes h s number bridges arrives = record { header = h; sheet = s; routing = with (delivers number bridges) (readOf arrives) }
 
 abbrev pub unchanged : List ℕ → List ℕ → ℕ → ℕ → Claim
 unchanged h s number bridges = goes h s number bridges h
 
-abbrev pub examples : List Claim
-examples =
+-- to every function, so many
+abbrev pub broadcasts : List ℕ → List ℕ → ℕ → Claim
+broadcasts h s functions = record { header = h; sheet = s; routing = with (Broadcast functions) (readOf h) }
+
+abbrev pub ends : List ℕ → List ℕ → Claim
+ends h s = record { header = h; sheet = s; routing = with Port (readOf h) }
+
+abbrev pub refuses : List ℕ → List ℕ → ℕ → Claim
+refuses h s n = record { header = h; sheet = s; routing = Refused n }
+
+abbrev pub requests : List Claim
+requests =
     -- P10
     unchanged (MRd F9000FFC) p10 2 1
     ∷ refuses (MRd F9001000) p10 40
@@ -120,8 +162,12 @@ examples =
     ∷ unchanged (MRd F9000FFC) (bridge-command 2) 2 1
     ∷ refuses (MRd F9000FFC) (bridge-command 1) 40
     ∷ refuses (MRd F9000FFC) (function-command 1) 40
-    -- by ID, whatever the command words; type 1 arrives as type 0
-    ∷ unchanged (CfgWr0 (target 0 0)) p10 1 0
+    ∷ []
+
+abbrev pub byId : List Claim
+byId =
+    -- whatever the command words; type 1 arrives as type 0
+    unchanged (CfgWr0 (target 0 0)) p10 1 0
     ∷ goes (CfgWr1 (target 1 0)) (bridge-command 0) 2 1 (CfgWr0 (target 1 0))
     ∷ refuses (CfgWr1 (target 1 8)) p10 40
     ∷ refuses (CfgWr1 (target 5 0)) p10 40
@@ -131,13 +177,72 @@ examples =
     -- type 0 for another bus, type 1 for the root bus
     ∷ refuses (CfgWr0 (target 1 0)) p10 42
     ∷ refuses (CfgWr1 (target 0 0)) p10 42
-    -- 40 for no functions is tried before 42, the sheet before both, the header before the sheet
-    ∷ refuses (CfgWr0 (target 1 0)) p8 40
-    ∷ refuses (CfgWr0 (target 1 0)) (sunk p10) 27
-    ∷ refuses (MRd []) (sunk p10) 1
     ∷ []
 
-pub examples-hold : All Holds examples
+abbrev pub messages : List Claim
+messages =
+    -- 001 by address, by the memory bit
+    unchanged (Msg 0b001 (toAddress F9000FFC)) p10 2 1
+    ∷ unchanged (MsgD 0b001 (toAddress F9000FFC)) (bridge-command 2) 2 1
+    ∷ refuses (Msg 0b001 (toAddress F9000FFC)) (bridge-command 1) 40
+    -- 010 by ID, 011 to every function, 100 to the port, whatever the command words
+    ∷ unchanged (Msg 0b010 (toId 1 0)) (bridge-command 0) 2 1
+    ∷ refuses (MsgD 0b010 (toId 1 8)) p10 40
+    ∷ broadcasts (Msg 0b011 zeros) (bridge-command 0) 2
+    ∷ ends (Msg 0b100 zeros) (bridge-command 0)
+    -- 000 and 101 only travel up
+    ∷ refuses (Msg 0b000 zeros) p10 43
+    ∷ refuses (MsgD 0b101 zeros) p10 43
+    ∷ []
+
+abbrev pub ordered : List Claim
+ordered =
+    -- 40 for no functions is tried before 42 and 43, and for every packet
+    refuses (CfgWr0 (target 1 0)) p8 40
+    ∷ refuses (Msg 0b000 zeros) p8 40
+    ∷ refuses (Msg 0b001 zeros) p8 40
+    ∷ refuses (Msg 0b010 zeros) p8 40
+    ∷ refuses (Msg 0b011 zeros) p8 40
+    ∷ refuses (Msg 0b100 zeros) p8 40
+    ∷ refuses (MsgD 0b101 zeros) p8 40
+    -- the sheet before these, the header before the sheet
+    ∷ refuses (CfgWr0 (target 1 0)) (sunk p10) 27
+    ∷ refuses (Msg 0b000 zeros) (sunk p10) 27
+    ∷ refuses (Msg 0b011 zeros) (sunk p10) 27
+    ∷ refuses (MRd []) (sunk p10) 1
+    ∷ refuses (Msg 0b110 zeros) (sunk p10) 2
+    ∷ []
+
+-- ## A slice lent for a broadcast's list
+
+-- the number of a header over a sheet with this slice, and what the slice then holds
+pub record Listing : Type 0 where
+  pub header : List ℕ
+  pub sheet : List ℕ
+  pub slice : List ℕ
+  pub number : ℕ
+  pub after : List ℕ
+
+abbrev pub HoldsListed : Listing → Type 0
+HoldsListed c =
+    let r = onRoom (routeOf (c .header) (c .sheet)) (length (c .slice)) in
+    (numberOf r ≡ c .number) × (listAfter r (c .sheet) (c .slice) ≡ c .after)
+
+abbrev pub lists : List ℕ → List ℕ → List ℕ → ℕ → List ℕ → Listing
+lists h s slice n after = record { header = h; sheet = s; slice = slice; number = n; after = after }
+
+abbrev pub listings : List Listing
+listings =
+    -- more room than the list takes, just enough, and short room, which stays as it was
+    lists (Msg 0b011 zeros) p10 (7 ∷ 7 ∷ 7 ∷ []) 0 (1 ∷ 2 ∷ 7 ∷ [])
+    ∷ lists (Msg 0b011 zeros) p10 (7 ∷ 7 ∷ []) 0 (1 ∷ 2 ∷ [])
+    ∷ lists (Msg 0b011 zeros) p10 (7 ∷ []) 11 (7 ∷ [])
+    -- room is tried last, and for a broadcast only
+    ∷ lists (Msg 0b011 zeros) p8 [] 40 []
+    ∷ lists (Msg 0b100 zeros) p10 [] 0 []
+    ∷ []
+
+pub examples-hold : All Holds requests × All Holds byId × All Holds messages × All Holds ordered × All HoldsListed listings
 unfolding flatMap routeOf fromSheet routePacket from42 readOf pairOf findPair first table judged headAt enablesAt addressAt targetAt
     outcomeAt unnamed unnamedTarget unnamedLower ruleNumber fromRule5 fromRule6 fromRule7 fromRule8 fromRule9 reservedSet
     fixedWrong upperZero
@@ -148,27 +253,9 @@ unfolding flatMap routeOf fromSheet routePacket from42 readOf pairOf findPair fi
     isBarValue valuesFit
     slots slotHere wideSlot narrowSlot ioSlot sized sizeFrom
 examples-hold = (
-  refl,
-  (
-    refl,
-    (
-      refl,
-      (
-        refl,
-        (
-          refl,
-          (
-            refl,
-            (
-              refl,
-              (
-                refl,
-                (refl, (refl, (refl, (refl, (refl, (refl, (refl, (refl, (refl, (refl, (refl, (refl, (refl, (refl, (refl, tt))))))))))))))),
-              ),
-            ),
-          ),
-        ),
-      ),
-    ),
-  ),
+  (refl, (refl, (refl, (refl, (refl, (refl, (refl, (refl, (refl, (refl, (refl, tt))))))))))),
+  (refl, (refl, (refl, (refl, (refl, (refl, (refl, (refl, (refl, tt))))))))),
+  (refl, (refl, (refl, (refl, (refl, (refl, (refl, (refl, (refl, tt))))))))),
+  (refl, (refl, (refl, (refl, (refl, (refl, (refl, (refl, (refl, (refl, (refl, (refl, tt)))))))))))),
+  ((refl, refl), ((refl, refl), ((refl, refl), ((refl, refl), ((refl, refl), tt))))),
 )

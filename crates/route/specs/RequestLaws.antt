@@ -1,4 +1,5 @@
--- A memory or I/O request over a sheet that passes its checks comes to what the walk makes of it, and arrives unchanged. Assumes nothing.
+-- A packet that goes by address, a memory or I/O request or a message, over a sheet that passes its checks comes to what the walk makes of
+-- it, and arrives unchanged. Assumes nothing.
 use mathlib.Core.Path.{_≡_, refl, sym, ap, _∙_}
 use mathlib.Core.Logic.{_↔_}
 use mathlib.Core.Bool.{Bool, true, false, cond}
@@ -9,7 +10,6 @@ use lib.ListN.{length}
 use lib.Dec.{eqb}
 use borrow.Author.Tests.{eq-eqb, eqb-true}
 use Rattle.packet.specs.declared.Packet.{Packet}
-use Rattle.packet.specs.declared.Packet.the-variants.{Memory, Io, Config, Completion}
 use Rattle.tlp.specs.declared.Reading.the-variants.{Accepted}
 use Rattle.tlp.specs.Reading.{readOf}
 use Rattle.pools.specs.declared.Space.{Space}
@@ -21,24 +21,16 @@ use Rattle.sheet_record.specs.Entry.{Entry}
 use Rattle.sheet.specs.Sheet.{entriesOf, sheetNumber}
 use Rattle.sheet.specs.Spaces.{functionsFrom, nodesFrom, nodesOf, enabledOf}
 use Rattle.claims.specs.declared.Aim.the-variants.{Address}
-use Rattle.route_arrival.specs.Arrival.{aimOf, typeWrong, arrived}
+use Rattle.route_arrival.specs.declared.Heading.the-variants.{Aimed}
+use Rattle.route_arrival.specs.Arrival.{headingOf, arrived}
+use Rattle.route_arrival.specs.ArrivalLaws.{right-of-not-by-id, unchanged-of-not-by-id, not-by-id-of-address}
 use Rattle.route.specs.declared.Delivery.{Delivery}
 use Rattle.route.specs.declared.Routing.the-variants.{Delivered, Refused}
 use Rattle.route.specs.Route.{arrives, answer, walked, root, from42, routePacket, fromSheet, routeOf}
 
 module _ (space : Space) (address : ℕ) where
-  -- 42 is of configuration alone
-  never-wrong : (p : Packet) → aimOf p ≡ Address space address → (top : ℕ) → typeWrong top p ≡ false
-  never-wrong (Memory k h e a) q top = refl
-  never-wrong (Io k h e a) q top = refl
-  never-wrong (Config k h e t) q top = absurd (suc-ne-zero 0 (cc))
-  never-wrong (Completion k h o) q top = refl
-
-  pub arrives-unchanged : (p : Packet) → aimOf p ≡ Address space address → arrived p ≡ p
-  arrives-unchanged (Memory k h e a) q = refl
-  arrives-unchanged (Io k h e a) q = refl
-  arrives-unchanged (Config k h e t) q = absurd (suc-ne-zero 0 (cc))
-  arrives-unchanged (Completion k h o) q = refl
+  pub arrives-unchanged : (p : Packet) → headingOf p ≡ Aimed (Address space address) → arrived p ≡ p
+  arrives-unchanged p aim = unchanged-of-not-by-id p (not-by-id-of-address p space address aim)
 
   -- what the walk over a sheet comes to
   abbrev pub comesTo : List ℕ → Outcome
@@ -53,12 +45,12 @@ module _ (space : Space) (address : ℕ) where
       ∙ tally-nil (enabledOf space s) address (root s))
   walk-nobody s (x ∷ es) e z = absurd (suc-ne-zero _ z)
 
-  module _ (header s : List ℕ) (p : Packet) (read : readOf header ≡ Accepted p) (aim : aimOf p ≡ Address space address)
+  module _ (header s : List ℕ) (p : Packet) (read : readOf header ≡ Accepted p) (aim : headingOf p ≡ Aimed (Address space address))
       (passes : sheetNumber s ≡ 0) where
     request-from-40 : (b : Bool) → eqb (length (nodesOf s)) 0 ≡ b → cond b (Refused noOwner) (from42 p s) ≡ answer p (comesTo s)
     unfolding from42
     request-from-40 true e = sym (ap (answer p) (walk-nobody s (entriesOf s) refl (eqb-true (length (nodesOf s)) 0 e)))
-    request-from-40 false e = rw (never-wrong p aim (root s), aim)
+    request-from-40 false e = rw (right-of-not-by-id p (not-by-id-of-address p space address aim) (root s), aim)
 
     pub route-request : routeOf header s ≡ answer p (comesTo s)
     unfolding routeOf fromSheet routePacket

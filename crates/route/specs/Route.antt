@@ -1,5 +1,6 @@
 -- Document 01, "The walk", in its order: the header's number before the sheet is read, the sheet's number, 40 for a sheet with no
--- functions, 42, and then the walk from the bus of the first record. Assumes nothing.
+-- functions, 42, and then the walk from the bus of the first record. With document 02, E1: 43 where 42 is, and the messages that go to
+-- every function or end at the port. Assumes nothing.
 use Prim.Native.Nat.{ℕ}
 use mathlib.Core.Bool.{cond}
 use mathlib.Core.List.{List}
@@ -15,20 +16,28 @@ use Rattle.sheet.specs.Sheet.{sheetNumber}
 use Rattle.sheet.specs.Spaces.{nodesOf}
 use Rattle.claims.specs.declared.Aim.{Aim}
 use Rattle.claims.specs.Claims.{tallyFor}
-use Rattle.route_arrival.specs.Arrival.{aimOf, typeWrong, arrived}
+use Rattle.route_arrival.specs.declared.Heading.{Heading}
+use Rattle.route_arrival.specs.declared.Heading.the-variants.{Aimed, Up, Every, Port as ToPort}
+use Rattle.route_arrival.specs.Arrival.{headingOf, typeWrong, arrived}
 use Rattle.route.specs.declared.Walked.{Walked}
 use Rattle.route.specs.declared.Walked.the-variants.{Delivered as WalkedTo, Refused as WalkRefused}
 use Rattle.route.specs.declared.Delivery.{Delivery}
 use Rattle.route.specs.declared.Routing.{Routing}
-use Rattle.route.specs.declared.Routing.the-variants.{Delivered, Refused}
+use Rattle.route.specs.declared.Routing.the-variants.{Delivered, Broadcast, Port, Refused}
 
 -- document 01's number of a routing
 abbrev pub numberOf : Routing → ℕ
 numberOf (Delivered d) = 0
+numberOf (Broadcast functions p) = 0
+numberOf (Port p) = 0
 numberOf (Refused n) = n
 
 abbrev pub wrongType : ℕ
 wrongType = 42
+
+-- a message that only travels up
+abbrev pub onlyUp : ℕ
+onlyUp = 43
 
 -- ## The walk
 
@@ -54,9 +63,16 @@ root s = rootOf (nodesOf s)
 
 -- ## A packet over a sheet that passes its checks
 
--- 42 before the walk
+-- 43, the walk, every function of the sheet, or the port
+abbrev pub onHeading : Heading → Packet → List ℕ → Routing
+onHeading (Aimed aim) p s = answer p (walked aim s (root s) 0)
+onHeading Up p s = Refused onlyUp
+onHeading Every p s = Broadcast (length (nodesOf s)) p
+onHeading ToPort p s = Port p
+
+-- 42 before the walk, which begins on the bus of the first record; 43 at the same place: no packet can get both
 unfoldable pub from42 : Packet → List ℕ → Routing
-from42 p s = cond (typeWrong (root s) p) (Refused wrongType) (answer p (walked (aimOf p) s (root s) 0))
+from42 p s = cond (typeWrong (root s) p) (Refused wrongType) (onHeading (headingOf p) p s)
 
 -- 40 for a sheet with no functions before 42
 unfoldable pub routePacket : Packet → List ℕ → Routing

@@ -2,7 +2,7 @@
 use mathlib.Core.Path.{_≡_, refl, sym, ap, _∙_}
 use mathlib.Core.Bool.{Bool, true, false}
 use mathlib.Core.List.{List, [], _∷_}
-use Prim.Native.Nat.{ℕ, suc, _+_, _*_, _/_, _<_, _≤_}
+use Prim.Native.Nat.{ℕ, suc, _+_, _/_, _<_, _≤_}
 use native.Mathlib.Omega.{arith}
 use lib.ListN.{length}
 use borrow.Author.Tests.{eq-eqb, ne-eqb}
@@ -29,12 +29,14 @@ use Rattle.claims.specs.declared.Claim.the-variants.{Bar, Window}
 use Rattle.claims.specs.declared.Tally.{Tally}
 use Rattle.claims.specs.declared.Tally.the-variants.{Nothing, One, Several}
 use Rattle.claims.specs.Claims.{tallyOf, tallyFor}
-use Rattle.route_arrival.specs.Arrival.{aimOf, typeWrong, arrived}
+use Rattle.route_arrival.specs.declared.Heading.{Heading}
+use Rattle.route_arrival.specs.declared.Heading.the-variants.{Aimed, Up, Every, Port as ToPort}
+use Rattle.route_arrival.specs.Arrival.{headingOf, typeWrong, arrived}
 use Rattle.route.specs.declared.Routing.{Routing}
-use Rattle.route.specs.declared.Routing.the-variants.{Delivered, Refused}
+use Rattle.route.specs.declared.Routing.the-variants.{Delivered, Broadcast, Port, Refused}
 use Rattle.route.specs.declared.Walked.{Walked}
 use Rattle.route.specs.declared.Walked.the-variants.{Delivered as WalkedTo, Refused as WalkRefused}
-use Rattle.route.specs.Route.{answer, outcomeOf, walked, root, from42, routePacket, fromSheet, fromReading, routeOf}
+use Rattle.route.specs.Route.{answer, outcomeOf, walked, root, onHeading, from42, routePacket, fromSheet, fromReading, routeOf}
 
 -- ## The walk
 
@@ -71,6 +73,20 @@ module _ (aim : Aim) (s : List ℕ) (bytes : Bytes s) (c : Checked s) (bus cross
       pub bus-rises : (bus < secondary) × (secondary < 256)
       bus-rises = rising-for aim s bytes c .rises bus number secondary (sym e ∙ ap tallyOf (q ∙ ap One f))
 
+-- w is where the walk ended
+module _ (p : Packet) (w : Walked) (o : Outcome) (e : outcomeOf w ≡ o) where
+  answered-as : (x : Walked) → w ≡ x → answer p (outcomeOf x) ≡ answer p o
+  answered-as x f = ap (λ (y : Walked). answer p (outcomeOf y)) (sym f) ∙ ap (answer p) e
+
+  pub walk-delivered : (number crossed : ℕ) (q : Packet) → w ≡ WalkedTo number crossed → q ≡ arrived p
+      → Delivered (record { owner = number; bridges = crossed; packet = q }) ≡ answer p o
+  walk-delivered number crossed q f g =
+      ap (λ (x : Packet). Delivered (record { owner = number; bridges = crossed; packet = x })) g
+      ∙ answered-as (WalkedTo number crossed) f
+
+  pub walk-refused : (number : ℕ) → w ≡ WalkRefused number → Refused number ≡ answer p o
+  walk-refused number f = answered-as (WalkRefused number) f
+
 -- ## A packet over a sheet that passes its checks
 
 length-nodes : (k : ℕ) (es : List Entry) → length (nodesFrom k es) ≡ length es
@@ -78,7 +94,12 @@ unfolding nodesFrom
 length-nodes k [] = refl
 length-nodes k (e ∷ es) = ap suc (length-nodes (k + 1) es)
 
--- m functions
+-- m functions, and none of the checks has refused the packet: what is left is where it is headed, from the root bus
+pub record Past (p : Packet) (s : List ℕ) (m top : ℕ) (h : Heading) : Type 0 where
+  pub count-is : m ≡ length (nodesOf s)
+  pub root-is : root s ≡ top
+  pub answer-is : onHeading h p s ≡ routePacket p s
+
 module _ (p : Packet) (s : List ℕ) (m : ℕ) (count : m ≡ length (entriesOf s)) where
   pub no-functions : m ≡ 0 → Refused 40 ≡ routePacket p s
   unfolding routePacket
@@ -115,26 +136,37 @@ module _ (p : Packet) (s : List ℕ) (m : ℕ) (count : m ≡ length (entriesOf 
             unfolding from42
             type-refused y = rw (root-is, ← t, y)
 
+            type-right : b ≡ false → onHeading (headingOf p) p s ≡ from42 p s
+            unfolding from42
+            type-right n = rw (root-is, ← t, n)
+
             pub wrong-type : b ≡ true → Refused 42 ≡ routePacket p s
             wrong-type y = type-refused y ∙ functions
 
-            -- w is where the walk ended
-            module _ (aim : Aim) (w : Walked) (n : b ≡ false) (a : aim ≡ aimOf p) (e : outcomeOf w ≡ walked aim s top 0) where
-              walk-answered : answer p (outcomeOf w) ≡ from42 p s
-              unfolding from42
-              walk-answered = rw (root-is, ← t, n, ← a) (ap (answer p) e)
+            pub past-checks : b ≡ false → (h : Heading) → h ≡ headingOf p → Past p s m top h
+            past-checks n h headed =
+                record {
+                  count-is = count ∙ sym (length-nodes 1 (entriesOf s));
+                  root-is = root-is;
+                  answer-is = ap (λ (x : Heading). onHeading x p s) headed ∙ type-right n ∙ functions;
+                }
 
-              answered-as : (x : Walked) → w ≡ x → answer p (outcomeOf x) ≡ routePacket p s
-              answered-as x f = ap (λ (y : Walked). answer p (outcomeOf y)) (sym f) ∙ walk-answered ∙ functions
+module _ {p : Packet} {s : List ℕ} {m top : ℕ} {h : Heading} (past : Past p s m top h) where
+  headed-as : (x : Heading) → h ≡ x → onHeading x p s ≡ routePacket p s
+  headed-as x e = ap (λ (y : Heading). onHeading y p s) (sym e) ∙ past .answer-is
 
-              pub walk-delivered : (number crossed : ℕ) (q : Packet) → w ≡ WalkedTo number crossed → q ≡ arrived p
-                  → Delivered (record { owner = number; bridges = crossed; packet = q }) ≡ routePacket p s
-              walk-delivered number crossed q f g =
-                  ap (λ (x : Packet). Delivered (record { owner = number; bridges = crossed; packet = x })) g
-                  ∙ answered-as (WalkedTo number crossed) f
+  -- r is the answer of the walk
+  pub headed-by-aim : (aim : Aim) (r : Routing) → h ≡ Aimed aim → r ≡ answer p (walked aim s top 0) → r ≡ routePacket p s
+  headed-by-aim aim r e f = f ∙ ap (λ (bus : ℕ). answer p (walked aim s bus 0)) (sym (past .root-is)) ∙ headed-as (Aimed aim) e
 
-              pub walk-refused : (number : ℕ) → w ≡ WalkRefused number → Refused number ≡ routePacket p s
-              walk-refused number f = answered-as (WalkRefused number) f
+  pub headed-up : h ≡ Up → Refused 43 ≡ routePacket p s
+  headed-up e = headed-as Up e
+
+  pub headed-to-every : h ≡ Every → Broadcast m p ≡ routePacket p s
+  headed-to-every e = ap (λ (n : ℕ). Broadcast n p) (past .count-is) ∙ headed-as Every e
+
+  pub headed-to-port : h ≡ ToPort → Port p ≡ routePacket p s
+  headed-to-port e = headed-as ToPort e
 
 -- ## A header over a sheet
 

@@ -1,13 +1,17 @@
-// The router: a header and a register sheet to the function that gets the packet, or a number. Any bytes may be given as either.
+// The router: a header and a register sheet to the function that gets the packet, to every function, to the port, or to a number. Any bytes
+// may be given as either.
 ghost use mathlib.Core.Path.{_≡_};
 ghost use Prim.Native.Nat.{_≤_};
+ghost use lib.ListN.{length};
 ghost use Rattle.sheet.specs.Sheet.{sheetNumber};
 ghost use Rattle.sheet.specs.SheetLaws.{Checked};
-ghost use Rattle.route.specs.Route.{numberOf, outcomeOf, walked, routePacket, routeOf};
+ghost use Rattle.route.specs.Route.{numberOf, answer, outcomeOf, walked, routePacket, routeOf};
+ghost use Rattle.route.specs.Listed.{onRoom, listAfter};
 use claims::Aim;
 use claims::Claim;
 use claims::Tally;
 use packet::Packet;
+use route_arrival::Heading;
 use tlp::Reading;
 
 // The record that gets a packet, by its number, the bridges crossed on the way, and the packet as it arrives.
@@ -17,19 +21,23 @@ pub struct Delivery {
     pub packet: Packet,
 }
 
-// What becomes of a packet: delivered, or refused by number.
+// What becomes of a packet: delivered to one function; to every function, so many; ended at the port; or refused by number.
 pub enum Routing {
     Delivered(Delivery),
+    Broadcast(u16, Packet),
+    Port(Packet),
     Refused(u8),
 }
 
 impl Routing {
-    // Document 01's number: 0 when delivered.
+    // Document 01's number: 0 when not refused.
     pub fn number(self) -> u8
         ensures { λ r. ⌜ r ≡ numberOf self ⌝ }
     {
         match self {
             Routing::Delivered(_) => 0,
+            Routing::Broadcast(_, _) => 0,
+            Routing::Port(_) => 0,
             Routing::Refused(n) => n,
         }
     }
@@ -50,26 +58,46 @@ pub fn route(header: &[u8], sheet: &[u8]) -> Routing
     route_packet(p, sheet)
 }
 
-// A packet over a sheet that is known to pass its checks: 40 for no functions, 42, then the walk from the bus of the first record. For who
-// checks a sheet once and then routes over it many times.
+// The same, with a broadcast's list: the number of every record, in order, from the start of the slice. A slice too short is 11 and stays
+// as it was.
+pub fn route_listed(header: &[u8], sheet: &[u8], list: &mut [u64]) -> Routing
+    ensures { λ r. ⌜ r ≡ onRoom (routeOf (now (header .entry)) (now (sheet .entry))) (length (now (list .entry))) ⌝ }
+    ensures { λ r. ⌜ now (list .exit) ≡ listAfter r (now (sheet .entry)) (now (list .entry)) ⌝ }
+{
+    match route(header, sheet) {
+        Routing::Delivered(d) => Routing::Delivered(d),
+        Routing::Broadcast(functions, p) => {
+            let size = functions as usize;
+            if list.len() < size {
+                return Routing::Refused(11);
+            }
+            route_list::put_list(list, 0, size);
+            Routing::Broadcast(functions, p)
+        }
+        Routing::Port(p) => Routing::Port(p),
+        Routing::Refused(n) => Routing::Refused(n),
+    }
+}
+
+// A packet over a sheet that is known to pass its checks: 40 for no functions, 42 and 43, then where it is headed. For who checks a sheet
+// once and then routes over it many times.
 pub fn route_packet(p: Packet, sheet: &[u8]) -> Routing
     requires { ⌜ sheetNumber (now sheet) ≡ 0 ⌝ }
     ensures { λ r. ⌜ r ≡ routePacket p (now (sheet .entry)) ⌝ }
 {
-    if sheet::count(sheet) == 0 {
+    let functions = sheet::count(sheet);
+    if functions == 0 {
         return Routing::Refused(40);
     }
     let root = sheet_record::bus_of(sheet::part(sheet, 0));
     if route_arrival::type_wrong(p, root) {
         return Routing::Refused(42);
     }
-    match walk(sheet, route_arrival::aim_of(p), root, 0) {
-        Walked::Delivered(number, crossed) => Routing::Delivered(Delivery {
-            owner: number,
-            bridges: crossed,
-            packet: route_arrival::arrived(p),
-        }),
-        Walked::Refused(n) => Routing::Refused(n),
+    match route_arrival::heading_of(p) {
+        Heading::Aimed(aim) => route_aimed(p, sheet, aim, root),
+        Heading::Up => Routing::Refused(43),
+        Heading::Every => Routing::Broadcast(functions as u16, p),
+        Heading::Port => Routing::Port(p),
     }
 }
 
@@ -79,6 +107,21 @@ pub fn route_packet(p: Packet, sheet: &[u8]) -> Routing
 enum Walked {
     Delivered(u16, u8),
     Refused(u8),
+}
+
+// A packet that is looked for by an address or an ID, from the root bus on.
+fn route_aimed(p: Packet, sheet: &[u8], aim: Aim, root: u8) -> Routing
+    requires { ⌜ Checked (now sheet) ⌝ }
+    ensures { λ r. ⌜ r ≡ answer p (walked aim (now (sheet .entry)) root 0) ⌝ }
+{
+    match walk(sheet, aim, root, 0) {
+        Walked::Delivered(number, crossed) => Routing::Delivered(Delivery {
+            owner: number,
+            bridges: crossed,
+            packet: route_arrival::arrived(p),
+        }),
+        Walked::Refused(n) => Routing::Refused(n),
+    }
 }
 
 // From a bus on, with so many bridges crossed. A bridge's secondary bus has a greater number than its own, so the walk ends.

@@ -1,6 +1,5 @@
 -- Document 01, "The walk", of the packet alone: what it is looked for by, whether its configuration type is wrong (42), and how it arrives;
--- messages by document 02, E1.
--- Assumes nothing.
+-- messages by document 02, E1. Assumes nothing.
 use Prim.Native.Nat.{ℕ, _/_, _^_}
 use mathlib.Core.Bool.{Bool, false, not}
 use lib.Dec.{eqb}
@@ -19,8 +18,8 @@ use Rattle.route_arrival.specs.declared.Heading.the-variants.{Aimed, Up,
 abbrev pub idIn : ℕ → ℕ
 idIn tail = tail / 2 ^ 48
 
--- Document 02, E1, by a message's routing, with its bytes 8 to 15: 001 goes by address as a memory request does, 010 by the ID in bytes 8-9,
--- 011 to every function; 100 ends at the port; 000 and 101 only travel up
+-- Document 02, E1, by a message's routing, with its bytes 8 to 15: 001 goes by address as a memory request does, 010 by the ID in bytes
+-- 8-9, 011 to every function; 100 ends at the port; 000 and 101 only travel up
 abbrev pub messageHeading : MessageRouting → ℕ → Heading
 messageHeading ToRoot tail = Up
 messageHeading ByAddress tail = Aimed (Address InMemory tail)

@@ -1,9 +1,10 @@
--- `route::route_packet`: no functions, then the type by the root bus, which is that of the first record, then where the walk ended.
--- Assumes nothing.
+-- `route::route_packet`: no functions, then the type by the root bus, which is that of the first record, then where it is headed. Assumes
+-- nothing.
 use native.Mathlib.Omega.{arith}
 use borrow.Author.Needs.{needs}
 use Rattle.sheet.specs.SheetLaws.{checked-of-zero}
-use Rattle.route.specs.RouteLaws.{no-functions, first-fits, first-sized, wrong-type, walk-delivered, walk-refused}
+use Rattle.route.specs.RouteLaws.{Past, no-functions, first-fits, first-sized, wrong-type, past-checks}
+use Rattle.route.specs.RouteLaws.{headed-by-aim, headed-up, headed-to-every, headed-to-port}
 use Rattle.route.proofs.route_packet.Statement.{statement}
 use Rattle.route.proofs.route_packet.Tie as tie
 
@@ -40,53 +41,59 @@ returns-2 c =
     wrong-type (entry .args .p) _ _ (counted .count .ensures) (some .if1 .left) (checked-of-zero _ (entry .pre)) _
     (first .part .ensures) _ (top .bus-of .ensures) _ (typed .type-wrong .ensures) (c .if2 .taken)
 
-aim-of-requires : tie.Need-aim-of-requires
-aim-of-requires c κs = search needs
+heading-of-requires : tie.Need-heading-of-requires
+heading-of-requires c κs = search needs
 
-walk-requires : tie.Need-walk-requires
-walk-requires c κs =
-    let counted = c .before .before .before .before .before .before in
-    (checked-of-zero _ (counted .before .before .pre), omega arith)
+enum-known-aim : tie.Need-enum-known-aim
+enum-known-aim c = search needs
 
-enum-known-number : tie.Need-enum-known-number
-enum-known-number c = search needs
+route-aimed-requires : tie.Need-route-aimed-requires
+route-aimed-requires c κs =
+    checked-of-zero _ (c .before .before .before .before .before .before .before .before .before .before .before .pre)
 
-arrived-requires : tie.Need-arrived-requires
-arrived-requires c κs = search needs
+enum-told : tie.Need-enum-told
+enum-told c = search needs
 
-enum-known-n : tie.Need-enum-known-n
-enum-known-n c = search needs
+enum-told-2 : tie.Need-enum-told-2
+enum-told-2 c = search needs
+
+cast-t11 : tie.Need-cast-t11
+cast-t11 c =
+    let counted = c .before .before .before .before .before .before .before .before in
+    omega (arith, counted .count .ensures, checked-of-zero _ (counted .before .before .pre) .count)
+
+enum-told-3 : tie.Need-enum-told-3
+enum-told-3 c = search needs
+
+-- no check has refused the packet
+past : (c : tie.After-heading-of)
+    → Past (c .before .before .before .before .before .before .before .before .args .p)
+    (c .before .before .before .before .before .before .before .before .args .sheet .now)
+    (c .before .before .before .before .before .before .count .result) (c .before .before .before .bus-of .result) (c .heading-of .result)
+past c =
+    let right = c .before in
+    let typed = right .before in
+    let top = typed .before in
+    let first = top .before in
+    let some = first .before in
+    let counted = some .before in
+    let entry = counted .before .before in
+    past-checks (entry .args .p) _ _ (counted .count .ensures) (some .if1 .left) (checked-of-zero _ (entry .pre)) _
+    (first .part .ensures) _ (top .bus-of .ensures) _ (typed .type-wrong .ensures) (right .if2 .left) _ (c .heading-of .ensures)
 
 returns-3 : tie.Need-returns-3
 returns-3 c =
-    let ended = c .before .before .before .before in
-    let aimed = ended .before in
-    let right = aimed .before in
-    let typed = right .before in
-    let top = typed .before in
-    let first = top .before in
-    let some = first .before in
-    let counted = some .before in
-    let entry = counted .before .before in
-    walk-delivered (entry .args .p) _ _ (counted .count .ensures) (some .if1 .left) (checked-of-zero _ (entry .pre)) _
-    (first .part .ensures) _ (top .bus-of .ensures) _ (typed .type-wrong .ensures) (aimed .aim-of .result) (ended .walk .result)
-    (right .if2 .left) (aimed .aim-of .ensures) (ended .walk .ensures) _ _ _ (c .before .before .number .given .1)
-    (c .arrived .ensures)
+    let aimed = c .before .before in
+    headed-by-aim (past (aimed .before .before)) _ _ (aimed .aim .given .1) (c .route-aimed .ensures)
 
 returns-4 : tie.Need-returns-4
-returns-4 c =
-    let ended = c .before .before .before in
-    let aimed = ended .before in
-    let right = aimed .before in
-    let typed = right .before in
-    let top = typed .before in
-    let first = top .before in
-    let some = first .before in
-    let counted = some .before in
-    let entry = counted .before .before in
-    walk-refused (entry .args .p) _ _ (counted .count .ensures) (some .if1 .left) (checked-of-zero _ (entry .pre)) _
-    (first .part .ensures) _ (top .bus-of .ensures) _ (typed .type-wrong .ensures) (aimed .aim-of .result)
-    (ended .walk .result) (right .if2 .left) (aimed .aim-of .ensures) (ended .walk .ensures) _ (c .before .n .given .1)
+returns-4 c = headed-up (past (c .before .before)) (c .enum-told .given .1)
+
+returns-5 : tie.Need-returns-5
+returns-5 c = headed-to-every (past (c .before .before)) (c .enum-told2 .given .1)
+
+returns-6 : tie.Need-returns-6
+returns-6 c = headed-to-port (past (c .before .before)) (c .enum-told3 .given .1)
 
 pub route-packet-spec : {M : Type 1} → statement M
 route-packet-spec =
@@ -98,10 +105,14 @@ route-packet-spec =
     bus-of-requires
     type-wrong-requires
     returns-2
-    aim-of-requires
-    walk-requires
-    enum-known-number
-    arrived-requires
-    enum-known-n
+    heading-of-requires
+    enum-known-aim
+    route-aimed-requires
+    enum-told
+    enum-told-2
+    cast-t11
+    enum-told-3
     returns-3
-    returns-4)
+    returns-4
+    returns-5
+    returns-6)
