@@ -2,9 +2,10 @@
 ghost use mathlib.Core.Path.{_≡_};
 ghost use Prim.Native.Nat.{_≤_};
 ghost use mathlib.Core.Bool.{cond};
-ghost use mathlib.Core.List.{[], _∷_};
+ghost use mathlib.Core.List.{[], _∷_, _++_};
 ghost use lib.Dec.{eqb};
 ghost use Rattle.packet_numbers.specs.Numbers.{numbersOf};
+ghost use Rattle.route_list.specs.Counted.{counted};
 ghost use Rattle.capi_answers.specs.Answers.{gives, returned, filled};
 use packet::Packet;
 
@@ -20,7 +21,7 @@ pub fn give_packet(p: Packet, out: &mut [u64]) -> u32
     0
 }
 
-// Where a packet goes, by two numbers, and the packet.
+// Where a packet goes, by two numbers, and the packet: record and bridges, or 0 and 0 for the port.
 pub fn give_delivery(owner: u64, bridges: u64, p: Packet, out: &mut [u64]) -> u32
     ensures { λ r. ⌜ r ≡ returned (gives (owner ∷ bridges ∷ numbersOf p)) (now (out .entry)) ⌝ }
     ensures { λ _. ⌜ now (out .exit) ≡ filled (gives (owner ∷ bridges ∷ numbersOf p)) (now (out .entry)) ⌝ }
@@ -31,6 +32,25 @@ pub fn give_delivery(owner: u64, bridges: u64, p: Packet, out: &mut [u64]) -> u3
     out[0] = owner;
     out[1] = bridges;
     packet_numbers::put_packet(out, 2, p);
+    0
+}
+
+// A packet that goes to every function: 0, how many they are, the packet, and their record numbers in order.
+pub fn give_broadcast(functions: usize, p: Packet, out: &mut [u64]) -> u32
+    ensures { λ r. ⌜ r ≡ returned (gives (0 ∷ functions ∷ (numbersOf p ++ counted 1 functions))) (now (out .entry)) ⌝ }
+    ensures { λ _. ⌜ now (out .exit) ≡ filled (gives (0 ∷ functions ∷ (numbersOf p ++ counted 1 functions))) (now (out .entry)) ⌝ }
+{
+    let front = 2 + packet_numbers::SIZE;
+    if out.len() < front {
+        return 11;
+    }
+    if out.len() - front < functions {
+        return 11;
+    }
+    out[0] = 0;
+    out[1] = functions as u64;
+    packet_numbers::put_packet(out, 2, p);
+    route_list::put_list(out, front, functions);
     0
 }
 
