@@ -21,6 +21,7 @@ use Rattle.packet.specs.Fields.{kindOf, headOf}
 use Rattle.packet.specs.Verdict.{verdictOf}
 use Rattle.packet_numbers.specs.declared.Parsed.{Parsed}
 use Rattle.packet_numbers.specs.declared.Parsed.the-variants.{Accepted as Taken, Refused as NotTaken}
+use Rattle.packet_numbers.specs.Numbers.{numbersOf}
 use Rattle.packet_numbers.specs.Parsing.{onPair, packetOf}
 use Rattle.packet_numbers.specs.Fields.{fieldsOf, checked, checked-fields}
 use Rattle.tlp.specs.declared.Writing.{Writing}
@@ -42,10 +43,15 @@ use Rattle.board.specs.ToPlacing.{toHost, toPlacing}
 use Rattle.plan_answer.specs.declared.Planning.{Planning}
 use Rattle.plan_answer.specs.declared.Planning.the-variants.{Planned, Refused as NotPlanned}
 use Rattle.plan_answer.specs.Plan.{onRoom, onBoard, planning, numberOf as planningNumber, sheetAfter}
-use Rattle.capi_answers.specs.Answers.{refuses, returned, filled, leftBeside}
+use Rattle.route_list.specs.Counted.{counted}
+use Rattle.route.specs.declared.Routing.{Routing}
+use Rattle.route.specs.declared.Routing.the-variants.{Broadcast}
+use Rattle.route.specs.Route.{routeOf}
+use Rattle.route.specs.ListedLaws.{broadcast-lists}
+use Rattle.capi_answers.specs.Answers.{refuses, gives, returned, filled, leftBeside}
 use Rattle.capi_answers.specs.AnswersLaws.{Answered, answered-short}
 use Rattle.capi.specs.Calls.{onWriting, onParsed, roomOf, unownedOf, word, commandNumber, commandLeft, onPlanning, planAnswer}
-use Rattle.capi.specs.Calls.{sheetLeft}
+use Rattle.capi.specs.Calls.{sheetLeft, onRouting, routeAnswer}
 
 -- the number with no room for the answer
 abbrev shortOf : Writing → ℕ
@@ -222,3 +228,12 @@ module _ (board sheet written : List ℕ) where
       a .0 ∙ ap (λ (x : Planning). returned (onPlanning x) written) e,
       (f ∙ sym (rw (ne-eqb (length written) 0 more)), a .1 ∙ ap (λ (x : Planning). filled (onPlanning x) written) e),
     )
+
+-- ## Routing
+
+-- a broadcast's answer has the numbers 1 to the count
+pub answer-broadcast : (header s : List ℕ) (n : ℕ) (p : Packet) → routeOf header s ≡ Broadcast n p
+    → gives (0 ∷ n ∷ (numbersOf p ++ counted 1 n)) ≡ routeAnswer header s
+answer-broadcast header s n p e =
+    ap (λ (list : List ℕ). gives (0 ∷ n ∷ (numbersOf p ++ list))) (sym (broadcast-lists header s n p e))
+    ∙ ap (λ (r : Routing). onRouting r s) (sym e)

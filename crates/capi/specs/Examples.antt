@@ -69,8 +69,8 @@ examples =
     ∷ holds (roomLeft p10-read (zeros 13) []) (zeros 13)
     ∷ returns (returned (writeAnswer p10-read 16) []) 11
     -- nineteen numbers, then a kind that is none, then a register in a memory request, each before what follows
-    ∷ answers (writeAnswer (13 ∷ 3 ∷ zeros 17) 16) (refuses 11)
-    ∷ answers (writeAnswer (13 ∷ 3 ∷ 256 ∷ zeros 17) 16) (refuses 2)
+    ∷ answers (writeAnswer (15 ∷ 3 ∷ zeros 17) 16) (refuses 11)
+    ∷ answers (writeAnswer (15 ∷ 3 ∷ 256 ∷ zeros 17) 16) (refuses 2)
     ∷ answers (writeAnswer (read-at 3 4 no-outcome) 16) (refuses 10)
     ∷ answers (writeAnswer (read-at 3 0 no-outcome) 16) (refuses 4)
     -- P10's sheet

@@ -10,7 +10,7 @@ use lib.Dec.{ltb, eqb}
 use borrow.Author.Tests.{eqb-false}
 use Rattle.pairs.specs.declared.Kind.{Kind}
 use Rattle.pairs.specs.declared.Kind.the-variants.{Memory as MemoryKind, Io as IoKind, Config as ConfigKind, Completion as CompletionKind}
-use Rattle.pairs.specs.declared.Kind.the-variants.{Msg, MsgD, FetchAdd, Swap, Cas}
+use Rattle.pairs.specs.declared.Kind.the-variants.{Message as MessageKind, FetchAdd, Swap, Cas}
 use Rattle.pairs.specs.declared.Row.{Row}
 use Rattle.pairs.specs.declared.Pair.{Pair}
 use Rattle.pairs.specs.declared.Pair.the-variants.{Carried, NotCarried, Unknown}
@@ -24,7 +24,8 @@ use Rattle.packet.specs.Rules.{ruleNumber}
 use Rattle.packet.specs.Verdict.{onRules, onFields, onPair as verdictFrom, verdictOf}
 use Rattle.packet_numbers.specs.declared.Parsed.{Parsed}
 use Rattle.packet_numbers.specs.declared.Parsed.the-variants.{Accepted as Taken, Refused as NotTaken}
-use Rattle.packet_numbers.specs.Parsing.{kindAt, byAddress, byTarget, completing, anyAbove, packetAs, onPair, onKind, fromKind, packetOf}
+use Rattle.packet_numbers.specs.Parsing.{lastKind, isReserved, kindAt, byAddress, byTarget, completing, messaging, anyAbove, packetAs}
+use Rattle.packet_numbers.specs.Parsing.{onPair, onKind, fromKind, packetOf}
 use Rattle.tlp.specs.declared.Reading.{Reading}
 use Rattle.tlp.specs.declared.Reading.the-variants.{Accepted, Refused as NotRead}
 use Rattle.tlp_fields.specs.Fields.{unnamed, unnamedTarget, unnamedLower}
@@ -44,10 +45,12 @@ use Rattle.sheet_record.specs.Entry.{Entry}
 use Rattle.sheet.specs.Lookup.{placed, lookupOf, idAt, idOfRecord, recordId}
 use Rattle.sheet.specs.Spaces.{nodesOf}
 use Rattle.claims.specs.Claims.{tallyFor}
-use Rattle.route_arrival.specs.Arrival.{aimOf, typeWrong}
+use Rattle.route_arrival.specs.declared.Heading.{Heading}
+use Rattle.route_arrival.specs.declared.Heading.the-variants.{Aimed, Up, Every, Port as ToPort}
+use Rattle.route_arrival.specs.Arrival.{headingOf, typeWrong}
 use Rattle.route.specs.declared.Routing.{Routing}
 use Rattle.route.specs.declared.Routing.the-variants.{Refused as NotDelivered}
-use Rattle.route.specs.Route.{answer, walked, root, from42, routePacket, fromSheet, fromReading, routeOf}
+use Rattle.route.specs.Route.{answer, root, onHeading, from42, routePacket, fromSheet, fromReading, routeOf}
 use Rattle.plan_rule.specs.Refusals.{refusalOf}
 use Rattle.board.specs.Board.{boardNumber, hostOf, functionsOf}
 use Rattle.board.specs.ToPlacing.{toHost, toPlacing}
@@ -89,8 +92,7 @@ numbered-as (MemoryKind k) form s = numbered-judged (unnamed s) _
 numbered-as (IoKind k) form s = numbered-judged (unnamed s) _
 numbered-as (ConfigKind k) form s = numbered-judged (unnamed s || unnamedTarget s) _
 numbered-as (CompletionKind k) form s = numbered-judged (unnamed s || unnamedLower s) _
-numbered-as Msg form s = omega arith
-numbered-as MsgD form s = omega arith
+numbered-as (MessageKind k routing) form s = numbered-judged (unnamed s) _
 numbered-as FetchAdd form s = omega arith
 numbered-as Swap form s = omega arith
 numbered-as Cas form s = omega arith
@@ -156,8 +158,8 @@ numbered-packet-as (MemoryKind k) ns = numbered-fitting (anyAbove byAddress ns) 
 numbered-packet-as (IoKind k) ns = numbered-fitting (anyAbove byAddress ns) _
 numbered-packet-as (ConfigKind k) ns = numbered-fitting (anyAbove byTarget ns) _
 numbered-packet-as (CompletionKind k) ns = numbered-fitting (anyAbove completing ns) _
-numbered-packet-as Msg ns = omega arith
-numbered-packet-as MsgD ns = omega arith
+numbered-packet-as (MessageKind k routing) ns =
+    either NumberedParsed (isReserved (getD ns 10 0)) (NotTaken 2) _ (omega arith) (numbered-fitting (anyAbove messaging ns) _)
 numbered-packet-as FetchAdd ns = omega arith
 numbered-packet-as Swap ns = omega arith
 numbered-packet-as Cas ns = omega arith
@@ -170,10 +172,10 @@ numbered-on-pair Unknown q h = omega arith
 numbered-parsed : (ns : List ℕ) → NumberedParsed (packetOf ns)
 unfolding packetOf fromKind onKind
 numbered-parsed ns =
-    let kind = kindAt (getD ns 0 0) in
+    let kind = kindAt (getD ns 0 0) (getD ns 10 0) in
     let pair = rowOf kind (getD ns 1 0) in
     let parsed = packetAs (NotTaken 10) kind ns in
-    let outside = ltb 12 (getD ns 0 0) || ltb 4 (getD ns 1 0) in
+    let outside = ltb lastKind (getD ns 0 0) || ltb 4 (getD ns 1 0) in
     either NumberedParsed (ltb (length ns) 20) (NotTaken 11) (fromKind ns) (omega arith)
     (either NumberedParsed outside (NotTaken 2) (onPair pair parsed) (omega arith)
     (numbered-on-pair pair parsed (numbered-packet-as kind ns)))
@@ -219,39 +221,43 @@ numbered-id sheet number = unless-zero NumberedId (sheetNumber sheet) _ _ (of-re
 
 -- ## Routing
 
-abbrev NumberedRouting : Routing → Type 0
-NumberedRouting r = Numbered (onRouting r)
+abbrev NumberedRouting : List ℕ → Routing → Type 0
+NumberedRouting s r = Numbered (onRouting r s)
 
-numbered-walk : (n : ℕ) (p : Packet) (tally : ℕ → Tally) (bus crossed : ℕ) → NumberedRouting (answer p (walkOver n tally bus crossed))
+numbered-walk : (n : ℕ) (p : Packet) (s : List ℕ) (tally : ℕ → Tally) (bus crossed : ℕ)
+    → NumberedRouting s (answer p (walkOver n tally bus crossed))
 unfolding walkOver
-numbered-walk zero p tally bus crossed = omega arith
-numbered-walk (suc n) p tally bus crossed = go (tally bus) (λ b. numbered-walk n p tally b (crossed + 1))
+numbered-walk zero p s tally bus crossed = omega arith
+numbered-walk (suc n) p s tally bus crossed = go (tally bus) (λ b. numbered-walk n p s tally b (crossed + 1))
   where
-    go : (t : Tally) → ((b : ℕ) → NumberedRouting (answer p (walkOver n tally b (crossed + 1))))
-        → NumberedRouting (answer p (settle t crossed (λ b. walkOver n tally b (crossed + 1))))
+    go : (t : Tally) → ((b : ℕ) → NumberedRouting s (answer p (walkOver n tally b (crossed + 1))))
+        → NumberedRouting s (answer p (settle t crossed (λ b. walkOver n tally b (crossed + 1))))
     go none h = omega arith
     go several h = omega arith
     go (one (bar k)) h = tt
     go (one (window k secondary)) h = h secondary
 
-numbered-from-walk : (p : Packet) (s : List ℕ) → NumberedRouting (answer p (walked (aimOf p) s (root s) 0))
+numbered-heading : (h : Heading) (p : Packet) (s : List ℕ) → NumberedRouting s (onHeading h p s)
 unfolding walkFrom
-numbered-from-walk p s = numbered-walk 256 p (tallyFor (aimOf p) s) (root s) 0
+numbered-heading (Aimed aim) p s = numbered-walk 256 p s (tallyFor aim s) (root s) 0
+numbered-heading Up p s = omega arith
+numbered-heading Every p s = tt
+numbered-heading ToPort p s = tt
 
-numbered-from-sheet : (p : Packet) (s : List ℕ) → NumberedRouting (fromSheet p s)
+numbered-from-sheet : (p : Packet) (s : List ℕ) → NumberedRouting s (fromSheet p s)
 unfolding fromSheet routePacket from42
 numbered-from-sheet p s =
-    let walk = answer p (walked (aimOf p) s (root s) 0) in
-    let by-type = cond (typeWrong (root s) p) (NotDelivered 42) walk in
-    let typed = either NumberedRouting (typeWrong (root s) p) (NotDelivered 42) walk (omega arith) (numbered-from-walk p s) in
-    let peopled = either NumberedRouting (eqb (length (nodesOf s)) 0) (NotDelivered 40) by-type (omega arith) typed in
-    unless-zero NumberedRouting (sheetNumber s) (routePacket p s) (NotDelivered (sheetNumber s)) peopled (λ h. h)
+    let headed = onHeading (headingOf p) p s in
+    let by-type = cond (typeWrong (root s) p) (NotDelivered 42) headed in
+    let typed = either (NumberedRouting s) (typeWrong (root s) p) (NotDelivered 42) headed (omega arith) (numbered-heading (headingOf p) p s) in
+    let peopled = either (NumberedRouting s) (eqb (length (nodesOf s)) 0) (NotDelivered 40) by-type (omega arith) typed in
+    unless-zero (NumberedRouting s) (sheetNumber s) (routePacket p s) (NotDelivered (sheetNumber s)) peopled (λ h. h)
 
 pub numbered-route : (header sheet : List ℕ) → Numbered (routeAnswer header sheet)
 unfolding routeOf
 numbered-route header sheet = go (readOf header) (numbered-read header)
   where
-    go : (r : Reading) → NumberedReading r → NumberedRouting (fromReading r sheet)
+    go : (r : Reading) → NumberedReading r → NumberedRouting sheet (fromReading r sheet)
     go (Accepted p) h = numbered-from-sheet p sheet
     go (NotRead n) h = h
 

@@ -3,16 +3,19 @@
 use mathlib.Core.Path.{_≡_}
 use mathlib.Core.Logic.{_⊎_, _↔_}
 use mathlib.Core.List.{List, reverse}
-use Prim.Native.Nat.{ℕ, _/_, _≤_, _<_}
+use Prim.Native.Nat.{ℕ, _/_, _≤_, _<_, _^_}
 use lib.ListN.{length}
 use Rattle.pairs.specs.declared.ConfigKind.{ConfigKind}
 use Rattle.pairs.specs.declared.ConfigKind.the-variants.{CfgRd0, CfgWr0, CfgRd1, CfgWr1}
+use Rattle.pairs.specs.declared.MessageRouting.{MessageRouting}
+use Rattle.pairs.specs.declared.MessageRouting.the-variants.{ToRoot, ByAddress, ById, Broadcast, Local, Gathered}
 use Rattle.packet.specs.declared.Packet.{Packet}
-use Rattle.packet.specs.declared.Packet.the-variants.{Memory, Io, Config, Completion}
+use Rattle.packet.specs.declared.Packet.the-variants.{Memory, Io, Config, Completion, Message}
 use Rattle.records.specs.Limits.{mostAbove}
 use Rattle.board.specs.Board.{functionsOf}
 use Rattle.plan_good.specs.ById.{HasIdAsNumbered}
 use Rattle.board.specs.ToPlacing.{devfnOf}
+use Rattle.claims.specs.declared.Aim.the-variants.{Id}
 use Rattle.route.specs.declared.Delivery.{Delivery}
 use Rattle.route.specs.declared.Routing.the-variants.{Delivered}
 use Rattle.route.specs.Route.{routeOf}
@@ -20,12 +23,22 @@ use Rattle.demands.specs.Demand3.{host, functions, bridgesAbove, routeNu
 
 -- ## The packet
 
+-- a message by ID: document 02, E1, "010 by ID in bytes 8-9", the first two of the tail's eight
+abbrev pub GoesByIdAs : MessageRouting → ℕ → ℕ → Type 0
+GoesByIdAs ToRoot tail id = ⊥
+GoesByIdAs ByAddress tail id = ⊥
+GoesByIdAs ById tail id = id ≡ tail / 2 ^ 48
+GoesByIdAs Broadcast tail id = ⊥
+GoesByIdAs Local tail id = ⊥
+GoesByIdAs Gathered tail id = ⊥
+
 -- p goes by this ID: "a completion's is its requester"
 abbrev pub GoesById : Packet → ℕ → Type 0
 GoesById (Memory k h e a) id = ⊥
 GoesById (Io k h e a) id = ⊥
 GoesById (Config k h e t) id = id ≡ t .id
 GoesById (Completion k h o) id = id ≡ h .requester
+GoesById (Message k h routing code tail) id = GoesByIdAs routing tail id
 
 -- a configuration request's type, and the same read or write as type 0
 abbrev pub typeOf : ConfigKind → ℕ
@@ -46,6 +59,7 @@ arrival (Memory k h e a) = Memory k h e a
 arrival (Io k h e a) = Io k h e a
 arrival (Config k h e t) = Config (asType0 k) h e t
 arrival (Completion k h o) = Completion k h o
+arrival (Message k h routing code tail) = Message k h routing code tail
 
 -- ## The board
 
@@ -66,6 +80,7 @@ WrongType b (Memory k h e a) = ⊥
 WrongType b (Io k h e a) = ⊥
 WrongType b (Config k h e t) = HasFunctions b × Misfits k (t .id / 256) (rootBus b)
 WrongType b (Completion k h o) = ⊥
+WrongType b (Message k h routing code tail) = ⊥
 
 -- function k has the ID: its bus, which is the first bus below the host and else its parent's secondary, and its device/function
 abbrev pub HasId : List ℕ → ℕ → ℕ → Type 0
@@ -91,7 +106,7 @@ pub record RoutedById (b t header : List ℕ) (p : Packet) (id : ℕ) : Type 0 w
   pub arrives : (d : Delivery) → routeOf header t ≡ Delivered d → d .packet ≡ arrival p
   -- the walk crosses exactly the bridges above the function, those and no others, the uppermost first
   pub crosses-exactly : (d : Delivery) → routeOf header t ≡ Delivered d
-      → (bridges : List ℕ) → Crosses p t bridges (d .owner) ↔ (bridges ≡ reverse (bridgesAbove b (d .owner)))
+      → (bridges : List ℕ) → Crosses (Id id) t bridges (d .owner) ↔ (bridges ≡ reverse (bridgesAbove b (d .owner)))
   -- and their number, at most 16 (`mostAbove`), is the one reported
   pub count-reported : (d : Delivery) → routeOf header t ≡ Delivered d
       → (d .bridges ≡ length (bridgesAbove b (d .owner))) × (d .bridges ≤ mostAbove)

@@ -4,7 +4,7 @@ use mathlib.Core.Path.{_≡_, refl, sym, ap, ap₂, subst, _∙_}
 use mathlib.Core.Logic.{_⊎_, inl, inr, ⊎-elim}
 use mathlib.Core.Bool.{Bool, true, false, not, true≢false}
 use mathlib.Core.List.{List, reverse}
-use Prim.Native.Nat.{ℕ, _/_, _%_}
+use Prim.Native.Nat.{ℕ, _/_, _%_, _^_}
 use native.Mathlib.Nat.{suc-ne-zero}
 use native.Mathlib.Omega.{arith}
 use lib.ListN.{length, take}
@@ -13,8 +13,10 @@ use borrow.Author.Tests.{eqb-true, eqb-false, eq-eqb, ne-eqb, not-true}
 use Rattle.endian.specs.Endian.{Bytes}
 use Rattle.pairs.specs.declared.ConfigKind.{ConfigKind}
 use Rattle.pairs.specs.declared.ConfigKind.the-variants.{CfgRd0, CfgWr0, CfgRd1, CfgWr1}
+use Rattle.pairs.specs.declared.MessageRouting.{MessageRouting}
+use Rattle.pairs.specs.declared.MessageRouting.the-variants.{ToRoot, ByAddress, ById, Broadcast, Local, Gathered}
 use Rattle.packet.specs.declared.Packet.{Packet}
-use Rattle.packet.specs.declared.Packet.the-variants.{Memory, Io, Config, Completion}
+use Rattle.packet.specs.declared.Packet.the-variants.{Memory, Io, Config, Completion, Message}
 use Rattle.tlp.specs.declared.Reading.the-variants.{Accepted}
 use Rattle.tlp.specs.Reading.{readOf}
 use Rattle.plan_rule.specs.Order.{eq-or-ne, true-or-false}
@@ -22,6 +24,7 @@ use Rattle.board.specs.Board.{hostOf, functionsOf}
 use Rattle.walk.specs.Walk.{Outcome, delivered, refused}
 use Rattle.walk.specs.WalkLaws.{trail-unique}
 use Rattle.walk.specs.Ids.{tallyById}
+use Rattle.sheet.specs.Sheet.{sheetNumber}
 use Rattle.sheet.specs.Spaces.{nodesOf}
 use Rattle.sheet.specs.Commands.{SameButCommands}
 use Rattle.pools.specs.declared.Space.{Space}
@@ -34,22 +37,29 @@ use Rattle.plan_sheet.specs.Delivery.{PlannedSheet}
 use Rattle.plan_sheet.specs.Answer.{planned-sheet-of-answer}
 use Rattle.claims.specs.declared.Aim.{Aim}
 use Rattle.claims.specs.declared.Aim.the-variants.{Id}
-use Rattle.route_arrival.specs.Arrival.{aimOf, kindWrong, typeWrong, arrived}
+use Rattle.route_arrival.specs.declared.Heading.the-variants.{Aimed, Up, Every, Port}
+use Rattle.route_arrival.specs.Arrival.{headingOf, kindWrong, typeWrong, arrived}
 use Rattle.route.specs.declared.Delivery.{Delivery}
 use Rattle.route.specs.declared.Routing.the-variants.{Delivered, Refused}
 use Rattle.route.specs.Route.{numberOf as routingNumber, answer, walked, root, routeOf}
-use Rattle.route.specs.OrderLaws.{route-no-functions, route-wrong-type, route-walked}
+use Rattle.route.specs.OrderLaws.{route-no-functions, route-wrong-type, goes-by-aim, goes-up, goes-to-every, goes-to-port}
 use Rattle.demands.specs.Demand3.{host, functions, IsRequest, bridgesAbove, routeNumber, DeliveredTo, Crosses, Routed}
 use Rattle.demands.specs.Demand3Laws.{demand-3}
 use Rattle.demands.specs.ById.{GoesById, typeOf, arrival, HasFunctions, rootBus, Misfits, WrongType, HasId, RoutedById}
 
 -- ## The packet
 
-aim-by-id : (p : Packet) (id : ℕ) → GoesById p id → aimOf p ≡ Id id
+aim-by-id : (p : Packet) (id : ℕ) → GoesById p id → headingOf p ≡ Aimed (Id id)
 aim-by-id (Memory k h e a) id by = absurd by
 aim-by-id (Io k h e a) id by = absurd by
-aim-by-id (Config k h e t) id by = ap Id (sym by)
-aim-by-id (Completion k h o) id by = ap Id (sym by)
+aim-by-id (Config k h e t) id by = rw by
+aim-by-id (Completion k h o) id by = rw by
+aim-by-id (Message k h ToRoot code tail) id by = absurd by
+aim-by-id (Message k h ByAddress code tail) id by = absurd by
+aim-by-id (Message k h ById code tail) id by = rw by
+aim-by-id (Message k h Broadcast code tail) id by = absurd by
+aim-by-id (Message k h Local code tail) id by = absurd by
+aim-by-id (Message k h Gathered code tail) id by = absurd by
 
 arrival-agree : (p : Packet) → arrived p ≡ arrival p
 arrival-agree (Memory k h e a) = refl
@@ -59,6 +69,7 @@ arrival-agree (Config CfgWr0 h e t) = refl
 arrival-agree (Config CfgRd1 h e t) = refl
 arrival-agree (Config CfgWr1 h e t) = refl
 arrival-agree (Completion k h o) = refl
+arrival-agree (Message k h routing code tail) = refl
 
 -- type 0 is wrong off the root bus, type 1 on it
 wrong-by-type : (k : ConfigKind)
@@ -91,12 +102,14 @@ wrong-type-of-test b (Memory k h e a) some wrong = absurd (true≢false (sym wro
 wrong-type-of-test b (Io k h e a) some wrong = absurd (true≢false (sym wrong))
 wrong-type-of-test b (Config k h e t) some wrong = (some, misfits-of-wrong k (t .id / 256) (rootBus b) wrong)
 wrong-type-of-test b (Completion k h o) some wrong = absurd (true≢false (sym wrong))
+wrong-type-of-test b (Message k h routing code tail) some wrong = absurd (true≢false (sym wrong))
 
 test-of-wrong-type : (b : List ℕ) (p : Packet) → WrongType b p → HasFunctions b × (typeWrong (rootBus b) p ≡ true)
 test-of-wrong-type b (Memory k h e a) wrong = absurd wrong
 test-of-wrong-type b (Io k h e a) wrong = absurd wrong
 test-of-wrong-type b (Config k h e t) (some, misfits) = (some, wrong-of-misfits k (t .id / 256) (rootBus b) misfits)
 test-of-wrong-type b (Completion k h o) wrong = absurd wrong
+test-of-wrong-type b (Message k h routing code tail) wrong = absurd wrong
 
 -- ## Over the planned sheet
 
@@ -154,8 +167,8 @@ module _ (b room : List ℕ) (n : ℕ) (bytes : Bytes b) (planned : planning b (
         right : typeWrong (root t) p ≡ false → Answered
         right e =
             walk-answered (λ w. true≢false (sym (test-of-wrong-type b p w .1) ∙ ap (λ (r : ℕ). typeWrong r p) (sym top) ∙ e))
-            (route-walked header t p read (sheet .passes) filled e
-            ∙ ap₂ (λ (a : Aim) (r : ℕ). answer p (walked a t r 0)) (aim-by-id p id by) top)
+            (goes-by-aim header t p read (sheet .passes) filled (Id id) (aim-by-id p id by) e
+            ∙ ap (λ (r : ℕ). answer p (walked (Id id) t r 0)) top)
 
     answered : Answered
     answered = ⊎-elim none (λ e. answered-over (omega arith)) (eq-or-ne (length (functions b)) 0)
@@ -209,10 +222,10 @@ module _ (b room : List ℕ) (n : ℕ) (bytes : Bytes b) (planned : planning b (
     one-of-three (delivered-to r k has e) = inl (k, (to k, e, refl))
     one-of-three (no-owner r nobody e) = inr (inl (ap routingNumber e))
 
-    crosses : (k : ℕ) → HasId b id k → Crosses p t (reverse (bridgesAbove b k)) k
+    crosses : (k : ℕ) → HasId b id k → Crosses (Id id) t (reverse (bridgesAbove b k)) k
     crosses k has =
         let some : HasFunctions b = omega (arith, has .from-1, has .in-list) in
-        rw (aim-by-id p id by, sheet .root-is some) (delivers .crosses-above k has)
+        rw (sheet .root-is some) (delivers .crosses-above k has)
 
     nobody-of-none : ¬ HasFunctions b → ¬ WrongType b p × ((k : ℕ) → ¬ HasId b id k)
     nobody-of-none none = (λ w. none (test-of-wrong-type b p w .0), λ k has. none (omega (arith, has .from-1, has .in-list)))
@@ -249,32 +262,61 @@ by-id-routed = routed
 
 -- ## 41
 
-not-41 : (header t : List ℕ) → ((k : ℕ) × DeliveredTo header t k) ⊎ ((routeNumber header t ≡ 40) ⊎ (routeNumber header t ≡ 42))
-    → ¬ (routeNumber header t ≡ 41)
-not-41 header t (inl (k, (d, e, is-k))) number = omega (arith, ap routingNumber e)
-not-41 header t (inr (inl e)) number = omega arith
-not-41 header t (inr (inr e)) number = omega arith
+-- delivered or refused with 40
+abbrev Settled : List ℕ → List ℕ → Type 0
+Settled header t = ((k : ℕ) × DeliveredTo header t k) ⊎ (routeNumber header t ≡ 40)
 
--- no accepted packet is contested over a planned sheet, by address or by ID
+not-41-of-settled : (header t : List ℕ) → Settled header t → ¬ (routeNumber header t ≡ 41)
+not-41-of-settled header t (inl (k, (d, e, is-k))) number = omega (arith, ap routingNumber e)
+not-41-of-settled header t (inr e) number = omega arith
+
+not-41-by-id : (header t : List ℕ) → ((k : ℕ) × DeliveredTo header t k) ⊎ ((routeNumber header t ≡ 40) ⊎ (routeNumber header t ≡ 42))
+    → ¬ (routeNumber header t ≡ 41)
+not-41-by-id header t (inl d) number = not-41-of-settled header t (inl d) number
+not-41-by-id header t (inr (inl e)) number = omega arith
+not-41-by-id header t (inr (inr e)) number = omega arith
+
+-- a message that goes nowhere by address or ID: 40 where there are no functions, else what is said of its routing
+not-41-else : (header t : List ℕ) (p : Packet) → readOf header ≡ Accepted p → sheetNumber t ≡ 0
+    → (¬ (length (nodesOf t) ≡ 0) → ¬ (routeNumber header t ≡ 41)) → ¬ (routeNumber header t ≡ 41)
+not-41-else header t p read passes some = ⊎-elim none some (eq-or-ne (length (nodesOf t)) 0)
+  where
+    none : length (nodesOf t) ≡ 0 → ¬ (routeNumber header t ≡ 41)
+    none empty number = omega (arith, ap routingNumber (route-no-functions header t p read passes empty))
+
+-- no accepted packet is contested over a planned sheet
 pub never-contested : (b room : List ℕ) (n : ℕ) → Bytes b → planning b (length room) ≡ Planned n
     → (t : List ℕ) → SameButCommands (take n (sheetAfter b room)) t
     → (header : List ℕ) (p : Packet) → readOf header ≡ Accepted p → ¬ (routeNumber header t ≡ 41)
-never-contested b room n bytes planned t same header p read = not-41 header t (go p read)
+never-contested b room n bytes planned t same header p read = go p read
   where
-    of-request : ((k : ℕ) × DeliveredTo header t k) ⊎ (routeNumber header t ≡ 40)
-        → ((k : ℕ) × DeliveredTo header t k) ⊎ ((routeNumber header t ≡ 40) ⊎ (routeNumber header t ≡ 42))
-    of-request = ⊎-elim (λ d. inl d) (λ e. inr (inl e))
+    passes : sheetNumber t ≡ 0
+    passes = planned-sheet-of-answer b room n bytes planned t same .passes
 
-    request : (q : Packet) → readOf header ≡ Accepted q → (sp : Space) (address : ℕ) → IsRequest q sp address
-        → Routed b t header q sp address
-    request = demand-3 .requests-routed b room n bytes planned t same header
+    request : (q : Packet) → readOf header ≡ Accepted q → (sp : Space) (address : ℕ) → IsRequest q sp address → ¬ (routeNumber header t ≡ 41)
+    request q r sp address is =
+        not-41-of-settled header t
+        (demand-3 .requests-routed b room n bytes planned t same header q r sp address is .delivered-or-40)
 
-    by-id : (q : Packet) → readOf header ≡ Accepted q → (id : ℕ) → GoesById q id → RoutedById b t header q id
-    by-id = by-id-routed b room n bytes planned t same header
+    by-id : (q : Packet) → readOf header ≡ Accepted q → (id : ℕ) → GoesById q id → ¬ (routeNumber header t ≡ 41)
+    by-id q r id by = not-41-by-id header t (by-id-routed b room n bytes planned t same header q r id by .delivered-40-or-42)
 
-    go : (q : Packet) → readOf header ≡ Accepted q
-        → ((k : ℕ) × DeliveredTo header t k) ⊎ ((routeNumber header t ≡ 40) ⊎ (routeNumber header t ≡ 42))
-    go (Memory k h e a) r = of-request (request (Memory k h e a) r memorySpace a (refl, refl) .delivered-or-40)
-    go (Io k h e a) r = of-request (request (Io k h e a) r ioSpace a (refl, refl) .delivered-or-40)
-    go (Config k h e c) r = by-id (Config k h e c) r (c .id) refl .delivered-40-or-42
-    go (Completion k h o) r = by-id (Completion k h o) r (h .requester) refl .delivered-40-or-42
+    up : (q : Packet) → readOf header ≡ Accepted q → headingOf q ≡ Up → ¬ (routeNumber header t ≡ 41)
+    up q r e =
+        not-41-else header t q r passes (λ some number. omega (arith, ap routingNumber (goes-up header t q r passes some e)))
+
+    go : (q : Packet) → readOf header ≡ Accepted q → ¬ (routeNumber header t ≡ 41)
+    go (Memory k h e a) r = request (Memory k h e a) r memorySpace a (refl, refl)
+    go (Io k h e a) r = request (Io k h e a) r ioSpace a (refl, refl)
+    go (Config k h e c) r = by-id (Config k h e c) r (c .id) refl
+    go (Completion k h o) r = by-id (Completion k h o) r (h .requester) refl
+    go (Message k h ToRoot code tail) r = up (Message k h ToRoot code tail) r refl
+    go (Message k h ByAddress code tail) r = request (Message k h ByAddress code tail) r memorySpace tail (refl, refl)
+    go (Message k h ById code tail) r = by-id (Message k h ById code tail) r (tail / 2 ^ 48) refl
+    go (Message k h Broadcast code tail) r =
+        let q = Message k h Broadcast code tail in
+        not-41-else header t q r passes (λ some number. omega (arith, ap routingNumber (goes-to-every header t q r passes some refl)))
+    go (Message k h Local code tail) r =
+        let q = Message k h Local code tail in
+        not-41-else header t q r passes (λ some number. omega (arith, ap routingNumber (goes-to-port header t q r passes some refl)))
+    go (Message k h Gathered code tail) r = up (Message k h Gathered code tail) r refl

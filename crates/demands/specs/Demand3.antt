@@ -7,8 +7,10 @@ use mathlib.Core.List.{List, reverse}
 use Prim.Native.Nat.{ℕ, _≤_, _<_}
 use lib.ListN.{length, take, drop}
 use Rattle.endian.specs.Endian.{Bytes}
+use Rattle.pairs.specs.declared.MessageRouting.{MessageRouting}
+use Rattle.pairs.specs.declared.MessageRouting.the-variants.{ToRoot, ByAddress, ById, Broadcast, Local, Gathered}
 use Rattle.packet.specs.declared.Packet.{Packet}
-use Rattle.packet.specs.declared.Packet.the-variants.{Memory, Io, Config, Completion}
+use Rattle.packet.specs.declared.Packet.the-variants.{Memory, Io, Config, Completion, Message}
 use Rattle.tlp.specs.declared.Reading.the-variants.{Accepted}
 use Rattle.tlp.specs.Reading.{readOf}
 use Rattle.lists.specs.Lists.{Some}
@@ -33,8 +35,9 @@ use Rattle.plan_good.specs.NestedAndApart.{NestedAndApart}
 use Rattle.plan_good.specs.Delivery.{BarHolds, OwnsAsPlaced}
 use Rattle.plan_answer.specs.declared.Planning.the-variants.{Planned, Refused}
 use Rattle.plan_answer.specs.Plan.{numberOf as planningNumber, planning, sheetAfter}
+use Rattle.claims.specs.declared.Aim.{Aim}
+use Rattle.claims.specs.declared.Aim.the-variants.{Address}
 use Rattle.claims.specs.Claims.{tallyFor}
-use Rattle.route_arrival.specs.Arrival.{aimOf}
 use Rattle.route.specs.declared.Delivery.{Delivery}
 use Rattle.route.specs.declared.Routing.the-variants.{Delivered}
 use Rattle.route.specs.Route.{numberOf as routingNumber, root, routeOf}
@@ -90,12 +93,22 @@ pub record SheetSays (b t : List ℕ) : Type 0 where
 
 -- ## A request
 
+-- a message by address is one in memory space: document 02, E1, "001 goes by address as a memory request does" and "demand 3 form 001"
+abbrev pub IsMessageRequest : MessageRouting → ℕ → Space → ℕ → Type 0
+IsMessageRequest ToRoot tail sp address = ⊥
+IsMessageRequest ByAddress tail sp address = (sp ≡ memorySpace) × (address ≡ tail)
+IsMessageRequest ById tail sp address = ⊥
+IsMessageRequest Broadcast tail sp address = ⊥
+IsMessageRequest Local tail sp address = ⊥
+IsMessageRequest Gathered tail sp address = ⊥
+
 -- p is a memory or I/O request in this space, from this start address on
 abbrev pub IsRequest : Packet → Space → ℕ → Type 0
 IsRequest (Memory k h e a) sp address = (sp ≡ memorySpace) × (address ≡ a)
 IsRequest (Io k h e a) sp address = (sp ≡ ioSpace) × (address ≡ a)
 IsRequest (Config k h e t) sp address = ⊥
 IsRequest (Completion k h o) sp address = ⊥
+IsRequest (Message k h routing code tail) sp address = IsMessageRequest routing tail sp address
 
 -- one of function k's BARs in the space holds the address: "its size in addresses from where it is placed"
 abbrev pub HasBarOver : List ℕ → Space → ℕ → ℕ → Type 0
@@ -116,9 +129,9 @@ routeNumber header t = routingNumber (routeOf header t)
 abbrev pub DeliveredTo : List ℕ → List ℕ → ℕ → Type 0
 DeliveredTo header t k = (d : Delivery) × (routeOf header t ≡ Delivered d) × (d .owner ≡ k)
 
--- the router's walk with p goes through windows of these bridges, in this order, and ends at a BAR of function k
-abbrev pub Crosses : Packet → List ℕ → List ℕ → ℕ → Type 0
-Crosses p t bridges k = Trail (tallyFor (aimOf p) t) (root t) bridges k
+-- the router's walk to an address of a space, or to an ID, goes through these bridges, in this order, and ends at function k
+abbrev pub Crosses : Aim → List ℕ → List ℕ → ℕ → Type 0
+Crosses aim t bridges k = Trail (tallyFor aim t) (root t) bridges k
 
 -- What becomes of a header that is read as p, such a request, over a sheet t of board b
 pub record Routed (b t header : List ℕ) (p : Packet) (sp : Space) (address : ℕ) : Type 0 where
@@ -134,7 +147,7 @@ pub record Routed (b t header : List ℕ) (p : Packet) (sp : Space) (address : �
   pub arrives-unchanged : (d : Delivery) → routeOf header t ≡ Delivered d → d .packet ≡ p
   -- "It crosses exactly the bridges above the owner, ..": those and no others, the uppermost first
   pub crosses-exactly : (d : Delivery) → routeOf header t ≡ Delivered d
-      → (bridges : List ℕ) → Crosses p t bridges (d .owner) ↔ (bridges ≡ reverse (bridgesAbove b (d .owner)))
+      → (bridges : List ℕ) → Crosses (Address sp address) t bridges (d .owner) ↔ (bridges ≡ reverse (bridgesAbove b (d .owner)))
   -- ".. and their number, at most 16, is the one reported."
   pub count-reported : (d : Delivery) → routeOf header t ≡ Delivered d
       → (d .bridges ≡ length (bridgesAbove b (d .owner))) × (d .bridges ≤ mostAbove)

@@ -10,8 +10,10 @@ use lib.ListN.{length, take, drop}
 use lib.Seq.{drop-at}
 use borrow.Author.Tests.{eq-eqb, ne-eqb, lt-ltb, le-ltb}
 use Rattle.endian.specs.Endian.{Bytes}
+use Rattle.pairs.specs.declared.MessageRouting.{MessageRouting}
+use Rattle.pairs.specs.declared.MessageRouting.the-variants.{ToRoot, ByAddress, ById, Broadcast, Local, Gathered}
 use Rattle.packet.specs.declared.Packet.{Packet}
-use Rattle.packet.specs.declared.Packet.the-variants.{Memory, Io, Config, Completion}
+use Rattle.packet.specs.declared.Packet.the-variants.{Memory, Io, Config, Completion, Message}
 use Rattle.tlp.specs.declared.Reading.the-variants.{Accepted}
 use Rattle.tlp.specs.Reading.{readOf}
 use Rattle.pools.specs.declared.Space.{Space}
@@ -47,7 +49,8 @@ use Rattle.plan_sheet.specs.Delivery.{PlannedSheet}
 use Rattle.plan_sheet.specs.Answer.{AnswersPlanned, planned-of-answer, planned-sheet-of-answer}
 use Rattle.claims.specs.declared.Aim.the-variants.{Address}
 use Rattle.claims.specs.Claims.{tallyFor}
-use Rattle.route_arrival.specs.Arrival.{aimOf}
+use Rattle.route_arrival.specs.declared.Heading.the-variants.{Aimed}
+use Rattle.route_arrival.specs.Arrival.{headingOf}
 use Rattle.route.specs.declared.Delivery.{Delivery}
 use Rattle.route.specs.declared.Routing.the-variants.{Delivered}
 use Rattle.route.specs.Route.{numberOf as routingNumber, answer, walked, root, routeOf}
@@ -175,11 +178,17 @@ module _ (b room : List ℕ) (n : ℕ) where
 -- ## Requests
 
 -- the router's aim of a request is its space and start address
-aim-of-request : (p : Packet) (sp : Space) (address : ℕ) → IsRequest p sp address → aimOf p ≡ Address sp address
+aim-of-request : (p : Packet) (sp : Space) (address : ℕ) → IsRequest p sp address → headingOf p ≡ Aimed (Address sp address)
 aim-of-request (Memory k h e a) sp address (in-memory, starts) = rw (in-memory, starts)
 aim-of-request (Io k h e a) sp address (in-io, starts) = rw (in-io, starts)
 aim-of-request (Config k h e t) sp address is = absurd is
 aim-of-request (Completion k h o) sp address is = absurd is
+aim-of-request (Message k h ToRoot code tail) sp address is = absurd is
+aim-of-request (Message k h ByAddress code tail) sp address (in-memory, starts) = rw (in-memory, starts)
+aim-of-request (Message k h ById code tail) sp address is = absurd is
+aim-of-request (Message k h Broadcast code tail) sp address is = absurd is
+aim-of-request (Message k h Local code tail) sp address is = absurd is
+aim-of-request (Message k h Gathered code tail) sp address is = absurd is
 
 -- a trail from the first bus is one from the bus of the first record: where there is no record, there is none
 trail-from-root : (enabled : ℕ → Bool) (address first : ℕ) (rs : List Registers) → FirstOn first (nodes rs) → (ns : List ℕ) (k : ℕ)
@@ -232,7 +241,7 @@ module _ (b room : List ℕ) (n : ℕ) (bytes : Bytes b) (planned : planning b (
 
     module _ (header : List ℕ) (p : Packet) (read : readOf header ≡ Accepted p) (sp : Space) (address : ℕ)
         (is : IsRequest p sp address) where
-      aim : aimOf p ≡ Address sp address
+      aim : headingOf p ≡ Aimed (Address sp address)
       aim = aim-of-request p sp address is
 
       -- what the walk comes to
@@ -276,8 +285,8 @@ module _ (b room : List ℕ) (n : ℕ) (bytes : Bytes b) (planned : planning b (
           nobody : (k : ℕ) → Owns b t sp address k → ⊥
           nobody k o = let d = delivered-of-owner k o in suc-ne-zero 0 (cc)
 
-      crosses : (d : Delivery) → routeOf header t ≡ Delivered d → Crosses p t (reverse (bridgesAbove b (d .owner))) (d .owner)
-      crosses d e = rw aim (crosses-above-owner sp address (d .owner) (owner-of d e .0))
+      crosses : (d : Delivery) → routeOf header t ≡ Delivered d → Crosses (Address sp address) t (reverse (bridgesAbove b (d .owner))) (d .owner)
+      crosses d e = crosses-above-owner sp address (d .owner) (owner-of d e .0)
 
       routed : Routed b t header p sp address
       routed =

@@ -50,7 +50,7 @@ use Rattle.plan_answer.specs.Plan.{numberOf as planningNumber, sheetAfter}
 use Rattle.sheet_text.specs.Listing.{words, windowText, bridgeText, endText, lineOf, countText, planText}
 use Rattle.sheet_text.specs.BoardText.{boardText}
 use Rattle.route.specs.declared.Routing.{Routing}
-use Rattle.route.specs.declared.Routing.the-variants.{Delivered, Refused as NotDelivered}
+use Rattle.route.specs.declared.Routing.the-variants.{Delivered, Broadcast, Port, Refused as NotDelivered}
 use Rattle.route.specs.Route.{numberOf as routingNumber, routeOf, fromSheet, routePacket, from42}
 
 -- the Length that a reading reports; a refused header has none, and 0 is no Length of a memory request
@@ -58,13 +58,17 @@ abbrev pub lengthRead : Reading → ℕ
 lengthRead (Accepted p) = headOf p .length
 lengthRead (Refused n) = 0
 
--- the record that a request is delivered to, 0 where it is refused, and the bridges crossed on the way
+-- the record that a request is delivered to, 0 where it is to none, and the bridges crossed on the way
 abbrev pub recordOf : Routing → ℕ
 recordOf (Delivered d) = d .owner
+recordOf (Broadcast n p) = 0
+recordOf (Port p) = 0
 recordOf (NotDelivered n) = 0
 
 abbrev pub crossed : Routing → ℕ
 crossed (Delivered d) = d .bridges
+crossed (Broadcast n p) = 0
+crossed (Port p) = 0
 crossed (NotDelivered n) = 0
 
 pub data Claim : Type 0 where
