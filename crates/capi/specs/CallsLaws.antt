@@ -47,7 +47,7 @@ use Rattle.route_list.specs.Counted.{counted}
 use Rattle.route.specs.declared.Routing.{Routing}
 use Rattle.route.specs.declared.Routing.the-variants.{Broadcast}
 use Rattle.route.specs.Route.{routeOf}
-use Rattle.route.specs.ListedLaws.{broadcast-lists}
+use Rattle.route.specs.ListedLaws.{list-of-broadcast}
 use Rattle.capi_answers.specs.Answers.{refuses, gives, returned, filled, leftBeside}
 use Rattle.capi_answers.specs.AnswersLaws.{Answered, answered-short}
 use Rattle.capi.specs.Calls.{onWriting, onParsed, roomOf, unownedOf, word, commandNumber, commandLeft, onPlanning, planAnswer}
@@ -235,5 +235,5 @@ module _ (board sheet written : List ℕ) where
 pub answer-broadcast : (header s : List ℕ) (n : ℕ) (p : Packet) → routeOf header s ≡ Broadcast n p
     → gives (0 ∷ n ∷ (numbersOf p ++ counted 1 n)) ≡ routeAnswer header s
 answer-broadcast header s n p e =
-    ap (λ (list : List ℕ). gives (0 ∷ n ∷ (numbersOf p ++ list))) (sym (broadcast-lists header s n p e))
+    ap (λ (list : List ℕ). gives (0 ∷ n ∷ (numbersOf p ++ list))) (sym (list-of-broadcast header s n p e))
     ∙ ap (λ (r : Routing). onRouting r s) (sym e)

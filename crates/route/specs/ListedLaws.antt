@@ -3,12 +3,12 @@
 use mathlib.Core.Path.{_≡_, refl, sym, ap, subst, _∙_}
 use mathlib.Core.Bool.{Bool, true, false, cond}
 use mathlib.Core.List.{List, [], _∷_, map, _++_}
-use Prim.Native.Nat.{ℕ, suc, _+_, _<_, _≤_}
+use Prim.Native.Nat.{ℕ, _+_, _<_, _≤_}
 use native.Mathlib.Nat.{zero-add}
 use native.Mathlib.Omega.{arith}
 use lib.ListN.{length, drop}
 use lib.Seq.{sets, sets-eq}
-use lib.Dec.{ltb, eqb}
+use lib.Dec.{eqb}
 use borrow.Author.Tests.{lt-ltb, le-ltb}
 use Rattle.packet.specs.declared.Packet.{Packet}
 use Rattle.tlp.specs.declared.Reading.{Reading}
@@ -83,10 +83,9 @@ pub broadcast-counts : (header s : List ℕ) (functions : ℕ) (p : Packet) → 
 unfolding routeOf
 broadcast-counts header s functions p e = subst (CountsAll s) e (counts-read s (readOf header))
 
--- and the list has the numbers 1 to that count
-pub broadcast-lists : (header s : List ℕ) (functions : ℕ) (p : Packet) → routeOf header s ≡ Broadcast functions p
+pub list-of-broadcast : (header s : List ℕ) (functions : ℕ) (p : Packet) → routeOf header s ≡ Broadcast functions p
     → listOf s ≡ counted 1 functions
-broadcast-lists header s functions p e = list-counted s ∙ ap (counted 1) (sym (broadcast-counts header s functions p e))
+list-of-broadcast header s functions p e = list-counted s ∙ ap (counted 1) (sym (broadcast-counts header s functions p e))
 
 -- ## The call's answers
 
@@ -115,14 +114,12 @@ module _ (header s list : List ℕ) (r : Routing) (e : r ≡ routeOf header s) w
     pub listed-short : room < functions → Answered (Refused 11) list
     listed-short h = (rw (lt-ltb room functions h) at (on-room (Broadcast functions p) f), refl)
 
-    whole : functions ≡ length (nodesOf s)
-    whole = broadcast-counts header s functions p (sym e ∙ f)
-
-    pub listed-whole : (after : List ℕ) → functions ≤ room → after ≡ sets list 0 (counted 1 functions) → Answered (Broadcast functions p) after
+    pub listed-whole : (after : List ℕ) → functions ≤ room → after ≡ sets list 0 (counted 1 functions)
+        → Answered (Broadcast functions p) after
     listed-whole after h g = (rw (le-ltb room functions h) at (on-room (Broadcast functions p) f), g ∙ stored)
       where
         stored : sets list 0 (counted 1 functions) ≡ listOf s ++ drop functions list
         stored =
             sets-eq (counted 1 functions) list 0 (omega (arith, length-counted 1 functions))
             ∙ rw (zero-add (length (counted 1 functions)), length-counted 1 functions)
-            (ap (λ (l : List ℕ). l ++ drop functions list) (ap (counted 1) whole ∙ sym (list-counted s)))
+            (ap (λ (l : List ℕ). l ++ drop functions list) (sym (list-of-broadcast header s functions p (sym e ∙ f))))
