@@ -1,4 +1,5 @@
 // The answer to a line of the script, put into lent bytes from their start.
+use packet::Packet;
 use plan_answer::Planning;
 use route::Delivery;
 use route::Routing;
@@ -116,6 +117,14 @@ fn put_lookup(out: &mut [u8], bytes: &[u8], sheet: &[u8]) -> usize {
 fn put_routing(out: &mut [u8], header: &[u8], sheet: &[u8]) -> usize {
     match route::route(header, sheet) {
         Routing::Delivered(d) => put_delivery(out, d),
+        Routing::Broadcast(functions, p) => {
+            let at = put_named(out, 0, b"all ", functions as u64);
+            put_arrived(out, at, p)
+        }
+        Routing::Port(p) => {
+            let at = put_text(out, 0, b"port");
+            put_arrived(out, at, p)
+        }
         Routing::Refused(n) => put_number(out, b"refused ", n as u64),
     }
 }
@@ -123,8 +132,13 @@ fn put_routing(out: &mut [u8], header: &[u8], sheet: &[u8]) -> usize {
 fn put_delivery(out: &mut [u8], d: Delivery) -> usize {
     let mut at = put_named(out, 0, b"record ", d.owner as u64);
     at = put_named(out, at, b" bridges ", d.bridges as u64);
-    at = put_byte(out, at, b' ');
     let p = d.packet;
+    put_arrived(out, at, p)
+}
+
+// The packet, after who gets it, and the end of the line.
+fn put_arrived(out: &mut [u8], start: usize, p: Packet) -> usize {
+    let mut at = put_byte(out, start, b' ');
     at = packet_text::put_packet(out, at, p);
     put_byte(out, at, b'\n')
 }

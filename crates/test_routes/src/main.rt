@@ -6,7 +6,8 @@
 //   sheet HEX         these bytes become the current sheet, whatever they are: `sheet N`, with the number of its checks
 //   command ID VALUE  the command word of the function with this ID becomes VALUE: `command N`
 //   lookup ID         where that function's 64 register bytes start in the sheet: `lookup OFFSET` or `refused N`
-//   header HEX        the header's packet, routed: `record R bridges B` and the packet as it arrives, or `refused N`
+//   header HEX        the header's packet, routed: `record R bridges B`, for a broadcast `all N`, for the port `port`, and the packet as it
+//                     arrives, or `refused N`
 //
 // HEX is any number of bytes, none too, ID and VALUE two bytes each, as hexadecimal digits in either
 // case with spaces between bytes as one likes. Before the first sheet the current one is empty. A
