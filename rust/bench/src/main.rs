@@ -9,6 +9,14 @@ use measure::{compare, Times, ROUNDS};
 use std::hint::black_box;
 use subjects::{plain_calls, proved_calls, Backplane, Mixed};
 
+/// What is timed of headers.
+const READ: &str = "read";
+const READ_FIELDS: &str = "read and take all fields";
+const READ_NUMBERS: &str = "read, as numbers";
+const WRITE: &str = "write";
+const MAKE_AND_WRITE: &str = "make and write";
+const WRITE_NUMBERS: &str = "write, as numbers";
+
 /// What happens to the buffer that a call writes.
 const NONE: &str = "none";
 const REUSED: &str = "reused, not cleared";
@@ -43,55 +51,98 @@ fn row(call: &str, input: &str, buffer: &str, times: Times) {
 }
 
 fn read(name: &str, header: &[u8]) {
-    let times =
-        compare(|| plain_calls::read(black_box(header)).is_ok(), || proved_calls::read(black_box(header)).is_ok());
-    row("read", name, NONE, times);
+    let times = compare(
+        || black_box(&plain_calls::read(black_box(header))).is_ok(),
+        || black_box(&proved_calls::read(black_box(header))).is_ok(),
+    );
+    row(READ, name, NONE, times);
+    let times = compare(
+        || black_box(&plain_calls::read(black_box(header))).is_ok(),
+        || black_box(&proved_calls::read_fields(black_box(header))).is_ok(),
+    );
+    row(READ_FIELDS, name, NONE, times);
     let mut answers = ([0; 20], [0; 20]);
     let times = compare(
         || plain_calls::read_numbers(black_box(header), black_box(&mut answers.0)),
         || proved_calls::read_numbers(black_box(header), black_box(&mut answers.1)),
     );
     assert_eq!(answers.0, answers.1);
-    row("read, as numbers", name, REUSED, times);
+    row(READ_NUMBERS, name, REUSED, times);
 }
 
 /// One header after the other, so that neither side can foresee the next one's kind.
-fn read_mixed(mixed: &[Mixed]) {
+fn read_mixed(mixed: &Mixed) {
+    let mut turns = (mixed.headers.iter().cycle(), mixed.headers.iter().cycle());
+    let times = compare(
+        || turns.0.next().map(|header| black_box(&plain_calls::read(black_box(header))).is_ok()),
+        || turns.1.next().map(|header| black_box(&proved_calls::read(black_box(header))).is_ok()),
+    );
+    row(READ, subjects::MIXED, NONE, times);
+    let times = compare(
+        || turns.0.next().map(|header| black_box(&plain_calls::read(black_box(header))).is_ok()),
+        || turns.1.next().map(|header| black_box(&proved_calls::read_fields(black_box(header))).is_ok()),
+    );
+    row(READ_FIELDS, subjects::MIXED, NONE, times);
     let mut answers = ([0; 20], [0; 20]);
-    let mut turns = (mixed.iter().cycle(), mixed.iter().cycle());
     let times = compare(
-        || turns.0.next().map(|m| plain_calls::read_numbers(black_box(&m.header), black_box(&mut answers.0))),
-        || turns.1.next().map(|m| proved_calls::read_numbers(black_box(&m.header), black_box(&mut answers.1))),
+        || turns.0.next().map(|header| plain_calls::read_numbers(black_box(header), black_box(&mut answers.0))),
+        || turns.1.next().map(|header| proved_calls::read_numbers(black_box(header), black_box(&mut answers.1))),
     );
-    row("read, as numbers", subjects::MIXED, REUSED, times);
-}
-
-fn write_mixed(mixed: &[Mixed]) {
-    let mut rooms = ([0; 16], [0; 16]);
-    let mut turns = (mixed.iter().cycle(), mixed.iter().cycle());
-    let times = compare(
-        || turns.0.next().map(|m| plain_calls::write_numbers(black_box(&m.numbers), black_box(&mut rooms.0)).is_ok()),
-        || turns.1.next().map(|m| proved_calls::write_numbers(black_box(&m.numbers), black_box(&mut rooms.1))),
-    );
-    row("write, as numbers", subjects::MIXED, REUSED, times);
+    row(READ_NUMBERS, subjects::MIXED, REUSED, times);
 }
 
 fn write(name: &str, header: &[u8]) {
     let packets = (plain::read(header), cartsundial::read(header));
-    let (Ok(plain_packet), Ok(proved_packet)) = packets else { panic!("{name} is lawful") };
+    let (Ok(plain_packet), Ok(packet)) = packets else { panic!("{name} is lawful") };
     let mut rooms = ([0; 16], [0; 16]);
     let times = compare(
         || plain_calls::write(black_box(&plain_packet), black_box(&mut rooms.0)).is_ok(),
-        || proved_calls::write(black_box(&proved_packet), black_box(&mut rooms.1)).is_ok(),
+        || proved_calls::write(black_box(&packet), black_box(&mut rooms.1)).is_ok(),
     );
     assert_eq!(rooms.0, rooms.1);
-    row("write", name, REUSED, times);
-    let numbers = proved_packet.to_numbers();
+    row(WRITE, name, REUSED, times);
+    let fields = packet.fields();
+    let mut rooms = ([0; 16], [0; 16]);
+    let times = compare(
+        || plain_calls::write(black_box(&plain_packet), black_box(&mut rooms.0)).is_ok(),
+        || proved_calls::make_and_write(black_box(&fields), black_box(&mut rooms.1)).is_ok(),
+    );
+    assert_eq!(rooms.0, rooms.1);
+    row(MAKE_AND_WRITE, name, REUSED, times);
+    let numbers = packet.to_numbers();
     let times = compare(
         || plain_calls::write_numbers(black_box(&numbers), black_box(&mut rooms.0)).is_ok(),
         || proved_calls::write_numbers(black_box(&numbers), black_box(&mut rooms.1)),
     );
-    row("write, as numbers", name, REUSED, times);
+    row(WRITE_NUMBERS, name, REUSED, times);
+}
+
+fn write_mixed(mixed: &Mixed) {
+    let mut rooms = ([0; 16], [0; 16]);
+    let mut plain = mixed.plain.iter().cycle();
+    let mut packets = mixed.packets.iter().cycle();
+    let times = compare(
+        || plain.next().map(|packet| plain_calls::write(black_box(packet), black_box(&mut rooms.0)).is_ok()),
+        || packets.next().map(|packet| proved_calls::write(black_box(packet), black_box(&mut rooms.1)).is_ok()),
+    );
+    row(WRITE, subjects::MIXED, REUSED, times);
+    let mut fields = mixed.fields.iter().cycle();
+    let times = compare(
+        || plain.next().map(|packet| plain_calls::write(black_box(packet), black_box(&mut rooms.0)).is_ok()),
+        || fields.next().map(|fields| proved_calls::make_and_write(black_box(fields), black_box(&mut rooms.1)).is_ok()),
+    );
+    row(MAKE_AND_WRITE, subjects::MIXED, REUSED, times);
+    let mut turns = (mixed.numbers.iter().cycle(), mixed.numbers.iter().cycle());
+    let times = compare(
+        || {
+            turns
+                .0
+                .next()
+                .map(|numbers| plain_calls::write_numbers(black_box(numbers), black_box(&mut rooms.0)).is_ok())
+        },
+        || turns.1.next().map(|numbers| proved_calls::write_numbers(black_box(numbers), black_box(&mut rooms.1))),
+    );
+    row(WRITE_NUMBERS, subjects::MIXED, REUSED, times);
 }
 
 fn plan(backplane: &Backplane) {

@@ -1,5 +1,6 @@
 //! What is timed: the calls of both sides, and their inputs.
 
+use cartsundial::{Fields, Packet};
 use inputs::board::{high, memory, Board};
 use inputs::foreign::{completion, request, CPLD, MRD};
 use inputs::numbers;
@@ -51,11 +52,16 @@ pub mod plain_calls {
 
 /// The proved calls with Rust types, likewise.
 pub mod proved_calls {
-    use cartsundial::{calls, Delivery, Packet, Refusal};
+    use cartsundial::{calls, Arrival, Fields, Packet, Refusal};
 
     #[inline(never)]
     pub fn read(header: &[u8]) -> Result<Packet, Refusal> {
         cartsundial::read(header)
+    }
+
+    #[inline(never)]
+    pub fn read_fields(header: &[u8]) -> Result<Fields, Refusal> {
+        cartsundial::read(header).map(|packet| packet.fields())
     }
 
     #[inline(never)]
@@ -66,6 +72,11 @@ pub mod proved_calls {
     #[inline(never)]
     pub fn write(packet: &Packet, room: &mut [u8]) -> Result<usize, Refusal> {
         cartsundial::write(packet, room)
+    }
+
+    #[inline(never)]
+    pub fn make_and_write(fields: &Fields, room: &mut [u8]) -> Result<usize, Refusal> {
+        cartsundial::write(&Packet::new(fields)?, room)
     }
 
     #[inline(never)]
@@ -84,7 +95,7 @@ pub mod proved_calls {
     }
 
     #[inline(never)]
-    pub fn route(header: &[u8], sheet: &[u8]) -> Result<Delivery, Refusal> {
+    pub fn route(header: &[u8], sheet: &[u8]) -> Result<Arrival, Refusal> {
         cartsundial::route(header, sheet)
     }
 }
@@ -100,30 +111,39 @@ pub fn headers() -> [(&'static str, Vec<u8>); 3] {
 
 pub const MIXED: &str = "65,536 lawful headers of every kind, in turn";
 
-/// A lawful packet as bytes and as numbers.
+/// Lawful packets of every kind at random, each in the forms that a call starts from.
 pub struct Mixed {
-    pub header: [u8; 16],
-    pub numbers: [u64; 20],
+    pub headers: Vec<[u8; 16]>,
+    pub numbers: Vec<[u64; 20]>,
+    pub plain: Vec<plain::Packet>,
+    pub packets: Vec<Packet>,
+    pub fields: Vec<Fields>,
 }
 
-/// Lawful headers of every kind at random; both sides read each the same.
-pub fn mixed() -> Vec<Mixed> {
+/// Both sides read each header as the same numbers.
+pub fn mixed() -> Mixed {
     let mut random = Random::new(1);
-    (0..65_536).map(|_| Mixed::new(&mut random)).collect()
+    let numbers: Vec<[u64; 20]> = (0..65_536).map(|_| numbers::lawful(&mut random)).collect();
+    let headers: Vec<[u8; 16]> = numbers.iter().map(header).collect();
+    for (header, numbers) in headers.iter().zip(&numbers) {
+        let mut answers = ([0; 20], [0; 20]);
+        assert_eq!(plain_calls::read_numbers(header, &mut answers.0), 0);
+        assert_eq!(proved_calls::read_numbers(header, &mut answers.1), 0);
+        assert_eq!((&answers.0, &answers.1), (numbers, numbers));
+    }
+    let plain = headers.iter().map(|header| plain::read(header).expect("the header is lawful")).collect();
+    let packets: Vec<Packet> =
+        headers.iter().map(|header| cartsundial::read(header).expect("the header is lawful")).collect();
+    let fields = packets.iter().map(Packet::fields).collect();
+    Mixed { headers, numbers, plain, packets, fields }
 }
 
-impl Mixed {
-    fn new(random: &mut Random) -> Mixed {
-        let numbers = numbers::lawful(random);
-        let mut header = [0; 16];
-        let bytes = numbers::header(&numbers);
-        header[..bytes.len()].copy_from_slice(&bytes);
-        let mut answers = ([0; 20], [0; 20]);
-        assert_eq!(plain_calls::read_numbers(&header, &mut answers.0), 0);
-        assert_eq!(proved_calls::read_numbers(&header, &mut answers.1), 0);
-        assert_eq!((answers.0, answers.1), (numbers, numbers));
-        Mixed { header, numbers }
-    }
+/// The packet's header, with zeros after it where it has 12 bytes.
+fn header(numbers: &[u64; 20]) -> [u8; 16] {
+    let mut header = [0; 16];
+    let bytes = numbers::header(numbers);
+    header[..bytes.len()].copy_from_slice(&bytes);
+    header
 }
 
 /// Functions in a chain with its endpoints, at most.
@@ -168,7 +188,8 @@ impl Backplane {
         let mut sheet = vec![0; plain::FULL_SHEET];
         assert_eq!(cartsundial::plan(&self.board, &mut sheet), Ok(self.sheet.len()));
         assert_eq!(sheet[..self.sheet.len()], self.sheet);
-        let delivery = cartsundial::route(&self.header, &self.sheet).expect("the request has an owner");
+        let arrival = cartsundial::route(&self.header, &self.sheet).expect("the request is delivered");
+        let delivery = arrival.delivery().expect("the request has an owner");
         assert_eq!((usize::from(delivery.record), usize::from(delivery.bridges)), (functions, self.depth));
         let arrival = plain::route(&self.header, &self.sheet).expect("the request has an owner");
         assert_eq!(arrival.numbers()[..2], [delivery.record.into(), delivery.bridges.into()]);

@@ -2,7 +2,7 @@
 //!
 //! `cargo run --release --offline --example boot`
 
-use cartsundial::{functions, plan, route, Delivery, Function, Refusal, FULL_SHEET};
+use cartsundial::{functions, plan, route, Arrival, Delivery, Function, Refusal, FULL_SHEET};
 
 /// Host, a bridge, and a card behind it.
 const BOARD: [u8; 81] = [
@@ -40,9 +40,11 @@ fn main() -> Result<(), Refusal> {
     }
     for address in [0xF900_0FFC, 0xF900_1000] {
         match route(&read_of(address), sheet) {
-            Ok(Delivery { record, id, bridges, packet }) => {
+            Ok(Arrival::Function(Delivery { record, id, bridges, packet })) => {
                 println!("{address:08X}: record {record}, {id}, bridges crossed {bridges}, {packet}");
             }
+            // Only a message goes to every function, or ends at the port.
+            Ok(arrival) => println!("{address:08X}: {arrival:?}"),
             Err(refusal) => println!("{address:08X}: {refusal}"),
         }
     }

@@ -6,12 +6,16 @@
 #![allow(unsafe_code)]
 
 /// How many numbers a packet has: kind, form, TC, Attr, TD, EP, AT, Length, requester, tag, last enables, first
-/// enables, address, target, register, completer, status, BCM, byte count, lower address. A field that the kind does
-/// not have is 0.
+/// enables, address, target, register, completer, status, BCM, byte count, lower address. A message has its routing, its
+/// code and bytes 8 to 15 where a request has its enables and address. A field that the kind does not have is 0.
 pub const PACKET: usize = 20;
 
-/// How many numbers a delivery has: record, bridges, and the packet as it arrives.
-pub const DELIVERY: usize = 2 + PACKET;
+/// How many numbers the answer to [`route`] has: record, bridges, and the packet as it arrives. Only of a broadcast are
+/// there more.
+pub const ROUTE: usize = 2 + PACKET;
+
+/// How many numbers are always enough for [`route`]: a broadcast's answer ends with the record of every function.
+pub const ANY_ROUTE: usize = ROUTE + 256;
 
 mod c {
     extern "C" {
@@ -115,7 +119,13 @@ pub fn command(sheet: &mut [u8], id: u32, command: u32) -> u32 {
     unsafe { c::cartsundial_command(sheet.as_mut_ptr(), sheet.len(), id, command) }
 }
 
-/// Routes a header over a sheet into the first [`DELIVERY`] numbers of `answer`.
+/// Routes a header over a sheet into the first [`ROUTE`] numbers of `answer`.
+///
+/// | answer | record | bridges | after the packet |
+/// |---|---|---|---|
+/// | one function | its record, from 1 | crossed | |
+/// | every function | 0 | how many functions | their records, in order |
+/// | the port | 0 | 0 | |
 pub fn route(header: &[u8], sheet: &[u8], answer: &mut [u64]) -> u32 {
     unsafe {
         c::cartsundial_route(

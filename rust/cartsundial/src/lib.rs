@@ -9,7 +9,7 @@
 //! function's registers boot code is to write, and every rule. A header is given in the order of the link, byte 0 first
 //! and each number's high byte first.
 //!
-//! No call allocates, keeps anything or waits. A stack of 128 KiB holds the deepest board and the deepest sheet; that is
+//! Nothing but `core` is needed, so boot code can use it. No call allocates, keeps anything or waits. A stack of 128 KiB holds the deepest board and the deepest sheet; that is
 //! tested, not proved. A call that runs where interrupts are handled on the same stack (ring 0) must not be interrupted:
 //! the archive uses the red zone; include/cartsundial.h says more.
 //!
@@ -40,61 +40,33 @@
 //! assert_eq!(route(&header, &sheet[..1]), Err(Refusal::NoOwner));
 //! ```
 
+#![no_std]
 #![deny(unsafe_code, missing_docs)]
 
+mod arrival;
 pub mod calls;
+mod fields;
 mod functions;
+mod id;
+mod kind;
 mod packet;
 mod refusal;
 mod unfit;
 
+pub use arrival::{route, Arrival, Delivery};
+pub use fields::{Body, Enables, Fields};
 pub use functions::{functions, Function};
-pub use packet::{Body, CompletionKind, ConfigurationKind, Enables, Form, Id, IoKind, MemoryKind, Packet};
+pub use id::Id;
+pub use kind::{CompletionKind, ConfigurationKind, Form, IoKind, Kind, MemoryKind, MessageKind, Routing};
+pub use packet::{read, write, Packet};
 pub use refusal::Refusal;
 pub use unfit::{what_does_not_fit, Pool, Unfit};
-
-use calls::{DELIVERY, PACKET};
 
 /// The length of the largest sheet: a version byte and 256 records.
 pub const FULL_SHEET: usize = 23_553;
 
 /// The length of a function's configuration header.
 pub const REGISTERS: usize = 64;
-
-/// Where a packet goes.
-#[derive(Clone, Copy, Debug, PartialEq, Eq, Hash)]
-pub struct Delivery {
-    /// The sheet's record of the function that gets the packet, from 1.
-    pub record: u16,
-    /// That function's ID.
-    pub id: Id,
-    /// How many bridges the packet crosses.
-    pub bridges: u8,
-    /// The packet as it arrives: configuration type 1 has become type 0, nothing else changes.
-    pub packet: Packet,
-}
-
-/// Reads the header at the start of `header`. Later bytes are not looked at.
-///
-/// ```
-/// # use cartsundial::{read, Body, Refusal};
-/// let header = [0, 0, 0, 1, 0, 0, 0x21, 0x0F, 0xF9, 0, 0x0F, 0xFC];
-/// let packet = read(&header).unwrap();
-/// assert!(matches!(packet.body, Body::Memory { address: 0xF900_0FFC, .. }));
-/// assert_eq!(read(&header[..11]), Err(Refusal::ShortHeader));
-/// ```
-pub fn read(header: &[u8]) -> Result<Packet, Refusal> {
-    let mut numbers = [0; PACKET];
-    accepted(calls::read(header, &mut numbers))?;
-    Ok(Packet::from_answer(&numbers))
-}
-
-/// Writes the packet's header at the start of `room` and returns its length, 12 or 16. Nothing past it is written.
-pub fn write(packet: &Packet, room: &mut [u8]) -> Result<usize, Refusal> {
-    let mut written = [0];
-    accepted(calls::write(&packet.to_numbers(), room, &mut written))?;
-    Ok(written[0] as usize)
-}
 
 /// Plans `board` at the start of `sheet` and returns the sheet's length, at most [`FULL_SHEET`]. Nothing past it is
 /// written. A board is planned whole or refused.
@@ -129,20 +101,10 @@ pub fn set_command(sheet: &mut [u8], id: Id, command: u16) -> Result<(), Refusal
     accepted(calls::command(sheet, id.0.into(), command.into()))
 }
 
-/// Routes the header from the host over the sheet. A header that is refused is refused before the sheet is read.
-pub fn route(header: &[u8], sheet: &[u8]) -> Result<Delivery, Refusal> {
-    let mut numbers = [0; DELIVERY];
-    accepted(calls::route(header, sheet, &mut numbers))?;
-    let [record, bridges, packet @ ..] = numbers;
-    let record = record as u16;
-    let id = functions::id_at(sheet, record);
-    Ok(Delivery { record, id, bridges: bridges as u8, packet: Packet::from_answer(&packet) })
-}
-
 /// 0 is accepted, any other number the refusal.
 fn accepted(number: u32) -> Result<(), Refusal> {
     match number {
         0 => Ok(()),
-        _ => Err(Refusal::from_number(number).expect("the library answers with document 01's numbers")),
+        _ => Err(Refusal::of_call(number)),
     }
 }

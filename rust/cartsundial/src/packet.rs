@@ -1,391 +1,412 @@
-//! A packet's header as Rust types, and as the library's numbers.
+//! A lawful header.
+//!
+//! A [`Packet`] keeps a header's 12 or 16 bytes. They have two sources only: bytes that the library's reader accepted
+//! ([`read()`]), and bytes that its writer wrote ([`Packet::new`], [`Packet::from_numbers`]). What follows is proved of
+//! the library:
+//!
+//! - A header that is read is written back to its own first 12 or 16 bytes (`Demand2`). So [`write()`] copies them and
+//!   asks nothing again.
+//! - Lawful packets and accepted headers are the same things (`Demand2`), and two lawful packets with the same bytes are
+//!   one packet (`layout-unique`). So two packets are equal exactly when their bytes are.
+//!
+//! A field is taken from the bytes where it is asked for. No proof covers that, so the comparison with plain Rust holds
+//! every field of every header against the library's own numbers.
 
-use crate::calls::PACKET;
-use std::fmt;
+use crate::calls::{self, PACKET};
+use crate::kind::{CompletionKind, ConfigurationKind, IoKind, MemoryKind, MessageKind};
+use crate::{Body, Enables, Fields, Form, Id, Kind, Refusal, Routing};
+use core::fmt;
 
-/// A function's ID: bus 8, device 5, function 3 bits.
-#[derive(Clone, Copy, Debug, PartialEq, Eq, PartialOrd, Ord, Hash)]
-pub struct Id(pub u16);
+/// The longest header.
+const LONGEST: usize = Form::FourDwords.bytes();
 
-impl Id {
-    /// The ID's bus.
-    pub const fn bus(self) -> u8 {
-        (self.0 >> 8) as u8
-    }
-
-    /// The ID's device, 0 to 31.
-    pub const fn device(self) -> u8 {
-        (self.0 >> 3 & 31) as u8
-    }
-
-    /// The ID's function, 0 to 7.
-    pub const fn function(self) -> u8 {
-        (self.0 & 7) as u8
-    }
-}
-
-impl From<u16> for Id {
-    fn from(id: u16) -> Id {
-        Id(id)
-    }
-}
-
-/// `01:00.0`.
-impl fmt::Display for Id {
-    fn fmt(&self, f: &mut fmt::Formatter<'_>) -> fmt::Result {
-        write!(f, "{:02X}:{:02X}.{}", self.bus(), self.device(), self.function())
-    }
-}
-
-/// A packet's header. Every kind has its own fields only, and memory requests alone have two forms. A field may hold a
-/// value that its bits in the header cannot: writing the packet is then refused with 10.
-#[derive(Clone, Copy, Debug, PartialEq, Eq, Hash)]
+/// A lawful packet's header. The fields that every kind has are methods; [`body`](Packet::body) has the others, to match
+/// on, and [`fields`](Packet::fields) has all of them, to change and make another packet of.
+///
+/// ```
+/// # use cartsundial::{read, Body, Fields, Kind, Packet, Refusal};
+/// let packet = read(&[0, 0, 0, 1, 0, 0, 0x21, 0x0F, 0xF9, 0, 0x0F, 0xFC]).unwrap();
+/// assert_eq!((packet.kind(), packet.length(), packet.tag()), (Kind::MRd, 1, 0x21));
+/// assert!(matches!(packet.body(), Body::Memory { address: 0xF900_0FFC, .. }));
+///
+/// let next = Packet::new(&Fields { tag: 0x22, ..packet.fields() }).unwrap();
+/// assert_eq!(next.header()[6], 0x22);
+/// assert_eq!(Packet::new(&Fields { tag: 256, ..packet.fields() }), Err(Refusal::TooWide));
+/// ```
+#[derive(Clone, Copy, PartialEq, Eq, Hash)]
+#[repr(align(8))]
 pub struct Packet {
-    /// Traffic class, 3 bits.
-    pub tc: u8,
-    /// Attributes, 3 bits; Attr2 is the highest.
-    pub attr: u8,
-    /// A digest follows.
-    pub td: bool,
-    /// The data is poisoned.
-    pub ep: bool,
-    /// Address type, 2 bits.
-    pub at: u8,
-    /// In dwords, 1 to 1,024; 0 for Cpl and CplLk.
-    pub length: u16,
-    /// Who asked.
-    pub requester: Id,
-    /// 8 bits.
-    pub tag: u16,
-    /// What the packet is, with the fields of its kind.
-    pub body: Body,
+    /// A lawful header, and zeros past its end.
+    bytes: [u8; LONGEST],
 }
 
-/// What a packet is, with the fields that only some kinds have.
-#[derive(Clone, Copy, Debug, PartialEq, Eq, Hash)]
-pub enum Body {
-    /// A memory request.
-    Memory {
-        /// Which.
-        kind: MemoryKind,
-        /// Three dwords, or four for a 64-bit address.
-        form: Form,
-        /// The bytes that are asked for.
-        enables: Enables,
-        /// Where it starts, a multiple of four.
-        address: u64,
-    },
-    /// An I/O request.
-    Io {
-        /// Which.
-        kind: IoKind,
-        /// The bytes that are asked for.
-        enables: Enables,
-        /// Where it starts, a multiple of four.
-        address: u32,
-    },
-    /// A configuration request.
-    Configuration {
-        /// Which.
-        kind: ConfigurationKind,
-        /// The bytes that are asked for.
-        enables: Enables,
-        /// The function whose register it is.
-        target: Id,
-        /// 10 bits, the extended four high.
-        register: u16,
-    },
-    /// A completion.
-    Completion {
-        /// Which.
-        kind: CompletionKind,
-        /// Who answers.
-        completer: Id,
-        /// 3 bits.
-        status: u8,
-        /// Byte count modified.
-        bcm: bool,
-        /// 12 bits.
-        byte_count: u16,
-        /// 7 bits.
-        lower_address: u8,
-    },
-}
-
-/// The header's length.
-#[derive(Clone, Copy, Debug, PartialEq, Eq, Hash)]
-#[repr(u8)]
-pub enum Form {
-    /// 12 bytes, with an address below 4 GiB.
-    ThreeDwords = 3,
-    /// 16 bytes, with an address of 64 bits.
-    FourDwords = 4,
-}
-
-/// Byte enables, 4 bits each.
-#[derive(Clone, Copy, Debug, PartialEq, Eq, Hash)]
-pub struct Enables {
-    /// Of the last dword; 0 where there is only one.
-    pub last: u8,
-    /// Of the first dword.
-    pub first: u8,
-}
-
-/// The memory requests.
-#[derive(Clone, Copy, Debug, PartialEq, Eq, Hash)]
-#[repr(u8)]
-pub enum MemoryKind {
-    /// Read.
-    MRd = 0,
-    /// Locked read.
-    MRdLk = 1,
-    /// Write.
-    MWr = 2,
-}
-
-/// The I/O requests.
-#[derive(Clone, Copy, Debug, PartialEq, Eq, Hash)]
-#[repr(u8)]
-pub enum IoKind {
-    /// Read.
-    IORd = 3,
-    /// Write.
-    IOWr = 4,
-}
-
-/// The configuration requests. Type 1 is on its way to another bus, type 0 on the target's.
-#[derive(Clone, Copy, Debug, PartialEq, Eq, Hash)]
-#[repr(u8)]
-pub enum ConfigurationKind {
-    /// Read, type 0.
-    CfgRd0 = 5,
-    /// Write, type 0.
-    CfgWr0 = 6,
-    /// Read, type 1.
-    CfgRd1 = 7,
-    /// Write, type 1.
-    CfgWr1 = 8,
-}
-
-/// The completions.
-#[derive(Clone, Copy, Debug, PartialEq, Eq, Hash)]
-#[repr(u8)]
-pub enum CompletionKind {
-    /// Without data.
-    Cpl = 9,
-    /// With data.
-    CplD = 10,
-    /// Without data, of a locked read.
-    CplLk = 11,
-    /// With data, of a locked read.
-    CplDLk = 12,
-}
-
-// Each kind by its number, which is one of the kind's own.
-
-impl MemoryKind {
-    const fn of(number: u64) -> MemoryKind {
-        match number {
-            0 => MemoryKind::MRd,
-            1 => MemoryKind::MRdLk,
-            _ => MemoryKind::MWr,
-        }
+/// Reads the header at the start of `header`. Later bytes are not looked at.
+///
+/// ```
+/// # use cartsundial::{read, Kind, Refusal};
+/// let header = [0, 0, 0, 1, 0, 0, 0x21, 0x0F, 0xF9, 0, 0x0F, 0xFC];
+/// assert_eq!(read(&header).unwrap().kind(), Kind::MRd);
+/// assert_eq!(read(&header[..11]), Err(Refusal::ShortHeader));
+/// ```
+#[inline]
+pub fn read(header: &[u8]) -> Result<Packet, Refusal> {
+    // A packet's numbers do not fit an empty slice. The library says so, with 11, after every number that the header
+    // itself can get, and stores none of them.
+    match calls::read(header, &mut []) {
+        SHORT => Ok(Packet::of_accepted(header)),
+        number => Err(Refusal::of_call(number)),
     }
 }
 
-impl IoKind {
-    const fn of(number: u64) -> IoKind {
-        match number {
-            3 => IoKind::IORd,
-            _ => IoKind::IOWr,
-        }
+/// Writes the packet's header at the start of `room` and returns its length, 12 or 16. Nothing past it is written.
+#[inline]
+pub fn write(packet: &Packet, room: &mut [u8]) -> Result<usize, Refusal> {
+    let length = packet.form().bytes();
+    let room = room.get_mut(..length).ok_or(Refusal::ShortRoom)?;
+    room[..8].copy_from_slice(&packet.bytes[..8]);
+    // The last dword is the third or the fourth.
+    for at in [8, length - 4] {
+        room[at..at + 4].copy_from_slice(&packet.bytes[at..at + 4]);
     }
+    Ok(length)
 }
 
-impl ConfigurationKind {
-    const fn of(number: u64) -> ConfigurationKind {
-        match number {
-            5 => ConfigurationKind::CfgRd0,
-            6 => ConfigurationKind::CfgWr0,
-            7 => ConfigurationKind::CfgRd1,
-            _ => ConfigurationKind::CfgWr1,
-        }
-    }
-}
-
-impl CompletionKind {
-    const fn of(number: u64) -> CompletionKind {
-        match number {
-            9 => CompletionKind::Cpl,
-            10 => CompletionKind::CplD,
-            11 => CompletionKind::CplLk,
-            _ => CompletionKind::CplDLk,
-        }
-    }
-}
-
-impl Form {
-    const fn of(dwords: u64) -> Form {
-        match dwords {
-            3 => Form::ThreeDwords,
-            _ => Form::FourDwords,
-        }
-    }
-}
+/// What the reader answers to a lawful header over an empty slice.
+const SHORT: u32 = Refusal::ShortRoom.number() as u32;
 
 impl Packet {
+    /// The packet with these fields. Where there is none, the refusal is the writer's: 2, 10, then 4 to 9.
+    #[inline]
+    pub fn new(fields: &Fields) -> Result<Packet, Refusal> {
+        Packet::from_numbers(&fields.to_numbers())
+    }
+
+    /// The packet that these numbers are, in the order of [`PACKET`]. Where they are none, the refusal is the writer's.
+    #[inline]
+    pub fn from_numbers(numbers: &[u64; PACKET]) -> Result<Packet, Refusal> {
+        let mut bytes = [0; LONGEST];
+        match calls::write(numbers, &mut bytes, &mut [0]) {
+            0 => Ok(Packet { bytes }),
+            number => Err(Refusal::of_call(number)),
+        }
+    }
+
+    /// The packet of a header that the library's reader accepted: its first 12 or 16 bytes.
+    #[inline]
+    fn of_accepted(header: &[u8]) -> Packet {
+        let (&start, rest) = header.split_first_chunk().expect("an accepted header has 12 bytes");
+        let start = u64::from_le_bytes(start);
+        let rest = match rest.first_chunk() {
+            Some(&rest) => u64::from_le_bytes(rest),
+            None => u32::from_le_bytes(*rest.first_chunk().expect("an accepted header has 12 bytes")).into(),
+        };
+        let rest = match form(start as u8) {
+            Form::ThreeDwords => rest & 0xFFFF_FFFF,
+            Form::FourDwords => rest,
+        };
+        Packet { bytes: (u128::from(rest) << 64 | u128::from(start)).to_le_bytes() }
+    }
+
+    /// The header's 12 or 16 bytes.
+    #[inline]
+    pub fn header(&self) -> &[u8] {
+        &self.bytes[..self.form().bytes()]
+    }
+
+    /// What the packet is.
+    #[inline]
+    pub fn kind(&self) -> Kind {
+        self.pair().kind
+    }
+
+    /// The header's length. Memory requests alone have both.
+    #[inline]
+    pub fn form(&self) -> Form {
+        form(self.bytes[0])
+    }
+
+    /// Traffic class, 0 to 7.
+    #[inline]
+    pub fn tc(&self) -> u8 {
+        self.bytes[1] >> 4 & 7
+    }
+
+    /// Attributes, 0 to 7; Attr2 is the highest bit.
+    #[inline]
+    pub fn attr(&self) -> u8 {
+        self.bytes[1] & 4 | self.bytes[2] >> 4 & 3
+    }
+
+    /// Whether a digest follows.
+    #[inline]
+    pub fn td(&self) -> bool {
+        self.bytes[2] & 0x80 != 0
+    }
+
+    /// Whether the data is poisoned.
+    #[inline]
+    pub fn ep(&self) -> bool {
+        self.bytes[2] & 0x40 != 0
+    }
+
+    /// Address type, 0 to 3.
+    #[inline]
+    pub fn at(&self) -> u8 {
+        self.bytes[2] >> 2 & 3
+    }
+
+    /// In dwords, 1 to 1,024; 0 for Cpl, CplLk and Msg.
+    #[inline]
+    pub fn length(&self) -> u16 {
+        let code = self.word(2) & 0x3FF;
+        let has_length = !matches!(self.kind(), Kind::Cpl | Kind::CplLk | Kind::Msg);
+        if has_length && code == 0 {
+            1024
+        } else {
+            code
+        }
+    }
+
+    /// Who asked.
+    #[inline]
+    pub fn requester(&self) -> Id {
+        Id(self.word(self.transaction()))
+    }
+
+    /// 0 to 255.
+    #[inline]
+    pub fn tag(&self) -> u16 {
+        self.bytes[self.transaction() + 2].into()
+    }
+
+    /// What the packet is, with the fields that only some kinds have.
+    #[inline]
+    pub fn body(&self) -> Body {
+        match self.pair().class {
+            Class::Memory(kind) => {
+                let form = self.form();
+                let address = match form {
+                    Form::ThreeDwords => self.dword(8).into(),
+                    Form::FourDwords => self.tail(),
+                };
+                Body::Memory { kind, form, enables: self.enables(), address }
+            }
+            Class::Io(kind) => Body::Io { kind, enables: self.enables(), address: self.dword(8) },
+            Class::Configuration(kind) => {
+                let register = self.word(10) >> 2 & 0x3FF;
+                Body::Configuration { kind, enables: self.enables(), target: Id(self.word(8)), register }
+            }
+            Class::Completion(kind) => Body::Completion {
+                kind,
+                completer: Id(self.word(4)),
+                status: self.bytes[6] >> 5,
+                bcm: self.bytes[6] & 0x10 != 0,
+                byte_count: self.word(6) & 0xFFF,
+                lower_address: self.bytes[11] & 0x7F,
+            },
+            Class::Message(kind, routing) => Body::Message { kind, routing, code: self.bytes[7], tail: self.tail() },
+        }
+    }
+
+    /// All fields.
+    #[inline]
+    pub fn fields(&self) -> Fields {
+        Fields {
+            tc: self.tc(),
+            attr: self.attr(),
+            td: self.td(),
+            ep: self.ep(),
+            at: self.at(),
+            length: self.length(),
+            requester: self.requester(),
+            tag: self.tag(),
+            body: self.body(),
+        }
+    }
+
     /// The packet as the library's numbers, in the order of [`PACKET`].
     pub fn to_numbers(&self) -> [u64; PACKET] {
-        let (kind, form) = self.kind_and_form();
-        let mut numbers = [0; PACKET];
-        numbers[..10].copy_from_slice(&[
-            kind.into(),
-            form.into(),
-            self.tc.into(),
-            self.attr.into(),
-            self.td.into(),
-            self.ep.into(),
-            self.at.into(),
-            self.length.into(),
-            self.requester.0.into(),
-            self.tag.into(),
-        ]);
-        match self.body {
-            Body::Memory { enables, address, .. } => {
-                numbers[10..13].copy_from_slice(&[enables.last.into(), enables.first.into(), address]);
-            }
-            Body::Io { enables, address, .. } => {
-                numbers[10..13].copy_from_slice(&[enables.last.into(), enables.first.into(), address.into()]);
-            }
-            Body::Configuration { enables, target, register, .. } => {
-                numbers[10..12].copy_from_slice(&[enables.last.into(), enables.first.into()]);
-                numbers[13..15].copy_from_slice(&[target.0.into(), register.into()]);
-            }
-            Body::Completion { completer, status, bcm, byte_count, lower_address, .. } => {
-                numbers[15..].copy_from_slice(&[
-                    completer.0.into(),
-                    status.into(),
-                    bcm.into(),
-                    byte_count.into(),
-                    lower_address.into(),
-                ]);
-            }
-        }
-        numbers
+        self.fields().to_numbers()
     }
 
-    /// The packet that these numbers are. `None` where the kind and form are not carried, or where a number does not
-    /// fit its Rust type or stands in a field that the kind does not have.
-    pub fn from_numbers(numbers: &[u64; PACKET]) -> Option<Packet> {
-        are_packet(numbers).then(|| Packet::from_answer(numbers))
+    #[inline]
+    fn pair(&self) -> Pair {
+        PAIRS[usize::from(self.bytes[0])]
     }
 
-    /// The packet that the library answered with: its numbers are a packet's, which is proved, and are not tried again.
-    pub(crate) fn from_answer(numbers: &[u64; PACKET]) -> Packet {
-        let [kind, form, tc, attr, td, ep, at, length, requester, tag, ..] = *numbers;
-        let [.., last, first, address, target, register, completer, status, bcm, byte_count, lower_address] = *numbers;
-        let enables = Enables { last: last as u8, first: first as u8 };
-        let body = match kind {
-            0..=2 => Body::Memory { kind: MemoryKind::of(kind), form: Form::of(form), enables, address },
-            3..=4 => Body::Io { kind: IoKind::of(kind), enables, address: address as u32 },
-            5..=8 => Body::Configuration {
-                kind: ConfigurationKind::of(kind),
-                enables,
-                target: Id(target as u16),
-                register: register as u16,
-            },
-            _ => Body::Completion {
-                kind: CompletionKind::of(kind),
-                completer: Id(completer as u16),
-                status: status as u8,
-                bcm: bcm == 1,
-                byte_count: byte_count as u16,
-                lower_address: lower_address as u8,
-            },
-        };
-        Packet {
-            tc: tc as u8,
-            attr: attr as u8,
-            td: td == 1,
-            ep: ep == 1,
-            at: at as u8,
-            length: length as u16,
-            requester: Id(requester as u16),
-            tag: tag as u16,
-            body,
+    #[inline]
+    fn enables(&self) -> Enables {
+        Enables { last: self.bytes[7] >> 4, first: self.bytes[7] & 0xF }
+    }
+
+    /// Where the requester's ID and the tag start.
+    #[inline]
+    fn transaction(&self) -> usize {
+        match self.kind() {
+            Kind::Cpl | Kind::CplD | Kind::CplLk | Kind::CplDLk => 8,
+            _ => 4,
         }
     }
 
-    /// The kind's number and the form's.
-    fn kind_and_form(&self) -> (u8, u8) {
-        match self.body {
-            Body::Memory { kind, form, .. } => (kind as u8, form as u8),
-            Body::Io { kind, .. } => (kind as u8, 3),
-            Body::Configuration { kind, .. } => (kind as u8, 3),
-            Body::Completion { kind, .. } => (kind as u8, 3),
-        }
+    #[inline]
+    fn word(&self, at: usize) -> u16 {
+        u16::from_be_bytes([self.bytes[at], self.bytes[at + 1]])
+    }
+
+    #[inline]
+    fn dword(&self, at: usize) -> u32 {
+        u32::from(self.word(at)) << 16 | u32::from(self.word(at + 2))
+    }
+
+    /// Bytes 8 to 15.
+    #[inline]
+    fn tail(&self) -> u64 {
+        u64::from(self.dword(8)) << 32 | u64::from(self.dword(12))
     }
 }
 
-/// Every number fits its field's Rust type, and a field that the kind does not have is 0.
-fn are_packet(numbers: &[u64; PACKET]) -> bool {
-    let [kind, form, tc, attr, td, ep, at, length, requester, tag, ..] = *numbers;
-    let [.., last, first, address, target, register, completer, status, bcm, byte_count, lower_address] = *numbers;
-    let bytes = tc | attr | at | last | first | status | lower_address;
-    let words = length | requester | tag | target | register | completer | byte_count;
-    let request = last | first;
-    let place = target | register;
-    let outcome = completer | status | bcm | byte_count | lower_address;
-    let absent = match (kind, form) {
-        (0..=2, 3 | 4) => place | outcome,
-        (3..=4, 3) => place | outcome | address >> 32,
-        (5..=8, 3) => address | outcome,
-        (9..=12, 3) => request | address | place,
-        _ => return false,
+/// The form of a header with this byte 0: Fmt's lowest bit.
+#[inline]
+const fn form(byte0: u8) -> Form {
+    if byte0 & 0x20 == 0 {
+        Form::ThreeDwords
+    } else {
+        Form::FourDwords
+    }
+}
+
+/// What byte 0, Fmt and Type, says of a lawful header.
+#[derive(Clone, Copy)]
+struct Pair {
+    kind: Kind,
+    class: Class,
+}
+
+/// The kinds that have the same fields.
+#[derive(Clone, Copy)]
+enum Class {
+    Memory(MemoryKind),
+    Io(IoKind),
+    Configuration(ConfigurationKind),
+    Completion(CompletionKind),
+    Message(MessageKind, Routing),
+}
+
+/// Every pair by byte 0. No lawful header has a byte 0 that is not named here.
+static PAIRS: [Pair; 256] = {
+    let mut pairs = [Pair { kind: Kind::MRd, class: Class::Memory(MemoryKind::MRd) }; 256];
+    let mut byte0 = 0;
+    while byte0 < 256 {
+        if let Some(pair) = pair(byte0 as u8) {
+            pairs[byte0] = pair;
+        }
+        byte0 += 1;
+    }
+    pairs
+};
+
+/// The data bit of Fmt and Type tell the kind.
+const fn pair(byte0: u8) -> Option<Pair> {
+    let has_data = byte0 & 0x40 != 0;
+    let (kind, class) = match (byte0 & 0x1F, has_data) {
+        (0b00000, false) => (Kind::MRd, Class::Memory(MemoryKind::MRd)),
+        (0b00000, true) => (Kind::MWr, Class::Memory(MemoryKind::MWr)),
+        (0b00001, false) => (Kind::MRdLk, Class::Memory(MemoryKind::MRdLk)),
+        (0b00010, false) => (Kind::IORd, Class::Io(IoKind::IORd)),
+        (0b00010, true) => (Kind::IOWr, Class::Io(IoKind::IOWr)),
+        (0b00100, false) => (Kind::CfgRd0, Class::Configuration(ConfigurationKind::CfgRd0)),
+        (0b00100, true) => (Kind::CfgWr0, Class::Configuration(ConfigurationKind::CfgWr0)),
+        (0b00101, false) => (Kind::CfgRd1, Class::Configuration(ConfigurationKind::CfgRd1)),
+        (0b00101, true) => (Kind::CfgWr1, Class::Configuration(ConfigurationKind::CfgWr1)),
+        (0b01010, false) => (Kind::Cpl, Class::Completion(CompletionKind::Cpl)),
+        (0b01010, true) => (Kind::CplD, Class::Completion(CompletionKind::CplD)),
+        (0b01011, false) => (Kind::CplLk, Class::Completion(CompletionKind::CplLk)),
+        (0b01011, true) => (Kind::CplDLk, Class::Completion(CompletionKind::CplDLk)),
+        (0b10000..=0b10101, false) => (Kind::Msg, Class::Message(MessageKind::Msg, routing(byte0))),
+        (0b10000..=0b10101, true) => (Kind::MsgD, Class::Message(MessageKind::MsgD, routing(byte0))),
+        _ => return None,
     };
-    bytes >> 8 | words >> 16 | (td | ep | bcm) >> 1 | absent == 0
+    Some(Pair { kind, class })
+}
+
+/// The low three bits of Type tell a message's routing.
+const fn routing(byte0: u8) -> Routing {
+    match byte0 & 7 {
+        0 => Routing::ToRoot,
+        1 => Routing::ByAddress,
+        2 => Routing::ById,
+        3 => Routing::Broadcast,
+        4 => Routing::Local,
+        _ => Routing::Gathered,
+    }
+}
+
+impl TryFrom<&Fields> for Packet {
+    type Error = Refusal;
+
+    fn try_from(fields: &Fields) -> Result<Packet, Refusal> {
+        Packet::new(fields)
+    }
+}
+
+impl TryFrom<Fields> for Packet {
+    type Error = Refusal;
+
+    fn try_from(fields: Fields) -> Result<Packet, Refusal> {
+        Packet::new(&fields)
+    }
+}
+
+impl From<Packet> for Fields {
+    fn from(packet: Packet) -> Fields {
+        packet.fields()
+    }
+}
+
+/// The fields by name.
+impl fmt::Debug for Packet {
+    fn fmt(&self, f: &mut fmt::Formatter<'_>) -> fmt::Result {
+        let Fields { tc, attr, td, ep, at, length, requester, tag, body } = self.fields();
+        f.debug_struct("Packet")
+            .field("tc", &tc)
+            .field("attr", &attr)
+            .field("td", &td)
+            .field("ep", &ep)
+            .field("at", &at)
+            .field("length", &length)
+            .field("requester", &requester)
+            .field("tag", &tag)
+            .field("body", &body)
+            .finish()
+    }
 }
 
 /// One line: `MRd 3dw tc 0 attr 0 td 0 ep 0 at 0 length 1 requester 0000 tag 021 last 0 first F address ..`.
 impl fmt::Display for Packet {
     fn fmt(&self, f: &mut fmt::Formatter<'_>) -> fmt::Result {
-        let (_, form) = self.kind_and_form();
-        match self.body {
-            Body::Memory { kind, .. } => write!(f, "{kind:?}"),
-            Body::Io { kind, .. } => write!(f, "{kind:?}"),
-            Body::Configuration { kind, .. } => write!(f, "{kind:?}"),
-            Body::Completion { kind, .. } => write!(f, "{kind:?}"),
-        }?;
-        write!(
-            f,
-            " {form}dw tc {} attr {} td {} ep {} at {} length {} requester {:04X} tag {:03X}",
-            self.tc,
-            self.attr,
-            u8::from(self.td),
-            u8::from(self.ep),
-            self.at,
-            self.length,
-            self.requester.0,
-            self.tag
-        )?;
-        match self.body {
-            Body::Memory { enables, address, .. } => {
-                write!(f, " last {:X} first {:X} address {address:016X}", enables.last, enables.first)
+        let Fields { tc, attr, td, ep, at, length, requester, tag, body } = self.fields();
+        let (kind, form) = (self.kind(), self.form() as u8);
+        let (td, ep) = (u8::from(td), u8::from(ep));
+        write!(f, "{kind:?} {form}dw tc {tc} attr {attr} td {td} ep {ep} at {at} length {length}")?;
+        write!(f, " requester {:04X} tag {tag:03X}", requester.0)?;
+        match body {
+            Body::Memory { enables: Enables { last, first }, address, .. } => {
+                write!(f, " last {last:X} first {first:X} address {address:016X}")
             }
-            Body::Io { enables, address, .. } => {
-                write!(f, " last {:X} first {:X} address {address:016X}", enables.last, enables.first)
+            Body::Io { enables: Enables { last, first }, address, .. } => {
+                write!(f, " last {last:X} first {first:X} address {address:016X}")
             }
-            Body::Configuration { enables, target, register, .. } => write!(
-                f,
-                " last {:X} first {:X} target {:04X} register {register:03X}",
-                enables.last, enables.first, target.0
-            ),
-            Body::Completion { completer, status, bcm, byte_count, lower_address, .. } => write!(
-                f,
-                " completer {:04X} status {status} bcm {} count {byte_count} lower {lower_address:02X}",
-                completer.0,
-                u8::from(bcm)
-            ),
+            Body::Configuration { enables: Enables { last, first }, target, register, .. } => {
+                write!(f, " last {last:X} first {first:X} target {:04X} register {register:03X}", target.0)
+            }
+            Body::Completion { completer, status, bcm, byte_count, lower_address, .. } => {
+                let bcm = u8::from(bcm);
+                write!(f, " completer {:04X} status {status} bcm {bcm}", completer.0)?;
+                write!(f, " count {byte_count} lower {lower_address:02X}")
+            }
+            Body::Message { routing, code, tail, .. } => {
+                write!(f, " routing {} code {code:02X} tail {tail:016X}", routing.number())
+            }
         }
     }
 }

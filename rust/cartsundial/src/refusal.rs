@@ -1,7 +1,7 @@
 //! Document 01's refusal numbers.
 
-use std::error::Error;
-use std::fmt;
+use core::error::Error;
+use core::fmt;
 
 /// Why a call was refused: document 01's number and its meaning.
 #[derive(Clone, Copy, Debug, PartialEq, Eq, PartialOrd, Ord, Hash)]
@@ -11,13 +11,14 @@ pub enum Refusal {
     ShortHeader = 1,
     /// A Fmt and Type pair that is unknown; of the writer, a kind and form not carried.
     UnknownPair = 2,
-    /// A pair that is known but not carried.
+    /// A pair that is known but not carried: AtomicOps and prefixes.
     NotCarried = 3,
-    /// A bit that has no name, an address's low two or TH set; memory AT 11, completion AT not 00.
+    /// A bit that has no name, an address's low two or TH set; memory AT 11, completion or message AT not 00.
     ReservedBits = 4,
-    /// I/O and configuration: TC, Attr, AT or last enables not zero, or Length not 1. Cpl and CplLk: Length code not 0.
+    /// I/O and configuration: TC, Attr, AT or last enables not zero, or Length not 1. Cpl, CplLk and Msg: Length code not
+    /// 0.
     FixedFields = 5,
-    /// The 64-bit form with upper half zero.
+    /// A memory request in the 64-bit form with upper half zero.
     UpperHalfZero = 6,
     /// Memory byte enables.
     ByteEnables = 7,
@@ -25,8 +26,8 @@ pub enum Refusal {
     BoundaryCrossed = 8,
     /// A completion status that is not 000, 001, 010 or 100.
     Status = 9,
-    /// A value that its field does not take: too wide, a Length outside 1 to 1,024 (of Cpl and CplLk: other than 0), or
-    /// an address of 4 GiB or more in the three-dword form.
+    /// A value that its field does not take: too wide, a Length outside 1 to 1,024 (of Cpl, CplLk and Msg: other than 0),
+    /// or an address of 4 GiB or more in the three-dword form.
     TooWide = 10,
     /// Short room.
     ShortRoom = 11,
@@ -64,11 +65,13 @@ pub enum Refusal {
     Contested = 41,
     /// Wrong configuration type.
     ConfigurationType = 42,
+    /// A message that only travels up: to the root complex, or gathered on its way there.
+    Upward = 43,
 }
 
 impl Refusal {
     /// Every refusal, by rising number.
-    pub const ALL: [Refusal; 28] = [
+    pub const ALL: [Refusal; 29] = [
         Refusal::ShortHeader,
         Refusal::UnknownPair,
         Refusal::NotCarried,
@@ -97,6 +100,7 @@ impl Refusal {
         Refusal::NoOwner,
         Refusal::Contested,
         Refusal::ConfigurationType,
+        Refusal::Upward,
     ];
 
     /// Document 01's number.
@@ -109,6 +113,11 @@ impl Refusal {
         Refusal::ALL.into_iter().find(|refusal| u32::from(refusal.number()) == number)
     }
 
+    /// The refusal that a call answered with.
+    pub(crate) fn of_call(number: u32) -> Refusal {
+        Refusal::from_number(number).expect("the library answers with document 01's numbers")
+    }
+
     /// Document 01's meaning.
     pub const fn meaning(self) -> &'static str {
         match self {
@@ -117,7 +126,7 @@ impl Refusal {
             Refusal::NotCarried => "Fmt and Type pair known but not carried",
             Refusal::ReservedBits => "a bit without a name, an address's low two, TH, or AT",
             Refusal::FixedFields => {
-                "TC, Attr, AT, Length or last enables of I/O or configuration, or Length of Cpl or CplLk"
+                "TC, Attr, AT, Length or last enables of I/O or configuration, or Length of Cpl, CplLk or Msg"
             }
             Refusal::UpperHalfZero => "64-bit form with upper half zero",
             Refusal::ByteEnables => "memory byte enables",
@@ -142,6 +151,7 @@ impl Refusal {
             Refusal::NoOwner => "no owner",
             Refusal::Contested => "contested",
             Refusal::ConfigurationType => "wrong configuration type",
+            Refusal::Upward => "a message that only travels up",
         }
     }
 }

@@ -1,11 +1,12 @@
 //! Document 01's examples P1 to P10 by the types, empty slices, and the refusals' numbers and words.
 
 use cartsundial::{
-    calls, check, plan, read, registers, route, set_command, write, Body, Form, Id, MemoryKind, Packet, Refusal,
-    FULL_SHEET,
+    calls, check, plan, read, registers, route, set_command, write, Body, Delivery, Enables, Fields, Form, Id, Kind,
+    MemoryKind, MessageKind, Packet, Refusal, Routing, FULL_SHEET,
 };
 use inputs::board::{self, io, memory, Board};
 use inputs::foreign::{configuration, request, sheet, Record, CFGRD0, CFGRD1, MRD, MWR};
+use std::collections::HashSet;
 use std::thread;
 
 fn planned(board: &Board) -> Result<Vec<u8>, Refusal> {
@@ -13,6 +14,11 @@ fn planned(board: &Board) -> Result<Vec<u8>, Refusal> {
     let length = plan(&board.bytes(), &mut sheet)?;
     sheet.truncate(length);
     Ok(sheet)
+}
+
+/// The one function that the header goes to.
+fn delivered(header: &[u8], sheet: &[u8]) -> Result<Delivery, Refusal> {
+    route(header, sheet).map(|arrival| arrival.delivery().expect("one function"))
 }
 
 /// A memory request with its Length code and enables.
@@ -26,7 +32,7 @@ fn header(byte0: u8, address: u64, length: u16, last: u8, first: u8) -> Vec<u8> 
 #[test]
 fn p1_to_p5() {
     assert_eq!(read(&request(MRD, 0)[..11]), Err(Refusal::ShortHeader));
-    assert_eq!(read(&header(MRD, 0, 0, 0xF, 0xF)).map(|packet| packet.length), Ok(1024));
+    assert_eq!(read(&header(MRD, 0, 0, 0xF, 0xF)).map(|packet| packet.length()), Ok(1024));
     assert_eq!(read(&header(MRD, 4, 0, 0xF, 0xF)), Err(Refusal::BoundaryCrossed));
     assert!(read(&header(MWR, 0, 2, 0b0101, 0b1010)).is_ok());
     assert_eq!(read(&header(MWR, 0, 3, 0b0101, 0b1010)), Err(Refusal::ByteEnables));
@@ -71,12 +77,12 @@ fn p10() {
     assert_eq!(registers(&sheet, Id(0x0200)), Err(Refusal::NoOwner));
 
     let read_of = |address| request(MRD, address);
-    let delivery = route(&read_of(0xF900_0FFC), &sheet).unwrap();
+    let delivery = delivered(&read_of(0xF900_0FFC), &sheet).unwrap();
     assert_eq!((delivery.record, delivery.bridges), (2, 1));
     assert_eq!(Ok(delivery.packet), read(&read_of(0xF900_0FFC)));
     assert_eq!(route(&read_of(0xF900_1000), &sheet), Err(Refusal::NoOwner));
     // Configuration type 1 arrives as type 0.
-    let delivery = route(&configuration(CFGRD1, 0x0100, 0x41), &sheet).unwrap();
+    let delivery = delivered(&configuration(CFGRD1, 0x0100, 0x41), &sheet).unwrap();
     assert_eq!(Ok(delivery.packet), read(&configuration(CFGRD0, 0x0100, 0x41)));
     assert_eq!(route(&configuration(CFGRD0, 0x0100, 0x41), &sheet), Err(Refusal::ConfigurationType));
 
@@ -136,7 +142,7 @@ fn deep_on_a_small_stack() {
     let calls = move || {
         let mut room = vec![0; FULL_SHEET];
         let length = plan(&board, &mut room);
-        (length, route(&request(MRD, 0xF920_0000), &sheet).map(|delivery| (delivery.record, delivery.bridges)))
+        (length, delivered(&request(MRD, 0xF920_0000), &sheet).map(|delivery| (delivery.record, delivery.bridges)))
     };
     let answers = thread::Builder::new().stack_size(128 << 10).spawn(calls).unwrap().join().unwrap();
     assert_eq!(answers, (Ok(FULL_SHEET), Ok((256, 255))));
@@ -146,23 +152,83 @@ fn deep_on_a_small_stack() {
 fn a_value_too_wide() {
     let header = request(MRD, 1 << 32);
     let packet = read(&header).unwrap();
-    let mut room = [0xA5; 16];
+    let fields = packet.fields();
     for wide in [
-        Packet { tc: 8, ..packet },
-        Packet { attr: 8, ..packet },
-        Packet { at: 4, ..packet },
-        Packet { length: 0, ..packet },
-        Packet { length: 1025, ..packet },
-        Packet { tag: 256, ..packet },
+        Fields { tc: 8, ..fields },
+        Fields { attr: 8, ..fields },
+        Fields { at: 4, ..fields },
+        Fields { length: 0, ..fields },
+        Fields { length: 1025, ..fields },
+        Fields { tag: 256, ..fields },
     ] {
-        assert_eq!(write(&wide, &mut room), Err(Refusal::TooWide));
+        assert_eq!(Packet::new(&wide), Err(Refusal::TooWide));
     }
-    let Body::Memory { enables, address, .. } = packet.body else { panic!("{packet}") };
+    let Body::Memory { enables, address, .. } = fields.body else { panic!("{packet}") };
     let body = Body::Memory { kind: MemoryKind::MRd, form: Form::ThreeDwords, enables, address };
-    assert_eq!(write(&Packet { body, ..packet }, &mut room), Err(Refusal::TooWide));
-    assert_eq!(room, [0xA5; 16]);
-    assert_eq!(write(&packet, &mut room), Ok(16));
-    assert_eq!(room[..], header[..]);
+    assert_eq!(Packet::new(&Fields { body, ..fields }), Err(Refusal::TooWide));
+    assert_eq!(Packet::new(&fields), Ok(packet));
+    assert_eq!(packet.header(), header);
+}
+
+/// What a Rust user expects of a value: equality, order of room, text, matching by kind.
+#[test]
+fn a_packet_as_a_value() {
+    let (short, wide) = (request(MRD, 0xF900_0FFC), request(MWR, 1 << 32));
+    let packets = [read(&short).unwrap(), read(&wide).unwrap()];
+    assert_eq!(packets.map(|packet| packet.kind()), [Kind::MRd, Kind::MWr]);
+    assert_eq!(packets.map(|packet| packet.form()), [Form::ThreeDwords, Form::FourDwords]);
+    assert_eq!(packets.map(|packet| packet.header().len()), [12, 16]);
+
+    // Bytes after the header are no part of the packet.
+    let mut longer = short.clone();
+    longer.extend([0xA5; 4]);
+    assert_eq!(read(&longer), Ok(packets[0]));
+    assert_ne!(packets[0], packets[1]);
+    assert_eq!(HashSet::from(packets).len(), 2);
+
+    // Room for the header and more, for just the header, and for less.
+    for (packet, header) in packets.iter().zip([short, wide]) {
+        for length in 0..20 {
+            let mut room = vec![0xA5; length];
+            let mut then = room.clone();
+            let written = write(packet, &mut room);
+            if length < header.len() {
+                assert_eq!(written, Err(Refusal::ShortRoom));
+            } else {
+                assert_eq!(written, Ok(header.len()));
+                then[..header.len()].copy_from_slice(&header);
+            }
+            assert_eq!(room, then);
+        }
+        assert_eq!(Packet::try_from(Fields::from(*packet)), Ok(*packet));
+    }
+
+    let Body::Memory { kind: MemoryKind::MRd, enables: Enables { last: 0, first: 0xF }, address: 0xF900_0FFC, .. } =
+        packets[0].body()
+    else {
+        panic!("{}", packets[0])
+    };
+    assert_eq!(
+        packets[0].to_string(),
+        "MRd 3dw tc 0 attr 0 td 0 ep 0 at 0 length 1 requester 0000 tag 021 last 0 first F address 00000000F9000FFC"
+    );
+    let text = format!("{:?}", packets[0]);
+    assert!(
+        text.starts_with("Packet { tc: 0, attr: 0, td: false, ep: false, at: 0, length: 1, requester: Id(0)"),
+        "{text}"
+    );
+    assert!(text.ends_with("body: Memory { kind: MRd, form: ThreeDwords, enables: Enables { last: 0, first: 15 }, address: 4177530876 } }"), "{text}");
+}
+
+/// A message is text too, whatever the library carries.
+#[test]
+fn a_message_as_numbers() {
+    let body =
+        Body::Message { kind: MessageKind::MsgD, routing: Routing::ById, code: 0x7E, tail: 0x0100_0000_0000_0001 };
+    let head = Fields { tc: 0, attr: 0, td: false, ep: false, at: 0, length: 1, requester: Id(0), tag: 5, body };
+    let numbers = head.to_numbers();
+    assert_eq!(numbers[..2], [14, 4]);
+    assert_eq!(numbers[10..], [2, 0x7E, 0x0100_0000_0000_0001, 0, 0, 0, 0, 0, 0, 0]);
 }
 
 #[test]
@@ -170,7 +236,7 @@ fn refusals() {
     for refusal in Refusal::ALL {
         assert_eq!(Refusal::from_number(refusal.number().into()), Some(refusal));
     }
-    for number in [0, 12, 19, 34, 39, 43, 256 + 40] {
+    for number in [0, 12, 19, 34, 39, 44, 256 + 40] {
         assert_eq!(Refusal::from_number(number), None);
     }
     assert!(Refusal::ALL.is_sorted());

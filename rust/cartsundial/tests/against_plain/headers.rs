@@ -2,6 +2,7 @@
 
 use crate::lent::{hex, Lent};
 use crate::tally::{Call, Tally};
+use crate::typed;
 use cartsundial::{calls, Packet};
 use inputs::random::Random;
 use inputs::{header, numbers};
@@ -32,24 +33,25 @@ pub fn read(bytes: &[u8], random: &mut Random, tally: &mut Tally) {
     assert_eq!(returned, number, "read {}", hex(bytes));
     assert!(packet == packet_then && header == header_before, "read {}: what was lent", hex(bytes));
 
-    let typed = cartsundial::read(bytes);
-    let typed_numbers = typed.map(|packet| packet.to_numbers()).map_err(|refusal| refusal.number());
-    assert_eq!(typed_numbers, numbers, "read {}", hex(bytes));
-    if let (Ok(typed), Ok(packet)) = (typed, answer) {
-        assert_eq!(typed.to_string(), packet.to_string());
-        // A header read is written back to the same bytes.
-        let mut room = [0; 16];
+    let typed = cartsundial::read(bytes).map_err(|refusal| refusal.number());
+    assert_eq!(typed.map(|packet| packet.to_numbers()), numbers, "read {}", hex(bytes));
+    if let (Ok(typed), Ok(packet), Ok(numbers)) = (typed, answer, numbers) {
         let length = 4 * packet.form as usize;
-        assert_eq!(cartsundial::write(&typed, &mut room), Ok(length), "write {}", hex(bytes));
-        assert_eq!(room[..length], bytes[..length]);
+        assert_eq!(typed.header(), &bytes[..length], "read {}", hex(bytes));
+        assert_eq!(typed.to_string(), packet.to_string());
+        assert_eq!(typed::common(&typed), numbers[..10], "read {}", hex(bytes));
+        // The library's writer makes the same packet of its fields and of its numbers.
+        assert_eq!(Packet::new(&typed.fields()), Ok(typed), "make {}", hex(bytes));
+        assert_eq!(Packet::from_numbers(&numbers), Ok(typed), "make {}", hex(bytes));
     }
 }
 
 /// A lawful packet is read from its layout, whatever else the two implementations agree on.
 fn lawful(packet: &numbers::Numbers, random: &mut Random) {
     let bytes = numbers::header(packet);
-    let typed = Packet::from_numbers(packet).unwrap_or_else(|| panic!("no packet: {packet:?}"));
+    let typed = Packet::from_numbers(packet).unwrap_or_else(|refusal| panic!("{refusal}: {packet:?}"));
     assert_eq!(cartsundial::read(&bytes), Ok(typed), "{packet:?}");
+    assert_eq!(Some(typed.fields()), typed::fields(packet));
     let mut room = Lent::bytes(bytes.len(), random);
     let then = room.with(&bytes);
     assert_eq!(cartsundial::write(&typed, room.slice()), Ok(bytes.len()), "{packet:?}");
@@ -80,13 +82,15 @@ fn write(packet: &numbers::Numbers, random: &mut Random, tally: &mut Tally) {
     let room_then = if number == 0 { &plain_room } else { &before };
     assert!(room == *room_then && written == written_then && given == given_before, "write {packet:?}: what was lent");
 
-    if let Some(typed) = Packet::from_numbers(packet) {
-        assert_eq!(typed.to_numbers(), *packet);
+    // Through the types: made of the numbers, and of the fields where the numbers fit their types, then written.
+    let fields = typed::fields(packet);
+    for made in [Some(Packet::from_numbers(packet)), fields.map(|fields| Packet::new(&fields))].into_iter().flatten() {
         let mut room = before.clone();
-        let typed_answer = cartsundial::write(&typed, room.slice());
+        let typed_answer = made.and_then(|typed| cartsundial::write(&typed, room.slice()));
         assert_eq!(typed_answer.map_err(|refusal| refusal.number()), answer, "write {packet:?}");
         assert!(room == plain_room, "write {packet:?}: the room");
     }
+    assert!(fields.is_none_or(|fields| fields.to_numbers() == *packet), "{packet:?}");
     if random.chance(1, 64) {
         // Fewer numbers than a packet has.
         let few = random.below(calls::PACKET as u64) as usize;

@@ -49,11 +49,12 @@ impl Lent<u64> {
         Lent::filled(length, random, |number| number)
     }
 
-    /// A slice for an answer of so many numbers: mostly just as long, sometimes shorter or longer.
+    /// A slice for an answer of so many numbers: mostly just as long, sometimes one shorter, any shorter, or longer.
     pub fn answer(length: usize, random: &mut Random) -> Lent<u64> {
-        let length = match random.below(8) {
+        let length = match random.below(16) {
             0 => random.below(length as u64 + 1) as usize,
-            1 => length + 1 + random.below(4) as usize,
+            1 => length - 1,
+            2 | 3 => length + 1 + random.below(4) as usize,
             _ => length,
         };
         Lent::numbers(length, random)

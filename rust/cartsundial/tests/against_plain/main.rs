@@ -13,6 +13,7 @@ mod lent;
 mod routes;
 mod sheets;
 mod tally;
+mod typed;
 
 use inputs::random::Random;
 use std::env;

@@ -3,7 +3,8 @@
 use crate::lent::{hex, Lent};
 use crate::sheets;
 use crate::tally::{Call, Tally};
-use cartsundial::{calls, Delivery};
+use crate::typed;
+use cartsundial::{calls, Arrival, Delivery};
 use inputs::random::Random;
 use inputs::{aim, header};
 
@@ -29,24 +30,22 @@ pub fn route(header: &[u8], bytes: &[u8], random: &mut Random, tally: &mut Tally
     let header_before = lent_header.clone();
     let mut sheet = Lent::holding(bytes, random);
     let sheet_before = sheet.clone();
-    let mut delivery = Lent::answer(calls::DELIVERY, random);
-    let (number, delivery_then) = delivery.expected(&numbers);
-    let returned = calls::route(lent_header.slice(), sheet.slice(), delivery.slice());
+    let mut given = Lent::answer(numbers.as_ref().map_or(calls::ROUTE, Vec::len), random);
+    let (number, given_then) = given.expected(&numbers);
+    let returned = calls::route(lent_header.slice(), sheet.slice(), given.slice());
     tally.count(Call::Route, returned);
     if let (0, Ok(plain::Arrival::Function { bridges, .. })) = (returned, answer) {
         tally.delivered(bridges);
     }
     assert_eq!(returned, number, "route {} over {}", hex(header), hex(bytes));
-    let same = delivery == delivery_then && lent_header == header_before && sheet == sheet_before;
+    let same = given == given_then && lent_header == header_before && sheet == sheet_before;
     assert!(same, "route {} over {}: what was lent", hex(header), hex(bytes));
 
     if random.chance(1, 4) {
-        let typed = cartsundial::route(header, bytes).map(|Delivery { record, id, bridges, packet }| {
+        let typed = cartsundial::route(header, bytes).map_err(|refusal| refusal.number());
+        assert_eq!(typed.map(|arrival| typed::route(&arrival)), numbers, "route {} over {}", hex(header), hex(bytes));
+        if let Some(Delivery { record, id, .. }) = typed.ok().and_then(Arrival::delivery) {
             assert_eq!(Ok(id.0), plain::id_of(bytes, record.into()), "the ID of {record} in {}", hex(bytes));
-            let mut numbers = vec![record.into(), bridges.into()];
-            numbers.extend(packet.to_numbers());
-            numbers
-        });
-        assert_eq!(typed.map_err(|refusal| refusal.number()), numbers, "route {} over {}", hex(header), hex(bytes));
+        }
     }
 }

@@ -1,0 +1,96 @@
+//! Where a packet goes.
+
+use crate::calls::{self, ANY_ROUTE, PACKET, ROUTE};
+use crate::{functions, Id, Packet, Refusal};
+
+/// Where a packet that comes from the host arrives.
+#[derive(Clone, Copy, Debug, PartialEq, Eq, Hash)]
+pub enum Arrival {
+    /// At one function.
+    Function(Delivery),
+    /// At every function of the sheet: a message that is broadcast.
+    Every {
+        /// How many functions the sheet has. Each gets the packet once: records 1 to this one.
+        functions: u16,
+        /// The packet as it arrives.
+        packet: Packet,
+    },
+    /// At the port that receives it, and no further: a message with local routing.
+    Port {
+        /// The packet as it arrives.
+        packet: Packet,
+    },
+}
+
+/// The function that a packet goes to.
+#[derive(Clone, Copy, Debug, PartialEq, Eq, Hash)]
+pub struct Delivery {
+    /// The sheet's record of the function that gets the packet, from 1.
+    pub record: u16,
+    /// That function's ID.
+    pub id: Id,
+    /// How many bridges the packet crosses.
+    pub bridges: u8,
+    /// The packet as it arrives: configuration type 1 has become type 0, nothing else changes.
+    pub packet: Packet,
+}
+
+impl Arrival {
+    /// The one function that gets the packet. `None` where every function does, or the port.
+    pub fn delivery(self) -> Option<Delivery> {
+        match self {
+            Arrival::Function(delivery) => Some(delivery),
+            Arrival::Every { .. } | Arrival::Port { .. } => None,
+        }
+    }
+
+    /// The packet as it arrives.
+    pub fn packet(&self) -> &Packet {
+        match self {
+            Arrival::Function(Delivery { packet, .. }) | Arrival::Every { packet, .. } | Arrival::Port { packet } => {
+                packet
+            }
+        }
+    }
+}
+
+/// Routes the header from the host over the sheet. A header that is refused is refused before the sheet is read.
+pub fn route(header: &[u8], sheet: &[u8]) -> Result<Arrival, Refusal> {
+    let mut numbers = [0; ROUTE];
+    match calls::route(header, sheet, &mut numbers) {
+        0 => Ok(arrival(sheet, &numbers)),
+        // Only a broadcast's answer is longer than this.
+        SHORT => route_to_every(header, sheet),
+        number => Err(Refusal::of_call(number)),
+    }
+}
+
+const SHORT: u32 = Refusal::ShortRoom.number() as u32;
+
+/// Routes a broadcast, with room for the records of all functions.
+#[cold]
+fn route_to_every(header: &[u8], sheet: &[u8]) -> Result<Arrival, Refusal> {
+    let mut numbers = [0; ANY_ROUTE];
+    match calls::route(header, sheet, &mut numbers) {
+        0 => Ok(arrival(sheet, numbers.first_chunk().expect("more than a route's numbers"))),
+        number => Err(Refusal::of_call(number)),
+    }
+}
+
+/// The arrival that the library answered with.
+fn arrival(sheet: &[u8], numbers: &[u64; ROUTE]) -> Arrival {
+    let [record, count, packet @ ..] = numbers;
+    let packet = arrived(packet);
+    match (*record as u16, *count) {
+        (0, 0) => Arrival::Port { packet },
+        (0, functions) => Arrival::Every { functions: functions as u16, packet },
+        (record, bridges) => {
+            let id = functions::id_at(sheet, record);
+            Arrival::Function(Delivery { record, id, bridges: bridges as u8, packet })
+        }
+    }
+}
+
+fn arrived(packet: &[u64; PACKET]) -> Packet {
+    Packet::from_numbers(packet).expect("what arrives is a lawful packet")
+}

@@ -1,0 +1,165 @@
+//! The kinds of packets, numbered as the library numbers them.
+
+/// What a packet is, of all kinds that are carried.
+#[derive(Clone, Copy, Debug, PartialEq, Eq, PartialOrd, Ord, Hash)]
+#[repr(u8)]
+pub enum Kind {
+    /// Memory read.
+    MRd = 0,
+    /// Locked memory read.
+    MRdLk = 1,
+    /// Memory write.
+    MWr = 2,
+    /// I/O read.
+    IORd = 3,
+    /// I/O write.
+    IOWr = 4,
+    /// Configuration read, type 0.
+    CfgRd0 = 5,
+    /// Configuration write, type 0.
+    CfgWr0 = 6,
+    /// Configuration read, type 1.
+    CfgRd1 = 7,
+    /// Configuration write, type 1.
+    CfgWr1 = 8,
+    /// Completion without data.
+    Cpl = 9,
+    /// Completion with data.
+    CplD = 10,
+    /// Completion without data, of a locked read.
+    CplLk = 11,
+    /// Completion with data, of a locked read.
+    CplDLk = 12,
+    /// Message without data.
+    Msg = 13,
+    /// Message with data.
+    MsgD = 14,
+}
+
+impl Kind {
+    /// Every kind, by rising number.
+    pub const ALL: [Kind; 15] = [
+        Kind::MRd,
+        Kind::MRdLk,
+        Kind::MWr,
+        Kind::IORd,
+        Kind::IOWr,
+        Kind::CfgRd0,
+        Kind::CfgWr0,
+        Kind::CfgRd1,
+        Kind::CfgWr1,
+        Kind::Cpl,
+        Kind::CplD,
+        Kind::CplLk,
+        Kind::CplDLk,
+        Kind::Msg,
+        Kind::MsgD,
+    ];
+
+    /// The library's number for the kind.
+    pub const fn number(self) -> u8 {
+        self as u8
+    }
+}
+
+/// The memory requests.
+#[derive(Clone, Copy, Debug, PartialEq, Eq, Hash)]
+#[repr(u8)]
+pub enum MemoryKind {
+    /// Read.
+    MRd = 0,
+    /// Locked read.
+    MRdLk = 1,
+    /// Write.
+    MWr = 2,
+}
+
+/// The I/O requests.
+#[derive(Clone, Copy, Debug, PartialEq, Eq, Hash)]
+#[repr(u8)]
+pub enum IoKind {
+    /// Read.
+    IORd = 3,
+    /// Write.
+    IOWr = 4,
+}
+
+/// The configuration requests. Type 1 is on its way to another bus, type 0 on the target's.
+#[derive(Clone, Copy, Debug, PartialEq, Eq, Hash)]
+#[repr(u8)]
+pub enum ConfigurationKind {
+    /// Read, type 0.
+    CfgRd0 = 5,
+    /// Write, type 0.
+    CfgWr0 = 6,
+    /// Read, type 1.
+    CfgRd1 = 7,
+    /// Write, type 1.
+    CfgWr1 = 8,
+}
+
+/// The completions.
+#[derive(Clone, Copy, Debug, PartialEq, Eq, Hash)]
+#[repr(u8)]
+pub enum CompletionKind {
+    /// Without data.
+    Cpl = 9,
+    /// With data.
+    CplD = 10,
+    /// Without data, of a locked read.
+    CplLk = 11,
+    /// With data, of a locked read.
+    CplDLk = 12,
+}
+
+/// The messages.
+#[derive(Clone, Copy, Debug, PartialEq, Eq, Hash)]
+#[repr(u8)]
+pub enum MessageKind {
+    /// Without data.
+    Msg = 13,
+    /// With data.
+    MsgD = 14,
+}
+
+/// How a message finds its way: the low three bits of Type.
+#[derive(Clone, Copy, Debug, PartialEq, Eq, PartialOrd, Ord, Hash)]
+#[repr(u8)]
+pub enum Routing {
+    /// To the root complex; up only.
+    ToRoot = 0,
+    /// By the address in the tail.
+    ByAddress = 1,
+    /// By the ID in the tail's upper 16 bits.
+    ById = 2,
+    /// From the root complex to every function.
+    Broadcast = 3,
+    /// No further than the port that receives it.
+    Local = 4,
+    /// Gathered on its way to the root complex; up only.
+    Gathered = 5,
+}
+
+impl Routing {
+    /// The three bits.
+    pub const fn number(self) -> u8 {
+        self as u8
+    }
+}
+
+/// The header's length.
+#[derive(Clone, Copy, Debug, PartialEq, Eq, Hash)]
+#[repr(u8)]
+pub enum Form {
+    /// 12 bytes; of a memory request, with an address below 4 GiB.
+    ThreeDwords = 3,
+    /// 16 bytes: a memory request with an address of 64 bits, or a message.
+    FourDwords = 4,
+}
+
+impl Form {
+    /// How many bytes the header has.
+    pub const fn bytes(self) -> usize {
+        4 * self as usize
+    }
+}

@@ -1,0 +1,112 @@
+//! Numbers and the Rust types, one made of the other without the library.
+
+use cartsundial::calls::PACKET;
+use cartsundial::{
+    Arrival, Body, CompletionKind, ConfigurationKind, Delivery, Enables, Fields, Form, Id, IoKind, MemoryKind,
+    MessageKind, Packet, Routing,
+};
+
+/// The ten numbers that every kind has, each from its own method.
+pub fn common(packet: &Packet) -> [u64; 10] {
+    [
+        packet.kind() as u64,
+        packet.form() as u64,
+        packet.tc().into(),
+        packet.attr().into(),
+        packet.td().into(),
+        packet.ep().into(),
+        packet.at().into(),
+        packet.length().into(),
+        packet.requester().0.into(),
+        packet.tag().into(),
+    ]
+}
+
+/// The numbers that the library answers a route with.
+pub fn route(arrival: &Arrival) -> Vec<u64> {
+    let (record, count, list) = match *arrival {
+        Arrival::Function(Delivery { record, bridges, .. }) => (record, bridges.into(), 0),
+        Arrival::Every { functions, .. } => (0, functions, functions),
+        Arrival::Port { .. } => (0, 0, 0),
+    };
+    let mut numbers = vec![record.into(), count.into()];
+    numbers.extend(arrival.packet().to_numbers());
+    numbers.extend((1..=list).map(u64::from));
+    numbers
+}
+
+/// The fields that these numbers are. `None` where the kind and form are not carried, or where a number does not fit its
+/// Rust type or stands in a field that the kind does not have.
+pub fn fields(numbers: &[u64; PACKET]) -> Option<Fields> {
+    let [kind, form, tc, attr, td, ep, at, length, requester, tag, own @ ..] = *numbers;
+    Some(Fields {
+        tc: tc.try_into().ok()?,
+        attr: attr.try_into().ok()?,
+        td: bit(td)?,
+        ep: bit(ep)?,
+        at: at.try_into().ok()?,
+        length: length.try_into().ok()?,
+        requester: id(requester)?,
+        tag: tag.try_into().ok()?,
+        body: body(kind, form, own)?,
+    })
+}
+
+fn body(kind: u64, form: u64, own: [u64; 10]) -> Option<Body> {
+    let [last, first, address, target, register, completer, status, bcm, byte_count, lower_address] = own;
+    let enables = || Some(Enables { last: last.try_into().ok()?, first: first.try_into().ok()? });
+    let none = |absent: &[u64]| absent.iter().all(|&number| number == 0).then_some(());
+    match (kind, form) {
+        (0..=2, 3 | 4) => {
+            none(&own[3..])?;
+            let kind = [MemoryKind::MRd, MemoryKind::MRdLk, MemoryKind::MWr][kind as usize];
+            let form = if form == 3 { Form::ThreeDwords } else { Form::FourDwords };
+            Some(Body::Memory { kind, form, enables: enables()?, address })
+        }
+        (3..=4, 3) => {
+            none(&own[3..])?;
+            let kind = [IoKind::IORd, IoKind::IOWr][kind as usize - 3];
+            Some(Body::Io { kind, enables: enables()?, address: address.try_into().ok()? })
+        }
+        (5..=8, 3) => {
+            none(&own[5..])?;
+            none(&[address])?;
+            use ConfigurationKind::*;
+            let kind = [CfgRd0, CfgWr0, CfgRd1, CfgWr1][kind as usize - 5];
+            let register = register.try_into().ok()?;
+            Some(Body::Configuration { kind, enables: enables()?, target: id(target)?, register })
+        }
+        (9..=12, 3) => {
+            none(&own[..5])?;
+            use CompletionKind::*;
+            Some(Body::Completion {
+                kind: [Cpl, CplD, CplLk, CplDLk][kind as usize - 9],
+                completer: id(completer)?,
+                status: status.try_into().ok()?,
+                bcm: bit(bcm)?,
+                byte_count: byte_count.try_into().ok()?,
+                lower_address: lower_address.try_into().ok()?,
+            })
+        }
+        (13..=14, 4) => {
+            none(&own[3..])?;
+            use Routing::*;
+            let kind = [MessageKind::Msg, MessageKind::MsgD][kind as usize - 13];
+            let routing = *[ToRoot, ByAddress, ById, Broadcast, Local, Gathered].get(usize::try_from(last).ok()?)?;
+            Some(Body::Message { kind, routing, code: first.try_into().ok()?, tail: address })
+        }
+        _ => None,
+    }
+}
+
+fn id(number: u64) -> Option<Id> {
+    number.try_into().ok().map(Id)
+}
+
+fn bit(number: u64) -> Option<bool> {
+    match number {
+        0 => Some(false),
+        1 => Some(true),
+        _ => None,
+    }
+}
