@@ -17,7 +17,8 @@
  * The numbers are document 01's (the enumeration below). What each call returns and what every lent slice holds afterwards is proved, as an
  * equation with a definition: crates/capi/src/lib.rt has the contracts, crates/capi/specs and crates/capi_answers/specs the definitions.
  *
- * Slices. A pointer and the number of elements behind it, bytes or 64-bit numbers. The proofs stand on what C promises here and nothing checks:
+ * Slices. A pointer and the number of elements behind it, bytes or 64-bit numbers. The proofs stand on what C promises here and nothing
+ * checks:
  *   - the pointer is not null, is aligned for its type, and the elements are there, also for a length of 0;
  *   - a slice that a call may write overlaps no other slice of that call, and nobody else touches it until the call returns.
  * Nothing is kept after a call returns. There is no state, no allocation and no I/O, so calls on different slices may run at the same time.
@@ -34,8 +35,9 @@
  * interrupt on the one stack that there is, as UEFI usually does, must turn it off for the call. The code uses XMM registers too: SSE must
  * be enabled, and a handler that calls it has to save them.
  *
- * Answer slices (packet of cartsundial_read, answer, written, offset). The call writes the numbers that it names, and leaves the numbers past them
- * as they were. A slice too short for them is CARTSUNDIAL_SHORT, tried last: a header, board or sheet that is refused gets its own number first.
+ * Answer slices (packet of cartsundial_read, answer, written, offset, id). The call writes the numbers that it names, and leaves the
+ * numbers past them as they were. A slice too short for them is CARTSUNDIAL_SHORT, tried last: a header, board or sheet that is refused
+ * gets its own number first.
  */
 #ifndef CARTSUNDIAL_H
 #define CARTSUNDIAL_H
@@ -52,17 +54,17 @@ extern "C" {
 enum cartsundial_number {
     CARTSUNDIAL_ACCEPTED = 0,
     CARTSUNDIAL_HEADER_SHORT = 1,      /* header under 12 bytes, or under 16 in the four-dword form */
-    CARTSUNDIAL_PAIR_UNKNOWN = 2,      /* Fmt and Type unknown; written: kind and form not carried */
-    CARTSUNDIAL_NOT_CARRIED = 3,       /* messages, AtomicOps, prefixes */
-    CARTSUNDIAL_RESERVED = 4,          /* a bit that the layout does not name, TH, an address's low two bits, memory AT 11, completion AT not 00 */
-    CARTSUNDIAL_FIXED = 5,             /* I/O and configuration: TC, Attr, AT 0, Length 1, last enables 0; Cpl and CplLk: no Length */
-    CARTSUNDIAL_UPPER_ZERO = 6,        /* 64-bit form with upper half zero */
+    CARTSUNDIAL_PAIR_UNKNOWN = 2,      /* Fmt and Type unknown, a message's routing 6 or 7 among them; written: kind and form not carried */
+    CARTSUNDIAL_NOT_CARRIED = 3,       /* AtomicOps, prefixes */
+    CARTSUNDIAL_RESERVED = 4,          /* an unnamed bit, TH, an address's low two bits, memory AT 11, completion or message AT not 00 */
+    CARTSUNDIAL_FIXED = 5,             /* I/O and configuration: TC, Attr, AT 0, Length 1, last enables 0; Cpl, CplLk and Msg: no Length */
+    CARTSUNDIAL_UPPER_ZERO = 6,        /* a memory request in the 64-bit form with upper half zero */
     CARTSUNDIAL_ENABLES = 7,           /* memory byte enables */
     CARTSUNDIAL_PAGE = 8,              /* a memory request crosses a 4 KiB boundary */
     CARTSUNDIAL_STATUS = 9,            /* completion status not 000, 001, 010 or 100 */
     CARTSUNDIAL_WIDTH = 10,            /* a value that its field does not take: too wide, a wrong Length, or the kind has no such field */
     CARTSUNDIAL_SHORT = 11,            /* a lent slice is too short */
-    CARTSUNDIAL_FRAME = 20,            /* empty; lengths not ending at the end; host record missing or not 30; function under 6; sheet record not 90 */
+    CARTSUNDIAL_FRAME = 20,            /* empty; lengths not ending at the end; host missing or not 30; function under 6; sheet record not 90 */
     CARTSUNDIAL_VERSION = 21,          /* version not 1 */
     CARTSUNDIAL_FUNCTIONS = 22,        /* over 256 functions */
     CARTSUNDIAL_ORDER = 23,            /* parent, order, depth or function 0 */
@@ -78,7 +80,8 @@ enum cartsundial_number {
     CARTSUNDIAL_OUT_OF_IO = 33,        /* the I/O pool runs out */
     CARTSUNDIAL_NO_OWNER = 40,         /* no function has the address or the ID */
     CARTSUNDIAL_CONTESTED = 41,        /* two claims to it on one bus */
-    CARTSUNDIAL_CONFIG_TYPE = 42       /* configuration type 0 for another bus than the root bus, or type 1 for the root bus */
+    CARTSUNDIAL_CONFIG_TYPE = 42,      /* configuration type 0 for another bus than the root bus, or type 1 for the root bus */
+    CARTSUNDIAL_UPWARD = 43            /* a message that only travels up: routing 0, to the root complex, or 5, gathered on the way there */
 };
 
 /* ---- a packet as twenty numbers ---- */
@@ -96,24 +99,39 @@ enum cartsundial_kind {
     CARTSUNDIAL_CPL = 9,
     CARTSUNDIAL_CPLD = 10,
     CARTSUNDIAL_CPLLK = 11,
-    CARTSUNDIAL_CPLDLK = 12
+    CARTSUNDIAL_CPLDLK = 12,
+    CARTSUNDIAL_MSG = 13,
+    CARTSUNDIAL_MSGD = 14
+};
+
+/* A message's routing, the low three bits of Type. */
+enum cartsundial_routing {
+    CARTSUNDIAL_TO_ROOT = 0,
+    CARTSUNDIAL_BY_ADDRESS = 1,        /* the tail is the address */
+    CARTSUNDIAL_BY_ID = 2,             /* the tail's upper 16 bits are the ID */
+    CARTSUNDIAL_BROADCAST = 3,         /* from the root complex to every function */
+    CARTSUNDIAL_LOCAL = 4,             /* no further than the port that receives it */
+    CARTSUNDIAL_GATHERED = 5
 };
 
 /* Places in a packet. A field that the kind does not have is 0 when read; when written, any other value there is 10. */
 enum cartsundial_field {
     CARTSUNDIAL_KIND = 0,
-    CARTSUNDIAL_FORM = 1,              /* the header's dwords: 3, or 4 for memory requests */
+    CARTSUNDIAL_FORM = 1,              /* the header's dwords: 3; 4 for messages; either for memory requests */
     CARTSUNDIAL_TC = 2,
     CARTSUNDIAL_ATTR = 3,              /* Attr2 is bit 2 */
     CARTSUNDIAL_TD = 4,                /* 0 or 1 */
     CARTSUNDIAL_EP = 5,                /* 0 or 1 */
     CARTSUNDIAL_AT = 6,
-    CARTSUNDIAL_LENGTH = 7,            /* dwords, 1 to 1024; 0 for Cpl and CplLk */
+    CARTSUNDIAL_LENGTH = 7,            /* dwords, 1 to 1024; 0 for Cpl, CplLk and Msg */
     CARTSUNDIAL_REQUESTER = 8,         /* an ID: bus 8, device 5, function 3 bits */
     CARTSUNDIAL_TAG = 9,
     CARTSUNDIAL_LAST_ENABLES = 10,     /* requests */
     CARTSUNDIAL_FIRST_ENABLES = 11,    /* requests */
     CARTSUNDIAL_ADDRESS = 12,          /* memory and I/O requests */
+    CARTSUNDIAL_ROUTING = 10,          /* messages: an enumerator of cartsundial_routing */
+    CARTSUNDIAL_CODE = 11,             /* messages: the message code */
+    CARTSUNDIAL_TAIL = 12,             /* messages: bytes 8 to 15 as one number, byte 8 highest */
     CARTSUNDIAL_TARGET = 13,           /* configuration requests: an ID */
     CARTSUNDIAL_REGISTER = 14,         /* configuration requests: ten bits, the extended four high */
     CARTSUNDIAL_COMPLETER = 15,        /* completions, as the four that follow: an ID */
@@ -129,7 +147,8 @@ enum cartsundial_size {
     CARTSUNDIAL_HEADER_BYTES = 16,     /* a header written: 12 or 16 bytes */
     CARTSUNDIAL_SHEET_BYTES = 23553,   /* a sheet of 256 functions */
     CARTSUNDIAL_REGISTER_BYTES = 64,   /* a function's configuration header */
-    CARTSUNDIAL_ROUTE_NUMBERS = 22     /* record, bridges, and a packet */
+    CARTSUNDIAL_ROUTE_NUMBERS = 22,    /* record, bridges, and a packet: every route but a broadcast's */
+    CARTSUNDIAL_ANY_ROUTE_NUMBERS = 278 /* any route: a broadcast's has the records of up to 256 functions after it */
 };
 
 /* ---- headers ---- */
@@ -147,12 +166,13 @@ uint32_t cartsundial_read(const uint8_t *header, size_t header_len, uint64_t *pa
 
 /*
  * Writes the packet that the first twenty numbers are, 12 or 16 bytes at the front of the room and nothing past them. written: how many.
- * Refused: 11 for fewer than twenty numbers, tried first; 2 for a kind or form outside the list, or not carried together; 10 for a number
- * that its field does not take (too large, a Length outside 1 to 1,024, or of Cpl and CplLk other than 0), or other than 0 in a field that
- * the kind does not have; 4 to 9; 11 for a short room, or a written slice of no numbers.
+ * Refused: 11 for fewer than twenty numbers, tried first; 2 for a kind or form outside the list, or not carried together, or a message's
+ * routing 6 or 7; 10 for a number that its field does not take (too large, a Length outside 1 to 1,024, or of Cpl, CplLk and Msg other
+ * than 0), or other than 0 in a field that the kind does not have; 4 to 9; 11 for a short room, or a written slice of no numbers.
  * What cartsundial_read gave is written back to the same bytes, and what was written is read back as the same twenty numbers.
  */
-uint32_t cartsundial_write(const uint64_t *packet, size_t packet_len, uint8_t *room, size_t room_len, uint64_t *written, size_t written_len);
+uint32_t cartsundial_write(const uint64_t *packet, size_t packet_len, uint8_t *room, size_t room_len,
+                           uint64_t *written, size_t written_len);
 
 /* ---- boards and sheets ---- */
 
@@ -165,12 +185,15 @@ uint32_t cartsundial_write(const uint64_t *packet, size_t packet_len, uint8_t *r
  */
 uint32_t cartsundial_plan(const uint8_t *board, size_t board_len, uint8_t *sheet, size_t sheet_len, uint64_t *written, size_t written_len);
 
-/* 0 for a sheet that passes its checks, or the number of the first that it fails, 20 to 29. Give the sheet's own length, not the buffer's. */
+/*
+ * 0 for a sheet that passes its checks, or the number of the first that it fails, 20 to 29. Give the sheet's own length, not the buffer's.
+ */
 uint32_t cartsundial_check(const uint8_t *sheet, size_t sheet_len);
 
 /*
  * Finds the function with an ID. offset: where its 64 register bytes start in the sheet.
- * Refused: the sheet's number, then 40 where no function has the ID (an ID above FFFFh is no function's), then 11 for an offset slice of no numbers.
+ * Refused: the sheet's number, then 40 where no function has the ID (an ID above FFFFh is no function's), then 11 for an offset slice of no
+ * numbers.
  */
 uint32_t cartsundial_lookup(const uint8_t *sheet, size_t sheet_len, uint32_t id, uint64_t *offset, size_t offset_len);
 
@@ -190,11 +213,20 @@ uint32_t cartsundial_command(uint8_t *sheet, size_t sheet_len, uint32_t id, uint
 /* ---- routing ---- */
 
 /*
- * Walks a header from the host over a sheet. answer: the number of the record that gets the packet (from 1, in the sheet's order), how many bridges it
- * crossed, and the twenty numbers of the packet as it arrives: configuration type 1 arrives as type 0, everything else unchanged.
- * Refused: the header's number, 1 to 9, before the sheet is read; the sheet's number, 20 to 29; 40, 41 or 42; then 11 for fewer than 22 numbers.
+ * Walks a header from the host over a sheet. answer: two numbers that say where it goes, then the twenty numbers of the packet as it
+ * arrives: configuration type 1 arrives as type 0, everything else unchanged.
+ *
+ *     goes to                      answer[0]            answer[1]           after the packet
+ *     one function                 its record, from 1   bridges crossed     nothing
+ *     every function (broadcast)   0                    how many, n         the n record numbers, in the sheet's order
+ *     the port (routing 4)         0                    0                   nothing
+ *
+ * A broadcast's n is never 0. Only a broadcast has more than CARTSUNDIAL_ROUTE_NUMBERS: 22 + n.
+ * Refused: the header's number, 1 to 9, before the sheet is read; the sheet's number, 20 to 29; 40, 41, 42 or 43; then 11 for fewer numbers
+ * than the answer has. Over 22 numbers, then, 11 is a broadcast that would be answered.
  */
-uint32_t cartsundial_route(const uint8_t *header, size_t header_len, const uint8_t *sheet, size_t sheet_len, uint64_t *answer, size_t answer_len);
+uint32_t cartsundial_route(const uint8_t *header, size_t header_len, const uint8_t *sheet, size_t sheet_len,
+                           uint64_t *answer, size_t answer_len);
 
 #ifdef __cplusplus
 }
