@@ -64,7 +64,7 @@ enum cartsundial_number {
     CARTSUNDIAL_STATUS = 9,            /* completion status not 000, 001, 010 or 100 */
     CARTSUNDIAL_WIDTH = 10,            /* a value that its field does not take: too wide, a wrong Length, or the kind has no such field */
     CARTSUNDIAL_SHORT = 11,            /* a lent slice is too short */
-    CARTSUNDIAL_FRAME = 20,            /* empty; lengths not ending at the end; host missing or not 30; function under 6; sheet record not 90 */
+    CARTSUNDIAL_FRAME = 20,            /* empty; lengths not ending at the end; no host of 30; function under 6; sheet record not 90 */
     CARTSUNDIAL_VERSION = 21,          /* version not 1 */
     CARTSUNDIAL_FUNCTIONS = 22,        /* over 256 functions */
     CARTSUNDIAL_ORDER = 23,            /* parent, order, depth or function 0 */

@@ -76,7 +76,7 @@ pub mod proved_calls {
 
     #[inline(never)]
     pub fn make_and_write(fields: &Fields, room: &mut [u8]) -> Result<usize, Refusal> {
-        cartsundial::write(&Packet::new(fields)?, room)
+        fields.write(room)
     }
 
     #[inline(never)]

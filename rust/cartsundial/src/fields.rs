@@ -1,8 +1,8 @@
 //! A packet's fields as Rust types, to make a packet of and to match on.
 
-use crate::calls::PACKET;
+use crate::calls::{self, PACKET};
 use crate::kind::{CompletionKind, ConfigurationKind, Form, IoKind, MemoryKind, MessageKind, Routing};
-use crate::Id;
+use crate::{Id, Refusal};
 
 /// The fields of a packet, for [`Packet::new`](crate::Packet::new). Every kind has its own fields only. A field may hold
 /// a value that its bits in the header cannot: no packet is made of it then, and the refusal is 10.
@@ -100,6 +100,17 @@ pub struct Enables {
 }
 
 impl Fields {
+    /// Writes the header of the packet with these fields at the start of `room`, as [`Packet::new`](crate::Packet::new)
+    /// and then [`write()`](crate::write()) would, but straight into the room.
+    #[inline]
+    pub fn write(&self, room: &mut [u8]) -> Result<usize, Refusal> {
+        let mut written = [0];
+        match calls::write(&self.to_numbers(), room, &mut written) {
+            0 => Ok(written[0] as usize),
+            number => Err(Refusal::of_call(number)),
+        }
+    }
+
     /// The fields as the library's numbers, in the order of [`PACKET`].
     #[inline]
     pub fn to_numbers(&self) -> [u64; PACKET] {

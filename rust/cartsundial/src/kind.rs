@@ -163,3 +163,58 @@ impl Form {
         4 * self as usize
     }
 }
+
+impl From<MemoryKind> for Kind {
+    #[inline]
+    fn from(kind: MemoryKind) -> Kind {
+        match kind {
+            MemoryKind::MRd => Kind::MRd,
+            MemoryKind::MRdLk => Kind::MRdLk,
+            MemoryKind::MWr => Kind::MWr,
+        }
+    }
+}
+
+impl From<IoKind> for Kind {
+    #[inline]
+    fn from(kind: IoKind) -> Kind {
+        match kind {
+            IoKind::IORd => Kind::IORd,
+            IoKind::IOWr => Kind::IOWr,
+        }
+    }
+}
+
+impl From<ConfigurationKind> for Kind {
+    #[inline]
+    fn from(kind: ConfigurationKind) -> Kind {
+        match kind {
+            ConfigurationKind::CfgRd0 => Kind::CfgRd0,
+            ConfigurationKind::CfgWr0 => Kind::CfgWr0,
+            ConfigurationKind::CfgRd1 => Kind::CfgRd1,
+            ConfigurationKind::CfgWr1 => Kind::CfgWr1,
+        }
+    }
+}
+
+impl From<CompletionKind> for Kind {
+    #[inline]
+    fn from(kind: CompletionKind) -> Kind {
+        match kind {
+            CompletionKind::Cpl => Kind::Cpl,
+            CompletionKind::CplD => Kind::CplD,
+            CompletionKind::CplLk => Kind::CplLk,
+            CompletionKind::CplDLk => Kind::CplDLk,
+        }
+    }
+}
+
+impl From<MessageKind> for Kind {
+    #[inline]
+    fn from(kind: MessageKind) -> Kind {
+        match kind {
+            MessageKind::Msg => Kind::Msg,
+            MessageKind::MsgD => Kind::MsgD,
+        }
+    }
+}

@@ -1,16 +1,15 @@
 //! A lawful header.
 //!
-//! A [`Packet`] keeps a header's 12 or 16 bytes. They have two sources only: bytes that the library's reader accepted
-//! ([`read()`]), and bytes that its writer wrote ([`Packet::new`], [`Packet::from_numbers`]). What follows is proved of
-//! the library:
+//! A [`Packet`] keeps a header's 12 or 16 bytes. They come from two places only: from a header that the library's reader
+//! accepted, or from its writer. What is proved of the library makes that enough:
 //!
-//! - A header that is read is written back to its own first 12 or 16 bytes (`Demand2`). So [`write()`] copies them and
-//!   asks nothing again.
-//! - Lawful packets and accepted headers are the same things (`Demand2`), and two lawful packets with the same bytes are
-//!   one packet (`layout-unique`). So two packets are equal exactly when their bytes are.
+//! - A header that is read is written back to its own first 12 or 16 bytes, and what the writer wrote is read back as the
+//!   same packet (crates/demands/specs/Demand2.antt). So [`write()`] copies the bytes and asks nothing again.
+//! - Lawful packets with the same bytes are one packet (`layout-unique` in crates/tlp/specs/RoundTrip.antt). So packets
+//!   are equal exactly when their bytes are.
 //!
-//! A field is taken from the bytes where it is asked for. No proof covers that, so the comparison with plain Rust holds
-//! every field of every header against the library's own numbers.
+//! A field is taken from the bytes where it is asked for. No proof covers that: tests/against_plain holds each field of
+//! each header that it reads against the library's own number.
 
 use crate::calls::{self, PACKET};
 use crate::kind::{CompletionKind, ConfigurationKind, IoKind, MemoryKind, MessageKind};
@@ -19,6 +18,9 @@ use core::fmt;
 
 /// The longest header.
 const LONGEST: usize = Form::FourDwords.bytes();
+
+/// What the reader answers to an accepted header over an empty slice.
+const SHORT: u32 = Refusal::ShortRoom.number() as u32;
 
 /// A lawful packet's header. The fields that every kind has are methods; [`body`](Packet::body) has the others, to match
 /// on, and [`fields`](Packet::fields) has all of them, to change and make another packet of.
@@ -34,6 +36,7 @@ const LONGEST: usize = Form::FourDwords.bytes();
 /// assert_eq!(Packet::new(&Fields { tag: 256, ..packet.fields() }), Err(Refusal::TooWide));
 /// ```
 #[derive(Clone, Copy, PartialEq, Eq, Hash)]
+// Aligned, so that in a `Result` the bytes are not where the refusal is, and are moved as two words.
 #[repr(align(8))]
 pub struct Packet {
     /// A lawful header, and zeros past its end.
@@ -50,8 +53,8 @@ pub struct Packet {
 /// ```
 #[inline]
 pub fn read(header: &[u8]) -> Result<Packet, Refusal> {
-    // A packet's numbers do not fit an empty slice. The library says so, with 11, after every number that the header
-    // itself can get, and stores none of them.
+    // Twenty numbers do not fit an empty slice, which the library tries last: an accepted header is 11 here, and no
+    // number is stored.
     match calls::read(header, &mut []) {
         SHORT => Ok(Packet::of_accepted(header)),
         number => Err(Refusal::of_call(number)),
@@ -63,25 +66,23 @@ pub fn read(header: &[u8]) -> Result<Packet, Refusal> {
 pub fn write(packet: &Packet, room: &mut [u8]) -> Result<usize, Refusal> {
     let length = packet.form().bytes();
     let room = room.get_mut(..length).ok_or(Refusal::ShortRoom)?;
+    // Two dwords, the third, and the last, which is the third again or the fourth: no copy of a varying length.
     room[..8].copy_from_slice(&packet.bytes[..8]);
-    // The last dword is the third or the fourth.
     for at in [8, length - 4] {
         room[at..at + 4].copy_from_slice(&packet.bytes[at..at + 4]);
     }
     Ok(length)
 }
 
-/// What the reader answers to a lawful header over an empty slice.
-const SHORT: u32 = Refusal::ShortRoom.number() as u32;
-
 impl Packet {
-    /// The packet with these fields. Where there is none, the refusal is the writer's: 2, 10, then 4 to 9.
+    /// The packet with these fields. Where there is none, the refusal is the writer's: 10, then 4 to 9.
     #[inline]
     pub fn new(fields: &Fields) -> Result<Packet, Refusal> {
         Packet::from_numbers(&fields.to_numbers())
     }
 
-    /// The packet that these numbers are, in the order of [`PACKET`]. Where they are none, the refusal is the writer's.
+    /// The packet that these numbers are, in the order of [`PACKET`]. Where there is none, the refusal is the writer's: 2,
+    /// 10, then 4 to 9.
     #[inline]
     pub fn from_numbers(numbers: &[u64; PACKET]) -> Result<Packet, Refusal> {
         let mut bytes = [0; LONGEST];
@@ -94,17 +95,22 @@ impl Packet {
     /// The packet of a header that the library's reader accepted: its first 12 or 16 bytes.
     #[inline]
     fn of_accepted(header: &[u8]) -> Packet {
-        let (&start, rest) = header.split_first_chunk().expect("an accepted header has 12 bytes");
-        let start = u64::from_le_bytes(start);
-        let rest = match rest.first_chunk() {
-            Some(&rest) => u64::from_le_bytes(rest),
-            None => u32::from_le_bytes(*rest.first_chunk().expect("an accepted header has 12 bytes")).into(),
+        let front = match header.first_chunk() {
+            Some(&front) => front,
+            // Under 16 bytes only the shorter form is accepted.
+            None => {
+                let mut front = [0; LONGEST];
+                front[..12].copy_from_slice(&header[..12]);
+                front
+            }
         };
-        let rest = match form(start as u8) {
-            Form::ThreeDwords => rest & 0xFFFF_FFFF,
-            Form::FourDwords => rest,
+        // As a number, byte 0 lowest, the bytes stay in registers.
+        let number = u128::from_le_bytes(front);
+        let kept = match form(number as u8) {
+            Form::ThreeDwords => number & u128::MAX >> 32,
+            Form::FourDwords => number,
         };
-        Packet { bytes: (u128::from(rest) << 64 | u128::from(start)).to_le_bytes() }
+        Packet { bytes: kept.to_le_bytes() }
     }
 
     /// The header's 12 or 16 bytes.
@@ -116,7 +122,13 @@ impl Packet {
     /// What the packet is.
     #[inline]
     pub fn kind(&self) -> Kind {
-        self.pair().kind
+        match self.pair() {
+            Pair::Memory(kind) => kind.into(),
+            Pair::Io(kind) => kind.into(),
+            Pair::Configuration(kind) => kind.into(),
+            Pair::Completion(kind) => kind.into(),
+            Pair::Message(kind, _) => kind.into(),
+        }
     }
 
     /// The header's length. Memory requests alone have both.
@@ -159,11 +171,10 @@ impl Packet {
     #[inline]
     pub fn length(&self) -> u16 {
         let code = self.word(2) & 0x3FF;
-        let has_length = !matches!(self.kind(), Kind::Cpl | Kind::CplLk | Kind::Msg);
-        if has_length && code == 0 {
-            1024
-        } else {
-            code
+        match self.pair() {
+            Pair::Completion(CompletionKind::Cpl | CompletionKind::CplLk) | Pair::Message(MessageKind::Msg, _) => 0,
+            _ if code == 0 => 1024,
+            _ => code,
         }
     }
 
@@ -182,8 +193,8 @@ impl Packet {
     /// What the packet is, with the fields that only some kinds have.
     #[inline]
     pub fn body(&self) -> Body {
-        match self.pair().class {
-            Class::Memory(kind) => {
+        match self.pair() {
+            Pair::Memory(kind) => {
                 let form = self.form();
                 let address = match form {
                     Form::ThreeDwords => self.dword(8).into(),
@@ -191,12 +202,12 @@ impl Packet {
                 };
                 Body::Memory { kind, form, enables: self.enables(), address }
             }
-            Class::Io(kind) => Body::Io { kind, enables: self.enables(), address: self.dword(8) },
-            Class::Configuration(kind) => {
+            Pair::Io(kind) => Body::Io { kind, enables: self.enables(), address: self.dword(8) },
+            Pair::Configuration(kind) => {
                 let register = self.word(10) >> 2 & 0x3FF;
                 Body::Configuration { kind, enables: self.enables(), target: Id(self.word(8)), register }
             }
-            Class::Completion(kind) => Body::Completion {
+            Pair::Completion(kind) => Body::Completion {
                 kind,
                 completer: Id(self.word(4)),
                 status: self.bytes[6] >> 5,
@@ -204,7 +215,7 @@ impl Packet {
                 byte_count: self.word(6) & 0xFFF,
                 lower_address: self.bytes[11] & 0x7F,
             },
-            Class::Message(kind, routing) => Body::Message { kind, routing, code: self.bytes[7], tail: self.tail() },
+            Pair::Message(kind, routing) => Body::Message { kind, routing, code: self.bytes[7], tail: self.tail() },
         }
     }
 
@@ -242,8 +253,8 @@ impl Packet {
     /// Where the requester's ID and the tag start.
     #[inline]
     fn transaction(&self) -> usize {
-        match self.kind() {
-            Kind::Cpl | Kind::CplD | Kind::CplLk | Kind::CplDLk => 8,
+        match self.pair() {
+            Pair::Completion(_) => 8,
             _ => 4,
         }
     }
@@ -277,14 +288,7 @@ const fn form(byte0: u8) -> Form {
 
 /// What byte 0, Fmt and Type, says of a lawful header.
 #[derive(Clone, Copy)]
-struct Pair {
-    kind: Kind,
-    class: Class,
-}
-
-/// The kinds that have the same fields.
-#[derive(Clone, Copy)]
-enum Class {
+enum Pair {
     Memory(MemoryKind),
     Io(IoKind),
     Configuration(ConfigurationKind),
@@ -292,9 +296,9 @@ enum Class {
     Message(MessageKind, Routing),
 }
 
-/// Every pair by byte 0. No lawful header has a byte 0 that is not named here.
+/// Every pair by byte 0. No lawful header has a byte 0 that [`pair`] does not name.
 static PAIRS: [Pair; 256] = {
-    let mut pairs = [Pair { kind: Kind::MRd, class: Class::Memory(MemoryKind::MRd) }; 256];
+    let mut pairs = [Pair::Memory(MemoryKind::MRd); 256];
     let mut byte0 = 0;
     while byte0 < 256 {
         if let Some(pair) = pair(byte0 as u8) {
@@ -308,25 +312,24 @@ static PAIRS: [Pair; 256] = {
 /// The data bit of Fmt and Type tell the kind.
 const fn pair(byte0: u8) -> Option<Pair> {
     let has_data = byte0 & 0x40 != 0;
-    let (kind, class) = match (byte0 & 0x1F, has_data) {
-        (0b00000, false) => (Kind::MRd, Class::Memory(MemoryKind::MRd)),
-        (0b00000, true) => (Kind::MWr, Class::Memory(MemoryKind::MWr)),
-        (0b00001, false) => (Kind::MRdLk, Class::Memory(MemoryKind::MRdLk)),
-        (0b00010, false) => (Kind::IORd, Class::Io(IoKind::IORd)),
-        (0b00010, true) => (Kind::IOWr, Class::Io(IoKind::IOWr)),
-        (0b00100, false) => (Kind::CfgRd0, Class::Configuration(ConfigurationKind::CfgRd0)),
-        (0b00100, true) => (Kind::CfgWr0, Class::Configuration(ConfigurationKind::CfgWr0)),
-        (0b00101, false) => (Kind::CfgRd1, Class::Configuration(ConfigurationKind::CfgRd1)),
-        (0b00101, true) => (Kind::CfgWr1, Class::Configuration(ConfigurationKind::CfgWr1)),
-        (0b01010, false) => (Kind::Cpl, Class::Completion(CompletionKind::Cpl)),
-        (0b01010, true) => (Kind::CplD, Class::Completion(CompletionKind::CplD)),
-        (0b01011, false) => (Kind::CplLk, Class::Completion(CompletionKind::CplLk)),
-        (0b01011, true) => (Kind::CplDLk, Class::Completion(CompletionKind::CplDLk)),
-        (0b10000..=0b10101, false) => (Kind::Msg, Class::Message(MessageKind::Msg, routing(byte0))),
-        (0b10000..=0b10101, true) => (Kind::MsgD, Class::Message(MessageKind::MsgD, routing(byte0))),
+    Some(match (byte0 & 0x1F, has_data) {
+        (0b00000, false) => Pair::Memory(MemoryKind::MRd),
+        (0b00000, true) => Pair::Memory(MemoryKind::MWr),
+        (0b00001, false) => Pair::Memory(MemoryKind::MRdLk),
+        (0b00010, false) => Pair::Io(IoKind::IORd),
+        (0b00010, true) => Pair::Io(IoKind::IOWr),
+        (0b00100, false) => Pair::Configuration(ConfigurationKind::CfgRd0),
+        (0b00100, true) => Pair::Configuration(ConfigurationKind::CfgWr0),
+        (0b00101, false) => Pair::Configuration(ConfigurationKind::CfgRd1),
+        (0b00101, true) => Pair::Configuration(ConfigurationKind::CfgWr1),
+        (0b01010, false) => Pair::Completion(CompletionKind::Cpl),
+        (0b01010, true) => Pair::Completion(CompletionKind::CplD),
+        (0b01011, false) => Pair::Completion(CompletionKind::CplLk),
+        (0b01011, true) => Pair::Completion(CompletionKind::CplDLk),
+        (0b10000..=0b10101, false) => Pair::Message(MessageKind::Msg, routing(byte0)),
+        (0b10000..=0b10101, true) => Pair::Message(MessageKind::MsgD, routing(byte0)),
         _ => return None,
-    };
-    Some(Pair { kind, class })
+    })
 }
 
 /// The low three bits of Type tell a message's routing.

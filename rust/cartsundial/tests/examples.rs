@@ -1,12 +1,8 @@
 //! Document 01's examples P1 to P10 by the types, empty slices, and the refusals' numbers and words.
 
-use cartsundial::{
-    calls, check, plan, read, registers, route, set_command, write, Body, Delivery, Enables, Fields, Form, Id, Kind,
-    MemoryKind, MessageKind, Packet, Refusal, Routing, FULL_SHEET,
-};
+use cartsundial::{calls, check, plan, read, registers, route, set_command, write, Delivery, Id, Refusal, FULL_SHEET};
 use inputs::board::{self, io, memory, Board};
 use inputs::foreign::{configuration, request, sheet, Record, CFGRD0, CFGRD1, MRD, MWR};
-use std::collections::HashSet;
 use std::thread;
 
 fn planned(board: &Board) -> Result<Vec<u8>, Refusal> {
@@ -146,89 +142,6 @@ fn deep_on_a_small_stack() {
     };
     let answers = thread::Builder::new().stack_size(128 << 10).spawn(calls).unwrap().join().unwrap();
     assert_eq!(answers, (Ok(FULL_SHEET), Ok((256, 255))));
-}
-
-#[test]
-fn a_value_too_wide() {
-    let header = request(MRD, 1 << 32);
-    let packet = read(&header).unwrap();
-    let fields = packet.fields();
-    for wide in [
-        Fields { tc: 8, ..fields },
-        Fields { attr: 8, ..fields },
-        Fields { at: 4, ..fields },
-        Fields { length: 0, ..fields },
-        Fields { length: 1025, ..fields },
-        Fields { tag: 256, ..fields },
-    ] {
-        assert_eq!(Packet::new(&wide), Err(Refusal::TooWide));
-    }
-    let Body::Memory { enables, address, .. } = fields.body else { panic!("{packet}") };
-    let body = Body::Memory { kind: MemoryKind::MRd, form: Form::ThreeDwords, enables, address };
-    assert_eq!(Packet::new(&Fields { body, ..fields }), Err(Refusal::TooWide));
-    assert_eq!(Packet::new(&fields), Ok(packet));
-    assert_eq!(packet.header(), header);
-}
-
-/// What a Rust user expects of a value: equality, order of room, text, matching by kind.
-#[test]
-fn a_packet_as_a_value() {
-    let (short, wide) = (request(MRD, 0xF900_0FFC), request(MWR, 1 << 32));
-    let packets = [read(&short).unwrap(), read(&wide).unwrap()];
-    assert_eq!(packets.map(|packet| packet.kind()), [Kind::MRd, Kind::MWr]);
-    assert_eq!(packets.map(|packet| packet.form()), [Form::ThreeDwords, Form::FourDwords]);
-    assert_eq!(packets.map(|packet| packet.header().len()), [12, 16]);
-
-    // Bytes after the header are no part of the packet.
-    let mut longer = short.clone();
-    longer.extend([0xA5; 4]);
-    assert_eq!(read(&longer), Ok(packets[0]));
-    assert_ne!(packets[0], packets[1]);
-    assert_eq!(HashSet::from(packets).len(), 2);
-
-    // Room for the header and more, for just the header, and for less.
-    for (packet, header) in packets.iter().zip([short, wide]) {
-        for length in 0..20 {
-            let mut room = vec![0xA5; length];
-            let mut then = room.clone();
-            let written = write(packet, &mut room);
-            if length < header.len() {
-                assert_eq!(written, Err(Refusal::ShortRoom));
-            } else {
-                assert_eq!(written, Ok(header.len()));
-                then[..header.len()].copy_from_slice(&header);
-            }
-            assert_eq!(room, then);
-        }
-        assert_eq!(Packet::try_from(Fields::from(*packet)), Ok(*packet));
-    }
-
-    let Body::Memory { kind: MemoryKind::MRd, enables: Enables { last: 0, first: 0xF }, address: 0xF900_0FFC, .. } =
-        packets[0].body()
-    else {
-        panic!("{}", packets[0])
-    };
-    assert_eq!(
-        packets[0].to_string(),
-        "MRd 3dw tc 0 attr 0 td 0 ep 0 at 0 length 1 requester 0000 tag 021 last 0 first F address 00000000F9000FFC"
-    );
-    let text = format!("{:?}", packets[0]);
-    assert!(
-        text.starts_with("Packet { tc: 0, attr: 0, td: false, ep: false, at: 0, length: 1, requester: Id(0)"),
-        "{text}"
-    );
-    assert!(text.ends_with("body: Memory { kind: MRd, form: ThreeDwords, enables: Enables { last: 0, first: 15 }, address: 4177530876 } }"), "{text}");
-}
-
-/// A message is text too, whatever the library carries.
-#[test]
-fn a_message_as_numbers() {
-    let body =
-        Body::Message { kind: MessageKind::MsgD, routing: Routing::ById, code: 0x7E, tail: 0x0100_0000_0000_0001 };
-    let head = Fields { tc: 0, attr: 0, td: false, ep: false, at: 0, length: 1, requester: Id(0), tag: 5, body };
-    let numbers = head.to_numbers();
-    assert_eq!(numbers[..2], [14, 4]);
-    assert_eq!(numbers[10..], [2, 0x7E, 0x0100_0000_0000_0001, 0, 0, 0, 0, 0, 0, 0]);
 }
 
 #[test]

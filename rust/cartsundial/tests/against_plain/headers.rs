@@ -3,7 +3,7 @@
 use crate::lent::{hex, Lent};
 use crate::tally::{Call, Tally};
 use crate::typed;
-use cartsundial::{calls, Packet};
+use cartsundial::{calls, Packet, Refusal};
 use inputs::random::Random;
 use inputs::{header, numbers};
 
@@ -82,15 +82,21 @@ fn write(packet: &numbers::Numbers, random: &mut Random, tally: &mut Tally) {
     let room_then = if number == 0 { &plain_room } else { &before };
     assert!(room == *room_then && written == written_then && given == given_before, "write {packet:?}: what was lent");
 
-    // Through the types: made of the numbers, and of the fields where the numbers fit their types, then written.
-    let fields = typed::fields(packet);
-    for made in [Some(Packet::from_numbers(packet)), fields.map(|fields| Packet::new(&fields))].into_iter().flatten() {
+    // Through the types: made of the numbers and then written; likewise of the fields, where the numbers fit their types,
+    // and straight from them.
+    type Written<'a> = &'a dyn Fn(&mut [u8]) -> Result<usize, Refusal>;
+    let typed = |way: &str, write: Written| {
         let mut room = before.clone();
-        let typed_answer = made.and_then(|typed| cartsundial::write(&typed, room.slice()));
-        assert_eq!(typed_answer.map_err(|refusal| refusal.number()), answer, "write {packet:?}");
-        assert!(room == plain_room, "write {packet:?}: the room");
+        let typed_answer = write(room.slice()).map_err(|refusal| refusal.number());
+        assert_eq!(typed_answer, answer, "write {way} {packet:?}");
+        assert!(room == plain_room, "write {way} {packet:?}: the room");
+    };
+    typed("numbers", &|room| cartsundial::write(&Packet::from_numbers(packet)?, room));
+    if let Some(fields) = typed::fields(packet) {
+        assert_eq!(fields.to_numbers(), *packet);
+        typed("a packet", &|room| cartsundial::write(&Packet::new(&fields)?, room));
+        typed("fields", &|room| fields.write(room));
     }
-    assert!(fields.is_none_or(|fields| fields.to_numbers() == *packet), "{packet:?}");
     if random.chance(1, 64) {
         // Fewer numbers than a packet has.
         let few = random.below(calls::PACKET as u64) as usize;
