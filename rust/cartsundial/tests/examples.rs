@@ -1,8 +1,10 @@
 //! Document 01's examples P1 to P10 by the types, empty slices, and the refusals' numbers and words.
 
-use cartsundial::{calls, check, plan, read, registers, route, set_command, write, Delivery, Id, Refusal, FULL_SHEET};
+use cartsundial::{
+    calls, check, plan, read, registers, route, set_command, write, Arrival, Delivery, Id, Kind, Refusal, FULL_SHEET,
+};
 use inputs::board::{self, io, memory, Board};
-use inputs::foreign::{configuration, request, sheet, Record, CFGRD0, CFGRD1, MRD, MWR};
+use inputs::foreign::{configuration, message, request, sheet, Record, CFGRD0, CFGRD1, MRD, MSG, MSGD, MWR};
 use std::thread;
 
 fn planned(board: &Board) -> Result<Vec<u8>, Refusal> {
@@ -85,6 +87,48 @@ fn p10() {
     assert_eq!(set_command(&mut sheet, Id(0x0000), 0x0001), Ok(()));
     assert_eq!(registers(&sheet, Id(0x0000)).unwrap()[0x04..0x06], [0x01, 0x00]);
     assert_eq!(route(&read_of(0xF900_0FFC), &sheet), Err(Refusal::NoOwner));
+}
+
+/// Messages over P10: one for each function, for the card alone, for the port, and up.
+#[test]
+fn messages() {
+    let sheet = planned(&board::p10()).unwrap();
+    let goes = |routing, tail| route(&message(MSG, routing, 0x50, tail), &sheet);
+    let packet = |routing, tail| read(&message(MSG, routing, 0x50, tail)).unwrap();
+    assert_eq!(goes(0b011, 7), Ok(Arrival::Every { functions: 2, packet: packet(0b011, 7) }));
+    assert_eq!(goes(0b100, 7), Ok(Arrival::Port { packet: packet(0b100, 7) }));
+    for (routing, tail) in [(0b001, 0xF900_0FFC), (0b010, 0x0100 << 48 | 7)] {
+        let (id, packet) = (Id(0x0100), packet(routing, tail));
+        assert_eq!(goes(routing, tail), Ok(Arrival::Function(Delivery { record: 2, id, bridges: 1, packet })));
+    }
+    assert_eq!(goes(0b001, 0xF900_1000), Err(Refusal::NoOwner));
+    assert_eq!(goes(0b010, 0x0200 << 48), Err(Refusal::NoOwner));
+    assert_eq!(goes(0b000, 0), Err(Refusal::Upward));
+    assert_eq!(goes(0b101, 0), Err(Refusal::Upward));
+
+    // 43 is tried where 42 is, after 40 for a sheet with no functions.
+    for routing in 0..6 {
+        assert_eq!(route(&message(MSG, routing, 0x50, 0), &[1]), Err(Refusal::NoOwner));
+    }
+    let mut numbers = [0xA5; calls::ROUTE + 2];
+    let broadcast = message(MSG, 0b011, 0x50, 7);
+    assert_eq!(calls::route(&broadcast, &sheet, &mut numbers[..calls::ROUTE + 1]), 11);
+    assert_eq!(numbers, [0xA5; calls::ROUTE + 2]);
+    assert_eq!(calls::route(&broadcast, &sheet, &mut numbers), 0);
+    assert_eq!((&numbers[..2], &numbers[calls::ROUTE..]), (&[0, 2][..], &[1, 2][..]));
+}
+
+/// A message for every function of the largest sheet.
+#[test]
+fn broadcast_to_256() {
+    let mut board = Board::new();
+    for device_function in 0..=255 {
+        board.add(0, device_function, 0x80, &[]);
+    }
+    let sheet = planned(&board).unwrap();
+    let arrival = route(&message(MSGD, 0b011, 0x50, 0), &sheet).unwrap();
+    assert!(matches!(arrival, Arrival::Every { functions: 256, .. }));
+    assert_eq!((arrival.packet().kind(), arrival.delivery()), (Kind::MsgD, None));
 }
 
 /// Two cards with one window: last winter's fault.

@@ -4,37 +4,45 @@ use cartsundial::{
     read, write, Body, CompletionKind, Enables, Fields, Form, Id, Kind, MemoryKind, MessageKind, Packet, Refusal,
     Routing,
 };
-use inputs::foreign::{completion, configuration, request, CFGRD1, CPLD, MRD, MWR};
+use inputs::foreign::{completion, configuration, message, request, CFGRD1, CPLD, MRD, MSG, MSGD, MWR};
 use std::collections::HashSet;
 
-/// Headers of both lengths, and of four classes.
-fn headers() -> [Vec<u8>; 4] {
+/// Headers of both lengths, and of every class.
+fn headers() -> [Vec<u8>; 6] {
     [
         request(MRD, 0xF900_0FFC),
         request(MWR, 0x2_4000_0000),
         configuration(CFGRD1, 0x0100, 0x41),
         completion(CPLD, 0x0100),
+        message(MSG, 0b100, 0x20, 0),
+        message(MSGD, 0b010, 0x7E, 0x0100_0000_0000_0001),
     ]
 }
 
 #[test]
 fn by_kind() {
     let packets = headers().map(|header| read(&header).unwrap());
-    assert_eq!(packets.map(|packet| packet.kind()), [Kind::MRd, Kind::MWr, Kind::CfgRd1, Kind::CplD]);
-    assert_eq!(packets.map(|packet| packet.form().bytes()), [12, 16, 12, 12]);
-    let [memory, wide, configuration, completion] = packets.map(|packet| packet.body());
+    let kinds = [Kind::MRd, Kind::MWr, Kind::CfgRd1, Kind::CplD, Kind::Msg, Kind::MsgD];
+    assert_eq!(packets.map(|packet| packet.kind()), kinds);
+    assert_eq!(packets.map(|packet| packet.form().bytes()), [12, 16, 12, 12, 16, 16]);
+    assert_eq!(packets.map(|packet| packet.length()), [1, 1, 1, 1, 0, 1]);
+    let [memory, wide, configuration, completion, local, by_id] = packets.map(|packet| packet.body());
     let enables = Enables { last: 0, first: 0xF };
     let form = Form::ThreeDwords;
     assert_eq!(memory, Body::Memory { kind: MemoryKind::MRd, form, enables, address: 0xF900_0FFC });
     assert!(matches!(wide, Body::Memory { form: Form::FourDwords, address: 0x2_4000_0000, .. }));
     assert!(matches!(configuration, Body::Configuration { target: Id(0x0100), register: 0x41, .. }));
     assert!(matches!(completion, Body::Completion { kind: CompletionKind::CplD, .. }));
+    let (kind, routing) = (MessageKind::Msg, Routing::Local);
+    assert_eq!(local, Body::Message { kind, routing, code: 0x20, tail: 0 });
+    let (kind, routing) = (MessageKind::MsgD, Routing::ById);
+    assert_eq!(by_id, Body::Message { kind, routing, code: 0x7E, tail: 0x0100_0000_0000_0001 });
 }
 
 #[test]
 fn equal_by_its_header() {
     let packets = headers().map(|header| read(&header).unwrap());
-    assert_eq!(HashSet::from(packets).len(), 4);
+    assert_eq!(HashSet::from(packets).len(), packets.len());
     for (header, packet) in headers().iter().zip(packets) {
         assert_eq!(packet.header(), header);
         // Bytes after the header are no part of it.
@@ -115,12 +123,32 @@ fn text() {
 
 /// A message has its routing, code and tail where a request has its enables and address.
 #[test]
-fn a_message_as_numbers() {
-    let body = Body::Message { kind: MessageKind::MsgD, routing: Routing::ById, code: 0x7E, tail: 0x0100 << 48 | 1 };
-    let fields = Fields { tc: 0, attr: 0, td: false, ep: false, at: 0, length: 1, requester: Id(0), tag: 5, body };
-    let numbers = fields.to_numbers();
-    assert_eq!(numbers[..10], [14, 4, 0, 0, 0, 0, 0, 1, 0, 5]);
-    assert_eq!(numbers[10..], [2, 0x7E, 0x0100 << 48 | 1, 0, 0, 0, 0, 0, 0, 0]);
+fn messages() {
+    let routings =
+        [Routing::ToRoot, Routing::ByAddress, Routing::ById, Routing::Broadcast, Routing::Local, Routing::Gathered];
+    for routing in routings {
+        let packet = read(&message(MSGD, routing.number(), 0x7E, 0x0100_0000_0000_0004)).unwrap();
+        let body = Body::Message { kind: MessageKind::MsgD, routing, code: 0x7E, tail: 0x0100_0000_0000_0004 };
+        assert_eq!(packet.body(), body);
+        let numbers = packet.to_numbers();
+        assert_eq!(numbers[..10], [14, 4, 0, 0, 0, 0, 0, 1, 0x0210, 0x45]);
+        assert_eq!(numbers[10..], [routing.number().into(), 0x7E, 0x0100_0000_0000_0004, 0, 0, 0, 0, 0, 0, 0]);
+        assert_eq!(
+            packet.to_string(),
+            format!(
+                "MsgD 4dw tc 0 attr 0 td 0 ep 0 at 0 length 1 requester 0210 tag 045 \
+                 routing {} code 7E tail 0100000000000004",
+                routing.number()
+            )
+        );
+    }
+    // Routings that have no meaning, a Length without data, and an address's low bits.
+    assert_eq!(read(&message(MSG, 0b110, 0x20, 0)), Err(Refusal::UnknownPair));
+    let fields = read(&message(MSG, 0b001, 0x20, 0x2_4000_0000)).unwrap().fields();
+    assert_eq!(Packet::new(&Fields { length: 1, ..fields }), Err(Refusal::TooWide));
+    let Body::Message { kind, routing, code, tail } = fields.body else { panic!("{fields:?}") };
+    let body = Body::Message { kind, routing, code, tail: tail + 2 };
+    assert_eq!(Packet::new(&Fields { body, ..fields }), Err(Refusal::ReservedBits));
 }
 
 #[test]

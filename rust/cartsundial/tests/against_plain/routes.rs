@@ -26,20 +26,18 @@ pub fn compare(random: &mut Random, rounds: u64, tally: &mut Tally) {
 pub fn route(header: &[u8], bytes: &[u8], random: &mut Random, tally: &mut Tally) {
     let answer = plain::route(header, bytes);
     let numbers = answer.map(|arrival| arrival.numbers());
-    let mut lent_header = Lent::holding(header, random);
-    let header_before = lent_header.clone();
-    let mut sheet = Lent::holding(bytes, random);
-    let sheet_before = sheet.clone();
-    let mut given = Lent::answer(numbers.as_ref().map_or(calls::ROUTE, Vec::len), random);
-    let (number, given_then) = given.expected(&numbers);
-    let returned = calls::route(lent_header.slice(), sheet.slice(), given.slice());
-    tally.count(Call::Route, returned);
-    if let (0, Ok(plain::Arrival::Function { bridges, .. })) = (returned, answer) {
-        tally.delivered(bridges);
+    let length = numbers.as_ref().map_or(calls::ROUTE, Vec::len);
+    let asked = Asked { header, sheet: bytes, numbers: &numbers };
+    let given = Lent::answer(length, random);
+    if asked.call(given, random, tally) == 0 {
+        answer.iter().for_each(|arrival| tally.arrived(arrival));
     }
-    assert_eq!(returned, number, "route {} over {}", hex(header), hex(bytes));
-    let same = given == given_then && lent_header == header_before && sheet == sheet_before;
-    assert!(same, "route {} over {}: what was lent", hex(header), hex(bytes));
+    // A broadcast's answer alone is longer than a packet's: into as many numbers, one less, one more, and into a packet's.
+    if let Ok(plain::Arrival::Every { .. }) = answer {
+        for length in [length, length - 1, length + 1, calls::ROUTE] {
+            asked.call(Lent::numbers(length, random), random, tally);
+        }
+    }
 
     if random.chance(1, 4) {
         let typed = cartsundial::route(header, bytes).map_err(|refusal| refusal.number());
@@ -47,5 +45,29 @@ pub fn route(header: &[u8], bytes: &[u8], random: &mut Random, tally: &mut Tally
         if let Some(Delivery { record, id, .. }) = typed.ok().and_then(Arrival::delivery) {
             assert_eq!(Ok(id.0), plain::id_of(bytes, record.into()), "the ID of {record} in {}", hex(bytes));
         }
+    }
+}
+
+/// What is asked, and plain's answer.
+struct Asked<'a> {
+    header: &'a [u8],
+    sheet: &'a [u8],
+    numbers: &'a Result<Vec<u64>, u8>,
+}
+
+impl Asked<'_> {
+    /// Asks the library, with this slice for its answer, and returns its number.
+    fn call(&self, mut given: Lent<u64>, random: &mut Random, tally: &mut Tally) -> u32 {
+        let mut header = Lent::holding(self.header, random);
+        let header_before = header.clone();
+        let mut sheet = Lent::holding(self.sheet, random);
+        let sheet_before = sheet.clone();
+        let (number, given_then) = given.expected(self.numbers);
+        let returned = calls::route(header.slice(), sheet.slice(), given.slice());
+        tally.count(Call::Route, returned);
+        assert_eq!(returned, number, "route {} over {}", hex(self.header), hex(self.sheet));
+        let same = given == given_then && header == header_before && sheet == sheet_before;
+        assert!(same, "route {} over {}: what was lent", hex(self.header), hex(self.sheet));
+        returned
     }
 }

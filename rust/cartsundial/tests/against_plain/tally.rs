@@ -1,5 +1,6 @@
 //! How often each call gave each number, and how large what it accepted was.
 
+use plain::Arrival;
 use std::fmt;
 
 #[derive(Clone, Copy, Debug, PartialEq, Eq)]
@@ -18,7 +19,7 @@ const CALLS: [Call; 8] =
     [Call::Read, Call::Write, Call::Plan, Call::Check, Call::Lookup, Call::Id, Call::Command, Call::Route];
 
 /// One more than the greatest number.
-const NUMBERS: usize = 43;
+const NUMBERS: usize = 44;
 
 impl Call {
     /// The numbers that the call can give, by document 01 and, for 11, by the boundary's answer slices.
@@ -31,7 +32,7 @@ impl Call {
             Call::Lookup => &[0, 11, 20, 21, 22, 24, 25, 27, 28, 29, 40],
             Call::Id => &[0, 11, 20, 21, 22, 24, 25, 27, 28, 29, 40],
             Call::Command => &[0, 10, 20, 21, 22, 24, 25, 27, 28, 29, 40],
-            Call::Route => &[0, 1, 2, 3, 4, 5, 6, 7, 8, 9, 11, 20, 21, 22, 24, 25, 27, 28, 29, 40, 41, 42],
+            Call::Route => &[0, 1, 2, 3, 4, 5, 6, 7, 8, 9, 11, 20, 21, 22, 24, 25, 27, 28, 29, 40, 41, 42, 43],
         }
     }
 }
@@ -42,11 +43,21 @@ pub struct Tally {
     functions: [u64; 257],
     /// Packets delivered, by the bridges that they crossed.
     bridges: [u64; 256],
+    /// Messages that went to every function, by how many there are.
+    broadcasts: [u64; 257],
+    /// Messages that ended at the port.
+    ports: u64,
 }
 
 impl Default for Tally {
     fn default() -> Tally {
-        Tally { numbers: [[0; NUMBERS]; CALLS.len()], functions: [0; 257], bridges: [0; 256] }
+        Tally {
+            numbers: [[0; NUMBERS]; CALLS.len()],
+            functions: [0; 257],
+            bridges: [0; 256],
+            broadcasts: [0; 257],
+            ports: 0,
+        }
     }
 }
 
@@ -62,8 +73,12 @@ impl Tally {
         self.functions[functions] += 1;
     }
 
-    pub fn delivered(&mut self, bridges: u8) {
-        self.bridges[usize::from(bridges)] += 1;
+    pub fn arrived(&mut self, arrival: &Arrival) {
+        match *arrival {
+            Arrival::Function { bridges, .. } => self.bridges[usize::from(bridges)] += 1,
+            Arrival::Every { functions, .. } => self.broadcasts[usize::from(functions)] += 1,
+            Arrival::Port { .. } => self.ports += 1,
+        }
     }
 
     pub fn total(&self) -> u64 {
@@ -88,6 +103,9 @@ impl Tally {
         }
         if self.bridges[..=16].contains(&0) || self.bridges[255] == 0 {
             faults.push("some number of bridges, 0 to 16 or 255, was never crossed".into());
+        }
+        if self.broadcasts[1] == 0 || self.broadcasts[256] == 0 || self.ports == 0 {
+            faults.push("no message went to the one function, to all 256, or to the port".into());
         }
         faults.join("\n")
     }
@@ -130,6 +148,8 @@ impl fmt::Display for Tally {
         }
         writeln!(f)?;
         writeln!(f, "boards planned, by functions: {}", by_size(&self.functions))?;
-        writeln!(f, "packets delivered, by bridges crossed: {}", by_size(&self.bridges))
+        writeln!(f, "packets delivered, by bridges crossed: {}", by_size(&self.bridges))?;
+        writeln!(f, "messages for every function, by functions: {}", by_size(&self.broadcasts))?;
+        writeln!(f, "messages for the port: {}", self.ports)
     }
 }
