@@ -338,7 +338,9 @@ impl Packet {
             }
     }
 
-    /// Rules 4 to 9, as far as they speak of fields.
+    /// Rules 4 to 9, as far as they speak of fields. Inlined, as is the next: a packet that is judged by a call is stored
+    /// field by field and loaded whole, for which `read` waits a third of its time.
+    #[inline(always)]
     fn judge(&self) -> Result<(), u8> {
         match self.kind.family() {
             Family::Memory => self.judge_memory(),
@@ -374,6 +376,7 @@ impl Packet {
         }
     }
 
+    #[inline(always)]
     fn judge_memory(&self) -> Result<(), u8> {
         if self.address & 3 != 0 || self.at == 0b11 {
             return Err(4);
