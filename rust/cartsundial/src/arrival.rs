@@ -1,6 +1,6 @@
 //! Where a packet goes.
 
-use crate::calls::{self, ANY_ROUTE, PACKET, ROUTE};
+use crate::calls::{self, ANY_ROUTE, ROUTE};
 use crate::{functions, Id, Packet, Refusal};
 
 /// Where a packet that comes from the host arrives.
@@ -54,7 +54,8 @@ impl Arrival {
     }
 }
 
-/// Routes the header from the host over the sheet. A header that is refused is refused before the sheet is read.
+/// Routes the header from the host over the sheet. A header that is refused is refused before the sheet is read. Only a
+/// message can go to every function, or end at the port.
 pub fn route(header: &[u8], sheet: &[u8]) -> Result<Arrival, Refusal> {
     let mut numbers = [0; ROUTE];
     match calls::route(header, sheet, &mut numbers) {
@@ -80,7 +81,7 @@ fn route_to_every(header: &[u8], sheet: &[u8]) -> Result<Arrival, Refusal> {
 /// The arrival that the library answered with.
 fn arrival(sheet: &[u8], numbers: &[u64; ROUTE]) -> Arrival {
     let [record, count, packet @ ..] = numbers;
-    let packet = arrived(packet);
+    let packet = Packet::from_numbers(packet).expect("what arrives is a lawful packet");
     match (*record as u16, *count) {
         (0, 0) => Arrival::Port { packet },
         (0, functions) => Arrival::Every { functions: functions as u16, packet },
@@ -89,8 +90,4 @@ fn arrival(sheet: &[u8], numbers: &[u64; ROUTE]) -> Arrival {
             Arrival::Function(Delivery { record, id, bridges: bridges as u8, packet })
         }
     }
-}
-
-fn arrived(packet: &[u64; PACKET]) -> Packet {
-    Packet::from_numbers(packet).expect("what arrives is a lawful packet")
 }

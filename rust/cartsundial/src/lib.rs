@@ -9,18 +9,20 @@
 //! function's registers boot code is to write, and every rule. A header is given in the order of the link, byte 0 first
 //! and each number's high byte first.
 //!
-//! Nothing but `core` is needed, so boot code can use it. No call allocates, keeps anything or waits. A stack of 128 KiB holds the deepest board and the deepest sheet; that is
-//! tested, not proved. A call that runs where interrupts are handled on the same stack (ring 0) must not be interrupted:
-//! the archive uses the red zone; include/cartsundial.h says more.
+//! Nothing but `core` is needed, so boot code can use it. No call allocates, keeps anything or waits. A stack of 128 KiB
+//! holds the deepest board and the deepest sheet; that is tested, not proved. A call that runs where interrupts are
+//! handled on the same stack (ring 0) must not be interrupted: the archive uses the red zone; include/cartsundial.h says
+//! more.
 //!
 //! | for | call |
 //! |---|---|
 //! | a header's bytes as a packet, and back | [`read()`], [`write()`] |
+//! | a packet's fields, and a packet or a header of fields | [`Packet::fields`], [`Packet::new`], [`Fields::write`] |
 //! | a board as a register sheet | [`plan`] |
 //! | the record of a board that finds no room | [`what_does_not_fit`] |
 //! | a sheet: is it lawful, a function's registers, its command word | [`check`], [`registers`], [`set_command`] |
 //! | its functions one by one, or from a record to its ID | [`functions()`], [`id_of`] |
-//! | the function that a packet goes to | [`route`] |
+//! | where a packet goes: a function, every function, the port | [`route`] |
 //! | the same calls with numbers in place of types | [`calls`] |
 //!
 //! ```

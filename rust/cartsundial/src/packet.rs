@@ -170,11 +170,9 @@ impl Packet {
     /// In dwords, 1 to 1,024; 0 for Cpl, CplLk and Msg.
     #[inline]
     pub fn length(&self) -> u16 {
-        let code = self.word(2) & 0x3FF;
-        match self.pair() {
-            Pair::Completion(CompletionKind::Cpl | CompletionKind::CplLk) | Pair::Message(MessageKind::Msg, _) => 0,
-            _ if code == 0 => 1024,
-            _ => code,
+        match self.word(2) & 0x3FF {
+            0 if self.has_length() => 1024,
+            code => code,
         }
     }
 
@@ -238,6 +236,15 @@ impl Packet {
     /// The packet as the library's numbers, in the order of [`PACKET`].
     pub fn to_numbers(&self) -> [u64; PACKET] {
         self.fields().to_numbers()
+    }
+
+    /// Cpl, CplLk and Msg have no Length.
+    #[inline]
+    fn has_length(&self) -> bool {
+        !matches!(
+            self.pair(),
+            Pair::Completion(CompletionKind::Cpl | CompletionKind::CplLk) | Pair::Message(MessageKind::Msg, _)
+        )
     }
 
     #[inline]
