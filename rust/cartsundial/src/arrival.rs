@@ -1,6 +1,6 @@
 //! Where a packet goes.
 
-use crate::calls::{self, ANY_ROUTE, ROUTE};
+use crate::calls::{self, ANY_ROUTE, ROUTE, SHORT};
 use crate::{functions, Id, Packet, Refusal};
 
 /// Where a packet that comes from the host arrives.
@@ -65,8 +65,6 @@ pub fn route(header: &[u8], sheet: &[u8]) -> Result<Arrival, Refusal> {
         number => Err(Refusal::of_call(number)),
     }
 }
-
-const SHORT: u32 = Refusal::ShortRoom.number() as u32;
 
 /// Routes a broadcast, with room for the records of all functions.
 #[cold]

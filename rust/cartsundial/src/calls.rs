@@ -17,6 +17,9 @@ pub const ROUTE: usize = 2 + PACKET;
 /// How many numbers are always enough for [`route`]: a broadcast's answer ends with the record of every function.
 pub const ANY_ROUTE: usize = ROUTE + 256;
 
+/// What a call answers where its answer does not fit the slice for it: tried last, so it would have been accepted.
+pub const SHORT: u32 = 11;
+
 mod c {
     extern "C" {
         pub fn cartsundial_read(header: *const u8, header_len: usize, packet: *mut u64, packet_len: usize) -> u32;

@@ -11,16 +11,13 @@
 //! A field is taken from the bytes where it is asked for. No proof covers that: tests/against_plain holds each field of
 //! each header that it reads against the library's own number.
 
-use crate::calls::{self, PACKET};
+use crate::calls::{self, PACKET, SHORT};
 use crate::kind::{CompletionKind, ConfigurationKind, IoKind, MemoryKind, MessageKind};
 use crate::{Body, Enables, Fields, Form, Id, Kind, Refusal, Routing};
 use core::fmt;
 
 /// The longest header.
 const LONGEST: usize = Form::FourDwords.bytes();
-
-/// What the reader answers to an accepted header over an empty slice.
-const SHORT: u32 = Refusal::ShortRoom.number() as u32;
 
 /// A lawful packet's header. The fields that every kind has are methods; [`body`](Packet::body) has the others, to match
 /// on, and [`fields`](Packet::fields) has all of them, to change and make another packet of.
@@ -53,8 +50,7 @@ pub struct Packet {
 /// ```
 #[inline]
 pub fn read(header: &[u8]) -> Result<Packet, Refusal> {
-    // Twenty numbers do not fit an empty slice, which the library tries last: an accepted header is 11 here, and no
-    // number is stored.
+    // Twenty numbers do not fit an empty slice: an accepted header is short of room, and none of them is stored.
     match calls::read(header, &mut []) {
         SHORT => Ok(Packet::of_accepted(header)),
         number => Err(Refusal::of_call(number)),
