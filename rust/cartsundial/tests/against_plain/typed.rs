@@ -22,17 +22,23 @@ pub fn common(packet: &Packet) -> [u64; 10] {
     ]
 }
 
-/// The numbers that the library answers a route with.
-pub fn route(arrival: &Arrival) -> Vec<u64> {
-    let (record, count, list) = match *arrival {
-        Arrival::Function(Delivery { record, bridges, .. }) => (record, bridges.into(), 0),
-        Arrival::Every { functions, .. } => (0, functions, functions),
-        Arrival::Port { .. } => (0, 0, 0),
+/// Whether both say the same of a packet that was routed over this sheet.
+pub fn same(arrival: &Arrival, answer: &plain::Arrival, sheet: &[u8]) -> bool {
+    let packet = match (*arrival, answer) {
+        (
+            Arrival::Function(Delivery { record, id, bridges, .. }),
+            plain::Arrival::Function { record: owner, bridges: crossed, packet },
+        ) => {
+            let same = (record, bridges) == (*owner, *crossed) && plain::id_of(sheet, record.into()) == Ok(id.0);
+            same.then_some(packet)
+        }
+        (Arrival::Every { functions, .. }, plain::Arrival::Every { functions: count, packet }) => {
+            (functions == *count).then_some(packet)
+        }
+        (Arrival::Port { .. }, plain::Arrival::Port { packet }) => Some(packet),
+        _ => None,
     };
-    let mut numbers = vec![record.into(), count.into()];
-    numbers.extend(arrival.packet().to_numbers());
-    numbers.extend((1..=list).map(u64::from));
-    numbers
+    packet.is_some_and(|packet| arrival.packet().to_numbers() == plain::to_numbers(packet))
 }
 
 /// The fields that these numbers are. `None` where the kind and form are not carried, or where a number does not fit its
