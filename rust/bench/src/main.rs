@@ -11,11 +11,20 @@ use subjects::{plain_calls, proved_calls, Backplane, Mixed};
 
 /// What is timed of headers.
 const READ: &str = "read";
-const READ_FIELDS: &str = "read and take all fields";
+const READ_FIELDS: &str = "read, and take all fields";
 const READ_NUMBERS: &str = "read, as numbers";
 const WRITE: &str = "write";
-const MAKE_AND_WRITE: &str = "make and write";
+const WRITE_FIELDS: &str = "write, from fields";
 const WRITE_NUMBERS: &str = "write, as numbers";
+
+/// What the table is of.
+const ABOUT: &str = "\
+The two take turns, a round each, in one run, on the same input; both are release builds. The proved calls go through
+the C ABI into the archive, the plain ones through functions that are never inlined. Each side has its own Rust types: a
+plain packet is all its fields, and judged when it is written; a proved one is a lawful header, from which fields are
+taken. \"As numbers\" leaves the types out on both. Every call starts from bytes: plan checks its board, route its header
+and its sheet.
+";
 
 /// What happens to the buffer that a call writes.
 const NONE: &str = "none";
@@ -23,13 +32,7 @@ const REUSED: &str = "reused, not cleared";
 const FRESH: &str = "new and zeroed, within the time";
 
 fn main() {
-    println!(
-        "Nanoseconds a call, median of {ROUNDS} rounds. The two take turns, a round each, in one run, on the same"
-    );
-    println!("input; both are release builds. The proved calls go through the C ABI into the archive, the plain ones");
-    println!("through functions that are never inlined. Each side has its own Rust types; \"as numbers\" leaves the");
-    println!("types out on both. Every call starts from bytes: plan checks its board, route its header and its sheet.");
-    println!();
+    println!("Nanoseconds a call, median of {ROUNDS} rounds.\n{ABOUT}");
     println!("| call | input | buffer written | plain ns | proved ns | proved/plain |");
     println!("|---|---|---|---:|---:|---:|");
     let headers = subjects::headers();
@@ -105,10 +108,10 @@ fn write(name: &str, header: &[u8]) {
     let mut rooms = ([0; 16], [0; 16]);
     let times = compare(
         || plain_calls::write(black_box(&plain_packet), black_box(&mut rooms.0)).is_ok(),
-        || proved_calls::make_and_write(black_box(&fields), black_box(&mut rooms.1)).is_ok(),
+        || proved_calls::write_fields(black_box(&fields), black_box(&mut rooms.1)).is_ok(),
     );
     assert_eq!(rooms.0, rooms.1);
-    row(MAKE_AND_WRITE, name, REUSED, times);
+    row(WRITE_FIELDS, name, REUSED, times);
     let numbers = packet.to_numbers();
     let times = compare(
         || plain_calls::write_numbers(black_box(&numbers), black_box(&mut rooms.0)).is_ok(),
@@ -129,9 +132,9 @@ fn write_mixed(mixed: &Mixed) {
     let mut fields = mixed.fields.iter().cycle();
     let times = compare(
         || plain.next().map(|packet| plain_calls::write(black_box(packet), black_box(&mut rooms.0)).is_ok()),
-        || fields.next().map(|fields| proved_calls::make_and_write(black_box(fields), black_box(&mut rooms.1)).is_ok()),
+        || fields.next().map(|fields| proved_calls::write_fields(black_box(fields), black_box(&mut rooms.1)).is_ok()),
     );
-    row(MAKE_AND_WRITE, subjects::MIXED, REUSED, times);
+    row(WRITE_FIELDS, subjects::MIXED, REUSED, times);
     let mut turns = (mixed.numbers.iter().cycle(), mixed.numbers.iter().cycle());
     let times = compare(
         || {

@@ -75,7 +75,7 @@ pub mod proved_calls {
     }
 
     #[inline(never)]
-    pub fn make_and_write(fields: &Fields, room: &mut [u8]) -> Result<usize, Refusal> {
+    pub fn write_fields(fields: &Fields, room: &mut [u8]) -> Result<usize, Refusal> {
         fields.write(room)
     }
 
