@@ -60,15 +60,16 @@ isFirst x = eqb x 15 || eqb x 14 || eqb x 12 || eqb x 8
 abbrev pub isLast : ℕ → Bool
 isLast x = eqb x 15 || eqb x 7 || eqb x 3 || eqb x 1
 
--- Length 1: last is 0000 and first is free. Length 2: both nonzero, any pattern. Length 3 and up: by the patterns
-abbrev pub enablesLawful : ℕ → Enables → Bool
-enablesLawful n e =
+-- Length 1: last is 0000 and first is free. Length 2 from an 8-byte edge on: both nonzero, any pattern. Length 2 off that edge, and Length 3
+-- and up: by the patterns
+abbrev pub enablesLawful : ℕ → ℕ → Enables → Bool
+enablesLawful n a e =
     cond (eqb n 1) (eqb (e .last) 0)
-    (cond (eqb n 2) (not (eqb (e .last) 0) && not (eqb (e .first) 0)) (isFirst (e .first) && isLast (e .last)))
+    (cond (eqb n 2 && eqb (a % 8) 0) (not (eqb (e .last) 0) && not (eqb (e .first) 0)) (isFirst (e .first) && isLast (e .last)))
 
 -- 7: memory byte enables
 unfoldable pub enablesWrong : Packet → Bool
-enablesWrong (Memory k h e a) = not (enablesLawful (h .length) e)
+enablesWrong (Memory k h e a) = not (enablesLawful (h .length) a e)
 enablesWrong (Io k h e a) = false
 enablesWrong (Config k h e t) = false
 enablesWrong (Completion k h o) = false

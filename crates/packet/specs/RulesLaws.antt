@@ -29,7 +29,7 @@ stopped {k = k} n e f = ap (λ (b : Bool). cond b k n) (sym e ∙ f)
 pub rule-number-memory : (k : MemoryKind) (h : Head) (e : Enables) (a : ℕ) → ruleNumber (Memory k h e a)
     ≡ cond (not (eqb (a % 4) 0) || eqb (h .at) 3) 4
     (cond (eqb (h .form) 4 && ltb a (2 ^ 32)) 6
-    (cond (not (enablesLawful (h .length) e)) 7
+    (cond (not (enablesLawful (h .length) a e)) 7
     (cond (ltb 4096 (a % 4096 + 4 * h .length)) 8 0)))
 unfolding ruleNumber fromRule5 fromRule6 fromRule7 fromRule8 fromRule9 reservedSet fixedWrong upperZero enablesWrong crossesPage statusWrong
 rule-number-memory k h e a = refl
@@ -98,7 +98,7 @@ none-joined false false false false h = refl
 
 -- the four rules of a memory request: t is what was answered of the enables, and l the Length that was added
 module _ (k : MemoryKind) (h : Head) (e : Enables) (a : ℕ) {t : Bool} {l : ℕ}
-    (enables : t ≡ enablesLawful (h .length) e) (dwords : l ≡ h .length) where
+    (enables : t ≡ enablesLawful (h .length) a e) (dwords : l ≡ h .length) where
   abbrev reserved : Bool
   reserved = not (eqb (a % 4) 0) || eqb (h .at) 3
 

@@ -123,7 +123,7 @@ pub fn memory_rules(h: Head, e: Enables, a: u64) -> u8
 {
     let reserved = !(a % 4 == 0) | (h.at == 3);
     let upper = (h.form == 4) & (a < 4294967296);
-    let enables = !enables_lawful(h.length, e);
+    let enables = !enables_lawful(h.length, a, e);
     let crosses = 4096 < a % 4096 + 4 * wide(h.length);
     if reserved | upper | enables | crosses {
         return first_broken(reserved, upper, enables);
@@ -359,11 +359,12 @@ fn is_last(x: u8) -> bool
     (x < 16) & ((LAST_PATTERNS >> (x % 16)) % 2 == 1)
 }
 
-fn enables_lawful(n: u16, e: Enables) -> bool
-    ensures { λ r. ⌜ r ≡ enablesLawful n e ⌝ }
+// Of a request of so many dwords from an address on.
+fn enables_lawful(n: u16, a: u64, e: Enables) -> bool
+    ensures { λ r. ⌜ r ≡ enablesLawful n a e ⌝ }
 {
     let two = pick(
-        n == 2,
+        (n == 2) & (a % 8 == 0),
         !(e.last == 0) & !(e.first == 0),
         is_first(e.first) & is_last(e.last),
     );
