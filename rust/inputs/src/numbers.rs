@@ -31,6 +31,8 @@ pub const ROUTING: usize = 10;
 pub const CODE: usize = 11;
 pub const TAIL: usize = 12;
 
+/// The kinds of memory requests, MRd, MRdLk and MWr.
+const MEMORY: Range<u64> = 0..3;
 /// The kinds of messages, Msg and MsgD.
 const MESSAGES: Range<u64> = 13..15;
 
@@ -62,7 +64,7 @@ pub fn lawful(random: &mut Random) -> Numbers {
 
 /// A lawful memory request.
 pub fn memory(random: &mut Random) -> Numbers {
-    let mut numbers = start(random, 0..3);
+    let mut numbers = start(random, MEMORY);
     numbers[TC] = random.below(8);
     numbers[ATTR] = random.below(8);
     numbers[AT] = random.below(3);
@@ -74,7 +76,6 @@ pub fn memory(random: &mut Random) -> Numbers {
         _ => 3 + random.below(16),
     };
     numbers[LENGTH] = length;
-    set_enables(&mut numbers, random);
     // Often up to the very end of the page.
     let room = 1024 - length;
     let offset = if random.chance(1, 4) { room } else { random.below(room + 1) };
@@ -88,6 +89,7 @@ pub fn memory(random: &mut Random) -> Numbers {
         numbers[FORM] = 4;
         numbers[ADDRESS] |= upper(random) << 32;
     }
+    set_enables(&mut numbers, random);
     numbers
 }
 
@@ -100,11 +102,11 @@ fn upper(random: &mut Random) -> u64 {
     }
 }
 
-/// Lawful enables for the packet's Length.
+/// Lawful enables for the packet's Length and address: two dwords may have gaps if they start on an 8-byte edge.
 fn set_enables(numbers: &mut Numbers, random: &mut Random) {
     (numbers[LAST], numbers[FIRST]) = match numbers[LENGTH] {
         1 => (0, random.below(16)),
-        2 => (1 + random.below(15), 1 + random.below(15)),
+        2 if numbers[ADDRESS].is_multiple_of(8) => (1 + random.below(15), 1 + random.below(15)),
         _ => (0xF >> random.below(4), 0xF << random.below(4) & 0xF),
     };
 }
@@ -198,13 +200,18 @@ pub fn request(random: &mut Random, is_io: bool, address: u64) -> Numbers {
     numbers[FORM] = if address >> 32 == 0 { 3 } else { 4 };
     if (address & 0xFFC) + 4 * numbers[LENGTH] > 0x1000 {
         numbers[LENGTH] = 1;
-        set_enables(&mut numbers, random);
     }
+    set_enables(&mut numbers, random);
     numbers
 }
 
-/// Gives one or two fields another value: at an edge of the field, past it, or any.
+/// Gives one or two fields another value: at an edge of the field, past it, or any. A request of two dwords often keeps its
+/// enables and starts 4 bytes off instead, where gaps are lawful if they were not, or the other way round.
 pub fn spoil(numbers: &mut Numbers, random: &mut Random) {
+    if MEMORY.contains(&numbers[KIND]) && numbers[LENGTH] == 2 && random.chance(1, 2) {
+        numbers[ADDRESS] ^= 4;
+        return;
+    }
     for _ in 0..1 + random.below(2) {
         let field = random.below(20) as usize;
         let width = widths(numbers[KIND])[field];

@@ -1,5 +1,5 @@
-//! Document 01, with request E1 of document 02, in plain, safe Rust: the header codec, the board planner and the packet
-//! router.
+//! Document 01, with requests E1 and E2 of document 02, in plain, safe Rust: the header codec, the board planner and the
+//! packet router.
 //!
 //! Written from the documents and the readings of their open points in docs/DECISIONS.md, not from the proved code. The
 //! proved library is compared with it, and the stored answers of the test programs come from it. Every refusal is the

@@ -387,7 +387,8 @@ impl Packet {
         let (first, last) = (self.first_enables, self.last_enables);
         let enables = match self.length {
             1 => last == 0,
-            2 => first != 0 && last != 0,
+            // Gaps are for two dwords that start on an 8-byte edge.
+            2 if self.address.is_multiple_of(8) => first != 0 && last != 0,
             _ => {
                 matches!(first, 0b1111 | 0b1110 | 0b1100 | 0b1000) && matches!(last, 0b1111 | 0b0111 | 0b0011 | 0b0001)
             }

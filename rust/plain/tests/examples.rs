@@ -36,6 +36,13 @@ fn p3_p4_byte_enables() {
     assert_eq!(read("40 00 00 03 00 00 00 5A F9 00 00 00"), Err(7));
 }
 
+/// Request E2: P3 is at an aligned address; its twin is 4 past an 8-byte edge.
+#[test]
+fn p3_twin() {
+    assert_eq!(read("40 00 00 02 00 00 00 5A F9 00 00 04"), Err(7));
+    assert_eq!(read("40 00 00 02 00 00 00 A5 F9 00 00 04"), Err(7));
+}
+
 #[test]
 fn p5_upper_half() {
     assert_eq!(read("20 00 00 01 00 00 00 0F 00 00 00 00 F9 00 00 00"), Err(6));

@@ -1,5 +1,6 @@
 //! The header codec: every refusal, the round trips, and the packet as numbers.
 
+use inputs::numbers;
 use inputs::random::Random;
 use plain::{read, to_numbers, write, write_numbers, Form, Kind, Packet};
 
@@ -109,8 +110,6 @@ fn rules_6_to_8() {
     assert!(changed(READ, &[(7, 0x00)]).is_ok());
     for enables in 0..=255 {
         let (last, first) = (enables >> 4, enables & 15);
-        let two = changed(READ, &[(3, 2), (7, enables)]).err();
-        assert_eq!(two, if last != 0 && first != 0 { None } else { Some(7) });
         let contiguous = [15, 14, 12, 8].contains(&first) && [15, 7, 3, 1].contains(&last);
         let three = changed(READ, &[(3, 3), (7, enables)]).err();
         assert_eq!(three, if contiguous { None } else { Some(7) });
@@ -120,6 +119,98 @@ fn rules_6_to_8() {
     assert_eq!(changed(READ, &[(3, 3), (7, 0xF5), (10, 0x0F), (11, 0xFC)]), Err(7));
     assert_eq!(changed(READ64, &[(3, 0), (7, 0xFF), (15, 4)]), Err(8));
     assert!(changed(READ64, &[(3, 0), (7, 0xFF)]).is_ok());
+}
+
+/// Two dwords (request E2): gaps from an 8-byte edge on, elsewhere the patterns of three.
+#[test]
+fn two_dwords() {
+    // Byte 7, last enables high: the sixteen patterns that Length 3 has.
+    let patterns = [0x1, 0x3, 0x7, 0xF].map(|last| [0x8, 0xC, 0xE, 0xF].map(|first| last << 4 | first)).concat();
+    for enables in 0..=255 {
+        let some_in_both = enables & 0x0F != 0 && enables & 0xF0 != 0;
+        let pattern = patterns.contains(&enables);
+        for (low, lawful) in [(0x00, some_in_both), (0x04, pattern), (0x08, some_in_both), (0xFC, pattern)] {
+            let number = if lawful { None } else { Some(7) };
+            for byte0 in [0x00, 0x01, 0x40] {
+                let changes = [(0, byte0), (3, 2), (7, enables), (11, low)];
+                assert_eq!(changed(READ, &changes).err(), number, "{changes:02X?}");
+                let changes = [(0, byte0 | 0x20), (3, 2), (7, enables), (15, low)];
+                assert_eq!(changed(READ64, &changes).err(), number, "{changes:02X?}");
+            }
+            let two = [(7, 2), (10, u64::from(enables >> 4)), (11, u64::from(enables & 15)), (12, low.into())];
+            assert_eq!(written(&READ, &two).err(), number, "{two:02X?}");
+            let two = [two[0], two[1], two[2], (12, 1 << 32 | u64::from(low))];
+            assert_eq!(written(&READ64, &two).err(), number, "{two:02X?}");
+        }
+    }
+    // The edge is the start address's, whichever byte of it the enables have first.
+    assert!(changed(READ, &[(3, 2), (7, 0x18), (11, 0x04)]).is_ok());
+    assert_eq!(changed(READ, &[(3, 2), (7, 0x28), (11, 0x04)]), Err(7));
+    assert!(changed(READ, &[(3, 2), (7, 0x28)]).is_ok());
+    // In the four-dword form the upper half has no part in it.
+    assert_eq!(changed(READ64, &[(3, 2), (7, 0x5A), (11, 8), (15, 4)]), Err(7));
+    assert!(changed(READ64, &[(3, 2), (7, 0x5A), (11, 4)]).is_ok());
+}
+
+/// At FFCh two dwords cross the boundary: a lawful pattern is 8, any other 7, which is tried before.
+#[test]
+fn two_dwords_at_the_boundary() {
+    let at = |enables, low| changed(READ, &[(3, 2), (7, enables), (10, 0x0F), (11, low)]).err();
+    assert_eq!((at(0xFF, 0xFC), at(0x18, 0xFC), at(0x3E, 0xFC)), (Some(8), Some(8), Some(8)));
+    assert_eq!((at(0xA5, 0xFC), at(0x5A, 0xFC), at(0xF0, 0xFC)), (Some(7), Some(7), Some(7)));
+    assert_eq!((at(0xF1, 0xFC), at(0x8F, 0xFC), at(0x00, 0xFC)), (Some(7), Some(7), Some(7)));
+    // At FF8h they end on it.
+    assert_eq!((at(0xFF, 0xF8), at(0xA5, 0xF8), at(0x81, 0xF8), at(0x0F, 0xF8)), (None, None, None, Some(7)));
+    // At FF4h they end before it, and no gap is lawful.
+    assert_eq!((at(0xFF, 0xF4), at(0xA5, 0xF4)), (None, Some(7)));
+    // 6 before both.
+    assert_eq!(changed(READ64, &[(3, 2), (7, 0xA5), (11, 0), (14, 0x0F), (15, 0xFC)]), Err(6));
+    // The writer: 10 before 7, 7 before 8, 8 before 11.
+    let write = |last, first, room: &mut [u8]| {
+        let mut packet = read(&READ).unwrap();
+        (packet.length, packet.address) = (2, 0xF900_0FFC);
+        (packet.last_enables, packet.first_enables) = (last, first);
+        write(&packet, room)
+    };
+    assert_eq!(write(0x10, 0x5, &mut [0; 12]), Err(10));
+    assert_eq!(write(0xA, 0x5, &mut []), Err(7));
+    assert_eq!(write(0xF, 0xF, &mut []), Err(8));
+}
+
+/// The random packets have two dwords on and off the edge, the former often with gaps; spoilt ones have gaps off it.
+#[test]
+fn random_two_dwords() {
+    let mut random = Random::new(12);
+    let has_gap = |packet: &numbers::Numbers| {
+        let [last, first] = [packet[numbers::LAST], packet[numbers::FIRST]];
+        !([8, 12, 14, 15].contains(&first) && [1, 3, 7, 15].contains(&last))
+    };
+    // On the edge and off it: without a gap, with one.
+    let (mut lawful, mut answers) = ([[0; 2]; 2], [[0; 12]; 2]);
+    for _ in 0..200_000 {
+        let address = 0x2_4000_0F00 + 4 * random.below(64);
+        let mut packet = match random.below(2) {
+            0 => numbers::memory(&mut random),
+            _ => numbers::request(&mut random, false, address),
+        };
+        if packet[numbers::LENGTH] != 2 {
+            continue;
+        }
+        assert_eq!(read(&numbers::header(&packet)).map(|packet| to_numbers(&packet)), Ok(packet));
+        let side = packet[numbers::ADDRESS] as usize / 4 % 2;
+        lawful[side][usize::from(has_gap(&packet))] += 1;
+        let mut moved = packet;
+        moved[numbers::ADDRESS] ^= 4;
+        numbers::spoil(&mut packet, &mut random);
+        if side == 0 && packet == moved {
+            let number = read(&numbers::header(&packet)).err().unwrap_or(0);
+            answers[usize::from(has_gap(&packet))][usize::from(number)] += 1;
+        }
+    }
+    assert!(lawful[0][0] > 100 && lawful[0][1] > 1000 && lawful[1][0] > 1000, "{lawful:?}");
+    assert_eq!(lawful[1][1], 0);
+    assert!(answers[0][0] > 100 && answers[0][8] > 100 && answers[1][7] > 1000, "{answers:?}");
+    assert_eq!((answers[0][7], answers[1][0], answers[1][8]), (0, 0, 0));
 }
 
 #[test]
