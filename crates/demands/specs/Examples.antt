@@ -133,9 +133,11 @@ examples =
     -- Length code 0 at offset 0 of a 4 KiB page, and at offset 4
     ∷ P 2 (reads-length (request MRd3 0 0xff 0x10 0x00) 1024)
     ∷ P 2 (reads (request MRd3 0 0xff 0x10 0x04) 8)
-    -- MWr Length 2, enables 0101/1010, either way round
+    -- MWr Length 2 on an 8-byte edge, enables 0101/1010, either way round, and its twin 4 past the edge
     ∷ P 3 (reads (request MWr3 2 0x5a 0x10 0x00) 0)
     ∷ P 3 (reads (request MWr3 2 0xa5 0x10 0x00) 0)
+    ∷ P 3 (reads (request MWr3 2 0x5a 0x10 0x04) 7)
+    ∷ P 3 (reads (request MWr3 2 0xa5 0x10 0x04) 7)
     -- the same at Length 3
     ∷ P 4 (reads (request MWr3 3 0x5a 0x10 0x00) 7)
     ∷ P 4 (reads (request MWr3 3 0xa5 0x10 0x00) 7)
@@ -192,7 +194,7 @@ examples-hold = (
                 refl,
                 (
                   refl,
-                  (refl, (refl, (refl, (refl, ((refl, refl), (refl, ((refl, refl), (refl, ((refl, refl), (refl, tt)))))))))),
+                  (refl, (refl, (refl, (refl, (refl, (refl, ((refl, refl), (refl, ((refl, refl), (refl, ((refl, refl), (refl, tt)))))))))))),
                 ),
               ),
             ),
