@@ -3,11 +3,11 @@ pub mod Sheet
 pub mod Lookup
 pub mod Spaces
 pub mod Commands
-pub mod Repeats
+pub mod ReadSoFar
 pub mod Examples
 pub mod FrameLaws
 pub mod CheckLaws
-pub mod RepeatsLaws
+pub mod ReadSoFarLaws
 pub mod IndexLaws
 pub mod RulesLaws
 pub mod SheetLaws

@@ -218,10 +218,9 @@ fn id_twice(sheet: &[u8]) -> bool
         let start = at + 2;
         let end = at + STRIDE;
         let id = sheet_record::id_of(&sheet[start..end]);
-        if sheet_marks::is_marked(&seen, id) {
+        if sheet_marks::test_and_mark(&mut seen, id) {
             return true;
         }
-        sheet_marks::mark(&mut seen, id);
         at = end;
     }
     false

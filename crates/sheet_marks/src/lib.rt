@@ -20,3 +20,14 @@ pub fn mark(seen: &mut [u64], id: u16)
     let bit = 1u64 << (id % 64);
     seen[word] = seen[word] | bit;
 }
+
+// Marks the ID, and says whether it was marked before.
+pub fn test_and_mark(seen: &mut [u64], id: u16) -> bool
+    requires { ⌜ 1024 ≤ length (now seen) ⌝ }
+    ensures answer { λ r. ⌜ r ≡ isMarked (now (seen .entry)) id ⌝ }
+    ensures content { λ _. ⌜ now (seen .exit) ≡ marked (now (seen .entry)) id ⌝ }
+{
+    let before = is_marked(seen, id);
+    mark(seen, id);
+    before
+}
