@@ -2,6 +2,7 @@
 //!
 //! `cargo run --release --offline -p bench`
 
+mod ids;
 mod measure;
 mod subjects;
 
@@ -46,6 +47,7 @@ fn main() {
     backplanes.iter().for_each(plan_fresh);
     backplanes.iter().for_each(check);
     backplanes.iter().for_each(route);
+    ids::print();
 }
 
 fn row(call: &str, input: &str, buffer: &str, times: Times) {
