@@ -1,0 +1,281 @@
+-- From a fresh state, wherever the cuts fall, the lines and the end's are those of the whole trace, and the end state is that of one piece.
+-- Assumes nothing.
+use mathlib.Core.Path.{_≡_, refl, sym, ap, ap₂, _∙_}
+use mathlib.Core.Bool.{Bool, true, false, cond}
+use mathlib.Core.List.{List, [], _∷_, _++_, append-assoc, append-nil, foldl, flatten}
+use Prim.Native.Nat.{ℕ, zero, suc, _+_, _-_, _≤_, _<_, min}
+use native.Mathlib.Omega.{arith}
+use native.Mathlib.Numerals.{add-one}
+use lib.ListN.{length, getD, take, drop, set, replicate, length-set, length-take, drop-of-length-le}
+use lib.Seq.{drop-cons, take-suc-set, set-out, take-all, take-append-le}
+use lib.Dec.{eqb, ltb}
+use borrow.Author.Tests.{ltb-true, ltb-false, ne-eqb}
+use Rattle.records.specs.declared.frame.Stage.{Stage}
+use Rattle.records.specs.declared.frame.Stage.the-variants.{Start, Other, Between}
+use Rattle.records.specs.declared.frame.Event.{Event}
+use Rattle.records.specs.declared.frame.Event.the-variants.{Version, Foreign, Passed, Half, Begins, Byte}
+use Rattle.records.specs.declared.frame.Ending.{Ending}
+use Rattle.records.specs.declared.frame.Ending.the-variants.{Unread, Whole, Cut}
+use Rattle.records.specs.Records.{Parts, partsOf}
+use Rattle.records.specs.Frame.{versionOf, eventOf, stageAfter, stageOf, heardOf, endingOf, heardBytes, heardPart, endOf}
+use Rattle.records.specs.FrameLaws.{stage-append, heard-append, heard-other, look-parts, ending-agree}
+use Rattle.trace.specs.declared.Emits.{Emits}
+use Rattle.trace.specs.declared.Emits.the-variants.{Nothing, Refusal, Line}
+use Rattle.trace.specs.declared.Trace.{Trace}
+use Rattle.trace.specs.Annotated.{frontLength, frontOf, numberAfter, emptyLine, versionLine, cutLine, recordLines, framedLines, annotated}
+use Rattle.trace.specs.Trace.{fresh, Account, accountOf, traceAt, lineAt, emittedBy, numberBy, heardBy, stateOf, Told, textOf, toldBy}
+use Rattle.trace.specs.Trace.{linesOf, endText, endLine}
+
+-- ## Two accounts of the same bytes
+
+heard-map : {A B : Type 0} (hear : A → Event → A) (hear′ : B → Event → B) (f : A → B) → ((a : A) (e : Event) → f (hear a e) ≡ hear′ (f a) e)
+    → (g : Stage) (a : A) (s : List ℕ) → f (heardOf hear g a s) ≡ heardOf hear′ g (f a) s
+unfolding heardOf
+heard-map hear hear′ f on g a [] = refl
+heard-map {A} {B} hear hear′ f on g a (b ∷ s) =
+    heard-map hear hear′ f on (stageAfter (eventOf g b)) (hear a (eventOf g b)) s
+    ∙ ap (λ (x : B). heardOf hear′ (stageAfter (eventOf g b)) x s) (on a (eventOf g b))
+
+-- ## Two pieces in a row are one
+
+pub state-append : (t : Trace) (s r : List ℕ) → stateOf t (s ++ r) ≡ stateOf (stateOf t s) r
+unfolding stateOf
+state-append t s r = ap₂ traceAt (stage-append (t .stage) s r) (heard-append heardBy (t .stage) (accountOf t) s r)
+
+module _ (line : ℕ → List ℕ → List ℕ) where
+  abbrev hear : Told → Event → Told
+  hear = toldBy line
+
+  abbrev toldFrom : Stage → Account → List ℕ → List ℕ → Told
+  toldFrom g a x s = heardOf hear g (record { account = a; lines = x }) s
+
+  -- lines that were given before
+  abbrev onto : List ℕ → Told → Told
+  onto x t = record { account = t .account; lines = x ++ t .lines }
+
+  onto-told : (x : List ℕ) (t : Told) (e : Event) → onto x (hear t e) ≡ hear (onto x t) e
+  onto-told x t e =
+      ap (λ (l : List ℕ). record { account = heardBy (t .account) e; lines = l })
+      (sym (append-assoc x (t .lines) (textOf line (emittedBy e) (heardBy (t .account) e))))
+
+  told-account : (g : Stage) (t : Told) (s : List ℕ) → heardOf hear g t s .account ≡ heardOf heardBy g (t .account) s
+  told-account g t s = heard-map hear heardBy (λ (x : Told). x .account) (λ x e. refl) g t s
+
+  told-lines : (g : Stage) (a : Account) (x s : List ℕ) → toldFrom g a x s .lines ≡ x ++ toldFrom g a [] s .lines
+  told-lines g a x s =
+      ap (λ (l : List ℕ). toldFrom g a l s .lines) (sym (append-nil x))
+      ∙ sym (ap (λ (t : Told). t .lines) (heard-map hear hear (onto x) (onto-told x) g (record { account = a; lines = [] }) s))
+
+  pub lines-append : (t : Trace) (s r : List ℕ) → linesOf line t (s ++ r) ≡ linesOf line t s ++ linesOf line (stateOf t s) r
+  unfolding linesOf stateOf
+  lines-append t s r =
+      let first = toldFrom (t .stage) (accountOf t) [] s in
+      ap (λ (x : Told). x .lines) (heard-append hear (t .stage) (record { account = accountOf t; lines = [] }) s r)
+      ∙ told-lines (stageOf (t .stage) s) (first .account) (first .lines) r
+      ∙ ap (λ (a : Account). first .lines ++ toldFrom (stageOf (t .stage) s) a [] r .lines)
+      (told-account (t .stage) (record { account = accountOf t; lines = [] }) s)
+
+-- ## One record
+
+-- a byte more at the front of a header
+front-more : (h : List ℕ) (k b : ℕ) (q : List ℕ) → length h ≡ frontLength → k ≤ frontLength
+    → frontOf (take (min (k + 1) (length h)) (set h k b) ++ q) ≡ frontOf (take k h ++ (b ∷ q))
+front-more h k b q l le = go (ltb k 16) refl
+  where
+    go : (t : Bool) → ltb k 16 ≡ t → frontOf (take (min (k + 1) (length h)) (set h k b) ++ q) ≡ frontOf (take k h ++ (b ∷ q))
+    go true e =
+        let small = ltb-true k 16 e in
+        let m : min (k + 1) (length h) ≡ suc k = omega arith in
+        ap (λ (x : List ℕ). frontOf (x ++ q)) (ap (λ (n : ℕ). take n (set h k b)) m ∙ take-suc-set h k b (omega arith))
+        ∙ ap frontOf (append-assoc (take k h) (b ∷ []) q)
+    go false e =
+        let large = ltb-false k 16 e in
+        let same : k ≡ 16 = omega arith in
+        let m : min (k + 1) (length h) ≡ 16 = omega arith in
+        let whole = take-all 16 h (omega arith) in
+        ap (λ (n : ℕ). frontOf (take n (set h k b) ++ q)) m
+        ∙ ap (λ (x : List ℕ). frontOf (take 16 x ++ q)) (set-out h k b (omega arith))
+        ∙ ap (λ (x : List ℕ). frontOf (x ++ q)) whole
+        ∙ take-append-le 16 h q (omega arith)
+        ∙ sym (take-append-le 16 h (b ∷ q) (omega arith))
+        ∙ ap (λ (x : List ℕ). frontOf (x ++ (b ∷ q))) (sym (ap (λ (n : ℕ). take n h) same ∙ whole))
+
+line-suc : (n : ℕ) → lineAt (suc n) ≡ Nothing
+unfolding lineAt
+line-suc n = rw (ne-eqb (suc n) 0 (λ e. omega arith))
+
+abbrev accounting : ℕ → ℕ → List ℕ → Account
+accounting number kept head = record { number = number; kept = kept; head = head }
+
+abbrev telling : ℕ → ℕ → List ℕ → List ℕ → Told
+telling number kept head lines = record { account = accounting number kept head; lines = lines }
+
+module _ (line : ℕ → List ℕ → List ℕ) where
+  -- an event that gives no line
+  quiet : (e : Emits) → e ≡ Nothing → (n k : ℕ) (h x : List ℕ)
+      → telling (numberBy e n) k h (x ++ textOf line e (accounting (numberBy e n) k h)) ≡ telling n k h x
+  quiet e z n k h x =
+      ap (λ (f : Emits). telling (numberBy f n) k h (x ++ textOf line f (accounting (numberBy f n) k h))) z
+      ∙ ap (telling n k h) (append-nil x)
+
+  begins-quiet : (m n k : ℕ) (h x : List ℕ) → toldBy line (telling n k h x) (Begins (suc m)) ≡ telling n 0 h x
+  begins-quiet m n k h x = quiet (lineAt (suc m)) (line-suc m) n 0 h x
+
+  byte-quiet : (b m n k : ℕ) (h x : List ℕ)
+      → toldBy line (telling n k h x) (Byte b (suc m)) ≡ telling n (min (k + 1) (length h)) (set h k b) x
+  byte-quiet b m n k h x = quiet (lineAt (suc m)) (line-suc m) n (min (k + 1) (length h)) (set h k b) x
+
+  -- a record's line, and its number
+  record Lined (t : Told) (header : List ℕ) (r : Told) : Type 0 where
+    lined : r .lines ≡ t .lines ++ line (numberAfter (t .account .number)) (frontOf header)
+    numbered : r .account .number ≡ numberAfter (t .account .number)
+    placed : length (r .account .head) ≡ frontLength
+
+  bytes-lined : (b n k : ℕ) (h x q : List ℕ) → length h ≡ frontLength → k ≤ frontLength
+      → Lined (telling n k h x) (take k h ++ (b ∷ q)) (heardBytes (toldBy line) (suc (length q)) (telling n k h x) (b ∷ q))
+  unfolding heardBytes lineAt
+  bytes-lined b n k h x [] l le =
+      record {
+        lined =
+            ap (λ (y : List ℕ). x ++ line (numberAfter n) y)
+            (sym (take-all 16 (take (min (k + 1) (length h)) (set h k b)) (omega (arith, length-take (min (k + 1) (length h)) (set h k b))))
+            ∙ ap frontOf (sym (append-nil (take (min (k + 1) (length h)) (set h k b))))
+            ∙ front-more h k b [] l le);
+        numbered = refl;
+        placed = length-set h k b ∙ l;
+      }
+  bytes-lined b n k h x (c ∷ q) l le =
+      let e : suc (suc (length q)) - 1 ≡ suc (length q) = omega arith in
+      let k′ = min (k + 1) (length h) in
+      let h′ = set h k b in
+      let turn =
+      ap (λ (m : ℕ). heardBytes (toldBy line) m (toldBy line (telling n k h x) (Byte b m)) (c ∷ q)) e
+      ∙ ap (λ (t : Told). heardBytes (toldBy line) (suc (length q)) t (c ∷ q)) (byte-quiet b (length q) n k h x) in
+      let on = bytes-lined c n k′ h′ x q (length-set h k b ∙ l) (omega arith) in
+      record {
+        lined =
+            ap (λ (t : Told). t .lines) turn
+            ∙ on .lined
+            ∙ ap (λ (y : List ℕ). x ++ line (numberAfter n) y) (front-more h k b (c ∷ q) l le);
+        numbered = ap (λ (t : Told). t .account .number) turn ∙ on .numbered;
+        placed = ap (λ (t : Told). length (t .account .head)) turn ∙ on .placed;
+      }
+
+  part-lined : (n k : ℕ) (h x p : List ℕ) → length h ≡ frontLength → Lined (telling n k h x) p (heardPart (toldBy line) (telling n k h x) p)
+  unfolding heardPart heardBytes lineAt
+  part-lined n k h x [] l = record { lined = refl; numbered = refl; placed = l }
+  part-lined n k h x (b ∷ q) l =
+      let turn = ap (λ (t : Told). heardBytes (toldBy line) (suc (length q)) t (b ∷ q)) (begins-quiet (length q) n k h x) in
+      let on = bytes-lined b n 0 h x q l (omega arith) in
+      record {
+        lined = ap (λ (t : Told). t .lines) turn ∙ on .lined;
+        numbered = ap (λ (t : Told). t .account .number) turn ∙ on .numbered;
+        placed = ap (λ (t : Told). length (t .account .head)) turn ∙ on .placed;
+      }
+
+  -- ## The whole trace
+
+  parts-lined : (t : Told) (ps : List (List ℕ)) → length (t .account .head) ≡ frontLength
+      → foldl (heardPart (toldBy line)) t ps .lines ≡ t .lines ++ recordLines line (t .account .number) ps
+  unfolding recordLines
+  parts-lined t [] l = sym (append-nil (t .lines))
+  parts-lined t (p ∷ ps) l =
+      let n = t .account .number in
+      let w = part-lined n (t .account .kept) (t .account .head) (t .lines) p l in
+      let on = parts-lined (heardPart (toldBy line) t p) ps (w .placed) in
+      on
+      ∙ ap₂ (λ (x : List ℕ) (m : ℕ). x ++ recordLines line m ps) (w .lined) (w .numbered)
+      ∙ append-assoc (t .lines) (line (numberAfter n) (frontOf p)) (recordLines line (numberAfter n) ps)
+
+  half-quiet : (t : Told) (b : ℕ) → toldBy line t (Half b) ≡ t
+  half-quiet t b = ap (λ (x : List ℕ). record { account = t .account; lines = x }) (append-nil (t .lines))
+
+  passed-quiet : (t : Told) → toldBy line t Passed ≡ t
+  passed-quiet t = half-quiet t 0
+
+  between-lines : (t : Told) (s : List ℕ) → length (t .account .head) ≡ frontLength
+      → heardOf (toldBy line) Between t s .lines ≡ t .lines ++ recordLines line (t .account .number) (partsOf s .parts)
+  between-lines t s l =
+      look-parts (toldBy line) half-quiet (λ (x : Told). x .lines)
+      (λ x n. ap (λ (y : Told). y .lines) (begins-quiet n (x .account .number) (x .account .kept) (x .account .head) (x .lines)))
+      (λ x b n. ap (λ (y : Told). y .lines) (byte-quiet b n (x .account .number) (x .account .kept) (x .account .head) (x .lines)))
+      s t
+      ∙ parts-lined t (partsOf s .parts) l
+
+  -- a whole trace and its end, from a fresh state
+  pub told-fresh : (s : List ℕ) → linesOf line fresh s ++ endLine (stateOf fresh s) ≡ annotated line s
+  unfolding linesOf stateOf annotated stageOf heardOf versionOf endOf
+  told-fresh [] = refl
+  told-fresh (v ∷ s) = ap (λ (e : Ending). linesOf line fresh (v ∷ s) ++ endText e) (ending-agree (v ∷ s)) ∙ go (eqb v 1)
+    where
+      start : Told
+      start = telling 0 0 (replicate frontLength 0) []
+
+      lineEnd : Bool → Ending
+      lineEnd t = cond t (cond (partsOf s .whole) Whole Cut) Unread
+
+      whole : (b : Bool) → endText (cond b Whole Cut) ≡ cond b [] cutLine
+      whole true = refl
+      whole false = refl
+
+      go : (t : Bool) → heardOf (toldBy line) (stageAfter (cond t Version Foreign)) (toldBy line start (cond t Version Foreign)) s .lines ++ endText (lineEnd t)
+          ≡ cond t (framedLines line (partsOf s)) versionLine
+      go true = ap₂ _++_ (between-lines start s refl) (whole (partsOf s .whole))
+      go false =
+          append-nil (heardOf (toldBy line) Other (toldBy line start Foreign) s .lines)
+          ∙ ap (λ (t : Told). t .lines) (heard-other (toldBy line) passed-quiet (toldBy line start Foreign) s)
+
+-- ## Pieces
+
+unfoldable pub stateAll : Trace → List (List ℕ) → Trace
+stateAll t [] = t
+stateAll t (piece ∷ pieces) = stateAll (stateOf t piece) pieces
+
+-- the end state is that of one piece
+pub state-all : (t : Trace) (pieces : List (List ℕ)) → stateAll t pieces ≡ stateOf t (flatten pieces)
+unfolding stateAll flatten stateOf stageOf heardOf
+state-all t [] = refl
+state-all t (piece ∷ pieces) = state-all (stateOf t piece) pieces ∙ sym (state-append t piece (flatten pieces))
+
+module _ (line : ℕ → List ℕ → List ℕ) where
+  unfoldable pub linesAll : Trace → List (List ℕ) → List ℕ
+  linesAll t [] = []
+  linesAll t (piece ∷ pieces) = linesOf line t piece ++ linesAll (stateOf t piece) pieces
+
+  pub lines-all : (t : Trace) (pieces : List (List ℕ)) → linesAll t pieces ≡ linesOf line t (flatten pieces)
+  unfolding linesAll flatten linesOf heardOf
+  lines-all t [] = refl
+  lines-all t (piece ∷ pieces) =
+      ap (λ (x : List ℕ). linesOf line t piece ++ x) (lines-all (stateOf t piece) pieces) ∙ sym (lines-append line t piece (flatten pieces))
+
+  -- wherever the cuts fall, the pieces' lines and the end's are those of the whole trace
+  pub pieces-told : (pieces : List (List ℕ)) → linesAll fresh pieces ++ endLine (stateAll fresh pieces) ≡ annotated line (flatten pieces)
+  pieces-told pieces =
+      ap₂ (λ (x : List ℕ) (t : Trace). x ++ endLine t) (lines-all fresh pieces) (state-all fresh pieces) ∙ told-fresh line (flatten pieces)
+
+-- ## A loop over a piece: one byte more, and none left
+
+module _ (line : ℕ → List ℕ → List ℕ) (t : Trace) (p : List ℕ) (i : ℕ) where
+  abbrev pub eventAt : Event
+  eventAt = eventOf (t .stage) (getD p i 0)
+
+  abbrev pub traceNext : Trace
+  traceNext = traceAt (stageAfter eventAt) (heardBy (accountOf t) eventAt)
+
+  pub lines-at : i < length p → linesOf line t (drop i p)
+      ≡ textOf line (emittedBy eventAt) (heardBy (accountOf t) eventAt) ++ linesOf line traceNext (drop (i + 1) p)
+  unfolding linesOf heardOf
+  lines-at h = rw (drop-cons p i 0 h, add-one i)
+      (told-lines line (stageAfter eventAt) (heardBy (accountOf t) eventAt) (textOf line (emittedBy eventAt) (heardBy (accountOf t) eventAt)) (drop (suc i) p))
+
+  pub lines-past : length p ≤ i → linesOf line t (drop i p) ≡ []
+  unfolding linesOf heardOf
+  lines-past h = rw (drop-of-length-le p h)
+
+  pub state-at : i < length p → stateOf t (drop i p) ≡ stateOf traceNext (drop (i + 1) p)
+  unfolding stateOf stageOf heardOf
+  state-at h = rw (drop-cons p i 0 h, add-one i)
+
+  pub state-past : length p ≤ i → stateOf t (drop i p) ≡ t
+  unfolding stateOf stageOf heardOf
+  state-past h = rw (drop-of-length-le p h)
