@@ -4,3 +4,4 @@ pub mod Writing
 pub mod WritingLaws
 pub mod ReadingLaws
 pub mod RoundTrip
+pub mod FrontLaws
