@@ -1,5 +1,5 @@
--- Document 02, E4, of a whole trace: "version byte 1, then length-first records of header bytes. One line comes out per record". The records are
--- those of document 01's frame; what a record's line says is any `line` of its number and header. Assumes nothing.
+-- Document 02, E4, of a whole trace: "version byte 1, then length-first records of header bytes. One line comes out per record". The
+-- records are those of document 01's frame; what a record's line says is any `line` of its number and header. Assumes nothing.
 use Prim.Native.Nat.{ℕ, _+_, _%_}
 use mathlib.Core.Bool.{cond}
 use mathlib.Core.List.{List, [], _∷_, _++_}

@@ -2,17 +2,21 @@
 use mathlib.Core.Path.{_≡_, refl, ap, ap₂, _∙_}
 use mathlib.Core.Bool.{Bool, true, false, cond}
 use mathlib.Core.List.{List, [], _∷_, _++_, flatten}
-use Prim.Native.Nat.{ℕ, _≤_, _<_}
+use Prim.Native.Nat.{ℕ, _+_, _*_, _≤_, _<_}
 use native.Mathlib.Nat.{zero-add}
 use native.Mathlib.Omega.{arith}
-use lib.ListN.{length, take, drop}
+use lib.ListN.{length, length-append, take, drop}
 use lib.Seq.{sets, sets-eq, take-length}
 use lib.Dec.{leb}
 use borrow.Author.Tests.{le-leb, lt-leb}
 use Rattle.trace.specs.declared.Trace.{Trace}
-use Rattle.trace.specs.Annotated.{annotated}
-use Rattle.trace.specs.Trace.{fresh, stateOf, linesOf, endLine}
-use Rattle.trace.specs.TraceLaws.{stateAll, linesAll, pieces-told}
+use Rattle.text.specs.Text.{ascii}
+use Rattle.trace.specs.declared.Emits.{Emits}
+use Rattle.trace.specs.declared.Emits.the-variants.{Nothing, Refusal, Line}
+use Rattle.trace.specs.Annotated.{numberAfter, versionLine, annotated}
+use Rattle.trace.specs.Trace.{fresh, accountOf, emittedBy, numberBy, heardBy, stateOf, headerOf, Told, textOf, toldBy}
+use Rattle.trace.specs.Trace.{linesOf, countOn, countBy, lineCount, endLine}
+use Rattle.trace.specs.TraceLaws.{heard-related, stateAll, linesAll, pieces-told}
 use Rattle.trace.specs.Feed.{textPut, takenFed, refusedFed, fedOf}
 
 -- ## A text at the front of a room
@@ -27,6 +31,59 @@ module _ (text out : List ℕ) where
   pub short-front : length out < length text → out ≡ textPut text out
   unfolding textPut
   short-front h = rw (lt-leb (length text) (length out) h)
+
+-- ## Lines of at most 40 bytes
+
+abbrev pub longestLine : ℕ
+longestLine = 40
+
+-- what the number's type says
+abbrev pub Sound : ℕ → Type 0
+Sound number = number < 18446744073709551616
+
+pub number-sound : (n : ℕ) → Sound (numberAfter n)
+unfolding numberAfter
+number-sound n = omega arith
+
+module _ (line : ℕ → List ℕ → List ℕ) (short : (n : ℕ) (header : List ℕ) → Sound n → length (line n header) ≤ longestLine) where
+  pub text-le : (m : Emits) (n : ℕ) (header : List ℕ) → Sound n → length (textOf line m n header) ≤ longestLine
+  unfolding ascii
+  text-le Nothing n header s = omega arith
+  text-le Refusal n header s = omega arith
+  text-le Line n header s = short n header s
+
+  -- each that was counted is at most so long
+  abbrev Within : Told → ℕ → Type 0
+  Within t n = (length (t .lines) ≤ longestLine * n) × Sound (t .account .number)
+
+  on-within : (x : List ℕ) (n k : ℕ) (header : List ℕ) (m : Emits) → length x ≤ longestLine * n → Sound (numberBy m k)
+      → length (x ++ textOf line m (numberBy m k) header) ≤ longestLine * countOn m n
+  on-within x n k header Nothing l s = omega (arith, length-append x [])
+  on-within x n k header Refusal l s =
+      omega (arith, length-append x versionLine, text-le Refusal k header s)
+  on-within x n k header Line l s =
+      omega (arith, length-append x (line (numberAfter k) header), text-le Line (numberAfter k) header s)
+
+  sound-by : (m : Emits) (k : ℕ) → Sound k → Sound (numberBy m k)
+  sound-by Nothing k s = s
+  sound-by Refusal k s = s
+  sound-by Line k s = number-sound k
+
+  -- counting tells that the lines fit
+  pub lines-le : (t : Trace) (piece : List ℕ) → Sound (t .number) → length (linesOf line t piece) ≤ longestLine * lineCount (t .stage) piece
+  unfolding linesOf lineCount
+  lines-le t piece s =
+      heard-related (toldBy line) countBy Within
+      (λ x n e w.
+      let sound = sound-by (emittedBy e) (x .account .number) (w .1) in
+      (on-within (x .lines) n (x .account .number) (headerOf (heardBy (x .account) e)) (emittedBy e) (w .0) sound, sound))
+      (t .stage) (record { account = accountOf t; lines = [] }) 0 piece (omega arith, s)
+      .0
+
+pub count-le : (m : Emits) (n : ℕ) → countOn m n ≤ n + 1
+count-le Nothing n = omega arith
+count-le Refusal n = omega arith
+count-le Line n = omega arith
 
 -- ## Calls
 

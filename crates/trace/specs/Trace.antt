@@ -95,18 +95,33 @@ pub record Told : Type 0 where
   pub lines : List ℕ
 
 module _ (line : ℕ → List ℕ → List ℕ) where
+  abbrev pub textOf : Emits → ℕ → List ℕ → List ℕ
+  textOf Nothing number header = []
+  textOf Refusal number header = versionLine
+  textOf Line number header = line number header
+
   -- the account is that after the event
-  abbrev pub textOf : Emits → Account → List ℕ
-  textOf Nothing a = []
-  textOf Refusal a = versionLine
-  textOf Line a = line (a .number) (headerOf a)
+  abbrev pub textBy : Event → Account → List ℕ
+  textBy e a = textOf (emittedBy e) (a .number) (headerOf a)
 
   abbrev pub toldBy : Told → Event → Told
-  toldBy t e = record { account = heardBy (t .account) e; lines = t .lines ++ textOf (emittedBy e) (heardBy (t .account) e) }
+  toldBy t e = record { account = heardBy (t .account) e; lines = t .lines ++ textBy e (heardBy (t .account) e) }
 
   -- of a piece
   unfoldable pub linesOf : Trace → List ℕ → List ℕ
   linesOf t piece = heardOf toldBy (t .stage) (record { account = accountOf t; lines = [] }) piece .lines
+
+-- how many lines a piece gives, by the frame alone
+abbrev pub countOn : Emits → ℕ → ℕ
+countOn Nothing n = n
+countOn Refusal n = n + 1
+countOn Line n = n + 1
+
+abbrev pub countBy : ℕ → Event → ℕ
+countBy n e = countOn (emittedBy e) n
+
+unfoldable pub lineCount : Stage → List ℕ → ℕ
+lineCount stage piece = heardOf countBy stage 0 piece
 
 -- ## At the end
 

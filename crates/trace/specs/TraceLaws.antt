@@ -22,19 +22,26 @@ use Rattle.records.specs.FrameLaws.{stage-append, heard-append, heard-other, lo
 use Rattle.trace.specs.declared.Emits.{Emits}
 use Rattle.trace.specs.declared.Emits.the-variants.{Nothing, Refusal, Line}
 use Rattle.trace.specs.declared.Trace.{Trace}
-use Rattle.trace.specs.Annotated.{frontLength, frontOf, numberAfter, emptyLine, versionLine, cutLine, recordLines, framedLines, annotated}
-use Rattle.trace.specs.Trace.{fresh, Account, accountOf, traceAt, lineAt, emittedBy, numberBy, heardBy, stateOf, Told, textOf, toldBy}
-use Rattle.trace.specs.Trace.{linesOf, endText, endLine}
+use Rattle.trace.specs.Annotated.{frontLength, frontOf, numberAfter, versionLine, cutLine, recordLines, framedLines, annotated}
+use Rattle.trace.specs.Trace.{tracing, fresh, Account, accountOf, traceAt, lineAt, emittedBy, numberBy, keptBy, headBy, heardBy}
+use Rattle.trace.specs.Trace.{stateOf, Told, textOf, textBy, toldBy, linesOf, endText, endLine}
 
 -- ## Two accounts of the same bytes
 
+-- what holds of two accounts after each event, if it held before
+pub heard-related : {A B : Type 0} (hear : A → Event → A) (hear′ : B → Event → B) (R : A → B → Type 0)
+    → ((a : A) (b : B) (e : Event) → R a b → R (hear a e) (hear′ b e)) → (g : Stage) (a : A) (b : B) (s : List ℕ) → R a b
+    → R (heardOf hear g a s) (heardOf hear′ g b s)
+unfolding heardOf
+heard-related hear hear′ R on g a b [] r = r
+heard-related hear hear′ R on g a b (x ∷ s) r =
+    let e = eventOf g x in heard-related hear hear′ R on (stageAfter e) (hear a e) (hear′ b e) s (on a b e r)
+
+-- one of which is a view of the other
 heard-map : {A B : Type 0} (hear : A → Event → A) (hear′ : B → Event → B) (f : A → B) → ((a : A) (e : Event) → f (hear a e) ≡ hear′ (f a) e)
     → (g : Stage) (a : A) (s : List ℕ) → f (heardOf hear g a s) ≡ heardOf hear′ g (f a) s
-unfolding heardOf
-heard-map hear hear′ f on g a [] = refl
-heard-map {A} {B} hear hear′ f on g a (b ∷ s) =
-    heard-map hear hear′ f on (stageAfter (eventOf g b)) (hear a (eventOf g b)) s
-    ∙ ap (λ (x : B). heardOf hear′ (stageAfter (eventOf g b)) x s) (on a (eventOf g b))
+heard-map {A} {B} hear hear′ f on g a s =
+    heard-related hear hear′ (λ (x : A) (y : B). f x ≡ y) (λ x y e r. on x e ∙ ap (λ (z : B). hear′ z e) r) g a (f a) s refl
 
 -- ## Two pieces in a row are one
 
@@ -56,7 +63,7 @@ module _ (line : ℕ → List ℕ → List ℕ) where
   onto-told : (x : List ℕ) (t : Told) (e : Event) → onto x (hear t e) ≡ hear (onto x t) e
   onto-told x t e =
       ap (λ (l : List ℕ). record { account = heardBy (t .account) e; lines = l })
-      (sym (append-assoc x (t .lines) (textOf line (emittedBy e) (heardBy (t .account) e))))
+      (sym (append-assoc x (t .lines) (textBy line e (heardBy (t .account) e))))
 
   told-account : (g : Stage) (t : Told) (s : List ℕ) → heardOf hear g t s .account ≡ heardOf heardBy g (t .account) s
   told-account g t s = heard-map hear heardBy (λ (x : Told). x .account) (λ x e. refl) g t s
@@ -113,9 +120,9 @@ telling number kept head lines = record { account = accounting number kept head;
 module _ (line : ℕ → List ℕ → List ℕ) where
   -- an event that gives no line
   quiet : (e : Emits) → e ≡ Nothing → (n k : ℕ) (h x : List ℕ)
-      → telling (numberBy e n) k h (x ++ textOf line e (accounting (numberBy e n) k h)) ≡ telling n k h x
+      → telling (numberBy e n) k h (x ++ textOf line e (numberBy e n) (take k h)) ≡ telling n k h x
   quiet e z n k h x =
-      ap (λ (f : Emits). telling (numberBy f n) k h (x ++ textOf line f (accounting (numberBy f n) k h))) z
+      ap (λ (f : Emits). telling (numberBy f n) k h (x ++ textOf line f (numberBy f n) (take k h))) z
       ∙ ap (telling n k h) (append-nil x)
 
   begins-quiet : (m n k : ℕ) (h x : List ℕ) → toldBy line (telling n k h x) (Begins (suc m)) ≡ telling n 0 h x
@@ -218,8 +225,10 @@ module _ (line : ℕ → List ℕ → List ℕ) where
       whole true = refl
       whole false = refl
 
-      go : (t : Bool) → heardOf (toldBy line) (stageAfter (cond t Version Foreign)) (toldBy line start (cond t Version Foreign)) s .lines ++ endText (lineEnd t)
-          ≡ cond t (framedLines line (partsOf s)) versionLine
+      told : Event → Told
+      told e = heardOf (toldBy line) (stageAfter e) (toldBy line start e) s
+
+      go : (t : Bool) → told (cond t Version Foreign) .lines ++ endText (lineEnd t) ≡ cond t (framedLines line (partsOf s)) versionLine
       go true = ap₂ _++_ (between-lines start s refl) (whole (partsOf s .whole))
       go false =
           append-nil (heardOf (toldBy line) Other (toldBy line start Foreign) s .lines)
@@ -255,27 +264,45 @@ module _ (line : ℕ → List ℕ → List ℕ) where
 
 -- ## A loop over a piece: one byte more, and none left
 
-module _ (line : ℕ → List ℕ → List ℕ) (t : Trace) (p : List ℕ) (i : ℕ) where
-  abbrev pub eventAt : Event
-  eventAt = eventOf (t .stage) (getD p i 0)
+module _ (line : ℕ → List ℕ → List ℕ) where
+  -- one byte, which gives this, and the state after it
+  pub record Turn (t : Trace) (p : List ℕ) (i : ℕ) (text : List ℕ) (t′ : Trace) : Type 0 where
+    pub lines : linesOf line t (drop i p) ≡ text ++ linesOf line t′ (drop (i + 1) p)
+    pub state : stateOf t (drop i p) ≡ stateOf t′ (drop (i + 1) p)
 
-  abbrev pub traceNext : Trace
-  traceNext = traceAt (stageAfter eventAt) (heardBy (accountOf t) eventAt)
+  module _ (t : Trace) (p : List ℕ) (i : ℕ) where
+    abbrev event : Event
+    event = eventOf (t .stage) (getD p i 0)
 
-  pub lines-at : i < length p → linesOf line t (drop i p)
-      ≡ textOf line (emittedBy eventAt) (heardBy (accountOf t) eventAt) ++ linesOf line traceNext (drop (i + 1) p)
-  unfolding linesOf heardOf
-  lines-at h = rw (drop-cons p i 0 h, add-one i)
-      (told-lines line (stageAfter eventAt) (heardBy (accountOf t) eventAt) (textOf line (emittedBy eventAt) (heardBy (accountOf t) eventAt)) (drop (suc i) p))
+    abbrev after : Account
+    after = heardBy (accountOf t) event
 
-  pub lines-past : length p ≤ i → linesOf line t (drop i p) ≡ []
-  unfolding linesOf heardOf
-  lines-past h = rw (drop-of-length-le p h)
+    turn-by-byte : i < length p → Turn t p i (textBy line event after) (traceAt (stageAfter event) after)
+    unfolding linesOf stateOf stageOf heardOf
+    turn-by-byte h =
+        let e : drop i p ≡ getD p i 0 ∷ drop (i + 1) p = rw (add-one i) (drop-cons p i 0 h) in
+        record {
+          lines = rw e (told-lines line (stageAfter event) after (textBy line event after) (drop (i + 1) p));
+          state = rw e;
+        }
 
-  pub state-at : i < length p → stateOf t (drop i p) ≡ stateOf traceNext (drop (i + 1) p)
-  unfolding stateOf stageOf heardOf
-  state-at h = rw (drop-cons p i 0 h, add-one i)
+    -- in the words of the code
+    pub turn : i < length p → (e : Event) → e ≡ event → (m : Emits) → m ≡ emittedBy e → (g : Stage) (n k : ℕ) (h : List ℕ)
+        → g ≡ stageAfter e → n ≡ numberBy m (t .number) → k ≡ keptBy e (t .kept) (length (t .head)) → h ≡ headBy e (t .kept) (t .head)
+        → Turn t p i (textOf line m n (take k h)) (tracing g n k h)
+    turn l e e-is m m-is g n k h g-is n-is k-is h-is =
+        let moved : m ≡ emittedBy event = m-is ∙ ap emittedBy e-is in
+        let staged : g ≡ stageAfter event = g-is ∙ ap stageAfter e-is in
+        let numbered : n ≡ after .number = n-is ∙ ap (λ (x : Emits). numberBy x (t .number)) moved in
+        let kept : k ≡ after .kept = k-is ∙ ap (λ (x : Event). keptBy x (t .kept) (length (t .head))) e-is in
+        let headed : h ≡ after .head = h-is ∙ ap (λ (x : Event). headBy x (t .kept) (t .head)) e-is in
+        rw (moved, staged, numbered, kept, headed) (turn-by-byte l)
 
-  pub state-past : length p ≤ i → stateOf t (drop i p) ≡ t
-  unfolding stateOf stageOf heardOf
-  state-past h = rw (drop-of-length-le p h)
+  module _ (t : Trace) (p : List ℕ) (i : ℕ) where
+    pub lines-past : length p ≤ i → linesOf line t (drop i p) ≡ []
+    unfolding linesOf heardOf
+    lines-past h = rw (drop-of-length-le p h)
+
+    pub state-past : length p ≤ i → stateOf t (drop i p) ≡ t
+    unfolding stateOf stageOf heardOf
+    state-past h = rw (drop-of-length-le p h)

@@ -1,8 +1,10 @@
-// A trace, taken byte by byte: version byte 1, then length-first records of header bytes, the frame of `records::frame`. A record gets its
-// number and its line with its last byte; of the record under way its first 16 bytes are kept. What a record's line says is not decided here.
+// A trace, taken byte by byte: version byte 1, then length-first records of header bytes, the frame of `records::frame`. A record gets
+// its number and its line with its last byte; of the record under way its first 16 bytes are kept. What a record's line says is not
+// decided here.
 ghost use mathlib.Core.Path.{_≡_};
+ghost use Prim.Native.Nat.{_<_};
 ghost use lib.ListN.{length};
-ghost use Rattle.trace.specs.Trace.{fresh, lineAt, emittedBy, numberBy, keptBy, headBy};
+ghost use Rattle.trace.specs.Trace.{fresh, lineAt, emittedBy, numberBy, keptBy, headBy, countOn, lineCount};
 ghost use Rattle.trace.specs.Feed.{textPut, endedOf, finishedOf, finishedPut};
 use records::frame;
 use records::frame::Ending;
@@ -11,6 +13,9 @@ use records::frame::Stage;
 
 // A header is labelled by so many bytes of its front.
 pub const FRONT: usize = 16;
+
+// No line is longer: a number of 20 digits, a kind of 6 letters, and a refusal by number.
+pub const LONGEST: usize = 40;
 
 // What was fed so far: where the next byte falls, the number of the last whole record, and how many bytes of a record are kept, in `head`.
 pub struct Trace {
@@ -101,6 +106,33 @@ pub fn keep(head: &mut [u8], kept: usize, event: Event) -> usize
         Event::Half(_) => kept,
         Event::Begins(_) => 0,
         Event::Byte(byte, _) => text::put_byte(head, kept, byte),
+    }
+}
+
+// How many lines a piece gives: told by the frame alone, so before any of them is made.
+pub fn count_lines(start: Stage, piece: &[u8]) -> usize
+    ensures { λ r. ⌜ r ≡ lineCount start (now (piece .entry)) ⌝ }
+{
+    let mut stage = start;
+    let mut count = 0;
+    let mut i = 0;
+    while i < piece.len() {
+        let event = frame::event_of(stage, piece[i]);
+        count = counted(count, emitted(event));
+        stage = frame::stage_after(event);
+        i += 1;
+    }
+    count
+}
+
+fn counted(count: usize, emits: Emits) -> usize
+    requires { ⌜ count < 18446744073709551615 ⌝ }
+    ensures { λ r. ⌜ r ≡ countOn emits count ⌝ }
+{
+    match emits {
+        Emits::Nothing => count,
+        Emits::Refusal => count + 1,
+        Emits::Line => count + 1,
     }
 }
 

@@ -41,22 +41,38 @@ same-length c = search needs
 
 returns : tie.Need-returns
 unfolding ascii
-returns c = rw (sym (c .before .before .before .before .before .before .before .ending-of .ensures) ∙ c .before .before .before .before .before .enum-told .given .1) (c .before .before .put-last .ensures)
+returns c =
+    let put = c .before .before in
+    let told = put .before .before .before in
+    let ending = told .before .before in
+    rw (sym (ending .ending-of .ensures) ∙ told .enum-told .given .1) (put .put-last .ensures)
 
 returns-2 : tie.Need-returns-2
 unfolding endedOf textPut
-returns-2 c = let out = c .before .before .before .before .args .out .now in rw (sym (c .before .before .ending-of .ensures) ∙ c .enum-told2 .given .1, le-leb 0 (length out) (omega arith)) (refl, refl)
+returns-2 c =
+    let ending = c .before .before in
+    let start = ending .before .before in
+    let none = le-leb 0 (length (start .args .out .now)) (omega arith) in
+    rw (sym (ending .ending-of .ensures) ∙ c .enum-told2 .given .1, none) (refl, refl)
 
 returns-3 : tie.Need-returns-3
 unfolding endedOf textPut
-returns-3 c = let out = c .before .before .before .before .args .out .now in rw (sym (c .before .before .ending-of .ensures) ∙ c .enum-told3 .given .1, le-leb 0 (length out) (omega arith)) (refl, refl)
+returns-3 c =
+    let ending = c .before .before in
+    let start = ending .before .before in
+    let none = le-leb 0 (length (start .args .out .now)) (omega arith) in
+    rw (sym (ending .ending-of .ensures) ∙ c .enum-told3 .given .1, none) (refl, refl)
 
 same-length-2 : tie.Need-same-length-2
 same-length-2 c = search needs
 
 returns-4 : tie.Need-returns-4
 unfolding ascii
-returns-4 c = rw (sym (c .before .before .before .before .before .before .before .ending-of .ensures) ∙ c .before .before .before .before .before .enum-told4 .given .1) (c .before .before .put-last2 .ensures)
+returns-4 c =
+    let put = c .before .before in
+    let told = put .before .before .before in
+    let ending = told .before .before in
+    rw (sym (ending .ending-of .ensures) ∙ told .enum-told4 .given .1) (put .put-last2 .ensures)
 
 pub finish-spec : {M : Type 1} → statement M
 finish-spec =

@@ -43,7 +43,9 @@ same-length : tie.Need-same-length
 same-length c = search needs
 
 returns-6 : tie.Need-returns-6
-returns-6 c = let put = c .before .before .put-byte .ensures in rw (c .before .before .before .before .before .event .given .1) (put .place, put .stored)
+returns-6 c =
+    let put = c .before .before .put-byte .ensures in
+    rw (c .before .before .before .before .before .event .given .1) (put .place, put .stored)
 
 pub keep-spec : {M : Type 1} → statement M
 keep-spec =

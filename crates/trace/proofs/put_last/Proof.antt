@@ -19,7 +19,13 @@ same-length c = search needs
 
 returns-2 : tie.Need-returns-2
 unfolding endedOf
-returns-2 c = (rw (le-leb _ _ (c .before .before .before .before .if1 .left)), c .before .before .put-text .ensures .stored ∙ put-front _ _ (c .before .before .before .before .if1 .left))
+returns-2 c =
+    let put = c .before .before in
+    let test = put .before .before in
+    (
+      rw (le-leb _ _ (test .if1 .left)),
+      put .put-text .ensures .stored ∙ put-front _ _ (test .if1 .left),
+    )
 
 pub put-last-spec : {M : Type 1} → statement M
 put-last-spec = tie.close (tie.spec returns put-text-requires same-length returns-2)
