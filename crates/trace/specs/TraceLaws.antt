@@ -264,6 +264,14 @@ module _ (line : ℕ → List ℕ → List ℕ) where
 
 -- ## A loop over a piece: one byte more, and none left
 
+pub length-head : (e : Event) (kept : ℕ) (head : List ℕ) → length (headBy e kept head) ≡ length head
+length-head Version kept head = refl
+length-head Foreign kept head = refl
+length-head Passed kept head = refl
+length-head (Half high) kept head = refl
+length-head (Begins size) kept head = refl
+length-head (Byte byte left) kept head = length-set head kept byte
+
 module _ (line : ℕ → List ℕ → List ℕ) where
   -- one byte, which gives this, and the state after it
   pub record Turn (t : Trace) (p : List ℕ) (i : ℕ) (text : List ℕ) (t′ : Trace) : Type 0 where
@@ -287,16 +295,16 @@ module _ (line : ℕ → List ℕ → List ℕ) where
         }
 
     -- in the words of the code
-    pub turn : i < length p → (e : Event) → e ≡ event → (m : Emits) → m ≡ emittedBy e → (g : Stage) (n k : ℕ) (h : List ℕ)
+    pub turn : i < length p → (e : Event) → e ≡ event → (m : Emits) → m ≡ emittedBy e → (g : Stage) (n k : ℕ) (h header : List ℕ)
         → g ≡ stageAfter e → n ≡ numberBy m (t .number) → k ≡ keptBy e (t .kept) (length (t .head)) → h ≡ headBy e (t .kept) (t .head)
-        → Turn t p i (textOf line m n (take k h)) (tracing g n k h)
-    turn l e e-is m m-is g n k h g-is n-is k-is h-is =
+        → header ≡ take k h → Turn t p i (textOf line m n header) (tracing g n k h)
+    turn l e e-is m m-is g n k h header g-is n-is k-is h-is header-is =
         let moved : m ≡ emittedBy event = m-is ∙ ap emittedBy e-is in
         let staged : g ≡ stageAfter event = g-is ∙ ap stageAfter e-is in
         let numbered : n ≡ after .number = n-is ∙ ap (λ (x : Emits). numberBy x (t .number)) moved in
         let kept : k ≡ after .kept = k-is ∙ ap (λ (x : Event). keptBy x (t .kept) (length (t .head))) e-is in
         let headed : h ≡ after .head = h-is ∙ ap (λ (x : Event). headBy x (t .kept) (t .head)) e-is in
-        rw (moved, staged, numbered, kept, headed) (turn-by-byte l)
+        rw (header-is, moved, staged, numbered, kept, headed) (turn-by-byte l)
 
   module _ (t : Trace) (p : List ℕ) (i : ℕ) where
     pub lines-past : length p ≤ i → linesOf line t (drop i p) ≡ []

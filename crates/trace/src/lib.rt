@@ -4,7 +4,8 @@
 ghost use mathlib.Core.Path.{_≡_};
 ghost use Prim.Native.Nat.{_<_};
 ghost use lib.ListN.{length};
-ghost use Rattle.trace.specs.Trace.{fresh, lineAt, emittedBy, numberBy, keptBy, headBy, countOn, lineCount};
+ghost use Rattle.trace.specs.Annotated.{frontLength};
+ghost use Rattle.trace.specs.Trace.{tracing, fresh, lineAt, emittedBy, numberBy, keptBy, headBy, countOn, lineCount};
 ghost use Rattle.trace.specs.Feed.{textPut, endedOf, finishedOf, finishedPut};
 use records::frame;
 use records::frame::Ending;
@@ -56,6 +57,13 @@ impl Trace {
             head: [0u8; FRONT],
         }
     }
+}
+
+// The kept bytes of a state, which are 16.
+pub fn head_of(t: Trace) -> [u8; FRONT]
+    ensures { λ r. ⌜ (tracing (t .stage) (t .number) (t .kept) r ≡ t) × (length r ≡ frontLength) ⌝ }
+{
+    t.head
 }
 
 pub fn emitted(event: Event) -> Emits

@@ -21,8 +21,7 @@ returns-2 : tie.Need-returns-2
 unfolding endedOf
 returns-2 c =
     let put = c .before .before in
-    let test = put .before .before in
-    (
+    let test = put .before .before in (
       rw (le-leb _ _ (test .if1 .left)),
       put .put-text .ensures .stored ∙ put-front _ _ (test .if1 .left),
     )

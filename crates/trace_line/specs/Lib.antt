@@ -1,0 +1,4 @@
+-- Document 02, E4: a record's line, and that it has at most 40 bytes.
+pub mod Line
+pub mod Bounds
+pub mod LineLaws

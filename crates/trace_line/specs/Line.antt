@@ -1,0 +1,34 @@
+-- Document 02, E4: "One line comes out per record, as `1 MRd owner 2` or `2 IOWr refused 40`; the kind is as read, a refused header's `-`,
+-- a broadcast's owner `all`, form 100's `port`." By document 01's reader and router. Assumes nothing.
+use Prim.Native.Nat.{ℕ}
+use mathlib.Core.List.{List, _++_}
+use Rattle.text.specs.Text.{ascii, decimal}
+use Rattle.packet.specs.Fields.{kindOf}
+use Rattle.packet_text.specs.Labels.{kindText, named}
+use Rattle.tlp.specs.declared.Reading.{Reading}
+use Rattle.tlp.specs.declared.Reading.the-variants.{Accepted, Refused as NotRead}
+use Rattle.tlp.specs.Reading.{readOf}
+use Rattle.route.specs.declared.Routing.{Routing}
+use Rattle.route.specs.declared.Routing.the-variants.{Delivered, Broadcast, Port, Refused}
+use Rattle.route.specs.Route.{routeOf}
+
+-- the kind as read
+abbrev pub kindRead : Reading → List ℕ
+kindRead (Accepted p) = kindText (kindOf p)
+kindRead (NotRead n) = ascii "-"
+
+abbrev pub ownerText : Routing → List ℕ
+ownerText (Delivered d) = named " owner " (d .owner)
+ownerText (Broadcast functions p) = ascii " owner all"
+ownerText (Port p) = ascii " owner port"
+ownerText (Refused n) = named " refused " n
+
+abbrev pub labelOf : Reading → Routing → List ℕ
+labelOf reading routing = ascii " " ++ (kindRead reading ++ ownerText routing)
+
+-- of a header over a sheet, and of record n
+unfoldable pub labelOver : List ℕ → List ℕ → List ℕ
+labelOver sheet header = labelOf (readOf header) (routeOf header sheet)
+
+unfoldable pub lineOver : List ℕ → ℕ → List ℕ → List ℕ
+lineOver sheet n header = decimal n ++ (labelOver sheet header ++ ascii "\n")

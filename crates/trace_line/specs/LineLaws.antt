@@ -1,0 +1,145 @@
+-- A line has at most 40 bytes, and a header is labelled by its front. Assumes nothing.
+use Prim.Native.Nat.{ℕ, zero, suc, _+_, _*_, _/_, _%_, _≤_, _<_}
+use mathlib.Core.Path.{_≡_, refl, sym, ap, _∙_}
+use mathlib.Core.Bool.{Bool, true, false}
+use mathlib.Core.List.{List, [], _∷_, _++_}
+use native.Mathlib.Omega.{arith}
+use lib.ListN.{length, take, length-append}
+use lib.Dec.{ltb}
+use borrow.Author.Tests.{ltb-true, ltb-false, eq-eqb, ne-eqb}
+use Rattle.text.specs.Text.{ascii, digit, decimal}
+use Rattle.text.specs.TextLaws.{decimal-one, decimal-more}
+use Rattle.pairs.specs.declared.MemoryKind.the-variants.{MRd, MRdLk, MWr}
+use Rattle.pairs.specs.declared.IoKind.the-variants.{IORd, IOWr}
+use Rattle.pairs.specs.declared.ConfigKind.the-variants.{CfgRd0, CfgWr0, CfgRd1, CfgWr1}
+use Rattle.pairs.specs.declared.CompletionKind.the-variants.{Cpl, CplD, CplLk, CplDLk}
+use Rattle.pairs.specs.declared.MessageKind.the-variants.{Msg, MsgD}
+use Rattle.packet.specs.declared.Packet.{Packet}
+use Rattle.packet.specs.declared.Packet.the-variants.{Memory, Io, Config, Completion, Message}
+use Rattle.packet.specs.Fields.{kindOf}
+use Rattle.packet_text.specs.Labels.{kindText}
+use Rattle.tlp.specs.declared.Reading.{Reading}
+use Rattle.tlp.specs.declared.Reading.the-variants.{Accepted, Refused as NotRead}
+use Rattle.tlp.specs.Reading.{readOf}
+use Rattle.tlp.specs.FrontLaws.{read-front}
+use Rattle.sheet.specs.Sheet.{sheetNumber}
+use Rattle.route.specs.declared.Routing.{Routing}
+use Rattle.route.specs.declared.Routing.the-variants.{Delivered, Broadcast, Port, Refused}
+use Rattle.route.specs.Route.{routePacket, fromSheet, fromReading, routeOf}
+use Rattle.trace_line.specs.Line.{kindRead, ownerText, labelOver, lineOver}
+use Rattle.trace_line.specs.Bounds.{Small, SmallRouting, small-route}
+
+-- ## Digits
+
+-- 10 to the power d + 1
+unfoldable tens : ℕ → ℕ
+tens zero = 10
+tens (suc d) = 10 * tens d
+
+one-digit : (n : ℕ) → n < 10 → length (decimal n) ≡ 1
+one-digit n h = ap length (decimal-one n h)
+
+digits-le : (d n : ℕ) → n < tens d → length (decimal n) ≤ suc d
+unfolding tens
+digits-le zero n h = omega (arith, one-digit n h)
+digits-le (suc d) n h = go (ltb n 10) refl (λ g. digits-le d (n / 10) g)
+  where
+    go : (b : Bool) → ltb n 10 ≡ b → (n / 10 < tens d → length (decimal (n / 10)) ≤ suc d) → length (decimal n) ≤ suc (suc d)
+    go true e on = omega (arith, one-digit n (ltb-true n 10 e))
+    go false e on =
+        let l = on (omega arith) in
+        let m = decimal-more n (ltb-false n 10 e) in
+        omega (arith, ap length m, length-append (decimal (n / 10)) (digit (n % 10) ∷ []))
+
+decimal-le-20 : (n : ℕ) → n < 18446744073709551616 → length (decimal n) ≤ 20
+unfolding tens
+decimal-le-20 n h = digits-le 19 n (omega arith)
+
+decimal-le-3 : (n : ℕ) → Small n → length (decimal n) ≤ 3
+unfolding tens
+decimal-le-3 n h = digits-le 2 n (omega arith)
+
+-- ## The line's parts
+
+packet-kind-le : (p : Packet) → length (kindText (kindOf p)) ≤ 6
+unfolding ascii
+packet-kind-le (Memory MRd h e a) = omega arith
+packet-kind-le (Memory MRdLk h e a) = omega arith
+packet-kind-le (Memory MWr h e a) = omega arith
+packet-kind-le (Io IORd h e a) = omega arith
+packet-kind-le (Io IOWr h e a) = omega arith
+packet-kind-le (Config CfgRd0 h e t) = omega arith
+packet-kind-le (Config CfgWr0 h e t) = omega arith
+packet-kind-le (Config CfgRd1 h e t) = omega arith
+packet-kind-le (Config CfgWr1 h e t) = omega arith
+packet-kind-le (Completion Cpl h o) = omega arith
+packet-kind-le (Completion CplD h o) = omega arith
+packet-kind-le (Completion CplLk h o) = omega arith
+packet-kind-le (Completion CplDLk h o) = omega arith
+packet-kind-le (Message Msg h routing code tail) = omega arith
+packet-kind-le (Message MsgD h routing code tail) = omega arith
+
+kind-le : (r : Reading) → length (kindRead r) ≤ 6
+unfolding ascii
+kind-le (Accepted p) = packet-kind-le p
+kind-le (NotRead n) = omega arith
+
+owner-le : (r : Routing) → SmallRouting r → length (ownerText r) ≤ 12
+unfolding ascii
+owner-le (Delivered d) s = omega (arith, decimal-le-3 (d .owner) s)
+owner-le (Broadcast functions p) s = omega arith
+owner-le (Port p) s = omega arith
+owner-le (Refused n) s = omega (arith, decimal-le-3 n s)
+
+label-le : (sheet header : List ℕ) → length (labelOver sheet header) ≤ 19
+unfolding labelOver ascii
+label-le sheet header =
+    omega (
+      arith,
+      length-append (kindRead (readOf header)) (ownerText (routeOf header sheet)),
+      kind-le (readOf header),
+      owner-le (routeOf header sheet) (small-route header sheet),
+    )
+
+pub line-le : (sheet : List ℕ) (n : ℕ) (header : List ℕ) → n < 18446744073709551616 → length (lineOver sheet n header) ≤ 40
+unfolding lineOver ascii
+line-le sheet n header h =
+    omega (
+      arith,
+      decimal-le-20 n h,
+      label-le sheet header,
+      length-append (decimal n) (labelOver sheet header ++ (10 ∷ [])),
+      length-append (labelOver sheet header) (10 ∷ []),
+    )
+
+-- ## In the words of the code
+
+module _ (p : Packet) (sheet : List ℕ) (n : ℕ) (number : n ≡ sheetNumber sheet) where
+  pub sheet-refused : (n ≡ 0 → ⊥) → Refused n ≡ fromSheet p sheet
+  unfolding fromSheet
+  sheet-refused h = rw (← number, ne-eqb n 0 h)
+
+  pub sheet-passed : n ≡ 0 → (r : Routing) → r ≡ routePacket p sheet → r ≡ fromSheet p sheet
+  unfolding fromSheet
+  sheet-passed h r e = rw (← number, eq-eqb n 0 h) e
+
+module _ (sheet header : List ℕ) (reading : Reading) (is-reading : reading ≡ readOf header) where
+  pub label-accepted : (p : Packet) → reading ≡ Accepted p
+      → labelOver sheet header ≡ ascii " " ++ (kindText (kindOf p) ++ ownerText (fromSheet p sheet))
+  unfolding labelOver routeOf
+  label-accepted p e = rw (sym is-reading ∙ e)
+
+  pub label-refused : (n : ℕ) → reading ≡ NotRead n → labelOver sheet header ≡ ascii " - refused " ++ decimal n
+  unfolding labelOver routeOf ascii
+  label-refused n e = rw (sym is-reading ∙ e)
+
+-- ## The front
+
+pub route-front : (header sheet : List ℕ) → routeOf (take 16 header) sheet ≡ routeOf header sheet
+unfolding routeOf
+route-front header sheet = ap (λ (r : Reading). fromReading r sheet) (read-front header)
+
+-- "A header over 16 bytes is labelled by its front": which is the whole header's label
+pub line-front : (sheet : List ℕ) (n : ℕ) (header : List ℕ) → lineOver sheet n (take 16 header) ≡ lineOver sheet n header
+unfolding lineOver labelOver
+line-front sheet n header = rw (read-front header, route-front header sheet)

@@ -1,0 +1,66 @@
+// A record's line of a trace: its number, the header's kind as read, and where the router takes it, as `1 MRd owner 2` or
+// `2 IOWr refused 40`. The sheet's number is handed in, so that who labels many headers over one sheet checks it once.
+ghost use mathlib.Core.Path.{_≡_};
+ghost use Rattle.text.specs.Text.{Put};
+ghost use Rattle.sheet.specs.Sheet.{sheetNumber};
+ghost use Rattle.route.specs.Route.{fromSheet};
+ghost use Rattle.trace_line.specs.Line.{ownerText, labelOver, lineOver};
+use packet::Packet;
+use route::Routing;
+use text::put_named;
+use text::put_text;
+use tlp::Reading;
+
+// Puts the line at a place, as far as it fits, and answers the next place.
+pub fn put_line(
+    out: &mut [u8],
+    start: usize,
+    n: u64,
+    header: &[u8],
+    number: u8,
+    sheet: &[u8],
+) -> usize
+    requires { ⌜ number ≡ sheetNumber (now sheet) ⌝ }
+    ensures { λ r. ⌜ Put (now (out .entry)) start (lineOver (now (sheet .entry)) n (now (header .entry))) (now (out .exit)) r ⌝ }
+{
+    let mut at = text::put_decimal(out, start, n);
+    at = put_label(out, at, header, number, sheet);
+    put_text(out, at, b"\n")
+}
+
+// The kind is that which was read, not that which arrives.
+fn put_label(out: &mut [u8], start: usize, header: &[u8], number: u8, sheet: &[u8]) -> usize
+    requires { ⌜ number ≡ sheetNumber (now sheet) ⌝ }
+    ensures { λ r. ⌜ Put (now (out .entry)) start (labelOver (now (sheet .entry)) (now (header .entry))) (now (out .exit)) r ⌝ }
+{
+    match tlp::read(header) {
+        Reading::Accepted(p) => {
+            let mut at = put_text(out, start, b" ");
+            at = packet_text::put_kind(out, at, packet::kind_of(p));
+            put_owner(out, at, route_over(p, number, sheet))
+        }
+        Reading::Refused(n) => put_named(out, start, b" - refused ", n as u64),
+    }
+}
+
+// A packet over a sheet with this number.
+fn route_over(p: Packet, number: u8, sheet: &[u8]) -> Routing
+    requires { ⌜ number ≡ sheetNumber (now sheet) ⌝ }
+    ensures { λ r. ⌜ r ≡ fromSheet p (now (sheet .entry)) ⌝ }
+{
+    if number != 0 {
+        return Routing::Refused(number);
+    }
+    route::route_packet(p, sheet)
+}
+
+fn put_owner(out: &mut [u8], at: usize, routing: Routing) -> usize
+    ensures { λ r. ⌜ Put (now (out .entry)) at (ownerText routing) (now (out .exit)) r ⌝ }
+{
+    match routing {
+        Routing::Delivered(d) => put_named(out, at, b" owner ", d.owner as u64),
+        Routing::Broadcast(_, _) => put_text(out, at, b" owner all"),
+        Routing::Port(_) => put_text(out, at, b" owner port"),
+        Routing::Refused(n) => put_named(out, at, b" refused ", n as u64),
+    }
+}
