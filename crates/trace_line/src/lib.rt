@@ -2,10 +2,12 @@
 // `2 IOWr refused 40`. The sheet's number is handed in, so that who labels many headers over one sheet checks it once.
 ghost use mathlib.Core.Path.{_≡_};
 ghost use Rattle.text.specs.Text.{Put};
+ghost use Rattle.packet.specs.Fields.{kindOf};
 ghost use Rattle.sheet.specs.Sheet.{sheetNumber};
 ghost use Rattle.route.specs.Route.{fromSheet};
 ghost use Rattle.trace_line.specs.Line.{ownerText, labelOver, lineOver};
 use packet::Packet;
+use pairs::Kind;
 use route::Routing;
 use text::put_named;
 use text::put_text;
@@ -28,7 +30,6 @@ pub fn put_line(
     put_text(out, at, b"\n")
 }
 
-// The kind is that which was read, not that which arrives.
 fn put_label(out: &mut [u8], start: usize, header: &[u8], number: u8, sheet: &[u8]) -> usize
     requires { ⌜ number ≡ sheetNumber (now sheet) ⌝ }
     ensures { λ r. ⌜ Put (now (out .entry)) start (labelOver (now (sheet .entry)) (now (header .entry))) (now (out .exit)) r ⌝ }
@@ -36,11 +37,18 @@ fn put_label(out: &mut [u8], start: usize, header: &[u8], number: u8, sheet: &[u
     match tlp::read(header) {
         Reading::Accepted(p) => {
             let mut at = put_text(out, start, b" ");
-            at = packet_text::put_kind(out, at, packet::kind_of(p));
+            at = packet_text::put_kind(out, at, kind_read(p));
             put_owner(out, at, route_over(p, number, sheet))
         }
         Reading::Refused(n) => put_named(out, start, b" - refused ", n as u64),
     }
+}
+
+// As it was read and not as it arrives: a CfgRd1 stays one.
+fn kind_read(p: Packet) -> Kind
+    ensures { λ r. ⌜ r ≡ kindOf p ⌝ }
+{
+    packet::kind_of(p)
 }
 
 // A packet over a sheet with this number.

@@ -18,8 +18,8 @@ slice-aggregate-put-text c = search needs
 put-text-requires : tie.Need-put-text-requires
 put-text-requires c κs = search needs
 
-kind-of-requires : tie.Need-kind-of-requires
-kind-of-requires c κs = search needs
+kind-read-requires : tie.Need-kind-read-requires
+kind-read-requires c κs = search needs
 
 put-kind-requires : tie.Need-put-kind-requires
 put-kind-requires c κs = search needs
@@ -62,7 +62,7 @@ returns c =
     let read = packet .before .before in
     let start = read .before .before .before .before in
     let label = label-accepted (start .args .sheet .now) (start .args .header .now) _ (read .read .ensures) _ (packet .p .given .1) in
-    rw (label, ← name .kind-of .ensures, ← route .route-over .ensures)
+    rw (label, ← name .kind-read .ensures, ← route .route-over .ensures)
     (put-append (text .put-text .ensures) (put-append (kind .put-kind .ensures) (owner .put-owner .ensures)))
 
 same-length-2 : tie.Need-same-length-2
@@ -86,7 +86,7 @@ put-label-spec =
     enum-known-p
     slice-aggregate-put-text
     put-text-requires
-    kind-of-requires
+    kind-read-requires
     put-kind-requires
     route-over-requires
     put-owner-requires
