@@ -10,4 +10,5 @@ pub mod header;
 pub mod numbers;
 pub mod random;
 pub mod registers;
+pub mod trace;
 pub mod trees;

@@ -205,8 +205,8 @@ pub fn request(random: &mut Random, is_io: bool, address: u64) -> Numbers {
     numbers
 }
 
-/// Gives one or two fields another value: at an edge of the field, past it, or any. A request of two dwords often keeps its
-/// enables and starts 4 bytes off instead, where gaps are lawful if they were not, or the other way round.
+/// Gives one or two fields another value: at an edge of the field, past it, or any. A request of two dwords often keeps
+/// its enables and starts 4 bytes off instead, where gaps are lawful if they were not, or the other way round.
 pub fn spoil(numbers: &mut Numbers, random: &mut Random) {
     if MEMORY.contains(&numbers[KIND]) && numbers[LENGTH] == 2 && random.chance(1, 2) {
         numbers[ADDRESS] ^= 4;

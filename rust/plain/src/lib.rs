@@ -1,5 +1,5 @@
-//! Document 01, with requests E1 and E2 of document 02, in plain, safe Rust: the header codec, the board planner and the
-//! packet router.
+//! Document 01, with requests E1, E2 and E4 of document 02, in plain, safe Rust: the header codec, the board planner,
+//! the packet router and the trace annotator.
 //!
 //! Written from the documents and the readings of their open points in docs/DECISIONS.md, not from the proved code. The
 //! proved library is compared with it, and the stored answers of the test programs come from it. Every refusal is the
@@ -14,8 +14,10 @@ mod plan;
 mod pool;
 mod route;
 mod sheet;
+mod trace;
 
 pub use packet::{read, to_numbers, write, write_numbers, Form, Kind, Packet};
 pub use plan::plan;
 pub use route::{route, Arrival};
 pub use sheet::{check, id_of, listing, lookup, set_command, Sheet, FULL_SHEET};
+pub use trace::{annotate, program, Annotator};
