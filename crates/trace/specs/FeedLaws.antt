@@ -9,12 +9,15 @@ use lib.ListN.{length, length-append, take, drop}
 use lib.Seq.{sets, sets-eq, take-length}
 use lib.Dec.{leb}
 use borrow.Author.Tests.{le-leb, lt-leb}
+use Rattle.records.specs.declared.frame.Stage.{Stage}
+use Rattle.records.specs.declared.frame.Event.{Event}
+use Rattle.records.specs.Frame.{eventOf, stageAfter, heardOf}
 use Rattle.trace.specs.declared.Trace.{Trace}
 use Rattle.text.specs.Text.{ascii}
 use Rattle.trace.specs.declared.Emits.{Emits}
 use Rattle.trace.specs.declared.Emits.the-variants.{Nothing, Refusal, Line}
 use Rattle.trace.specs.Annotated.{numberAfter, versionLine, annotated}
-use Rattle.trace.specs.Trace.{fresh, accountOf, emittedBy, numberBy, heardBy, stateOf, headerOf, Told, textOf, toldBy}
+use Rattle.trace.specs.Trace.{fresh, Account, accountOf, emittedBy, numberBy, heardBy, stateOf, headerOf, Told, textOf, toldBy}
 use Rattle.trace.specs.Trace.{linesOf, countOn, countBy, lineCount, endLine}
 use Rattle.trace.specs.TraceLaws.{heard-related, stateAll, linesAll, pieces-told}
 use Rattle.trace.specs.Feed.{textPut, takenFed, refusedFed, fedOf}
@@ -45,6 +48,11 @@ pub number-sound : (n : ℕ) → Sound (numberAfter n)
 unfolding numberAfter
 number-sound n = omega arith
 
+sound-by : (m : Emits) (k : ℕ) → Sound k → Sound (numberBy m k)
+sound-by Nothing k s = s
+sound-by Refusal k s = s
+sound-by Line k s = number-sound k
+
 module _ (line : ℕ → List ℕ → List ℕ) (short : (n : ℕ) (header : List ℕ) → Sound n → length (line n header) ≤ longestLine) where
   pub text-le : (m : Emits) (n : ℕ) (header : List ℕ) → Sound n → length (textOf line m n header) ≤ longestLine
   unfolding ascii
@@ -64,11 +72,6 @@ module _ (line : ℕ → List ℕ → List ℕ) (short : (n : ℕ) (header : Lis
   on-within x n k header Line l s =
       omega (arith, length-append x (line (numberAfter k) header), text-le Line (numberAfter k) header s)
 
-  sound-by : (m : Emits) (k : ℕ) → Sound k → Sound (numberBy m k)
-  sound-by Nothing k s = s
-  sound-by Refusal k s = s
-  sound-by Line k s = number-sound k
-
   -- counting tells that the lines fit
   pub lines-le : (t : Trace) (piece : List ℕ) → Sound (t .number) → length (linesOf line t piece) ≤ longestLine * lineCount (t .stage) piece
   unfolding linesOf lineCount
@@ -84,6 +87,25 @@ pub count-le : (m : Emits) (n : ℕ) → countOn m n ≤ n + 1
 count-le Nothing n = omega arith
 count-le Refusal n = omega arith
 count-le Line n = omega arith
+
+-- there are no more lines than bytes
+count-from : (g : Stage) (n : ℕ) (piece : List ℕ) → heardOf countBy g n piece ≤ n + length piece
+unfolding heardOf
+count-from g n [] = omega arith
+count-from g n (b ∷ piece) =
+    let e = eventOf g b in omega (arith, count-from (stageAfter e) (countBy n e) piece, count-le (emittedBy e) n)
+
+pub count-le-length : (g : Stage) (piece : List ℕ) → lineCount g piece ≤ length piece
+unfolding lineCount
+count-le-length g piece = omega (arith, count-from g 0 piece)
+
+-- a state's number stays one of 64 bits
+pub state-sound : (t : Trace) (piece : List ℕ) → Sound (t .number) → Sound (stateOf t piece .number)
+unfolding stateOf
+state-sound t piece s =
+    heard-related heardBy (λ (n : ℕ) (e : Event). n) (λ (a : Account) (n : ℕ). Sound (a .number))
+    (λ a n e. sound-by (emittedBy e) (a .number))
+    (t .stage) (accountOf t) 0 piece s
 
 -- ## Calls
 

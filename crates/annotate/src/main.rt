@@ -1,0 +1,8 @@
+// A register sheet and a trace of headers on standard input, a label for each header on standard output. An input of any length is
+// answered, from fixed room.
+fn main() {
+    let mut sheet = [0u8; sheet::FULL];
+    let mut piece = [0u8; annotator::PIECE];
+    let mut lines = [0u8; annotator::LINES];
+    annotator::annotate(&mut sheet, &mut piece, &mut lines);
+}

@@ -1,0 +1,37 @@
+-- `annotator::label` meets its contract: a piece that was taken moves the state by all of it. Assumes nothing.
+use borrow.Author.Needs.{needs}
+use Rattle.annotator.proofs.label.Statement.{statement}
+use Rattle.annotator.proofs.label.Tie as tie
+use Rattle.annotator.specs.PartsLaws.{taken-of-zero}
+
+feed-over-requires : tie.Need-feed-over-requires
+feed-over-requires c κs = search needs
+
+front-requires : tie.Need-front-requires
+front-requires c κs = search needs
+
+print-requires : tie.Need-print-requires
+print-requires c κs = search needs
+
+returns : tie.Need-returns
+returns c =
+    let test = c .before .before .before .before .before in
+    let fed = test .before .before in
+    λ z. taken-of-zero _ _ _ _ _ (fed .feed-over .ensures .0) (test .if1 .taken)
+
+label-parts-requires : tie.Need-label-parts-requires
+label-parts-requires c κs = search needs
+
+returns-2 : tie.Need-returns-2
+returns-2 c = search needs
+
+pub label-spec : {M : Type 1} → statement M
+label-spec =
+    tie.close
+    (tie.spec
+    feed-over-requires
+    front-requires
+    print-requires
+    returns
+    label-parts-requires
+    returns-2)

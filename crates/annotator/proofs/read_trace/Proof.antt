@@ -1,0 +1,84 @@
+-- `annotator::read_trace` is safe and ends: the measure is the number of pieces that may still come. Assumes nothing.
+use Rattle.annotator.proofs.read_trace.Statement.{statement}
+use Rattle.annotator.proofs.read_trace.Tie as tie
+use borrow.Author.Needs.{needs}
+use mathlib.Core.Path.{subst}
+use Rattle.console.specs.Console.{Fewer}
+
+abbrev Inv-loop : tie.InvT-loop
+Inv-loop start sheet piece₀ lines₀ number t₀ left₀ piece lines t left = Unit {0}
+
+abbrev μ-loop : tie.MeasureT-loop
+μ-loop start sheet piece₀ lines₀ number t₀ left₀ piece lines t left = left
+
+check-requires : tie.Need-check-requires Inv-loop μ-loop
+check-requires c κs = search needs
+
+start-requires : tie.Need-start-requires Inv-loop μ-loop
+start-requires c κs = search needs
+
+loop-holds : tie.Need-loop-holds Inv-loop μ-loop
+loop-holds c = tt
+
+read-piece-requires : tie.Need-read-piece-requires Inv-loop μ-loop
+read-piece-requires c κs = search needs
+
+enum-known-count : tie.Need-enum-known-count Inv-loop μ-loop
+enum-known-count c = search needs
+
+front-requires : tie.Need-front-requires Inv-loop μ-loop
+front-requires c κs = search needs
+
+label-requires : tie.Need-label-requires Inv-loop μ-loop
+label-requires c κs =
+    let check = c .before .before .before .before .before .before .before .before .before .before .before in
+    check .check .ensures
+
+returns : tie.Need-returns Inv-loop μ-loop
+returns c = search needs
+
+loop-less : tie.Need-loop-less Inv-loop μ-loop
+loop-less c =
+    let count = c .before .before .before .before .before .before .before .before .before in
+    let read = count .before .before in
+    subst (Fewer _ _) (count .count .given .1) (read .read-piece .ensures) .2
+
+loop-again : tie.Need-loop-again Inv-loop μ-loop
+loop-again c = tt
+
+enum-told : tie.Need-enum-told Inv-loop μ-loop
+enum-told c = search needs
+
+finish-requires : tie.Need-finish-requires Inv-loop μ-loop
+finish-requires c κs = search needs
+
+returns-2 : tie.Need-returns-2 Inv-loop μ-loop
+returns-2 c = search needs
+
+enum-told-2 : tie.Need-enum-told-2 Inv-loop μ-loop
+enum-told-2 c = search needs
+
+returns-3 : tie.Need-returns-3 Inv-loop μ-loop
+returns-3 c = search needs
+
+pub read-trace-spec : {M : Type 1} → statement M
+read-trace-spec =
+    tie.close
+    (tie.spec
+    Inv-loop
+    μ-loop
+    check-requires
+    start-requires
+    loop-holds
+    read-piece-requires
+    enum-known-count
+    front-requires
+    label-requires
+    returns
+    loop-less
+    loop-again
+    enum-told
+    finish-requires
+    returns-2
+    enum-told-2
+    returns-3)

@@ -1,0 +1,199 @@
+// The annotator on the standard streams: a two-byte length, a sheet of so many bytes, then a trace to the end of input; its lines as they
+// come. specs/Program says what is printed. Where standard input cannot be read or standard output cannot be written it stops, and a
+// message goes to standard error.
+ghost use mathlib.Core.Path.{_≡_};
+ghost use mathlib.Core.Bool.{true};
+ghost use Prim.Native.Nat.{_+_, _≤_, _<_};
+ghost use lib.ListN.{length};
+ghost use Rattle.sheet.specs.Sheet.{sheetNumber};
+ghost use Rattle.trace.specs.Trace.{stateOf};
+ghost use Rattle.annotator.specs.Program.{openingOf};
+use console::Piece;
+use trace::Trace;
+
+// Where bytes are held: the sheet, a piece of the trace, its lines; 8,192 bytes in which the sheet's check marks IDs, 4,096 in which `io`
+// goes on after a short write, 40 for a line that is measured. With a full sheet of 47,105 bytes that is 65,481 of the 65,536 allowed.
+// A piece of ordinary records, each 12 bytes after its length, has lines that fit by their count, so that none is routed twice.
+pub const MOST_LINES: usize = 112;
+
+pub const PIECE: usize = MOST_LINES * 14;
+
+pub const LINES: usize = MOST_LINES * trace::LONGEST;
+
+// What a length opens: a sheet of so many bytes, or one longer than a full sheet.
+pub enum Opening {
+    Sheet(usize),
+    Long,
+}
+
+// A room filled from standard input, with the pieces that may still come; or the input ends before; or it cannot be read.
+enum Filling {
+    Full(u64),
+    Short,
+    Failed,
+}
+
+// The state after a piece, and whether its lines were written.
+struct Labelled {
+    state: Trace,
+    written: bool,
+}
+
+pub fn annotate(sheet: &mut [u8; sheet::FULL], piece: &mut [u8; PIECE], lines: &mut [u8; LINES]) {
+    let mut length = [0u8; 2];
+    match fill(console::PIECES, &mut length) {
+        Filling::Full(left) => {
+            let size = endian::read_be16(&length, 0) as usize;
+            match opening_of(size) {
+                Opening::Sheet(n) => {
+                    read_sheet(left, n, sheet, piece, lines);
+                }
+                Opening::Long => {
+                    console::print(b"refused 22\n");
+                }
+            }
+        }
+        Filling::Short => {
+            console::print(b"refused 20\n");
+        }
+        Filling::Failed => {}
+    }
+}
+
+fn opening_of(size: usize) -> Opening
+    ensures { λ r. ⌜ r ≡ openingOf size ⌝ }
+{
+    if sheet::FULL < size {
+        return Opening::Long;
+    }
+    Opening::Sheet(size)
+}
+
+// A sheet of so many bytes, and then the trace.
+fn read_sheet(
+    left: u64,
+    size: usize,
+    sheet: &mut [u8],
+    piece: &mut [u8; PIECE],
+    lines: &mut [u8; LINES],
+)
+    requires { ⌜ size ≤ length (now sheet) ⌝ }
+{
+    let room = &mut sheet[..size];
+    match fill(left, room) {
+        Filling::Full(fewer) => {
+            read_trace(fewer, room, piece, lines);
+        }
+        Filling::Short => {
+            console::print(b"refused 20\n");
+        }
+        Filling::Failed => {}
+    }
+}
+
+// The sheet is checked once in all.
+fn read_trace(start: u64, sheet: &[u8], piece: &mut [u8; PIECE], lines: &mut [u8; LINES]) {
+    let number = sheet::check(sheet);
+    let mut t = Trace::start();
+    let mut left = start;
+    loop {
+        match console::read_piece(left, piece) {
+            Piece::Bytes(count, fewer) => {
+                let labelled = label(t, number, sheet, text::front(piece, count), lines);
+                if !labelled.written {
+                    return;
+                }
+                t = labelled.state;
+                left = fewer;
+            }
+            Piece::End => {
+                finish(t, lines);
+                return;
+            }
+            Piece::Failed => {
+                return;
+            }
+        }
+    }
+}
+
+fn finish(t: Trace, lines: &mut [u8; LINES]) {
+    let finished = trace::finish(t, lines);
+    console::print(text::front(lines, finished.written));
+}
+
+// A piece whose lines do not fit at once is taken in parts, each of no more bytes than lines fit.
+fn label(t: Trace, number: u8, sheet: &[u8], piece: &[u8], lines: &mut [u8; LINES]) -> Labelled
+    requires { ⌜ number ≡ sheetNumber (now sheet) ⌝ }
+    ensures { λ r. ⌜ (r .written ≡ true → r .state ≡ stateOf t (now (piece .entry))) ⌝ }
+{
+    let fed = trace_feed::feed_over(t, number, sheet, piece, lines);
+    if fed.number == 0 {
+        let state = fed.state;
+        let written = console::print(text::front(lines, fed.written));
+        return Labelled { state, written };
+    }
+    label_parts(t, number, sheet, piece, lines)
+}
+
+fn label_parts(
+    start: Trace,
+    number: u8,
+    sheet: &[u8],
+    piece: &[u8],
+    lines: &mut [u8; LINES],
+) -> Labelled
+    requires { ⌜ number ≡ sheetNumber (now sheet) ⌝ }
+    ensures { λ r. ⌜ (r .written ≡ true → r .state ≡ stateOf start (now (piece .entry))) ⌝ }
+{
+    let mut t = start;
+    let mut i = 0;
+    while i < piece.len() {
+        let end = part_end(i, piece.len());
+        let fed = trace_feed::feed_over(t, number, sheet, &piece[i..end], lines);
+        t = fed.state;
+        if !console::print(text::front(lines, fed.written)) {
+            return Labelled {
+                state: t,
+                written: false,
+            };
+        }
+        i = end;
+    }
+    Labelled {
+        state: t,
+        written: true,
+    }
+}
+
+// Where the part from a place on ends.
+fn part_end(from: usize, size: usize) -> usize
+    requires { ⌜ from < size ⌝ }
+    ensures { λ r. ⌜ (from < r) × (r ≤ size) × (r ≤ from + 112) ⌝ }
+{
+    if size - from < MOST_LINES {
+        return size;
+    }
+    from + MOST_LINES
+}
+
+// Reads until the room is full.
+fn fill(start: u64, room: &mut [u8]) -> Filling {
+    let mut left = start;
+    let mut at = 0;
+    while at < room.len() {
+        match console::read_piece(left, &mut room[at..]) {
+            Piece::Bytes(count, fewer) => {
+                at += count;
+                left = fewer;
+            }
+            Piece::End => {
+                return Filling::Short;
+            }
+            Piece::Failed => {
+                return Filling::Failed;
+            }
+        }
+    }
+    Filling::Full(left)
+}
