@@ -1,4 +1,4 @@
--- Document 01's examples, the user's demands, what becomes of a packet that goes by ID, and messages (document 02, E1).
+-- Document 01's examples, the user's demands, what becomes of a packet that goes by ID, messages (document 02, E1) and traces (E4).
 pub mod Examples
 pub mod Demand2
 pub mod Demand3
@@ -7,3 +7,5 @@ pub mod ById
 pub mod ByIdLaws
 pub mod Messages
 pub mod MessagesLaws
+pub mod Trace
+pub mod TraceLaws

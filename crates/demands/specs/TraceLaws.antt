@@ -1,0 +1,144 @@
+-- Document 02, E4, is proved: lines, pieces, calls and the program. Assumes nothing.
+use mathlib.Core.Path.{_≡_, refl, sym, ap, ap₂, _∙_}
+use mathlib.Core.Bool.{Bool, true, false, cond}
+use mathlib.Core.List.{List, [], _∷_, _++_, flatten, append-nil}
+use Prim.Native.Nat.{ℕ, _+_, _≤_, _<_}
+use native.Mathlib.Omega.{arith}
+use lib.ListN.{length, drop}
+use borrow.Author.Tests.{ne-eqb, le-leb, lt-leb}
+use Rattle.text.specs.Text.{ascii}
+use Rattle.records.specs.Records.{partsOf}
+use Rattle.records.specs.Frame.{versionOf, heardOf}
+use Rattle.route.specs.Route.{routeOf}
+use Rattle.trace.specs.declared.Trace.{Trace}
+use Rattle.trace.specs.Annotated.{numberAfter, versionLine, cutLine, recordLines, annotated}
+use Rattle.trace.specs.Trace.{fresh, linesOf, endLine}
+use Rattle.trace.specs.TraceLaws.{state-all, pieces-told}
+use Rattle.trace.specs.Feed.{textPut, fedOf, endedOf}
+use Rattle.trace.specs.FeedLaws.{short-front, Call, called-state, called-lines}
+use Rattle.trace_line.specs.Line.{labelOver, lineOver}
+use Rattle.trace_line.specs.LineLaws.{line-front}
+use Rattle.annotator.specs.ProgramLaws.{program-no-length, program-long, program-short, program-pieces}
+use Rattle.demands.specs.Trace.{Labels, linesAfter, told, Annotates, Feeds, Ends, Calls, Prints, TraceAnnotated}
+
+-- ## One line
+
+labels : (sheet : List ℕ) (n : ℕ) (header : List ℕ) → Labels sheet n header
+unfolding lineOver labelOver routeOf
+labels sheet n header =
+    record {
+      owner-line = λ p d r e. rw (e, r);
+      refused-line = λ p number r e. rw (e, r);
+      header-line = λ number r. rw r;
+      every-line = λ p q functions r e. rw (e, r);
+      port-line = λ p q r e. rw (e, r);
+      by-its-front = line-front sheet n header;
+    }
+
+first : numberAfter 0 ≡ 1
+unfolding numberAfter
+first = refl
+
+next : (n : ℕ) → n < 18446744073709551615 → numberAfter n ≡ 1 + n
+unfolding numberAfter
+next n h = omega arith
+
+wraps : numberAfter 18446744073709551615 ≡ 0
+unfolding numberAfter
+wraps = refl
+
+-- ## A trace
+
+-- labelled by their fronts, records have the lines of whole records
+lines-agree : (sheet : List ℕ) (n : ℕ) (headers : List (List ℕ)) → recordLines (lineOver sheet) n headers ≡ linesAfter sheet n headers
+unfolding recordLines linesAfter
+lines-agree sheet n [] = refl
+lines-agree sheet n (header ∷ headers) =
+    ap₂ _++_ (line-front sheet (numberAfter n) header) (lines-agree sheet (numberAfter n) headers)
+
+module _ (sheet : List ℕ) where
+  framed : (s : List ℕ) (w : Bool) → partsOf s .whole ≡ w
+      → annotated (lineOver sheet) (1 ∷ s) ≡ linesAfter sheet 0 (partsOf s .parts) ++ cond w [] cutLine
+  unfolding annotated
+  framed s w e = ap₂ (λ (x : List ℕ) (b : Bool). x ++ cond b [] cutLine) (lines-agree sheet 0 (partsOf s .parts)) e
+
+  foreign : (v : ℕ) (s : List ℕ) → ¬ (v ≡ 1) → annotated (lineOver sheet) (v ∷ s) ≡ versionLine
+  unfolding annotated
+  foreign v s h = rw (ne-eqb v 1 h)
+
+  empty : annotated (lineOver sheet) [] ≡ ascii "refused 20\n"
+  unfolding annotated
+  empty = refl
+
+  annotates : (pieces : List (List ℕ)) → Annotates sheet pieces
+  annotates pieces =
+      let all : (s : List ℕ) → flatten pieces ≡ s → told sheet pieces ≡ annotated (lineOver sheet) s =
+      λ s e. pieces-told (lineOver sheet) pieces ∙ ap (annotated (lineOver sheet)) e in
+      record {
+        whole-trace = λ s e w. all (1 ∷ s) e ∙ framed s true w ∙ append-nil (linesAfter sheet 0 (partsOf s .parts));
+        cut-trace = λ s e w. all (1 ∷ s) e ∙ framed s false w;
+        no-trace = λ e. all [] e ∙ empty;
+        other-version = λ v s e h. all (v ∷ s) e ∙ foreign v s h;
+        end-state = state-all fresh pieces;
+      }
+
+  at-once : (v : ℕ) → ¬ (v ≡ 1) → linesOf (lineOver sheet) fresh (v ∷ []) ≡ ascii "refused 21\n"
+  unfolding linesOf heardOf versionOf
+  at-once v h = rw (ne-eqb v 1 h)
+
+-- ## One call
+
+put-whole : (text out : List ℕ) → length text ≤ length out → textPut text out ≡ text ++ drop (length text) out
+unfolding textPut
+put-whole text out h = rw (le-leb (length text) (length out) h)
+
+feeds : (sheet : List ℕ) (t : Trace) (piece out : List ℕ) → Feeds sheet t piece out
+unfolding fedOf
+feeds sheet t piece out =
+    let lines = linesOf (lineOver sheet) t piece in
+    record {
+      short-room = λ h. (rw (lt-leb (length lines) (length out) h), sym (short-front lines out h));
+      enough-room = λ h. (rw (le-leb (length lines) (length out) h), put-whole lines out h);
+    }
+
+ends : (t : Trace) (out : List ℕ) → Ends t out
+unfolding endedOf
+ends t out =
+    record {
+      short-end = λ h. (rw (lt-leb (length (endLine t)) (length out) h), sym (short-front (endLine t) out h));
+      enough-end = λ h. (rw (le-leb (length (endLine t)) (length out) h), put-whole (endLine t) out h);
+    }
+
+calls : (sheet : List ℕ) (cs : List Call) → Calls sheet cs
+calls sheet cs =
+    let line = lineOver sheet in
+    record {
+      lines-of-taken = ap₂ (λ (x : List ℕ) (t : Trace). x ++ endLine t) (called-lines line fresh cs) (called-state line fresh cs);
+      state-of-taken = called-state line fresh cs;
+    }
+
+-- ## The program
+
+prints : (a b : ℕ) → Prints a b
+prints a b =
+    record {
+      pieces-printed = λ sheet pieces l h. sym (program-pieces a b sheet pieces l (omega (arith, l, h)));
+      long-sheet = program-long a b;
+      short-sheet = program-short a b;
+    }
+
+pub trace-annotated : TraceAnnotated
+trace-annotated =
+    record {
+      labels = labels;
+      first-number = first;
+      next-number = next;
+      number-wraps = wraps;
+      annotates = annotates;
+      at-first-byte = at-once;
+      feeds = feeds;
+      ends = ends;
+      calls = calls;
+      prints = prints;
+      no-length = program-no-length;
+    }
