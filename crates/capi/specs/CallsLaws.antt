@@ -60,14 +60,6 @@ shortOf (NotWritten n) = n
 
 -- ## Writing
 
--- what stays where nothing is written stays
-pub left-same : (slice s : List ℕ) → s ≡ leftBeside slice s s
-left-same slice s = go (eqb (length slice) 0)
-  where
-    go : (b : Bool) → s ≡ cond b s s
-    go true = refl
-    go false = refl
-
 -- the room, the answer and the length's slice after, together
 abbrev pub WroteFor : Packet → List ℕ → List ℕ → ℕ → List ℕ → List ℕ → Type 0
 WroteFor p room written r after slice =

@@ -10,7 +10,7 @@ use lib.ListN.{length, drop}
 use lib.Seq.{sets, sets-eq}
 use lib.Dec.{ltb, eqb}
 use borrow.Author.Tests.{lt-ltb, le-ltb, ltb-false, eqb-false}
-use Rattle.capi_answers.specs.Answers.{Answer, refuses, gives, returned, filled}
+use Rattle.capi_answers.specs.Answers.{Answer, refuses, gives, returned, filled, leftBeside}
 
 -- what was returned and what the slice holds after, together
 abbrev pub Answered : Answer → List ℕ → ℕ → List ℕ → Type 0
@@ -31,6 +31,14 @@ module _ (ns slice : List ℕ) where
 -- an answer of one number has room in a slice that is not empty
 pub one-given : (n : ℕ) (slice : List ℕ) → eqb (length slice) 0 ≡ false → returned (gives (n ∷ [])) slice ≡ 0
 one-given n slice e = rw (le-ltb (length slice) 1 (omega (arith, eqb-false (length slice) 0 e)))
+
+-- what stays where nothing is written stays
+pub left-same : (slice s : List ℕ) → s ≡ leftBeside slice s s
+left-same slice s = go (eqb (length slice) 0)
+  where
+    go : (b : Bool) → s ≡ cond b s s
+    go true = refl
+    go false = refl
 
 -- ## Refused
 

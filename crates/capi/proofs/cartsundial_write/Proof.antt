@@ -1,7 +1,8 @@
 -- `capi::cartsundial_write` meets its contract: by what the twenty numbers are taken for. Assumes nothing.
 use borrow.Author.Needs.{needs}
 use mathlib.Core.Path.{refl}
-use Rattle.capi.specs.CallsLaws.{left-same, fields-agree}
+use Rattle.capi_answers.specs.AnswersLaws.{left-same}
+use Rattle.capi.specs.CallsLaws.{fields-agree}
 use Rattle.capi.proofs.cartsundial_write.Statement.{statement}
 use Rattle.capi.proofs.cartsundial_write.Tie as tie
 

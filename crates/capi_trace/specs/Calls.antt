@@ -1,0 +1,69 @@
+-- What the two calls on a trace answer, and what the state and the lines that they were lent then hold. Assumes nothing.
+use Prim.Native.Nat.{ℕ}
+use mathlib.Core.Bool.{cond}
+use mathlib.Core.List.{List, [], _∷_, _++_}
+use lib.ListN.{drop}
+use lib.Dec.{eqb}
+use Rattle.trace.specs.declared.Trace.{Trace}
+use Rattle.trace.specs.declared.Fed.{Fed}
+use Rattle.trace.specs.declared.Finished.{Finished}
+use Rattle.trace.specs.Feed.{fedOf, fedPut, finishedOf, finishedPut}
+use Rattle.trace_line.specs.Line.{lineOver}
+use Rattle.trace_numbers.specs.Numbers.{numbersOf}
+use Rattle.trace_numbers.specs.Parsing.{size, Parsed, Accepted, Refused, traceOf}
+use Rattle.capi_answers.specs.Answers.{Answer, refuses, gives, leftBeside}
+
+-- a number, and how many bytes of lines where it is 0
+abbrev pub onLines : ℕ → ℕ → Answer
+onLines number count = cond (eqb number 0) (gives (count ∷ [])) (refuses number)
+
+-- ## A piece
+
+abbrev pub onFed : Fed → Answer
+onFed f = onLines (f .number) (f .written)
+
+abbrev pub annotateOn : Parsed → List ℕ → List ℕ → ℕ → Answer
+annotateOn (Accepted t) sheet piece room = onFed (fedOf (lineOver sheet) t piece room)
+annotateOn (Refused n) sheet piece room = refuses n
+
+abbrev pub annotateAnswer : List ℕ → List ℕ → List ℕ → ℕ → Answer
+annotateAnswer state sheet piece room = annotateOn (traceOf state) sheet piece room
+
+-- the numbers of the state after the piece, and what follows them
+abbrev pub statePut : Fed → List ℕ → List ℕ
+statePut f state = cond (eqb (f .number) 0) (numbersOf (f .state) ++ drop size state) state
+
+abbrev pub stateOn : Parsed → List ℕ → List ℕ → List ℕ → ℕ → List ℕ
+stateOn (Accepted t) state sheet piece room = statePut (fedOf (lineOver sheet) t piece room) state
+stateOn (Refused n) state sheet piece room = state
+
+-- with no room for the answer the piece is not taken
+abbrev pub stateLeft : List ℕ → List ℕ → List ℕ → ℕ → List ℕ → List ℕ
+stateLeft state sheet piece room written = leftBeside written state (stateOn (traceOf state) state sheet piece room)
+
+abbrev pub linesOn : Parsed → List ℕ → List ℕ → List ℕ → List ℕ
+linesOn (Accepted t) sheet piece lines = fedPut (lineOver sheet) t piece lines
+linesOn (Refused n) sheet piece lines = lines
+
+abbrev pub linesLeft : List ℕ → List ℕ → List ℕ → List ℕ → List ℕ → List ℕ
+linesLeft state sheet piece lines written = leftBeside written lines (linesOn (traceOf state) sheet piece lines)
+
+-- ## The end
+
+abbrev pub onFinished : Finished → Answer
+onFinished f = onLines (f .number) (f .written)
+
+abbrev pub endOn : Parsed → ℕ → Answer
+endOn (Accepted t) room = onFinished (finishedOf t room)
+endOn (Refused n) room = refuses n
+
+abbrev pub endAnswer : List ℕ → ℕ → Answer
+endAnswer state room = endOn (traceOf state) room
+
+abbrev pub lastOn : Parsed → List ℕ → List ℕ
+lastOn (Accepted t) lines = finishedPut t lines
+lastOn (Refused n) lines = lines
+
+-- with no room for the answer nothing is written
+abbrev pub endLeft : List ℕ → List ℕ → List ℕ → List ℕ
+endLeft state lines written = leftBeside written lines (lastOn (traceOf state) lines)

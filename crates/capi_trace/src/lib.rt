@@ -1,0 +1,71 @@
+// What the C boundary's two calls on a trace do. The state is six numbers that the caller keeps; fewer are 11 and numbers that are no state
+// 10, both tried first. Lines that do not fit, and an answer slice of no numbers, are 11: the state, the lines and the slice then stay.
+ghost use mathlib.Core.Path.{_≡_};
+ghost use lib.ListN.{length};
+ghost use Rattle.capi_answers.specs.Answers.{returned, filled};
+ghost use Rattle.capi_trace.specs.Calls.{annotateAnswer, stateLeft, linesLeft, endAnswer, endLeft};
+
+// Takes a piece: the lines of the records that end in it, and how many bytes they are.
+pub fn annotate(
+    state: &mut [u64],
+    sheet: &[u8],
+    piece: &[u8],
+    lines: &mut [u8],
+    written: &mut [u64],
+) -> u32
+    ensures { λ r. ⌜
+        r
+        ≡ returned (annotateAnswer (now (state .entry)) (now (sheet .entry)) (now (piece .entry)) (length (now (lines .entry))))
+        (now (written .entry))
+        ⌝ }
+    ensures { λ _. ⌜
+        now (state .exit)
+        ≡ stateLeft (now (state .entry)) (now (sheet .entry)) (now (piece .entry)) (length (now (lines .entry))) (now (written .entry))
+        ⌝ }
+    ensures { λ _. ⌜
+        now (lines .exit)
+        ≡ linesLeft (now (state .entry)) (now (sheet .entry)) (now (piece .entry)) (now (lines .entry)) (now (written .entry))
+        ⌝ }
+    ensures { λ _. ⌜
+        now (written .exit)
+        ≡ filled (annotateAnswer (now (state .entry)) (now (sheet .entry)) (now (piece .entry)) (length (now (lines .entry))))
+        (now (written .entry))
+        ⌝ }
+{
+    let taken = trace_numbers::state_of(state);
+    if taken.number != 0 {
+        return taken.number as u32;
+    }
+    if written.len() == 0 {
+        return 11;
+    }
+    let t = taken.state;
+    let fed = trace_feed::feed(t, sheet, piece, lines);
+    if fed.number != 0 {
+        return fed.number as u32;
+    }
+    let after = fed.state;
+    trace_numbers::put_state(state, after);
+    capi_answers::give_one(fed.written as u64, written)
+}
+
+// The line of a trace that ends here, if it gets one, and how many bytes it is.
+pub fn finish(state: &[u64], lines: &mut [u8], written: &mut [u64]) -> u32
+    ensures { λ r. ⌜ r ≡ returned (endAnswer (now (state .entry)) (length (now (lines .entry)))) (now (written .entry)) ⌝ }
+    ensures { λ _. ⌜ now (lines .exit) ≡ endLeft (now (state .entry)) (now (lines .entry)) (now (written .entry)) ⌝ }
+    ensures { λ _. ⌜ now (written .exit) ≡ filled (endAnswer (now (state .entry)) (length (now (lines .entry)))) (now (written .entry)) ⌝ }
+{
+    let taken = trace_numbers::state_of(state);
+    if taken.number != 0 {
+        return taken.number as u32;
+    }
+    if written.len() == 0 {
+        return 11;
+    }
+    let t = taken.state;
+    let last = trace::finish(t, lines);
+    if last.number != 0 {
+        return last.number as u32;
+    }
+    capi_answers::give_one(last.written as u64, written)
+}
