@@ -1,6 +1,6 @@
 -- Document 02, E4: "The program reads a length-first sheet, then the trace, on standard input: a length above a full sheet's prints at
 -- once only `refused 22`, a sheet cut short only `refused 20`." Assumes nothing.
-use Prim.Native.Nat.{ℕ, _+_}
+use Prim.Native.Nat.{ℕ}
 use mathlib.Core.Bool.{cond}
 use mathlib.Core.List.{List}
 use lib.ListN.{length, take, drop}

@@ -3,16 +3,15 @@
 use mathlib.Core.Path.{_≡_, refl, sym, ap, _∙_}
 use mathlib.Core.Bool.{Bool, true, false, cond}
 use mathlib.Core.List.{List, [], _∷_, _++_, flatten}
-use Prim.Native.Nat.{ℕ, _+_, _≤_, _<_}
+use Prim.Native.Nat.{ℕ, _≤_, _<_}
 use native.Mathlib.Omega.{arith}
-use lib.ListN.{length, length-append, take, drop}
+use lib.ListN.{length, length-append}
 use lib.Seq.{take-at, drop-at}
 use lib.Dec.{ltb}
 use borrow.Author.Tests.{lt-ltb, le-ltb, ltb-false}
 use Rattle.text.specs.Text.{ascii}
 use Rattle.endian.specs.Endian.{be}
 use Rattle.sheet.specs.Sheet.{fullSheet}
-use Rattle.trace.specs.Annotated.{annotated}
 use Rattle.trace.specs.Trace.{fresh, endLine}
 use Rattle.trace.specs.TraceLaws.{stateAll, linesAll, pieces-told}
 use Rattle.trace_line.specs.Line.{lineOver}

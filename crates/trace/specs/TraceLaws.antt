@@ -3,7 +3,7 @@
 use mathlib.Core.Path.{_≡_, refl, sym, ap, ap₂, _∙_}
 use mathlib.Core.Bool.{Bool, true, false, cond}
 use mathlib.Core.List.{List, [], _∷_, _++_, append-assoc, append-nil, foldl, flatten}
-use Prim.Native.Nat.{ℕ, zero, suc, _+_, _-_, _≤_, _<_, min}
+use Prim.Native.Nat.{ℕ, suc, _+_, _-_, _≤_, _<_, min}
 use native.Mathlib.Omega.{arith}
 use native.Mathlib.Numerals.{add-one}
 use lib.ListN.{length, getD, take, drop, set, replicate, length-set, length-take, drop-of-length-le}
@@ -11,16 +11,16 @@ use lib.Seq.{drop-cons, take-suc-set, set-out, take-all, take-append-le}
 use lib.Dec.{eqb, ltb}
 use borrow.Author.Tests.{ltb-true, ltb-false, ne-eqb}
 use Rattle.records.specs.declared.frame.Stage.{Stage}
-use Rattle.records.specs.declared.frame.Stage.the-variants.{Start, Other, Between}
+use Rattle.records.specs.declared.frame.Stage.the-variants.{Other, Between}
 use Rattle.records.specs.declared.frame.Event.{Event}
 use Rattle.records.specs.declared.frame.Event.the-variants.{Version, Foreign, Passed, Half, Begins, Byte}
 use Rattle.records.specs.declared.frame.Ending.{Ending}
 use Rattle.records.specs.declared.frame.Ending.the-variants.{Unread, Whole, Cut}
-use Rattle.records.specs.Records.{Parts, partsOf}
-use Rattle.records.specs.Frame.{versionOf, eventOf, stageAfter, stageOf, heardOf, endingOf, heardBytes, heardPart, endOf}
+use Rattle.records.specs.Records.{partsOf}
+use Rattle.records.specs.Frame.{versionOf, eventOf, stageAfter, stageOf, heardOf, heardBytes, heardPart, endOf}
 use Rattle.records.specs.FrameLaws.{stage-append, heard-append, heard-other, look-parts, ending-agree}
 use Rattle.trace.specs.declared.Emits.{Emits}
-use Rattle.trace.specs.declared.Emits.the-variants.{Nothing, Refusal, Line}
+use Rattle.trace.specs.declared.Emits.the-variants.{Nothing}
 use Rattle.trace.specs.declared.Trace.{Trace}
 use Rattle.trace.specs.Annotated.{frontLength, frontOf, numberAfter, versionLine, cutLine, recordLines, framedLines, annotated}
 use Rattle.trace.specs.Trace.{tracing, fresh, Account, accountOf, traceAt, lineAt, emittedBy, numberBy, keptBy, headBy, heardBy}

@@ -1,6 +1,6 @@
 -- Every number that stands in a label has at most three digits: refusals, and record numbers of a sheet that passes. Assumes nothing.
-use Prim.Native.Nat.{ℕ, zero, suc, _+_, _*_, _/_, _%_, _≤_, _<_}
-use mathlib.Core.Path.{_≡_, refl, sym, ap, _∙_, subst}
+use Prim.Native.Nat.{ℕ, zero, suc, _+_, _*_, _/_, _%_, _<_}
+use mathlib.Core.Path.{_≡_, refl, ap, subst}
 use mathlib.Core.Bool.{Bool, true, false, cond, _||_}
 use mathlib.Core.Logic.{_⊎_, inl, inr}
 use mathlib.Core.List.{List, [], _∷_, map, List·Memᴰ·head, List·Memᴰ·not-nil, List·Memᴰ·cases-cons}
@@ -31,8 +31,8 @@ use Rattle.sheet.specs.Sheet.{entriesOf, isFramed, anyBreaks, idTwice, sheetNum
 use Rattle.sheet.specs.Sheet.{from20, from21, from22, from24, from25, from27, from28, from29}
 use Rattle.sheet.specs.declared.Rule.the-variants.{HeaderType, Buses, ReadBacks, Nibbles}
 use Rattle.sheet.specs.SheetLaws.{Checked, checked-of-zero, nodes-functions}
-use Rattle.sheet.specs.Spaces.{functionsFrom, nodesFrom, registersOf, nodesOf, enabledOf}
-use Rattle.walk.specs.Registers.{Node, Registers, Claim, bar, window}
+use Rattle.sheet.specs.Spaces.{nodesFrom, registersOf, nodesOf, enabledOf}
+use Rattle.walk.specs.Registers.{Node, bar, window}
 use Rattle.walk.specs.Tally.{Tally, none, one, several, join, tallyOn}
 use Rattle.walk.specs.RegistersLaws.{node-mem}
 use Rattle.walk.specs.TallyLaws.{claims-of-one, bar-of-tally}

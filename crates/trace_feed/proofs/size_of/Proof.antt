@@ -4,7 +4,6 @@ use Rattle.trace_feed.proofs.size_of.Statement.{statement}
 use Rattle.trace_feed.proofs.size_of.Tie as tie
 use native.Mathlib.Omega.{arith}
 use Rattle.trace_feed.specs.LoopLaws.{emitted-le}
-use lib.ListN.{length}
 
 slice-aggregate-put-emitted : tie.Need-slice-aggregate-put-emitted
 slice-aggregate-put-emitted c = search needs
