@@ -1,5 +1,6 @@
 /*
- * Cartsundial for C: read and write PCI Express headers, plan a board's register sheet, look functions up in it, and route packets over it.
+ * Cartsundial for C: read and write PCI Express headers, plan a board's register sheet, look functions up in it, route packets over it, and
+ * label the headers of a trace.
  *
  * Build:  rt staticlib capi          proves everything, then writes target/staticlib/libcapi.a
  *         gcc -Iinclude main.c target/staticlib/libcapi.a
@@ -21,7 +22,8 @@
  * checks:
  *   - the pointer is not null, is aligned for its type, and the elements are there, also for a length of 0;
  *   - a slice that a call may write overlaps no other slice of that call, and nobody else touches it until the call returns.
- * Nothing is kept after a call returns. There is no state, no allocation and no I/O, so calls on different slices may run at the same time.
+ * Nothing is kept after a call returns: how far a trace was read is in numbers that the caller lends. There is no allocation and no I/O,
+ * so calls on different slices may run at the same time.
  *
  * Stack to allow, measured and not proved: cartsundial_plan 32 KiB; cartsundial_route 16 KiB over a planned sheet, which has at most 16
  * bridges in a row, and 96 KiB over a foreign one with 255; every other call 12 KiB. That is what a call takes. A thread's library takes
@@ -62,7 +64,7 @@ enum cartsundial_number {
     CARTSUNDIAL_ENABLES = 7,           /* memory byte enables */
     CARTSUNDIAL_PAGE = 8,              /* a memory request crosses a 4 KiB boundary */
     CARTSUNDIAL_STATUS = 9,            /* completion status not 000, 001, 010 or 100 */
-    CARTSUNDIAL_WIDTH = 10,            /* a value that its field does not take: too wide, a wrong Length, or the kind has no such field */
+    CARTSUNDIAL_WIDTH = 10,            /* a value that its place does not take: too wide, a wrong Length, no such field; a trace's state */
     CARTSUNDIAL_SHORT = 11,            /* a lent slice is too short */
     CARTSUNDIAL_FRAME = 20,            /* empty; lengths not ending at the end; no host of 30; function under 6; sheet record not 90 */
     CARTSUNDIAL_VERSION = 21,          /* version not 1 */
@@ -148,7 +150,9 @@ enum cartsundial_size {
     CARTSUNDIAL_SHEET_BYTES = 23553,   /* a sheet of 256 functions */
     CARTSUNDIAL_REGISTER_BYTES = 64,   /* a function's configuration header */
     CARTSUNDIAL_ROUTE_NUMBERS = 22,    /* record, bridges, and a packet: every route but a broadcast's */
-    CARTSUNDIAL_ANY_ROUTE_NUMBERS = 278 /* any route: a broadcast's has the records of up to 256 functions after it */
+    CARTSUNDIAL_ANY_ROUTE_NUMBERS = 278, /* any route: a broadcast's has the records of up to 256 functions after it */
+    CARTSUNDIAL_TRACE_NUMBERS = 6,     /* the state of a trace */
+    CARTSUNDIAL_LINE_BYTES = 40        /* a line of a trace, with its newline */
 };
 
 /* ---- headers ---- */
@@ -227,6 +231,56 @@ uint32_t cartsundial_command(uint8_t *sheet, size_t sheet_len, uint32_t id, uint
  */
 uint32_t cartsundial_route(const uint8_t *header, size_t header_len, const uint8_t *sheet, size_t sheet_len,
                            uint64_t *answer, size_t answer_len);
+
+/* ---- traces ---- */
+
+/*
+ * A trace is the version byte 1, then for each captured header two bytes of length, the high one first, and the header's bytes. It is given
+ * in pieces, cut anywhere; a piece may hold no bytes. With the last byte of each record comes its line, in ASCII with a newline at the end:
+ *
+ *     1 MRd owner 2        record 1 of the trace, a memory read, goes to the function of the sheet's record 2
+ *     2 IOWr refused 40    an I/O write that has no owner
+ *     3 - refused 4        no header: cartsundial_read refuses it
+ *     4 Msg owner all      a broadcast
+ *     5 Msg owner port     a message that ends at the port
+ *
+ * The kind is that of the header as read: a CfgRd1 that arrives as CfgRd0 stays a CfgRd1. A record of no bytes is whole: `6 - refused 1`.
+ * Of a record over 16 bytes the first 16 are looked at. A sheet that fails its checks is in the lines too: `1 MRd refused 27`. The numbers
+ * of the records start at 1; after 2^64 - 1 comes 0. A first byte other than 1 gives the line `refused 21`, and nothing after it a line.
+ *
+ * state: CARTSUNDIAL_TRACE_NUMBERS numbers, which say how far the trace was read. Start with all of them 0, and keep them between calls;
+ * a copy of them is a place to go on from.
+ *
+ *     state[0]      where the next byte falls: 0 at the start, 1 after another version, 2 between records, 3 after the first byte of a
+ *                   length, 4 inside a record
+ *     state[1]      at 3 that byte of the length; at 4 how many bytes of the record are to come, 1 to 65,535; else 0
+ *     state[2]      the number of the last whole record
+ *     state[3]      how many bytes are kept of the record under way, at most 16
+ *     state[4..5]   bytes 0 to 7, and 8 to 15, of those kept, each as one number, the first byte highest
+ *
+ * With the same sheet throughout, the lines of all pieces together, with that of the end, are those of the trace in one piece, wherever
+ * the cuts fall; so is the state. That is proved.
+ */
+
+/*
+ * Takes the next piece of a trace, and writes the lines of the records that end in it at the front of lines, nothing past them.
+ * state: as it is after the piece. written: how many bytes of lines.
+ * Refused: 11 for fewer than six numbers of state, 10 for numbers that are no state, both tried first; then 11 for lines that do not fit,
+ * or a written slice of no numbers. A refused piece is not taken: give it again with more room, or in smaller pieces.
+ * Room for CARTSUNDIAL_LINE_BYTES a record is always enough, and so for piece_len / 2 + 1 lines whatever the piece holds; with less, each
+ * line may have to be made twice. The sheet is checked once a call, so pieces of some KiB are better than single records.
+ */
+uint32_t cartsundial_annotate(uint64_t *state, size_t state_len, const uint8_t *sheet, size_t sheet_len,
+                              const uint8_t *piece, size_t piece_len, uint8_t *lines, size_t lines_len,
+                              uint64_t *written, size_t written_len);
+
+/*
+ * The line that a trace gets if it ends here, at the front of lines: `cut` inside a record or its length, `refused 20` where there was no
+ * byte, else none. written: how many bytes. The state stays as it was, and more pieces may follow.
+ * Refused: as cartsundial_annotate.
+ */
+uint32_t cartsundial_annotate_end(const uint64_t *state, size_t state_len, uint8_t *lines, size_t lines_len,
+                                  uint64_t *written, size_t written_len);
 
 #ifdef __cplusplus
 }

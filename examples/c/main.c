@@ -1,5 +1,6 @@
 /*
- * Plans document 01's board P10, looks its functions up, and routes memory reads over the sheet. examples/c/run builds it and compares what it prints.
+ * Plans document 01's board P10, looks its functions up, routes memory reads over the sheet, and labels a trace that comes in two pieces.
+ * examples/c/run builds it and compares what it prints.
  */
 #include <inttypes.h>
 #include <stdio.h>
@@ -17,6 +18,14 @@ static const uint8_t board[] = {
     /* record 2: a function below it, with a 4 KiB low, a 64 MiB high and a 256-byte I/O BAR */
     0x00, 0x1E, 0x00, 0x01, 0x00, 0x00, 0x00, 0x03, 0xFF, 0xFF, 0xF0, 0x00, 0xFC, 0x00, 0x00, 0x0C,
     0xFF, 0xFF, 0xFF, 0xFF, 0xFF, 0xFF, 0xFF, 0x01, 0x00, 0x00, 0x00, 0x00, 0x00, 0x00, 0x00, 0x00,
+};
+
+static const uint8_t trace[] = {
+    0x01,
+    /* a read of record 2's first BAR, an I/O write past its last, a broadcast message; each after its length */
+    0x00, 0x0C, 0x00, 0x00, 0x00, 0x01, 0x00, 0x00, 0x05, 0x0F, 0xF9, 0x00, 0x0F, 0xFC,
+    0x00, 0x0C, 0x42, 0x00, 0x00, 0x01, 0x00, 0x00, 0x06, 0x0F, 0x00, 0x00, 0x41, 0x00,
+    0x00, 0x10, 0x33, 0x00, 0x00, 0x00, 0x00, 0x00, 0x00, 0x19, 0x00, 0x00, 0x00, 0x00, 0x00, 0x00, 0x00, 0x00,
 };
 
 static uint8_t sheet[CARTSUNDIAL_SHEET_BYTES];
@@ -75,9 +84,38 @@ static void print_registers(uint32_t id)
     printf("\n");
 }
 
+static void print_lines(uint32_t number, const uint8_t *lines, const uint64_t *written)
+{
+    if (number == CARTSUNDIAL_ACCEPTED)
+        fwrite(lines, 1, (size_t)written[0], stdout);
+    else
+        printf("refused %" PRIu32 "\n", number);
+}
+
+/* The next piece of the trace: its lines, each with the last byte of its header. */
+static void annotate(uint64_t *state, const uint8_t *piece, size_t piece_len)
+{
+    uint8_t lines[3 * CARTSUNDIAL_LINE_BYTES];
+    uint64_t written[1];
+    uint32_t number = cartsundial_annotate(state, CARTSUNDIAL_TRACE_NUMBERS, sheet, sheet_len, piece, piece_len,
+                                           lines, sizeof lines, written, 1);
+
+    print_lines(number, lines, written);
+}
+
+/* The line that the trace gets if it ends here. */
+static void annotate_end(const uint64_t *state)
+{
+    uint8_t lines[CARTSUNDIAL_LINE_BYTES];
+    uint64_t written[1];
+    uint32_t number = cartsundial_annotate_end(state, CARTSUNDIAL_TRACE_NUMBERS, lines, sizeof lines, written, 1);
+
+    print_lines(number, lines, written);
+}
+
 int main(void)
 {
-    uint64_t written[1];
+    uint64_t written[1], state[CARTSUNDIAL_TRACE_NUMBERS] = { 0 };
     uint32_t number = cartsundial_plan(board, sizeof board, sheet, sizeof sheet, written, 1);
 
     if (number != CARTSUNDIAL_ACCEPTED) {
@@ -91,6 +129,13 @@ int main(void)
     print_registers(0x10000);
     route_read(0xF9000FFC);
     route_read(0xF9001000);
+
+    /* the trace in two pieces; the cut falls in the second header */
+    annotate(state, trace, 20);
+    printf("if it ended here: ");
+    annotate_end(state);
+    annotate(state, trace + 20, sizeof trace - 20);
+    annotate_end(state);
 
     /* memory switched off at the bridge: nobody below it has an address */
     number = cartsundial_command(sheet, sheet_len, 0x0000, 0x0001);

@@ -5,6 +5,7 @@
 mod ids;
 mod measure;
 mod subjects;
+mod traces;
 
 use measure::{compare, Times, ROUNDS};
 use std::hint::black_box;
@@ -48,6 +49,7 @@ fn main() {
     backplanes.iter().for_each(check);
     backplanes.iter().for_each(route);
     ids::print();
+    traces::print(&backplanes);
 }
 
 fn row(call: &str, input: &str, buffer: &str, times: Times) {

@@ -3,11 +3,15 @@
 use std::hint::black_box;
 use std::time::{Duration, Instant};
 
-/// How many times each side is timed.
+/// How many times each side is timed; and at the least, where a call is longer than a round.
 pub const ROUNDS: usize = 301;
+pub const FEWEST: usize = 21;
 
 /// How long a round takes, about: short, so that most rounds are not interrupted.
 const ROUND: Duration = Duration::from_micros(500);
+
+/// After so long there are no more rounds than the fewest.
+const LONGEST: Duration = Duration::from_secs(2);
 
 /// Nanoseconds a call.
 pub struct Times {
@@ -19,7 +23,8 @@ pub struct Times {
 pub fn compare<A, B>(mut plain: impl FnMut() -> A, mut proved: impl FnMut() -> B) -> Times {
     let counts = (calls_in_round(&mut plain), calls_in_round(&mut proved));
     let (mut plain_rounds, mut proved_rounds) = (Vec::new(), Vec::new());
-    for _ in 0..ROUNDS {
+    let start = Instant::now();
+    while plain_rounds.len() < FEWEST || plain_rounds.len() < ROUNDS && start.elapsed() < LONGEST {
         plain_rounds.push(round(&mut plain, counts.0));
         proved_rounds.push(round(&mut proved, counts.1));
     }

@@ -1,4 +1,4 @@
-//! The library's eight calls as it has them: slices in, numbers out.
+//! The library's ten calls as it has them: slices in, numbers out.
 //!
 //! Each returns 0 or document 01's number. A refused call changes nothing that it was lent. An answer slice that is too
 //! short is 11, tried last; numbers past the answer's own are left as they were.
@@ -16,6 +16,10 @@ pub const ROUTE: usize = 2 + PACKET;
 
 /// How many numbers are always enough for [`route`]: a broadcast's answer ends with the record of every function.
 pub const ANY_ROUTE: usize = ROUTE + 256;
+
+/// How many numbers the state of a trace has, in [`annotate`] and [`annotate_end`]. All zero is a trace of which nothing
+/// was read yet.
+pub const TRACE: usize = 6;
 
 /// What a call answers where its answer does not fit the slice for it: tried last, so it would have been accepted.
 pub const SHORT: u32 = 11;
@@ -56,6 +60,26 @@ mod c {
             sheet_len: usize,
             answer: *mut u64,
             answer_len: usize,
+        ) -> u32;
+        pub fn cartsundial_annotate(
+            state: *mut u64,
+            state_len: usize,
+            sheet: *const u8,
+            sheet_len: usize,
+            piece: *const u8,
+            piece_len: usize,
+            lines: *mut u8,
+            lines_len: usize,
+            written: *mut u64,
+            written_len: usize,
+        ) -> u32;
+        pub fn cartsundial_annotate_end(
+            state: *const u64,
+            state_len: usize,
+            lines: *mut u8,
+            lines_len: usize,
+            written: *mut u64,
+            written_len: usize,
         ) -> u32;
     }
 }
@@ -138,6 +162,43 @@ pub fn route(header: &[u8], sheet: &[u8], answer: &mut [u64]) -> u32 {
             sheet.len(),
             answer.as_mut_ptr(),
             answer.len(),
+        )
+    }
+}
+
+/// Takes the next piece of a trace: writes the line of each record that ends in it to the start of `lines`, how many bytes
+/// they are to `written`, and to the first [`TRACE`] numbers of `state` how far the trace was read.
+///
+/// Fewer numbers of state are 11, and numbers that are no state 10, both before anything else. Lines that do not fit are
+/// 11: the piece is not taken.
+pub fn annotate(state: &mut [u64], sheet: &[u8], piece: &[u8], lines: &mut [u8], written: &mut [u64]) -> u32 {
+    unsafe {
+        c::cartsundial_annotate(
+            state.as_mut_ptr(),
+            state.len(),
+            sheet.as_ptr(),
+            sheet.len(),
+            piece.as_ptr(),
+            piece.len(),
+            lines.as_mut_ptr(),
+            lines.len(),
+            written.as_mut_ptr(),
+            written.len(),
+        )
+    }
+}
+
+/// Writes the line that a trace gets if it ends here, if any, to the start of `lines`, and how many bytes it is to
+/// `written`. The numbers are those of [`annotate`].
+pub fn annotate_end(state: &[u64], lines: &mut [u8], written: &mut [u64]) -> u32 {
+    unsafe {
+        c::cartsundial_annotate_end(
+            state.as_ptr(),
+            state.len(),
+            lines.as_mut_ptr(),
+            lines.len(),
+            written.as_mut_ptr(),
+            written.len(),
         )
     }
 }

@@ -1,5 +1,7 @@
 //! The kinds of packets, numbered as the library numbers them.
 
+use core::fmt;
+
 /// What a packet is, of all kinds that are carried.
 #[derive(Clone, Copy, Debug, PartialEq, Eq, PartialOrd, Ord, Hash)]
 #[repr(u8)]
@@ -59,6 +61,34 @@ impl Kind {
     /// The library's number for the kind.
     pub const fn number(self) -> u8 {
         self as u8
+    }
+
+    /// The kind's name, as in the lines of a trace.
+    pub const fn name(self) -> &'static str {
+        match self {
+            Kind::MRd => "MRd",
+            Kind::MRdLk => "MRdLk",
+            Kind::MWr => "MWr",
+            Kind::IORd => "IORd",
+            Kind::IOWr => "IOWr",
+            Kind::CfgRd0 => "CfgRd0",
+            Kind::CfgWr0 => "CfgWr0",
+            Kind::CfgRd1 => "CfgRd1",
+            Kind::CfgWr1 => "CfgWr1",
+            Kind::Cpl => "Cpl",
+            Kind::CplD => "CplD",
+            Kind::CplLk => "CplLk",
+            Kind::CplDLk => "CplDLk",
+            Kind::Msg => "Msg",
+            Kind::MsgD => "MsgD",
+        }
+    }
+}
+
+/// `MRd`.
+impl fmt::Display for Kind {
+    fn fmt(&self, f: &mut fmt::Formatter<'_>) -> fmt::Result {
+        f.pad(self.name())
     }
 }
 

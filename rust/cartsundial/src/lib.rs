@@ -1,4 +1,4 @@
-//! A PCI Express header codec, board planner and packet router: Rust types over the proved library.
+//! A PCI Express header codec, board planner, packet router and trace annotator: Rust types over the proved library.
 //!
 //! The archive `libcapi.a` is compiled from proved code: what each call answers, and what the lent bytes then hold, is an
 //! equation with document 01's definitions, for every input. This crate adds types, a search over [`plan`], and no rules
@@ -23,7 +23,10 @@
 //! | a sheet: is it lawful, a function's registers, its command word | [`check`], [`registers`], [`set_command`] |
 //! | its functions one by one, or from a record to its ID | [`functions()`], [`id_of`] |
 //! | where a packet goes: a function, every function, the port | [`route`] |
+//! | a line for each header of a trace: in pieces, of a whole one | [`Annotator`], [`lines()`] |
 //! | the same calls with numbers in place of types | [`calls`] |
+//!
+//! With the feature `std`, which is off unless asked for, `Labeller` is an annotator that implements `std::io::Write`.
 //!
 //! ```
 //! use cartsundial::{plan, route, Refusal, FULL_SHEET};
@@ -45,21 +48,34 @@
 #![no_std]
 #![deny(unsafe_code, missing_docs)]
 
+#[cfg(feature = "std")]
+extern crate std;
+
+mod annotator;
 mod arrival;
 pub mod calls;
 mod fields;
 mod functions;
 mod id;
 mod kind;
+mod label;
+#[cfg(feature = "std")]
+mod labeller;
+mod lines;
 mod packet;
 mod refusal;
 mod unfit;
 
+pub use annotator::{Annotator, LONGEST_LINE};
 pub use arrival::{route, Arrival, Delivery};
 pub use fields::{Body, Enables, Fields};
 pub use functions::{functions, Function};
 pub use id::Id;
 pub use kind::{CompletionKind, ConfigurationKind, Form, IoKind, Kind, MemoryKind, MessageKind, Routing};
+pub use label::{Label, Owner};
+#[cfg(feature = "std")]
+pub use labeller::Labeller;
+pub use lines::{lines, Line, Lines};
 pub use packet::{read, write, Packet};
 pub use refusal::Refusal;
 pub use unfit::{what_does_not_fit, Pool, Unfit};

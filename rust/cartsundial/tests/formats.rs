@@ -1,9 +1,17 @@
 //! docs/FORMATS.md shows a whole sheet under its board. It must be the sheet that the library leaves, byte for byte. (The
-//! other examples there go to the proved programs: docs/formats.sh.)
+//! other examples there go to the proved programs: docs/formats.sh.) docs/example has a board, its sheet, a trace and its
+//! labels, which must belong together.
 
-use cartsundial::{plan, FULL_SHEET};
+use cartsundial::{lines, plan, FULL_SHEET};
 
 const FORMATS: &str = include_str!("../../../docs/FORMATS.md");
+
+const BOARD: &[u8] = include_bytes!("../../../docs/example/board");
+/// The sheet after its length, as the program `annotate` reads it.
+const SHEET: &[u8] = include_bytes!("../../../docs/example/sheet");
+const TRACE: &[u8] = include_bytes!("../../../docs/example/trace");
+const TRACE_TEXT: &str = include_str!("../../../docs/example/trace.txt");
+const LABELS: &str = include_str!("../../../docs/example/labels.txt");
 
 /// The bytes that the lines spell, each without its comment.
 fn bytes<'a>(lines: impl Iterator<Item = &'a str>) -> Vec<u8> {
@@ -22,4 +30,14 @@ fn the_whole_sheet() {
     let mut room = [0; FULL_SHEET];
     let length = plan(&board, &mut room).unwrap();
     assert_eq!(room[..length], sheet);
+}
+
+#[test]
+fn the_example() {
+    let mut room = [0; FULL_SHEET];
+    let length = plan(BOARD, &mut room).unwrap();
+    assert!(SHEET == [&(length as u16).to_be_bytes(), &room[..length]].concat());
+    assert!(TRACE == bytes(TRACE_TEXT.lines()));
+    let labels: String = lines(&room[..length], TRACE).map(|line| format!("{line}\n")).collect();
+    assert_eq!(labels, LABELS);
 }

@@ -1,7 +1,7 @@
-//! The chosen cases of the scripts, once, whatever the rounds.
+//! The chosen cases of the scripts, and the runs of the annotator, once, whatever the rounds.
 
 use crate::tally::Tally;
-use crate::{boards, headers, routes, sheets};
+use crate::{boards, headers, routes, sheets, traces};
 use inputs::random::Random;
 
 pub fn compare(random: &mut Random, _: u64, tally: &mut Tally) {
@@ -9,6 +9,12 @@ pub fn compare(random: &mut Random, _: u64, tally: &mut Tally) {
         let mut sheet = Vec::new();
         for line in script.lines() {
             request(line, &mut sheet, random, tally);
+        }
+    }
+    for (_, input) in scripts::traces() {
+        let sheet = input.split_first_chunk().map(|(length, rest)| (u16::from_be_bytes(*length), rest));
+        if let Some((sheet, trace)) = sheet.and_then(|(length, rest)| rest.split_at_checked(length.into())) {
+            traces::annotate(sheet, trace, random, tally);
         }
     }
 }

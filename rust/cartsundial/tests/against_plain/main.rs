@@ -13,6 +13,7 @@ mod lent;
 mod routes;
 mod sheets;
 mod tally;
+mod traces;
 mod typed;
 
 use inputs::random::Random;
@@ -29,12 +30,13 @@ fn main() -> ExitCode {
     let rounds = setting("CARTSUNDIAL_ROUNDS", 1);
     println!("against plain: seed {seed}, rounds {rounds}");
     let mut tally = Tally::default();
-    let parts: [(&str, Part); 5] = [
+    let parts: [(&str, Part); 6] = [
         ("chosen", chosen::compare),
         ("headers", headers::compare),
         ("boards", boards::compare),
         ("sheets", sheets::compare),
         ("routes", routes::compare),
+        ("traces", traces::compare),
     ];
     for (number, (name, compare)) in (0..).zip(parts) {
         let before = tally.total();

@@ -1,5 +1,6 @@
 //! How often each call gave each number, and how large what it accepted was.
 
+use cartsundial::{Label, Owner, Refusal};
 use plain::Arrival;
 use std::fmt;
 
@@ -13,10 +14,22 @@ pub enum Call {
     Id,
     Command,
     Route,
+    Annotate,
+    End,
 }
 
-const CALLS: [Call; 8] =
-    [Call::Read, Call::Write, Call::Plan, Call::Check, Call::Lookup, Call::Id, Call::Command, Call::Route];
+const CALLS: [Call; 10] = [
+    Call::Read,
+    Call::Write,
+    Call::Plan,
+    Call::Check,
+    Call::Lookup,
+    Call::Id,
+    Call::Command,
+    Call::Route,
+    Call::Annotate,
+    Call::End,
+];
 
 /// One more than the greatest number.
 const NUMBERS: usize = 44;
@@ -33,9 +46,14 @@ impl Call {
             Call::Id => &[0, 11, 20, 21, 22, 24, 25, 27, 28, 29, 40],
             Call::Command => &[0, 10, 20, 21, 22, 24, 25, 27, 28, 29, 40],
             Call::Route => &[0, 1, 2, 3, 4, 5, 6, 7, 8, 9, 11, 20, 21, 22, 24, 25, 27, 28, 29, 40, 41, 42, 43],
+            Call::Annotate | Call::End => &[0, 10, 11],
         }
     }
 }
+
+/// What the lines of traces say, in kinds.
+const LABELS: [&str; 8] =
+    ["a function", "every function", "the port", "header refused", "route refused", "refused 20", "refused 21", "cut"];
 
 pub struct Tally {
     numbers: [[u64; NUMBERS]; CALLS.len()],
@@ -47,6 +65,8 @@ pub struct Tally {
     broadcasts: [u64; 257],
     /// Messages that ended at the port.
     ports: u64,
+    /// Lines of traces, by what they say.
+    labels: [u64; LABELS.len()],
 }
 
 impl Default for Tally {
@@ -57,6 +77,7 @@ impl Default for Tally {
             bridges: [0; 256],
             broadcasts: [0; 257],
             ports: 0,
+            labels: [0; LABELS.len()],
         }
     }
 }
@@ -79,6 +100,20 @@ impl Tally {
             Arrival::Every { functions, .. } => self.broadcasts[usize::from(functions)] += 1,
             Arrival::Port { .. } => self.ports += 1,
         }
+    }
+
+    pub fn labelled(&mut self, label: &Label) {
+        let kind = match label {
+            Label::Owned { owner: Owner::Function(_), .. } => 0,
+            Label::Owned { owner: Owner::Every, .. } => 1,
+            Label::Owned { owner: Owner::Port, .. } => 2,
+            Label::Refused { kind: None, .. } => 3,
+            Label::Refused { kind: Some(_), .. } => 4,
+            Label::NoTrace(Refusal::Frame) => 5,
+            Label::NoTrace(_) => 6,
+            Label::Cut => 7,
+        };
+        self.labels[kind] += 1;
     }
 
     pub fn total(&self) -> u64 {
@@ -106,6 +141,9 @@ impl Tally {
         }
         if self.broadcasts[1] == 0 || self.broadcasts[256] == 0 || self.ports == 0 {
             faults.push("no message went to the one function, to all 256, or to the port".into());
+        }
+        for (label, _) in LABELS.iter().zip(self.labels).filter(|&(_, count)| count == 0) {
+            faults.push(format!("no line of a trace was: {label}"));
         }
         faults.join("\n")
     }
@@ -150,6 +188,9 @@ impl fmt::Display for Tally {
         writeln!(f, "boards planned, by functions: {}", by_size(&self.functions))?;
         writeln!(f, "packets delivered, by bridges crossed: {}", by_size(&self.bridges))?;
         writeln!(f, "messages for every function, by functions: {}", by_size(&self.broadcasts))?;
-        writeln!(f, "messages for the port: {}", self.ports)
+        writeln!(f, "messages for the port: {}", self.ports)?;
+        let labels: Vec<String> =
+            LABELS.iter().zip(self.labels).map(|(label, count)| format!("{label}: {count}")).collect();
+        writeln!(f, "lines of traces: {}", labels.join(", "))
     }
 }

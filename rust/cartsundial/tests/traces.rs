@@ -1,0 +1,125 @@
+//! A trace's lines by the types: what each says, record numbers that wrap, empty slices, and a small stack.
+
+use cartsundial::{calls, lines, plan, Annotator, Kind, Label, Owner, Refusal, FULL_SHEET, LONGEST_LINE};
+use inputs::board::{self, memory};
+use inputs::foreign::{configuration, message, request, sheet, Record, CFGRD1, IOWR, MRD, MSG};
+use inputs::trace;
+use std::thread;
+
+fn p10() -> Vec<u8> {
+    let mut sheet = vec![0; FULL_SHEET];
+    let length = plan(&board::p10().bytes(), &mut sheet).unwrap();
+    sheet.truncate(length);
+    sheet
+}
+
+/// Over P10's sheet: owner 2, no owner, a refused header, every function, the port, and a kind that arrives as another.
+fn headers() -> [Vec<u8>; 6] {
+    [
+        request(MRD, 0xF900_0FFC),
+        request(IOWR, 0x4100),
+        request(MRD, 0xF900_0FFD),
+        message(MSG, 0b011, 0x19, 0),
+        message(MSG, 0b100, 0x20, 0),
+        configuration(CFGRD1, 0x0100, 0),
+    ]
+}
+
+#[test]
+fn labels() {
+    let owned = |number, kind, owner| Label::Owned { number, kind, owner };
+    let refused = |number, kind, refusal| Label::Refused { number, kind, refusal };
+    let trace = trace::of(&headers());
+    let labels: Vec<Label> = lines(&p10(), &trace[..trace.len() - 1]).map(|line| line.label()).collect();
+    assert_eq!(
+        labels,
+        [
+            owned(1, Kind::MRd, Owner::Function(2)),
+            refused(2, Some(Kind::IOWr), Refusal::NoOwner),
+            refused(3, None, Refusal::ReservedBits),
+            owned(4, Kind::Msg, Owner::Every),
+            owned(5, Kind::Msg, Owner::Port),
+            Label::Cut,
+        ]
+    );
+    let last = lines(&p10(), &trace).last().unwrap();
+    assert_eq!((&*last, last.label()), ("6 CfgRd1 owner 2", owned(6, Kind::CfgRd1, Owner::Function(2))));
+    assert_eq!(format!("{last:>18}|{last:?}"), "  6 CfgRd1 owner 2|\"6 CfgRd1 owner 2\"");
+    // A sheet that fails its checks is refused header by header.
+    assert_eq!(lines(&[], &trace).next().unwrap().label(), refused(1, Some(Kind::MRd), Refusal::Frame));
+    for (trace, label) in [(&[][..], Label::NoTrace(Refusal::Frame)), (&[2, 0], Label::NoTrace(Refusal::Version))] {
+        assert!(lines(&p10(), trace).map(|line| line.label()).eq([label]));
+    }
+    assert!(lines(&p10(), &[1]).next().is_none());
+}
+
+#[test]
+fn kinds_by_name() {
+    for kind in Kind::ALL {
+        assert_eq!((kind.name(), kind.to_string()), (&*format!("{kind:?}"), format!("{kind:?}")));
+    }
+}
+
+/// These lines are as long as any.
+#[test]
+fn numbers_wrap() {
+    let mut state = [2, 0, u64::MAX - 2, 0, 0, 0];
+    let header = configuration(CFGRD1, 0x0100, 0);
+    let records = &trace::of(&[&header[..], &header, &header])[1..];
+    let mut room = [0; 120];
+    let mut written = [0];
+    assert_eq!(calls::annotate(&mut state, &[], records, &mut room, &mut written), 0);
+    let lines = "18446744073709551614 CfgRd1 refused 20\n18446744073709551615 CfgRd1 refused 20\n0 CfgRd1 refused 20\n";
+    assert_eq!(&room[..written[0] as usize], lines.as_bytes());
+    assert!(lines.lines().all(|line| line.len() < LONGEST_LINE));
+    assert_eq!(state[..4], [2, 0, 0, 12]);
+    assert_eq!([state[4].to_be_bytes(), state[5].to_be_bytes()].concat(), [&header[..], &[0; 4]].concat());
+}
+
+#[test]
+fn empty_slices() {
+    let mut annotator = Annotator::new();
+    assert_eq!(annotator.feed(&[], &[], &mut []), Ok(0));
+    assert_eq!(annotator, Annotator::new());
+    assert_eq!(annotator.finish(&mut []), Err(Refusal::ShortRoom));
+    assert_eq!(annotator.feed(&[], &[1], &mut []), Ok(0));
+    assert_eq!(annotator.finish(&mut []), Ok(0));
+    assert_eq!(annotator.record_number(), 0);
+    // A short state is 11 and no state 10, before the rest; then 11 for the lines, or for how many they are.
+    assert_eq!(calls::annotate(&mut [], &[], &[], &mut [], &mut []), 11);
+    assert_eq!(calls::annotate(&mut [5, 0, 0, 0, 0], &[], &[], &mut [], &mut []), 11);
+    assert_eq!(calls::annotate(&mut [5, 0, 0, 0, 0, 0], &[], &[], &mut [], &mut []), 10);
+    assert_eq!(calls::annotate(&mut [0; 6], &[], &[], &mut [], &mut []), 11);
+    assert_eq!(calls::annotate_end(&[], &mut [], &mut []), 11);
+    assert_eq!(calls::annotate_end(&[4, 0, 0, 0, 0, 0], &mut [], &mut []), 10);
+    assert_eq!(calls::annotate_end(&[2, 0, 0, 0, 0, 0], &mut [], &mut []), 11);
+    assert_eq!(calls::annotate_end(&[2, 0, 0, 0, 0, 0], &mut [], &mut [7]), 0);
+}
+
+/// Room that is said to be enough for any piece is: for records of no bytes after the last byte of one, and after half of
+/// its length.
+#[test]
+fn room_for_any_piece() {
+    let zeros = [0; 64];
+    for start in [[4, 1, u64::MAX - 40, 16, 0, 0], [3, 0, u64::MAX - 40, 16, 0, 0], [2, 0, u64::MAX - 40, 16, 0, 0]] {
+        for length in 0..=zeros.len() {
+            let mut room = vec![0; Annotator::room_for(length)];
+            let (mut state, mut written) = (start, [0]);
+            assert_eq!(calls::annotate(&mut state, &[], &zeros[..length], &mut room, &mut written), 0);
+            assert!(written[0] <= room.len() as u64);
+        }
+    }
+    assert_eq!(Annotator::room_for(usize::MAX), usize::MAX);
+}
+
+/// A sheet with 255 bridges in a row.
+#[test]
+fn deep_on_a_small_stack() {
+    let bridge = |bus: u8| Record::bridge(u16::from_be_bytes([bus, 0]), bus + 1, 255).low(0xF900, 0xF970);
+    let mut records: Vec<Record> = (0..255).map(bridge).collect();
+    records.push(Record::end(0xFF00).bar(0, memory(20), 0xF920_0000));
+    let (sheet, trace) = (sheet(&records), trace::of(&[request(MRD, 0xF920_0000)]));
+    let line = move || lines(&sheet, &trace).next().map(|line| line.to_string());
+    let line = thread::Builder::new().stack_size(128 << 10).spawn(line).unwrap().join().unwrap();
+    assert_eq!(line.as_deref(), Some("1 MRd owner 256"));
+}
