@@ -9,6 +9,10 @@ use inputs::random::Random;
 use inputs::trace;
 use std::hint::black_box;
 
+/// A record of a sheet with its length, and where its registers start.
+const RECORD: usize = 92;
+const REGISTERS: usize = 4;
+
 /// A trace is so long, about.
 const TRACE_BYTES: usize = 1 << 18;
 
@@ -34,8 +38,8 @@ pub fn print(backplanes: &[Backplane]) {
 /// configuration requests and a few messages.
 fn trace_for(sheet: &[u8]) -> Vec<u8> {
     let mut random = Random::new(1);
-    let records: Vec<&[u8]> = sheet[1..].chunks_exact(92).collect();
-    let (ends, _): (Vec<&[u8]>, Vec<&[u8]>) = records.iter().partition(|record| record[4 + 0x0E] & 0x7F == 0);
+    let is_end = |record: &&[u8]| record[REGISTERS + 0x0E] & 0x7F == 0;
+    let ends: Vec<&[u8]> = sheet[1..].chunks_exact(RECORD).filter(is_end).collect();
     let mut headers = Vec::new();
     let mut length = 0;
     while length < TRACE_BYTES {
@@ -46,51 +50,55 @@ fn trace_for(sheet: &[u8]) -> Vec<u8> {
             0 => configuration(CFGRD1, id, random.below(64) as u16),
             1 => message(MSG, 0b011, 0x19, 0),
             2..=5 => completion(CPLD, id),
-            6..=10 => request(byte0, bar(end, 0) + (random.below(1 << 14) & !3)),
-            _ => request(byte0, (bar(end, 2) << 32) + bar(end, 1) + (random.below(1 << 20) & !3)),
+            6..=10 => request(byte0, low_bar(end) + (random.below(1 << 14) & !3)),
+            _ => request(byte0, high_bar(end) + (random.below(1 << 20) & !3)),
         });
         length += 2 + headers[headers.len() - 1].len();
     }
     trace::of(&headers)
 }
 
-/// A BAR's register without its type bits.
+/// Where BAR 0 starts, below 4 GiB.
+fn low_bar(record: &[u8]) -> u64 {
+    bar(record, 0) & !15
+}
+
+/// Where BARs 1 and 2 start, which are one.
+fn high_bar(record: &[u8]) -> u64 {
+    (bar(record, 2) << 32 | bar(record, 1)) & !15
+}
+
 fn bar(record: &[u8], slot: usize) -> u64 {
-    let (bars, _) = record[4 + 0x10..].as_chunks();
-    u64::from(u32::from_le_bytes(bars[slot]) & !15)
+    let (bars, _) = record[REGISTERS + 0x10..].as_chunks();
+    u32::from_le_bytes(bars[slot]).into()
+}
+
+/// The pieces of a trace in turn, again and again.
+struct Turns<'a> {
+    pieces: &'a [&'a [u8]],
+    next: usize,
+}
+
+impl<'a> Turns<'a> {
+    /// The next piece, and whether it is the trace's first.
+    fn next(&mut self) -> (&'a [u8], bool) {
+        let at = self.next;
+        self.next = (at + 1) % self.pieces.len();
+        (self.pieces[at], at == 0)
+    }
 }
 
 fn row(backplane: &Backplane, trace: &[u8], name: &str, length: usize) {
     let sheet = &backplane.sheet;
     // Whole pieces only, so that all are as long.
     let pieces: Vec<&[u8]> = trace.chunks_exact(length).collect();
-    let mut rooms = (vec![0; Annotator::room_for(length)], vec![0; Annotator::room_for(length)]);
-    let records = tried(sheet, &pieces, &mut rooms);
-    let (mut plain_turns, mut proved_turns) = (pieces.iter().cycle(), pieces.iter().cycle());
-    let (mut annotator, mut state) = (plain::Annotator::new(), [0; TRACE]);
-    let mut turn = (0, 0);
-    let Times { plain, proved } = compare(
-        || {
-            if turn.0 % pieces.len() == 0 {
-                annotator = plain::Annotator::new();
-            }
-            turn.0 += 1;
-            let piece = plain_turns.next().expect("the pieces come again and again");
-            plain_feed(&mut annotator, black_box(sheet), black_box(piece), black_box(&mut rooms.0))
-        },
-        || {
-            if turn.1 % pieces.len() == 0 {
-                state = [0; TRACE];
-            }
-            turn.1 += 1;
-            let piece = proved_turns.next().expect("the pieces come again and again");
-            proved_feed(&mut state, black_box(sheet), black_box(piece), black_box(&mut rooms.1))
-        },
-    );
+    let records = tried(sheet, &pieces);
+    let times = compare(plain_side(sheet, &pieces), proved_side(sheet, &pieces));
+    let Times { plain, proved } = times;
     let per_record = |piece: f64| piece * pieces.len() as f64 / records as f64;
     let rate = |piece: f64| length as f64 / piece * 1000.0;
     println!(
-        "| {} | {name} | {:.1} | {:.1} | {:.2} | {:.2} | {:.2} |",
+        "| {} | {name} | {:.1} | {:.1} | {:.2} | {:.1} | {:.1} |",
         backplane.name,
         per_record(plain),
         per_record(proved),
@@ -100,9 +108,41 @@ fn row(backplane: &Backplane, trace: &[u8], name: &str, length: usize) {
     );
 }
 
+fn plain_side<'a>(sheet: &'a [u8], pieces: &'a [&'a [u8]]) -> impl FnMut() -> usize + 'a {
+    let mut turns = Turns { pieces, next: 0 };
+    let mut annotator = plain::Annotator::new();
+    let mut room = room_for(pieces);
+    move || {
+        let (piece, is_first) = turns.next();
+        if is_first {
+            annotator = plain::Annotator::new();
+        }
+        plain_feed(&mut annotator, black_box(sheet), black_box(piece), black_box(&mut room))
+    }
+}
+
+fn proved_side<'a>(sheet: &'a [u8], pieces: &'a [&'a [u8]]) -> impl FnMut() -> usize + 'a {
+    let mut turns = Turns { pieces, next: 0 };
+    let mut state = [0; TRACE];
+    let mut room = room_for(pieces);
+    move || {
+        let (piece, is_first) = turns.next();
+        if is_first {
+            state = [0; TRACE];
+        }
+        proved_feed(&mut state, black_box(sheet), black_box(piece), black_box(&mut room))
+    }
+}
+
+/// Room for the lines of any of the pieces.
+fn room_for(pieces: &[&[u8]]) -> Vec<u8> {
+    vec![0; Annotator::room_for(pieces[0].len())]
+}
+
 /// Both sides write the same lines for each piece. Returns how many records there are.
-fn tried(sheet: &[u8], pieces: &[&[u8]], rooms: &mut (Vec<u8>, Vec<u8>)) -> u64 {
+fn tried(sheet: &[u8], pieces: &[&[u8]]) -> u64 {
     let (mut annotator, mut state) = (plain::Annotator::new(), [0; TRACE]);
+    let mut rooms = (room_for(pieces), room_for(pieces));
     for piece in pieces {
         let length = plain_feed(&mut annotator, sheet, piece, &mut rooms.0);
         assert_eq!(proved_feed(&mut state, sheet, piece, &mut rooms.1), length);
