@@ -57,7 +57,13 @@ use Rattle.board.specs.ToPlacing.{toHost, toPlacing}
 use Rattle.plan_answer.specs.declared.Planning.{Planning}
 use Rattle.plan_answer.specs.declared.Planning.the-variants.{Planned, Refused as NotPlanned}
 use Rattle.plan_answer.specs.Plan.{onRoom, onBoard, planning}
+use Rattle.trace.specs.Feed.{fedOf, finishedOf}
+use Rattle.trace_line.specs.Line.{lineOver}
+use Rattle.trace_numbers.specs.Parsing.{Parsed as ParsedState, Accepted as State, Refused as NoState, traceOf}
+use Rattle.trace_numbers.specs.NumbersLaws.{NumberedParsed as NumberedParsedState, numbered-traceOf}
+use Rattle.capi_answers.specs.Answers.{refuses, gives}
 use Rattle.capi_answers.specs.AnswersLaws.{Numbered}
+use Rattle.capi_trace.specs.Calls.{onLines, annotateOn, annotateAnswer, endOn, endAnswer}
 use Rattle.capi.specs.Calls.{onReading, readAnswer, onWriting, onParsed, writeAnswer, onLookup, lookupAnswer, onRecordId, idAnswer, onRouting, routeAnswer}
 use Rattle.capi.specs.Calls.{onPlanning, planAnswer}
 
@@ -275,3 +281,22 @@ numbered-plan board room =
     let roomy = either NumberedPlanning (ltb room size) (NotPlanned 11) (Planned size) (omega arith) tt in
     let kept = unless-zero NumberedPlanning out (cond (ltb room size) (NotPlanned 11) (Planned size)) (NotPlanned out) roomy (λ h. h) in
     unless-zero NumberedPlanning (boardNumber board) (onBoard (hostOf board) fs room) (NotPlanned (boardNumber board)) kept (λ h. h)
+
+-- ## A trace
+
+numbered-lines : (number count : ℕ) → Numbered (onLines number count)
+numbered-lines number count = unless-zero Numbered number (gives (count ∷ [])) (refuses number) tt (λ h. h)
+
+pub numbered-annotate : (state sheet piece : List ℕ) (room : ℕ) → Numbered (annotateAnswer state sheet piece room)
+numbered-annotate state sheet piece room = go (traceOf state) (numbered-traceOf state)
+  where
+    go : (q : ParsedState) → NumberedParsedState q → Numbered (annotateOn q sheet piece room)
+    go (State t) h = let f = fedOf (lineOver sheet) t piece room in numbered-lines (f .number) (f .written)
+    go (NoState n) h = h
+
+pub numbered-end : (state : List ℕ) (room : ℕ) → Numbered (endAnswer state room)
+numbered-end state room = go (traceOf state) (numbered-traceOf state)
+  where
+    go : (q : ParsedState) → NumberedParsedState q → Numbered (endOn q room)
+    go (State t) h = let f = finishedOf t room in numbered-lines (f .number) (f .written)
+    go (NoState n) h = h

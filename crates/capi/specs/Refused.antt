@@ -20,6 +20,8 @@ use Rattle.plan_answer.specs.declared.Planning.the-variants.{Planned, Refused a
 use Rattle.plan_answer.specs.Plan.{planning, sheetAs, sheetAfter}
 use Rattle.capi_answers.specs.Answers.{Answer, returned, filled}
 use Rattle.capi_answers.specs.AnswersLaws.{one-given, refused-keeps-slice}
+use Rattle.capi_trace.specs.Calls.{annotateAnswer, stateLeft, linesLeft, endAnswer, endLeft}
+use Rattle.capi_trace.specs.Refused.{refused-keeps-state, refused-keeps-lines, refused-keeps-last}
 use Rattle.capi.specs.Calls.{onWriting, onParsed, writeAnswer, roomOf, roomLeft, word, commandNumber, commandLeft}
 use Rattle.capi.specs.Calls.{onPlanning, planAnswer, sheetLeft}
 
@@ -34,6 +36,13 @@ pub record RefusedKeeps : Type 0 where
       → sheetLeft board sheet written ≡ sheet
   -- the sheet of a command word
   pub commanded-sheet : (sheet : List ℕ) (id command : ℕ) → ¬ (commandNumber sheet id command ≡ 0) → commandLeft sheet id command ≡ sheet
+  -- the state and the lines of a trace, and the line of its end
+  pub trace-state : (state sheet piece written : List ℕ) (room : ℕ) → ¬ (returned (annotateAnswer state sheet piece room) written ≡ 0)
+      → stateLeft state sheet piece room written ≡ state
+  pub trace-lines : (state sheet piece lines written : List ℕ)
+      → ¬ (returned (annotateAnswer state sheet piece (length lines)) written ≡ 0) → linesLeft state sheet piece lines written ≡ lines
+  pub end-lines : (state lines written : List ℕ) → ¬ (returned (endAnswer state (length lines)) written ≡ 0)
+      → endLeft state lines written ≡ lines
 
 room-as : (p : Packet) (room : List ℕ) → roomAfter p room ≡ roomAs (writeOf p (length room)) p room
 unfolding roomAfter
@@ -83,4 +92,12 @@ keeps-sheet sheet id command = go (ltb word command) (lookupOf sheet id)
 
 pub refused-keeps : RefusedKeeps
 refused-keeps =
-    record { answer-slice = refused-keeps-slice; room = keeps-room; planned-sheet = keeps-planned; commanded-sheet = keeps-sheet }
+    record {
+      answer-slice = refused-keeps-slice;
+      room = keeps-room;
+      planned-sheet = keeps-planned;
+      commanded-sheet = keeps-sheet;
+      trace-state = refused-keeps-state;
+      trace-lines = refused-keeps-lines;
+      end-lines = refused-keeps-last;
+    }

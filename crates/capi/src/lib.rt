@@ -7,6 +7,7 @@ ghost use Rattle.sheet.specs.Sheet.{sheetNumber};
 ghost use Rattle.sheet.specs.Lookup.{lookupOf};
 ghost use Rattle.plan_answer.specs.Plan.{numberOf as planningNumber, planning};
 ghost use Rattle.capi_answers.specs.Answers.{returned, filled, leftBeside};
+ghost use Rattle.capi_trace.specs.Calls.{annotateAnswer, stateLeft, linesLeft, endAnswer, endLeft};
 ghost use Rattle.capi.specs.Calls.{readAnswer, onWriting, writeAnswer, roomLeft, lookupAnswer, idAnswer, unownedOf};
 ghost use Rattle.capi.specs.Calls.{commandNumber, commandLeft, routeAnswer, planAnswer, sheetLeft};
 use packet::Packet;
@@ -127,6 +128,52 @@ pub extern "C" fn cartsundial_route(header: &[u8], sheet: &[u8], answer: &mut [u
         Routing::Port(p) => capi_answers::give_delivery(0, 0, p, answer),
         Routing::Refused(n) => n as u32,
     }
+}
+
+// Takes a piece of a trace: the lines of the records that end in it, over a sheet, and how many bytes they are. The state is six numbers
+// that the caller keeps, all zero at first: fewer are 11 and numbers that are no state 10, both tried first. A refused piece is not taken.
+#[no_mangle]
+pub extern "C" fn cartsundial_annotate(
+    state: &mut [u64],
+    sheet: &[u8],
+    piece: &[u8],
+    lines: &mut [u8],
+    written: &mut [u64],
+) -> u32
+    ensures { λ r. ⌜
+        r
+        ≡ returned (annotateAnswer (now (state .entry)) (now (sheet .entry)) (now (piece .entry)) (length (now (lines .entry))))
+        (now (written .entry))
+        ⌝ }
+    ensures { λ _. ⌜
+        now (state .exit)
+        ≡ stateLeft (now (state .entry)) (now (sheet .entry)) (now (piece .entry)) (length (now (lines .entry))) (now (written .entry))
+        ⌝ }
+    ensures { λ _. ⌜
+        now (lines .exit)
+        ≡ linesLeft (now (state .entry)) (now (sheet .entry)) (now (piece .entry)) (now (lines .entry)) (now (written .entry))
+        ⌝ }
+    ensures { λ _. ⌜
+        now (written .exit)
+        ≡ filled (annotateAnswer (now (state .entry)) (now (sheet .entry)) (now (piece .entry)) (length (now (lines .entry))))
+        (now (written .entry))
+        ⌝ }
+{
+    capi_trace::annotate(state, sheet, piece, lines, written)
+}
+
+// Ends a trace: its last line, if it gets one, and how many bytes it is.
+#[no_mangle]
+pub extern "C" fn cartsundial_annotate_end(
+    state: &[u64],
+    lines: &mut [u8],
+    written: &mut [u64],
+) -> u32
+    ensures { λ r. ⌜ r ≡ returned (endAnswer (now (state .entry)) (length (now (lines .entry)))) (now (written .entry)) ⌝ }
+    ensures { λ _. ⌜ now (lines .exit) ≡ endLeft (now (state .entry)) (now (lines .entry)) (now (written .entry)) ⌝ }
+    ensures { λ _. ⌜ now (written .exit) ≡ filled (endAnswer (now (state .entry)) (length (now (lines .entry)))) (now (written .entry)) ⌝ }
+{
+    capi_trace::finish(state, lines, written)
 }
 
 // ---- what the calls are made of

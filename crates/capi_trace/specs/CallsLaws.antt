@@ -83,15 +83,15 @@ EndedFor state lines written r lines′ written′ =
     (r ≡ returned (endAnswer state (length lines)) written)
     × ((lines′ ≡ endLeft state lines written) × (written′ ≡ filled (endAnswer state (length lines)) written))
 
-finished-short : (t : Trace) (written : List ℕ) (room : ℕ) → length written ≡ 0
-    → Answered (onFinished (finishedOf t room)) written 11 written
+ended-short : (text written : List ℕ) (room : ℕ) → length written ≡ 0 → Answered (onFinished (endedOf text room)) written 11 written
 unfolding endedOf
-finished-short t written room z = go (leb (length (endLine t)) room)
+ended-short text written room z = go (leb (length text) room)
   where
-    go : (b : Bool)
-        → Answered (onFinished (cond b (record { number = 0; written = length (endLine t) }) (record { number = 11; written = 0 }))) written 11
-        written
-    go true = answered-short (length (endLine t) ∷ []) written (omega arith)
+    none : Finished
+    none = record { number = 11; written = 0 }
+
+    go : (b : Bool) → Answered (onFinished (cond b (record { number = 0; written = length text }) none)) written 11 written
+    go true = answered-short (length text ∷ []) written (omega arith)
     go false = (refl, refl)
 
 module _ (state lines written : List ℕ) (u : Taken) (answered : u ≡ takenAs (traceOf state)) where
@@ -104,7 +104,7 @@ module _ (state lines written : List ℕ) (u : Taken) (answered : u ≡ takenAs 
 
     pub end-no-slice : length written ≡ 0 → EndedFor state lines written 11 lines written
     end-no-slice z =
-        let short = finished-short (u .state) written (length lines) z in
+        let short = ended-short (endLine (u .state)) written (length lines) z in
         rw (is-end-state, eq-eqb (length written) 0 z) (short .0, (refl, short .1))
 
     module _ (some : length written ≡ 0 → ⊥) (f : Finished) (e : f ≡ finishedOf (u .state) (length lines)) (lines′ : List ℕ)

@@ -59,7 +59,7 @@ pub fn finish(state: &[u64], lines: &mut [u8], written: &mut [u64]) -> u32
     if taken.number != 0 {
         return taken.number as u32;
     }
-    if written.len() == 0 {
+    if written.len() < 1 {
         return 11;
     }
     let t = taken.state;

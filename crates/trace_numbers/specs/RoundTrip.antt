@@ -22,8 +22,9 @@ use Rattle.trace.specs.declared.Trace.{Trace}
 use Rattle.trace.specs.Annotated.{frontLength}
 use Rattle.trace.specs.Trace.{fresh, Account, accountOf, heardBy, stateOf}
 use Rattle.trace_numbers.specs.Numbers.{stageNumber, stageValue, numbersOf}
-use Rattle.trace_numbers.specs.Parsing.{size, isStage, stages, stageAt, headAt, stateAt, isState, Parsed, Accepted, Refused, traceOf}
-use Rattle.trace_numbers.specs.NumbersLaws.{true-of-and, stage-elim, stage-of-state, kept-of-state, length-headAt, passed, enough-of-accepted}
+use Rattle.trace_numbers.specs.Parsing.{size, isStage, stages, stageAt, headAt, stateAt, isState, Accepted, Refused, traceOf}
+use Rattle.trace_numbers.specs.NumbersLaws.{true-of-and, stage-elim, stage-of-state, kept-of-state, length-headAt, passed}
+use Rattle.trace_numbers.specs.NumbersLaws.{enough-of-accepted}
 
 -- ## Bounds
 
