@@ -22,10 +22,10 @@ use Rattle.packet.specs.declared.Outcome.{Outcome}
 use Rattle.packet.specs.declared.Packet.{Packet}
 use Rattle.packet.specs.declared.Packet.the-variants.{Memory, Io, Config, Completion, Message}
 use Rattle.packet.specs.declared.Verdict.the-variants.{Lawful, Refused}
-use Rattle.packet.specs.Fields.{kindOf, headOf}
+use Rattle.packet.specs.Fields.{kindOf, headOf, isPosted}
 use Rattle.packet.specs.Widths.{enablesFit, addressFits, targetFits, bodyFits, fieldsFit}
 use Rattle.packet.specs.WidthsLaws.{and-elim, HeadBounds, head-bounds-elim, enables-fit-elim, target-fits-elim, OutcomeBounds}
-use Rattle.packet.specs.WidthsLaws.{outcome-bounds-elim, content-fits-elim, FieldsFit, fields-fit-elim}
+use Rattle.packet.specs.WidthsLaws.{outcome-bounds-elim, content-fits-elim, tag-fits-elim, FieldsFit, fields-fit-elim}
 use Rattle.packet.specs.Rules.{ruleNumber}
 use Rattle.packet.specs.Verdict.{verdictOf, onPair, onFields, onRules}
 
@@ -72,6 +72,9 @@ fit-of-lawful row p l = fields-fit-elim p (lawful-elim row p l .fits)
 
 pub head-of-lawful : (row : Row) (p : Packet) → verdictOf p ≡ Lawful row → HeadBounds (headOf p)
 head-of-lawful row p l = head-bounds-elim (headOf p) (fit-of-lawful row p l .head)
+
+pub tag-of-lawful : (row : Row) (p : Packet) → verdictOf p ≡ Lawful row → isPosted (kindOf p) ≡ true → headOf p .tag < 256
+tag-of-lawful row p l = tag-fits-elim p (fit-of-lawful row p l .tag)
 
 request-bounds : (row : Row) (p : Packet) (e : Enables) → verdictOf p ≡ Lawful row → enablesFit e ≡ true → RequestBounds (headOf p) e
 request-bounds row p e l f = let b = enables-fit-elim e f in record { head = head-of-lawful row p l; last = b .0; first = b .1 }

@@ -11,15 +11,18 @@ use Rattle.packet.specs.declared.Target.{Target}
 use Rattle.packet.specs.declared.Outcome.{Outcome}
 use Rattle.packet.specs.declared.Packet.{Packet}
 use Rattle.packet.specs.declared.Packet.the-variants.{Memory, Io, Config, Completion, Message}
-use Rattle.packet.specs.Fields.{headOf}
+use Rattle.packet.specs.Fields.{kindOf, headOf, isPosted}
 
 -- x fits a field of n bits
 abbrev pub fits : ℕ → ℕ → Bool
 fits n x = ltb x (2 ^ n)
 
--- the tag's field has eight bits in the base
 abbrev pub headFits : Head → Bool
-headFits h = fits 16 (h .requester) && fits 3 (h .tc) && fits 3 (h .attr) && fits 2 (h .at) && fits 8 (h .tag)
+headFits h = fits 16 (h .requester) && fits 3 (h .tc) && fits 3 (h .attr) && fits 2 (h .at) && fits 10 (h .tag)
+
+-- the tag has ten bits, and eight in a memory write or message
+abbrev pub tagFits : Packet → Bool
+tagFits p = not (isPosted (kindOf p)) || fits 8 (headOf p .tag)
 
 abbrev pub lengthIn : ℕ → Bool
 lengthIn n = leb 1 n && leb n 1024
@@ -60,4 +63,4 @@ bodyFits (Completion k h o) = outcomeFits o
 bodyFits (Message k h routing code tail) = contentFits code tail
 
 unfoldable pub fieldsFit : Packet → Bool
-fieldsFit p = headFits (headOf p) && lengthFits p && bodyFits p
+fieldsFit p = headFits (headOf p) && tagFits p && lengthFits p && bodyFits p

@@ -9,8 +9,8 @@ use Rattle.packet.specs.declared.Enables.{Enables}
 use Rattle.packet.specs.declared.Target.{Target}
 use Rattle.packet.specs.declared.Outcome.{Outcome}
 use Rattle.packet.specs.declared.Packet.{Packet}
-use Rattle.packet.specs.Fields.{headOf}
-use Rattle.packet.specs.Widths.{headFits, lengthIn, lengthFits, enablesFit, addressFits, targetFits, outcomeFits, contentFits, bodyFits, fieldsFit}
+use Rattle.packet.specs.Fields.{kindOf, headOf, isPosted}
+use Rattle.packet.specs.Widths.{headFits, tagFits, lengthIn, lengthFits, enablesFit, addressFits, targetFits, outcomeFits, contentFits, bodyFits, fieldsFit}
 
 pub and-elim : (a b : Bool) → a && b ≡ true → (a ≡ true) × (b ≡ true)
 and-elim a b = and-eq-true-iff a b .0
@@ -23,7 +23,7 @@ pub record HeadBounds (h : Head) : Type 0 where
   pub tc : h .tc < 8
   pub attr : h .attr < 8
   pub «at» : h .at < 4
-  pub tag : h .tag < 256
+  pub tag : h .tag < 1024
 
 pub head-bounds-elim : (h : Head) → headFits h ≡ true → HeadBounds h
 head-bounds-elim h e =
@@ -99,6 +99,7 @@ address-fits-intro h a w n = and-intro _ _ (lt-ltb _ _ w) (go (eqb (h .form) 3) 
 -- the three parts of the check
 pub record FieldsFit (p : Packet) : Type 0 where
   pub head : headFits (headOf p) ≡ true
+  pub tag : tagFits p ≡ true
   pub length : lengthFits p ≡ true
   pub body : bodyFits p ≡ true
 
@@ -107,8 +108,20 @@ unfolding fieldsFit
 fields-fit-elim p e =
     let a = and-elim _ _ e in
     let b = and-elim _ _ (a .0) in
-    record { head = b .0; length = b .1; body = a .1 }
+    let c = and-elim _ _ (b .0) in
+    record { head = c .0; tag = c .1; length = b .1; body = a .1 }
+
+-- a memory write or message has a tag of eight bits
+pub tag-fits-elim : (p : Packet) → tagFits p ≡ true → isPosted (kindOf p) ≡ true → headOf p .tag < 256
+tag-fits-elim p e posted = ltb-true _ _ (rw posted at e)
+
+pub tag-fits-intro : (p : Packet) → (isPosted (kindOf p) ≡ true → headOf p .tag < 256) → tagFits p ≡ true
+tag-fits-intro p small = go (isPosted (kindOf p)) refl
+  where
+    go : (b : Bool) → isPosted (kindOf p) ≡ b → not b || ltb (headOf p .tag) 256 ≡ true
+    go true e = lt-ltb _ _ (small e)
+    go false e = refl
 
 pub fields-fit-intro : (p : Packet) → FieldsFit p → fieldsFit p ≡ true
 unfolding fieldsFit
-fields-fit-intro p f = simp (f .head, f .length, f .body)
+fields-fit-intro p f = simp (f .head, f .tag, f .length, f .body)

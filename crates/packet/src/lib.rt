@@ -4,13 +4,14 @@
 ghost use mathlib.Core.Path.{_≡_};
 ghost use mathlib.Core.Bool.{cond};
 ghost use Prim.Native.Nat.{ℕ, _<_};
+ghost use Rattle.pairs.specs.declared.Kind.the-variants.{Memory as MemoryOf};
 ghost use Rattle.pairs.specs.declared.MemoryKind.{MemoryKind};
 ghost use Rattle.pairs.specs.declared.IoKind.{IoKind};
 ghost use Rattle.pairs.specs.declared.ConfigKind.{ConfigKind};
 ghost use Rattle.packet.specs.declared.Target.{Target};
 ghost use Rattle.packet.specs.declared.Packet.the-variants.{Memory, Io, Config, Completion, Message};
-ghost use Rattle.packet.specs.Fields.{kindOf, headOf};
-ghost use Rattle.packet.specs.Widths.{headFits, lengthIn, lengthFits, enablesFit, addressFits, targetFits, outcomeFits};
+ghost use Rattle.packet.specs.Fields.{kindOf, headOf, isPosted};
+ghost use Rattle.packet.specs.Widths.{headFits, tagFits, lengthIn, lengthFits, enablesFit, addressFits, targetFits, outcomeFits};
 ghost use Rattle.packet.specs.Widths.{contentFits, bodyFits, fieldsFit};
 ghost use Rattle.packet.specs.Rules.{isByAddress, oneDword, isFirst, isLast, enablesLawful, isStatus, ruleNumber};
 ghost use Rattle.packet.specs.RulesLaws.{hasNoLength, isWithoutData};
@@ -208,6 +209,32 @@ pub fn kind_of(p: Packet) -> Kind
     }
 }
 
+// A memory write or a message: no completion answers it, and its tag has eight bits.
+pub fn is_posted(kind: Kind) -> bool
+    ensures { λ r. ⌜ r ≡ isPosted kind ⌝ }
+{
+    match kind {
+        Kind::Memory(k) => is_write(k),
+        Kind::Io(_) => false,
+        Kind::Config(_) => false,
+        Kind::Completion(_) => false,
+        Kind::Message(_, _) => true,
+        Kind::FetchAdd => false,
+        Kind::Swap => false,
+        Kind::Cas => false,
+    }
+}
+
+pub fn is_write(k: MemoryKind) -> bool
+    ensures { λ r. ⌜ r ≡ isPosted (MemoryOf k) ⌝ }
+{
+    match k {
+        MemoryKind::MRd => false,
+        MemoryKind::MRdLk => false,
+        MemoryKind::MWr => true,
+    }
+}
+
 pub fn head_of(p: Packet) -> Head
     ensures { λ r. ⌜ r ≡ headOf p ⌝ }
 {
@@ -223,13 +250,20 @@ pub fn head_of(p: Packet) -> Head
 fn fields_fit(p: Packet) -> bool
     ensures { λ r. ⌜ r ≡ fieldsFit p ⌝ }
 {
-    head_fits(head_of(p)) & length_fits(p) & body_fits(p)
+    head_fits(head_of(p)) & tag_fits(p) & length_fits(p) & body_fits(p)
 }
 
 fn head_fits(h: Head) -> bool
     ensures { λ r. ⌜ r ≡ headFits h ⌝ }
 {
-    (h.tc < 8) & (h.attr < 8) & (h.at < 4) & (h.tag < 256)
+    (h.tc < 8) & (h.attr < 8) & (h.at < 4) & (h.tag < 1024)
+}
+
+fn tag_fits(p: Packet) -> bool
+    ensures { λ r. ⌜ r ≡ tagFits p ⌝ }
+{
+    let h = head_of(p);
+    !is_posted(kind_of(p)) | (h.tag < 256)
 }
 
 fn length_in(n: u16) -> bool

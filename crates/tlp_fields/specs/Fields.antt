@@ -1,7 +1,7 @@
 -- Document 01, "Header layout": the fields of a header, each at its place in the bytes, and the bits that the layout does not name.
 -- Assumes nothing.
 use Prim.Native.Nat.{ℕ, _+_, _*_, _/_, _%_, _^_}
-use mathlib.Core.Bool.{Bool, cond, not, _||_}
+use mathlib.Core.Bool.{Bool, cond, not, _&&_, _||_}
 use mathlib.Core.List.{List}
 use lib.ListN.{getD}
 use lib.Dec.{eqb}
@@ -38,8 +38,12 @@ abbrev pub messageLength : Messaging → ℕ → ℕ
 messageLength Msg code = code
 messageLength MsgD code = lengthOf code
 
+-- tag bits 9 and 8 are bits 7 and 3 of byte 1; `low` is the tag's low byte, wherever it stands
+abbrev pub tagWith : ℕ → List ℕ → ℕ
+tagWith low s = getD s 1 0 / 128 % 2 * 512 + getD s 1 0 / 8 % 2 * 256 + low
+
 unfoldable pub headAt : ℕ → ℕ → ℕ → ℕ → List ℕ → Head
-headAt form dwords requester tag s =
+headAt form dwords requester low s =
     record {
       form = form;
       tc = getD s 1 0 / 16 % 8;
@@ -49,7 +53,7 @@ headAt form dwords requester tag s =
       at = getD s 2 0 / 4 % 4;
       length = dwords;
       requester = requester;
-      tag = tag;
+      tag = tagWith low s;
     }
 
 abbrev pub requestHeadAt : ℕ → List ℕ → Head
@@ -85,8 +89,9 @@ outcomeAt s =
 
 -- ## The bits that the layout does not name, and TH (4)
 
-unfoldable pub unnamed : List ℕ → Bool
-unnamed s = isSet 7 (getD s 1 0) || isSet 3 (getD s 1 0) || isSet 1 (getD s 1 0) || isSet 0 (getD s 1 0)
+-- a posted request has no tag bits 9 and 8
+unfoldable pub unnamed : Bool → List ℕ → Bool
+unnamed posted s = posted && (isSet 7 (getD s 1 0) || isSet 3 (getD s 1 0)) || isSet 1 (getD s 1 0) || isSet 0 (getD s 1 0)
 
 unfoldable pub unnamedTarget : List ℕ → Bool
 unnamedTarget s = not (eqb (getD s 10 0 / 16) 0) || not (eqb (getD s 11 0 % 4) 0)

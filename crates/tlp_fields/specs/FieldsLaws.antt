@@ -2,7 +2,7 @@
 -- Assumes nothing.
 use Prim.Native.Nat.{ℕ, suc, _+_, _*_, _-_, _/_, _%_, _^_, _≤_, _<_}
 use mathlib.Core.Path.{_≡_, refl, sym, ap, ap₂, _∙_}
-use mathlib.Core.Bool.{Bool, true, false, cond, not, _||_}
+use mathlib.Core.Bool.{Bool, true, false, cond, not, _&&_, _||_}
 use mathlib.Core.Logic.{_⊎_, inl, inr}
 use mathlib.Core.List.{List, [], _∷_, _++_}
 use native.Mathlib.Nat.{div-add-mod', div-one, div-div-eq-div-mul}
@@ -34,7 +34,7 @@ use Rattle.tlp_layout.specs.LayoutLaws.{bit-le-one}
 use Rattle.tlp_layout.specs.Layout.{bit, lengthCode, frontBytes, requestBytes, addressBytes, targetBytes, outcomeBytes, completionBytes}
 use Rattle.tlp_layout.specs.Layout.{messageBytes}
 use Rattle.tlp_fields.specs.Fields.{isSet, codeAt, lengthOf, completionLength, headAt, requestHeadAt, completionHeadAt, enablesAt}
-use Rattle.tlp_fields.specs.Fields.{messageLength, messageHeadAt, messageCodeAt, addressAt, targetAt, outcomeAt, unnamed, unnamedTarget, unnamedLower}
+use Rattle.tlp_fields.specs.Fields.{tagWith, messageLength, messageHeadAt, messageCodeAt, addressAt, targetAt, outcomeAt, unnamed, unnamedTarget, unnamedLower}
 
 -- ## Bits
 
@@ -87,6 +87,58 @@ byte2-spelled x below =
         → a * 128 + b * 64 + c * 16 + d * 4 + e ≡ x
     sum x q₁ q₂ q₃ a b c d e h₁ h₂ h₃ h₄ = omega arith
 
+-- ## Byte 1: tag bit 9, TC, tag bit 8 and Attr2
+
+record Byte1 (byte t c e a : ℕ) : Type 0 where
+  nine : byte / 128 % 2 ≡ t
+  tc : byte / 16 % 8 ≡ c
+  eight : byte / 8 % 2 ≡ e
+  attr2 : byte / 4 % 2 ≡ a
+  one : byte / 2 % 2 ≡ 0
+  none : byte / 1 % 2 ≡ 0
+
+byte1-fields : (h : Head) → HeadBounds h
+    → Byte1 (h .tag / 512 * 128 + h .tc * 16 + h .tag / 256 % 2 * 8 + h .attr / 4 * 4) (h .tag / 512) (h .tc) (h .tag / 256 % 2) (h .attr / 4)
+byte1-fields h b =
+    parts (h .tag / 512) (h .tc) (h .tag / 256 % 2) (h .attr / 4) (omega (arith, b .tag)) (b .tc) (omega arith) (omega (arith, b .attr))
+  where
+    parts : (t c e a : ℕ) → t < 2 → c < 8 → e < 2 → a < 2 → Byte1 (t * 128 + c * 16 + e * 8 + a * 4) t c e a
+    parts t c e a t-lt c-lt e-lt a-lt =
+        record {
+          nine = omega arith;
+          tc = omega arith;
+          eight = omega arith;
+          attr2 = omega arith;
+          one = omega arith;
+          none = omega arith;
+        }
+
+byte1-sum : (x : ℕ) → x < 256 → x / 2 % 2 ≡ 0 → x / 1 % 2 ≡ 0
+    → x / 128 % 2 * 128 + x / 16 % 8 * 16 + x / 8 % 2 * 8 + x / 4 % 2 * 4 ≡ x
+byte1-sum x below one none =
+    sum x (x / 2) (x / 4) (x / 8) (x / 16) (x / 128 % 2) (x / 16 % 8) (x / 8 % 2) (x / 4 % 2) (x / 2 % 2) (x / 1 % 2)
+    (ap (λ (y : ℕ). y % 2 * 8 + x / 16 % 8) (sym (div-div-eq-div-mul x 16 8)) ∙ top (x / 16) (omega arith))
+    (omega arith) (omega arith) (omega arith) (omega (arith, div-one x)) one none
+  where
+    top : (q : ℕ) → q < 16 → q / 8 % 2 * 8 + q % 8 ≡ q
+    top q h = omega arith
+
+    sum : (x q₁ q₂ q₃ q₄ a b c d e f : ℕ) → a * 8 + b ≡ q₄ → q₄ * 2 + c ≡ q₃ → q₃ * 2 + d ≡ q₂ → q₂ * 2 + e ≡ q₁ → q₁ * 2 + f ≡ x
+        → e ≡ 0 → f ≡ 0 → a * 128 + b * 16 + c * 8 + d * 4 ≡ x
+    sum x q₁ q₂ q₃ q₄ a b c d e f h₁ h₂ h₃ h₄ h₅ z o = omega arith
+
+-- the tag by its two high bits and its low byte, both ways
+tag-spelled : (n : ℕ) → n < 1024 → n / 512 * 512 + n / 256 % 2 * 256 + n % 256 ≡ n
+tag-spelled n h = omega arith
+
+record TagParts (tag t e l : ℕ) : Type 0 where
+  nine : tag / 512 ≡ t
+  eight : tag / 256 % 2 ≡ e
+  low : tag % 256 ≡ l
+
+tag-parts : (t e l : ℕ) → t < 2 → e < 2 → l < 256 → TagParts (t * 512 + e * 256 + l) t e l
+tag-parts t e l t-lt e-lt l-lt = record { nine = omega arith; eight = omega arith; low = omega arith }
+
 -- ## Length and its code
 
 lengthOf-lengthCode : (n : ℕ) → 1 ≤ n → n ≤ 1024 → lengthOf (lengthCode n) ≡ n
@@ -114,31 +166,45 @@ messageLength-lengthCode MsgD h routing code tail f =
 -- ## A field is read back from the bytes that the layout gives it
 
 module _ (row : Row) (h : Head) (b : HeadBounds h) (t : List ℕ) where
-  pub unnamed-front : unnamed (frontBytes row h ++ t) ≡ false
+  pub unnamed-front : (posted : Bool) → (posted ≡ true → h .tag < 256) → unnamed posted (frontBytes row h ++ t) ≡ false
   unfolding frontBytes unnamed
-  unnamed-front =
+  unnamed-front posted small =
       let x = getD (frontBytes row h ++ t) 1 0 in
-      let b7 = clear-of-zero (x / 128 % 2) (omega arith) in
-      let b3 = clear-of-zero (x / 8 % 2) (omega arith) in
-      let b1 = clear-of-zero (x / 2 % 2) (omega arith) in
-      let b0 = clear-of-zero (x / 1 % 2) (omega arith) in
-      simp (b7, b3, b1, b0)
+      let one = byte1-fields h b in
+      let b1 = clear-of-zero (x / 2 % 2) (one .one) in
+      let b0 = clear-of-zero (x / 1 % 2) (one .none) in
+      rw (b1, b0) (by-tag posted small)
+    where
+      by-tag : (p : Bool) → (p ≡ true → h .tag < 256)
+          → let x = h .tag / 512 * 128 + h .tc * 16 + h .tag / 256 % 2 * 8 + h .attr / 4 * 4 in
+          (p && (isSet 7 x || isSet 3 x) || false) || false ≡ false
+      by-tag true small =
+          let below = small refl in
+          let b7 = clear-of-zero _ (byte1-fields h b .nine ∙ high (h .tag) below .0) in
+          let b3 = clear-of-zero _ (byte1-fields h b .eight ∙ high (h .tag) below .1) in
+          rw (b7, b3)
+        where
+          high : (n : ℕ) → n < 256 → (n / 512 ≡ 0) × (n / 256 % 2 ≡ 0)
+          high n below = (omega arith, omega arith)
+      by-tag false small = refl
 
   code-front : codeAt (frontBytes row h ++ t) ≡ lengthCode (h .length)
   unfolding frontBytes
   code-front = omega arith
 
   -- the fields that lie outside the front are given by where they are read
-  headAt-front : {dwords requester tag : ℕ} → dwords ≡ h .length → requester ≡ h .requester → tag ≡ h .tag
-      → headAt (h .form) dwords requester tag (frontBytes row h ++ t) ≡ h
+  headAt-front : {dwords requester : ℕ} → dwords ≡ h .length → requester ≡ h .requester
+      → headAt (h .form) dwords requester (h .tag % 256) (frontBytes row h ++ t) ≡ h
   unfolding frontBytes headAt
-  headAt-front length requester tag =
+  headAt-front length requester =
       let x = getD (frontBytes row h ++ t) 1 0 in
       let y = getD (frontBytes row h ++ t) 2 0 in
-      let tc : x / 16 % 8 ≡ h .tc = omega arith in
-      let attr2 : x / 4 % 2 ≡ h .attr / 4 = omega arith in
+      let one = byte1-fields h b in
       let two = byte2-fields h (b .«at») in
-      let attr : x / 4 % 2 * 4 + y / 16 % 4 ≡ h .attr = rw (attr2, two .attr) (div-add-mod' (h .attr) 4) in
+      let tc = one .tc in
+      let attr : x / 4 % 2 * 4 + y / 16 % 4 ≡ h .attr = rw (one .attr2, two .attr) (div-add-mod' (h .attr) 4) in
+      let tag : x / 128 % 2 * 512 + x / 8 % 2 * 256 + h .tag % 256 ≡ h .tag =
+      rw (one .nine, one .eight) (tag-spelled (h .tag) (b .tag)) in
       let td : isSet 7 y ≡ h .td = eqb-bit (h .td) (y / 128 % 2) (two .td) in
       let ep : isSet 6 y ≡ h .ep = eqb-bit (h .ep) (y / 64 % 2) (two .ep) in
       let «at» = two .«at» in
@@ -161,8 +227,7 @@ module _ (row : Row) (h : Head) (e : Enables) (b : RequestBounds h e) (t : List 
       let n = length-in-elim (h .length) fits in
       headAt-front row h (b .head) (requestBytes h e ++ t)
       (ap lengthOf (code-front row h (b .head) (requestBytes h e ++ t)) ∙ lengthOf-lengthCode (h .length) (n .0) (n .1))
-      (be-beBytes-at 2 (h .requester) (frontBytes row h) (h .tag ∷ (e .last * 16 + e .first) ∷ t) (b .head .requester))
-      refl
+      (be-beBytes-at 2 (h .requester) (frontBytes row h) (h .tag % 256 ∷ (e .last * 16 + e .first) ∷ t) (b .head .requester))
 
   pub enablesAt-request : enablesAt (frontBytes row h ++ (requestBytes h e ++ t)) ≡ e
   unfolding frontBytes requestBytes beBytes enablesAt
@@ -201,7 +266,7 @@ module _ (row : Row) (h : Head) (o : Outcome) (b : OutcomeBounds o) (t : List �
   outcomeAt-completion =
       let x = o .status * 32 + bit (o .bcm) * 16 + o .count / 256 in
       let one = bit-le-one (o .bcm) in
-      let after = x ∷ (o .count % 256) ∷ beBytes 2 (h .requester) ++ (h .tag ∷ o .lower ∷ t) in
+      let after = x ∷ (o .count % 256) ∷ beBytes 2 (h .requester) ++ (h .tag % 256 ∷ o .lower ∷ t) in
       let completer = be-beBytes-at 2 (o .completer) (frontBytes row h) after (b .completer) in
       let status : x / 32 ≡ o .status = omega arith in
       let bcm : isSet 4 x ≡ o .bcm = eqb-bit (o .bcm) (x / 16 % 2) (omega arith) in
@@ -219,8 +284,7 @@ module _ (row : Row) (h : Head) (o : Outcome) (b : OutcomeBounds o) (t : List �
   completionHeadAt-completion k head fits =
       headAt-front row h head (completionBytes h o ++ t)
       (ap (completionLength k) (code-front row h head (completionBytes h o ++ t)) ∙ completionLength-lengthCode k h o fits)
-      (be-beBytes-at 2 (h .requester) (frontBytes row h ++ outcomeBytes o) (h .tag ∷ o .lower ∷ t) (head .requester))
-      refl
+      (be-beBytes-at 2 (h .requester) (frontBytes row h ++ outcomeBytes o) (h .tag % 256 ∷ o .lower ∷ t) (head .requester))
 
 module _ (row : Row) (k : Messaging) (h : Head) (routing : MessageRouting) (code tail : ℕ) (t : List ℕ) where
   pub messageHeadAt-message : HeadBounds h → lengthFits (Message k h routing code tail) ≡ true
@@ -229,8 +293,7 @@ module _ (row : Row) (k : Messaging) (h : Head) (routing : MessageRouting) (code
   messageHeadAt-message head fits =
       headAt-front row h head (messageBytes h code ++ t)
       (ap (messageLength k) (code-front row h head (messageBytes h code ++ t)) ∙ messageLength-lengthCode k h routing code tail fits)
-      (be-beBytes-at 2 (h .requester) (frontBytes row h) (h .tag ∷ code ∷ t) (head .requester))
-      refl
+      (be-beBytes-at 2 (h .requester) (frontBytes row h) (h .tag % 256 ∷ code ∷ t) (head .requester))
 
   pub messageCodeAt-message : messageCodeAt (frontBytes row h ++ (messageBytes h code ++ t)) ≡ code
   unfolding frontBytes messageBytes beBytes
@@ -255,54 +318,60 @@ pub append-take : (n m : ℕ) (s : List ℕ) (i : ℕ) {a b : List ℕ} → a �
     → a ++ b ≡ take (n + m) (drop i s)
 append-take n m s i p q = ap₂ _++_ p q ∙ rw (← drop-drop n i s) (sym (take-add n m (drop i s)))
 
-mod-four-of-clear : (x : ℕ) → x / 2 % 2 ≡ 0 → x % 4 ≡ x % 2
-mod-four-of-clear x b1 = omega arith
-
 module _ (s : List ℕ) (bytes : Bytes s) where
   code-lt : codeAt s < 1024
   code-lt = omega (arith, bytes 3)
 
-  -- byte 1 is TC and the high bit of Attr, and nothing else
-  byte1-spelled : unnamed s ≡ false → getD s 1 0 / 16 % 8 * 16 + getD s 1 0 / 4 % 2 * 4 ≡ getD s 1 0
+  -- byte 1 is the tag's two high bits, TC and the high bit of Attr, and nothing else
+  byte1-spelled : (posted : Bool) → unnamed posted s ≡ false
+      → getD s 1 0 / 128 % 2 * 128 + getD s 1 0 / 16 % 8 * 16 + getD s 1 0 / 8 % 2 * 8 + getD s 1 0 / 4 % 2 * 4 ≡ getD s 1 0
   unfolding unnamed
-  byte1-spelled clean =
+  byte1-spelled posted clean =
       let x = getD s 1 0 in
-      let a = false-of-or (isSet 7 x || isSet 3 x || isSet 1 x) (isSet 0 x) clean in
-      let b = false-of-or (isSet 7 x || isSet 3 x) (isSet 1 x) (a .0) in
+      let tags = posted && (isSet 7 x || isSet 3 x) in
+      let a = false-of-or (tags || isSet 1 x) (isSet 0 x) clean in
+      let b = false-of-or tags (isSet 1 x) (a .0) in
+      byte1-sum x (bytes 1) (zero-of-clear (x / 2 % 2) (omega arith) (b .1)) (zero-of-clear (x / 1 % 2) (omega arith) (a .1))
+
+  -- a posted request has none of the tag's high bits
+  pub tag-of-posted : (low : ℕ) → low < 256 → unnamed true s ≡ false → tagWith low s < 256
+  unfolding unnamed
+  tag-of-posted low small clean =
+      let x = getD s 1 0 in
+      let tags = isSet 7 x || isSet 3 x in
+      let a = false-of-or (tags || isSet 1 x) (isSet 0 x) clean in
+      let b = false-of-or tags (isSet 1 x) (a .0) in
       let c = false-of-or (isSet 7 x) (isSet 3 x) (b .0) in
       let b7 = zero-of-clear (x / 128 % 2) (omega arith) (c .0) in
-      let high : x / 16 % 8 ≡ x / 16 = omega (arith, bytes 1) in
       let b3 = zero-of-clear (x / 8 % 2) (omega arith) (c .1) in
-      let b1 = zero-of-clear (x / 2 % 2) (omega arith) (b .1) in
-      let b0 = zero-of-clear (x / 1 % 2) (omega arith) (a .1) in
-      let low = mod-four-of-clear x b1 ∙ rw (div-one x) at b0 in
-      let mid = mod-four-of-clear (x / 4) (rw (div-div-eq-div-mul x 4 2) b3) in
-      rw (high, ← mid) (four x low)
-    where
-      four : (x : ℕ) → x % 4 ≡ 0 → x / 16 * 16 + x / 4 % 4 * 4 ≡ x
-      four x low = omega arith
+      rw (b7, b3) (omega arith)
 
-  pub frontBytes-headAt : (row : Row) (form dwords requester tag : ℕ) → 4 ≤ length s → unnamed s ≡ false
+  pub frontBytes-headAt : (posted : Bool) (row : Row) (form dwords requester low : ℕ) → low < 256 → 4 ≤ length s → unnamed posted s ≡ false
       → row .byte ≡ getD s 0 0 → lengthCode dwords ≡ codeAt s
-      → frontBytes row (headAt form dwords requester tag s) ≡ take 4 s
+      → frontBytes row (headAt form dwords requester low s) ≡ take 4 s
   unfolding frontBytes headAt
-  frontBytes-headAt row form dwords requester tag fits clean first code =
+  frontBytes-headAt posted row form dwords requester low small fits clean first code =
       let x = getD s 1 0 in
       let y = getD s 2 0 in
       let attr2 : (x / 4 % 2 * 4 + y / 16 % 4) / 4 ≡ x / 4 % 2 = omega arith in
       let attr : (x / 4 % 2 * 4 + y / 16 % 4) % 4 ≡ y / 16 % 4 = omega arith in
       let high : lengthCode dwords / 256 ≡ y % 4 = rw code (omega (arith, bytes 3)) in
-      let low : lengthCode dwords % 256 ≡ getD s 3 0 = rw code (omega (arith, bytes 3)) in
+      let below : lengthCode dwords % 256 ≡ getD s 3 0 = rw code (omega (arith, bytes 3)) in
+      let tag = tag-parts (x / 128 % 2) (x / 8 % 2) low (omega arith) (omega arith) small in
       let td = bit-eqb (y / 128 % 2) (omega arith) in
       let ep = bit-eqb (y / 64 % 2) (omega arith) in
       append-take 2 2 s 0
-      (take-two s 0 (omega arith) first (rw attr2 (byte1-spelled clean)))
-      (take-two s 2 fits (rw (td, ep, attr, high) (byte2-spelled y (bytes 2))) low)
+      (take-two s 0 (omega arith) first (rw (tag .nine, tag .eight, attr2) (byte1-spelled posted clean)))
+      (take-two s 2 fits (rw (td, ep, attr, high) (byte2-spelled y (bytes 2))) below)
+
+  -- the tag's low byte is the byte that it was read from
+  low-of-tag : (low : ℕ) → low < 256 → tagWith low s % 256 ≡ low
+  low-of-tag low small = tag-parts (getD s 1 0 / 128 % 2) (getD s 1 0 / 8 % 2) low (omega arith) (omega arith) small .low
 
   pub requestBytes-requestHeadAt : (form : ℕ) → 8 ≤ length s → requestBytes (requestHeadAt form s) (enablesAt s) ≡ take 4 (drop 4 s)
   unfolding requestBytes headAt enablesAt
   requestBytes-requestHeadAt form fits =
-      append-take 2 2 s 4 (beBytes-be 2 s 4 bytes (omega arith)) (take-two s 6 (omega arith) refl (div-add-mod' (getD s 7 0) 16))
+      append-take 2 2 s 4 (beBytes-be 2 s 4 bytes (omega arith)) (take-two s 6 (omega arith) (low-of-tag (getD s 6 0) (bytes 6)) (div-add-mod' (getD s 7 0) 16))
 
   pub addressBytes-addressAt : (h : Head) → (h .form ≡ 3) ⊎ (h .form ≡ 4) → 4 * h .form ≤ length s
       → addressBytes h (addressAt (h .form) s) ≡ take (4 * h .form - 8) (drop 8 s)
@@ -333,13 +402,13 @@ module _ (s : List ℕ) (bytes : Bytes s) where
       let status : x / 32 * 32 + bit (isSet 4 x) * 16 + (x % 16 * 256 + y) / 256 ≡ x =
       rw (bit-eqb (x / 16 % 2) (omega arith), count) (omega arith) in
       let four = append-take 2 2 s 4 (beBytes-be 2 s 4 bytes (omega arith)) (take-two s 6 (omega arith) status low) in
-      append-take 6 2 s 4 (append-take 4 2 s 4 four (beBytes-be 2 s 8 bytes (omega arith))) (take-two s 10 fits refl lower)
+      append-take 6 2 s 4 (append-take 4 2 s 4 four (beBytes-be 2 s 8 bytes (omega arith))) (take-two s 10 fits (low-of-tag (getD s 10 0) (bytes 10)) lower)
 
   pub messageBytes-messageHeadAt : (k : Messaging) (form : ℕ) → 8 ≤ length s
       → messageBytes (messageHeadAt k form s) (messageCodeAt s) ≡ take 4 (drop 4 s)
   unfolding messageBytes headAt
   messageBytes-messageHeadAt k form fits =
-      append-take 2 2 s 4 (beBytes-be 2 s 4 bytes (omega arith)) (take-two s 6 (omega arith) refl refl)
+      append-take 2 2 s 4 (beBytes-be 2 s 4 bytes (omega arith)) (take-two s 6 (omega arith) (low-of-tag (getD s 6 0) (bytes 6)) refl)
 
   pub tail-addressAt : (form : ℕ) → form ≡ 4 → 16 ≤ length s → beBytes 8 (addressAt form s) ≡ take 8 (drop 8 s)
   unfolding addressAt
@@ -347,10 +416,10 @@ module _ (s : List ℕ) (bytes : Bytes s) where
 
   -- what is read fits its field
 
-  headAt-fits : (form dwords requester tag : ℕ) → requester < 65536 → tag < 256 → headFits (headAt form dwords requester tag s) ≡ true
-  headAt-fits form dwords requester tag r g = head-bounds-intro _ bounds
+  headAt-fits : (form dwords requester low : ℕ) → requester < 65536 → low < 256 → headFits (headAt form dwords requester low s) ≡ true
+  headAt-fits form dwords requester low r g = head-bounds-intro _ bounds
     where
-      bounds : HeadBounds (headAt form dwords requester tag s)
+      bounds : HeadBounds (headAt form dwords requester low s)
       bounds = unfold headAt in omega arith
 
   pub requestHeadAt-fits : (form : ℕ) → headFits (requestHeadAt form s) ≡ true

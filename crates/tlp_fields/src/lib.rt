@@ -36,8 +36,8 @@ pub fn request_head_at(form: u8, s: &[u8]) -> Head
 {
     let dwords = length_of(code_at(s));
     let requester = id_at(s, 4);
-    let tag = wide(s[6]);
-    head_at(form, dwords, requester, tag, s)
+    let low = wide(s[6]);
+    head_at(form, dwords, requester, low, s)
 }
 
 pub fn completion_head_at(k: CompletionKind, form: u8, s: &[u8]) -> Head
@@ -46,8 +46,8 @@ pub fn completion_head_at(k: CompletionKind, form: u8, s: &[u8]) -> Head
 {
     let dwords = completion_length(k, code_at(s));
     let requester = id_at(s, 8);
-    let tag = wide(s[10]);
-    head_at(form, dwords, requester, tag, s)
+    let low = wide(s[10]);
+    head_at(form, dwords, requester, low, s)
 }
 
 pub fn message_head_at(k: MessageKind, form: u8, s: &[u8]) -> Head
@@ -56,8 +56,8 @@ pub fn message_head_at(k: MessageKind, form: u8, s: &[u8]) -> Head
 {
     let dwords = message_length(k, code_at(s));
     let requester = id_at(s, 4);
-    let tag = wide(s[6]);
-    head_at(form, dwords, requester, tag, s)
+    let low = wide(s[6]);
+    head_at(form, dwords, requester, low, s)
 }
 
 pub fn message_code_at(s: &[u8]) -> u8
@@ -115,12 +115,12 @@ pub fn outcome_at(s: &[u8]) -> Outcome
     }
 }
 
-pub fn unnamed(s: &[u8]) -> bool
+pub fn unnamed(posted: bool, s: &[u8]) -> bool
     requires { ⌜ 12 ≤ length (now s) ⌝ }
-    ensures { λ r. ⌜ r ≡ unnamedAt (now (s .entry)) ⌝ }
+    ensures { λ r. ⌜ r ≡ unnamedAt posted (now (s .entry)) ⌝ }
 {
     let b = s[1];
-    (b / 128 % 2 == 1) | (b / 8 % 2 == 1) | (b / 2 % 2 == 1) | (b / 1 % 2 == 1)
+    (posted & ((b / 128 % 2 == 1) | (b / 8 % 2 == 1))) | (b / 2 % 2 == 1) | (b / 1 % 2 == 1)
 }
 
 pub fn unnamed_target(s: &[u8]) -> bool
@@ -137,10 +137,11 @@ pub fn unnamed_lower(s: &[u8]) -> bool
     s[11] / 128 % 2 == 1
 }
 
-fn head_at(form: u8, dwords: u16, requester: u16, tag: u16, s: &[u8]) -> Head
-    requires { ⌜ 12 ≤ length (now s) ⌝ }
-    ensures { λ r. ⌜ r ≡ headAt form dwords requester tag (now (s .entry)) ⌝ }
+fn head_at(form: u8, dwords: u16, requester: u16, low: u16, s: &[u8]) -> Head
+    requires { ⌜ (12 ≤ length (now s)) × (low < 256) ⌝ }
+    ensures { λ r. ⌜ r ≡ headAt form dwords requester low (now (s .entry)) ⌝ }
 {
+    let tag = wide(s[1]) / 128 % 2 * 512 + wide(s[1]) / 8 % 2 * 256 + low;
     Head {
         form,
         tc: s[1] / 16 % 8,

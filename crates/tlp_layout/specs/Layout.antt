@@ -24,18 +24,18 @@ bit false = 0
 abbrev pub lengthCode : ℕ → ℕ
 lengthCode n = n % 1024
 
--- Byte 0: Fmt 7:5, Type 4:0. Byte 1: TC 6:4, Attr2 bit 2. Byte 2: TD 7, EP 6, Attr 5:4, AT 3:2, Length 9:8 in 1:0. Byte 3: Length 7:0
+-- Byte 0: Fmt 7:5, Type 4:0. Byte 1: tag bit 9 in 7, TC 6:4, tag bit 8 in 3, Attr2 bit 2. Byte 2: TD 7, EP 6, Attr 5:4, AT 3:2, Length 9:8 in 1:0. Byte 3: Length 7:0
 unfoldable pub frontBytes : Row → Head → List ℕ
 frontBytes row h =
     row .byte
-    ∷ (h .tc * 16 + h .attr / 4 * 4)
+    ∷ (h .tag / 512 * 128 + h .tc * 16 + h .tag / 256 % 2 * 8 + h .attr / 4 * 4)
     ∷ (bit (h .td) * 128 + bit (h .ep) * 64 + h .attr % 4 * 16 + h .at * 4 + lengthCode (h .length) / 256)
     ∷ (lengthCode (h .length) % 256)
     ∷ []
 
--- requests: bytes 4-5 requester ID, 6 tag, 7 last byte enables 7:4 and first 3:0
+-- requests: bytes 4-5 requester ID, 6 tag 7:0, 7 last byte enables 7:4 and first 3:0
 unfoldable pub requestBytes : Head → Enables → List ℕ
-requestBytes h e = beBytes 2 (h .requester) ++ (h .tag ∷ (e .last * 16 + e .first) ∷ [])
+requestBytes h e = beBytes 2 (h .requester) ++ (h .tag % 256 ∷ (e .last * 16 + e .first) ∷ [])
 
 -- memory and I/O: address in bytes 8-11, or 8-15 in the four-dword form
 unfoldable pub addressBytes : Head → ℕ → List ℕ
@@ -49,13 +49,13 @@ targetBytes t = beBytes 2 (t .id) ++ ((t .register / 64) ∷ (t .register % 64 *
 unfoldable pub outcomeBytes : Outcome → List ℕ
 outcomeBytes o = beBytes 2 (o .completer) ++ ((o .status * 32 + bit (o .bcm) * 16 + o .count / 256) ∷ (o .count % 256) ∷ [])
 
--- then 8-9 requester ID; 10 tag; 11 bits 6:0 lower address
+-- then 8-9 requester ID; 10 tag 7:0; 11 bits 6:0 lower address
 unfoldable pub completionBytes : Head → Outcome → List ℕ
-completionBytes h o = outcomeBytes o ++ beBytes 2 (h .requester) ++ (h .tag ∷ o .lower ∷ [])
+completionBytes h o = outcomeBytes o ++ beBytes 2 (h .requester) ++ (h .tag % 256 ∷ o .lower ∷ [])
 
--- messages: bytes 4-5 requester ID, 6 tag, 7 message code
+-- messages: bytes 4-5 requester ID, 6 tag 7:0, 7 message code
 unfoldable pub messageBytes : Head → ℕ → List ℕ
-messageBytes h code = beBytes 2 (h .requester) ++ (h .tag ∷ code ∷ [])
+messageBytes h code = beBytes 2 (h .requester) ++ (h .tag % 256 ∷ code ∷ [])
 
 abbrev pub bodyBytes : Packet → List ℕ
 bodyBytes (Memory k h e a) = requestBytes h e ++ addressBytes h a

@@ -32,6 +32,13 @@ bytes-two x y small small′ = bytes-cons x (y ∷ []) small (bytes-cons y [] sm
 bytes-id-two : (id x y : ℕ) → x < 256 → y < 256 → Bytes (beBytes 2 id ++ (x ∷ y ∷ []))
 bytes-id-two id x y small small′ = bytes-append (beBytes 2 id) (x ∷ y ∷ []) (bytes-beBytes 2 id) (bytes-two x y small small′)
 
+byte1-lt : (h : Head) → HeadBounds h → h .tag / 512 * 128 + h .tc * 16 + h .tag / 256 % 2 * 8 + h .attr / 4 * 4 < 256
+byte1-lt h b =
+    sum (h .tag / 512) (h .tc) (h .tag / 256 % 2) (h .attr / 4) (omega (arith, b .tag)) (b .tc) (omega arith) (omega (arith, b .attr))
+  where
+    sum : (t c e a : ℕ) → t < 2 → c < 8 → e < 2 → a < 2 → t * 128 + c * 16 + e * 8 + a * 4 < 256
+    sum t c e a t-lt c-lt e-lt a-lt = omega arith
+
 bytes-front : (row : Row) (h : Head) → row .byte < 256 → HeadBounds h → Bytes (frontBytes row h)
 unfolding frontBytes
 bytes-front row h byte b =
@@ -40,12 +47,12 @@ bytes-front row h byte b =
     let code = lengthCode (h .length) in
     let byte2 = bit (h .td) * 128 + bit (h .ep) * 64 + h .attr % 4 * 16 + h .at * 4 + code / 256 in
     bytes-append (_ ∷ _ ∷ []) (_ ∷ _ ∷ [])
-    (bytes-two (row .byte) (h .tc * 16 + h .attr / 4 * 4) byte (omega arith))
+    (bytes-two (row .byte) (h .tag / 512 * 128 + h .tc * 16 + h .tag / 256 % 2 * 8 + h .attr / 4 * 4) byte (byte1-lt h b))
     (bytes-two byte2 (code % 256) (omega arith) (omega arith))
 
 bytes-request : (h : Head) (e : Enables) → RequestBounds h e → Bytes (requestBytes h e)
 unfolding requestBytes
-bytes-request h e b = bytes-id-two (h .requester) (h .tag) (e .last * 16 + e .first) (b .head .tag) (omega (arith, b .last, b .first))
+bytes-request h e b = bytes-id-two (h .requester) (h .tag % 256) (e .last * 16 + e .first) (omega arith) (omega (arith, b .last, b .first))
 
 bytes-address : (h : Head) (a : ℕ) → Bytes (addressBytes h a)
 unfolding addressBytes
@@ -69,13 +76,13 @@ bytes-completion : (h : Head) (o : Outcome) → HeadBounds h → OutcomeBounds o
 unfolding completionBytes
 bytes-completion h o head b =
     rw append-assoc
-    (bytes-append (outcomeBytes o) (beBytes 2 (h .requester) ++ (h .tag ∷ o .lower ∷ []))
+    (bytes-append (outcomeBytes o) (beBytes 2 (h .requester) ++ (h .tag % 256 ∷ o .lower ∷ []))
     (bytes-outcome o b)
-    (bytes-id-two (h .requester) (h .tag) (o .lower) (head .tag) (omega arith)))
+    (bytes-id-two (h .requester) (h .tag % 256) (o .lower) (omega arith) (omega arith)))
 
 bytes-message : (h : Head) (code : ℕ) → HeadBounds h → code < 256 → Bytes (messageBytes h code)
 unfolding messageBytes
-bytes-message h code head below = bytes-id-two (h .requester) (h .tag) code (head .tag) below
+bytes-message h code head below = bytes-id-two (h .requester) (h .tag % 256) code (omega arith) below
 
 bytes-body : (row : Row) (p : Packet) → verdictOf p ≡ Lawful row → Bytes (bodyBytes p)
 bytes-body row (Memory k h e a) l =

@@ -44,7 +44,9 @@ fn put_front(row: Row, h: Head, room: &mut [u8])
     let ep = bit(h.ep);
     let code = h.length % 1024;
     room[0] = row.byte;
-    room[1] = h.tc * 16 + h.attr / 4 * 4;
+    let bit9 = (h.tag / 512) as u8;
+    let bit8 = (h.tag / 256 % 2) as u8;
+    room[1] = bit9 * 128 + h.tc * 16 + bit8 * 8 + h.attr / 4 * 4;
     room[2] = td * 128 + ep * 64 + h.attr % 4 * 16 + h.at * 4 + (code / 256) as u8;
     room[3] = (code % 256) as u8;
 }
@@ -79,11 +81,11 @@ fn put_body(row: Row, p: Packet, room: &mut [u8])
 
 // Bytes 4 to 7 of a request.
 fn put_request(h: Head, e: Enables, room: &mut [u8])
-    requires { ⌜ (12 ≤ length (now room)) × (h .tag < 256) × (e .last < 16) × (e .first < 16) ⌝ }
+    requires { ⌜ (12 ≤ length (now room)) × (e .last < 16) × (e .first < 16) ⌝ }
     ensures { λ _. ⌜ now (room .exit) ≡ sets (now (room .entry)) 4 (requestBytes h e) ⌝ }
 {
     endian::write_be16(room, 4, h.requester as u64);
-    room[6] = h.tag as u8;
+    room[6] = (h.tag % 256) as u8;
     room[7] = e.last * 16 + e.first;
 }
 
@@ -111,12 +113,12 @@ fn put_target(t: Target, room: &mut [u8])
 
 // Bytes 4 to 11 of a completion.
 fn put_completion(h: Head, o: Outcome, room: &mut [u8])
-    requires { ⌜ (12 ≤ length (now room)) × (h .tag < 256) × OutcomeBounds o ⌝ }
+    requires { ⌜ (12 ≤ length (now room)) × OutcomeBounds o ⌝ }
     ensures { λ _. ⌜ now (room .exit) ≡ sets (now (room .entry)) 4 (completionBytes h o) ⌝ }
 {
     put_outcome(o, room);
     endian::write_be16(room, 8, h.requester as u64);
-    room[10] = h.tag as u8;
+    room[10] = (h.tag % 256) as u8;
     room[11] = o.lower;
 }
 
@@ -132,11 +134,11 @@ fn put_outcome(o: Outcome, room: &mut [u8])
 
 // Bytes 4 to 7 of a message.
 fn put_message(h: Head, code: u8, room: &mut [u8])
-    requires { ⌜ (12 ≤ length (now room)) × (h .tag < 256) ⌝ }
+    requires { ⌜ 12 ≤ length (now room) ⌝ }
     ensures { λ _. ⌜ now (room .exit) ≡ sets (now (room .entry)) 4 (messageBytes h code) ⌝ }
 {
     endian::write_be16(room, 4, h.requester as u64);
-    room[6] = h.tag as u8;
+    room[6] = (h.tag % 256) as u8;
     room[7] = code;
 }
 

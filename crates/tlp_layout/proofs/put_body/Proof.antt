@@ -2,7 +2,7 @@
 use borrow.Author.Needs.{needs}
 use Rattle.tlp_layout.proofs.put_body.Statement.{statement}
 use Rattle.tlp_layout.proofs.put_body.Tie as tie
-use Rattle.packet.specs.VerdictLaws.{memory-of-lawful, io-of-lawful, config-of-lawful, completion-of-lawful, message-of-lawful}
+use Rattle.packet.specs.VerdictLaws.{memory-of-lawful, io-of-lawful, config-of-lawful, completion-of-lawful}
 use Rattle.tlp_layout.specs.Layout.{requestBytes, addressBytes, targetBytes, messageBytes}
 use Rattle.tlp_layout.specs.LayoutLaws.{length-request, length-message, form-of-message}
 use Rattle.endian.specs.Endian.{beBytes}
@@ -16,7 +16,7 @@ put-request-requires : tie.Need-put-request-requires
 put-request-requires c κs =
     let start = c .before .before .before .before .before in
     let b = memory-of-lawful _ _ _ _ _ (rw (c .before .before .p .given .1) at (start .pre .0)) in
-    (start .pre .1, b .0 .head .tag, b .0 .last, b .0 .first)
+    (start .pre .1, b .0 .last, b .0 .first)
 
 put-address-requires : tie.Need-put-address-requires
 put-address-requires c κs =
@@ -33,7 +33,7 @@ put-request-requires-2 : tie.Need-put-request-requires-2
 put-request-requires-2 c κs =
     let start = c .before .before .before .before .before in
     let b = io-of-lawful _ _ _ _ _ (rw (c .before .before .p2 .given .1) at (start .pre .0)) in
-    (start .pre .1, b .0 .head .tag, b .0 .last, b .0 .first)
+    (start .pre .1, b .0 .last, b .0 .first)
 
 put-address-requires-2 : tie.Need-put-address-requires-2
 put-address-requires-2 c κs =
@@ -50,7 +50,7 @@ put-request-requires-3 : tie.Need-put-request-requires-3
 put-request-requires-3 c κs =
     let start = c .before .before .before .before .before in
     let b = config-of-lawful _ _ _ _ _ (rw (c .before .before .p3 .given .1) at (start .pre .0)) in
-    (start .pre .1, b .0 .head .tag, b .0 .last, b .0 .first)
+    (start .pre .1, b .0 .last, b .0 .first)
 
 put-target-requires : tie.Need-put-target-requires
 put-target-requires c κs =
@@ -67,16 +67,13 @@ put-completion-requires : tie.Need-put-completion-requires
 put-completion-requires c κs =
     let start = c .before .before .before .before .before in
     let b = completion-of-lawful _ _ _ _ (rw (c .before .before .p4 .given .1) at (start .pre .0)) in
-    (start .pre .1, b .0 .tag, b .1)
+    (start .pre .1, b .1)
 
 enum-known-p-5 : tie.Need-enum-known-p-5
 enum-known-p-5 c = search needs
 
 put-message-requires : tie.Need-put-message-requires
-put-message-requires c κs =
-    let start = c .before .before .before .before .before in
-    let b = message-of-lawful _ _ _ _ _ _ (rw (c .before .before .p5 .given .1) at (start .pre .0)) in
-    (start .pre .1, b .0 .tag)
+put-message-requires c κs = c .before .before .before .before .before .pre .1
 
 write-be64-requires : tie.Need-write-be64-requires
 write-be64-requires c κs =

@@ -9,7 +9,7 @@ use native.Mathlib.Omega.{arith}
 use Rattle.endian.specs.SetsLaws.{sets-append}
 use Rattle.endian.specs.Endian.{beBytes}
 use mathlib.Core.List.{[], _∷_, _++_}
-use Prim.Native.Nat.{_+_}
+use Prim.Native.Nat.{_+_, _%_}
 use mathlib.Core.Path.{refl}
 
 put-outcome-requires : tie.Need-put-outcome-requires
@@ -42,7 +42,7 @@ returns c =
     let id = beBytes 2 (s .h .requester) in
     let outcome = outcomeBytes (s .o) in
     let six = sets-append (s .room .now) 4 4 outcome id (length-outcome (s .o)) (four .put-outcome .ensures) (two .write-be16 .ensures) in
-    sets-append (s .room .now) 4 6 (outcome ++ id) (s .h .tag ∷ s .o .lower ∷ []) refl six refl
+    sets-append (s .room .now) 4 6 (outcome ++ id) (s .h .tag % 256 ∷ s .o .lower ∷ []) refl six refl
 
 pub put-completion-spec : {M : Type 1} → statement M
 put-completion-spec =

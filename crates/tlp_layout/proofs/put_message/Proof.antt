@@ -9,6 +9,7 @@ use Rattle.endian.specs.SetsLaws.{sets-append}
 use Rattle.endian.specs.EndianLaws.{length-beBytes}
 use Rattle.endian.specs.Endian.{beBytes}
 use mathlib.Core.List.{[], _∷_}
+use Prim.Native.Nat.{_%_}
 use mathlib.Core.Path.{refl}
 
 cast-write-be16 : tie.Need-cast-write-be16
@@ -35,7 +36,7 @@ returns c =
     let two = c .before .before .before in
     let s = two .before .before .before .before .args in
     let id = s .h .requester in
-    sets-append (s .room .now) 4 2 (beBytes 2 id) (s .h .tag ∷ s .code ∷ []) (length-beBytes 2 id) (two .write-be16 .ensures) refl
+    sets-append (s .room .now) 4 2 (beBytes 2 id) (s .h .tag % 256 ∷ s .code ∷ []) (length-beBytes 2 id) (two .write-be16 .ensures) refl
 
 pub put-message-spec : {M : Type 1} → statement M
 put-message-spec =

@@ -9,7 +9,7 @@ use Rattle.endian.specs.SetsLaws.{sets-append}
 use Rattle.endian.specs.EndianLaws.{length-beBytes}
 use Rattle.endian.specs.Endian.{beBytes}
 use mathlib.Core.List.{[], _∷_}
-use Prim.Native.Nat.{_+_, _*_}
+use Prim.Native.Nat.{_+_, _*_, _%_}
 use mathlib.Core.Path.{refl}
 
 cast-write-be16 : tie.Need-cast-write-be16
@@ -42,7 +42,7 @@ returns c =
     let two = c .before .before .before .before .before in
     let s = two .before .before .before .before .args in
     let id = s .h .requester in
-    let after = s .h .tag ∷ (s .e .last * 16 + s .e .first) ∷ [] in
+    let after = s .h .tag % 256 ∷ (s .e .last * 16 + s .e .first) ∷ [] in
     sets-append (s .room .now) 4 2 (beBytes 2 id) after (length-beBytes 2 id) (two .write-be16 .ensures) refl
 
 pub put-request-spec : {M : Type 1} → statement M
