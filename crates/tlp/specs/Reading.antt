@@ -1,6 +1,6 @@
 -- Document 01, "Reading checks, in order": what any bytes are read as. Assumes nothing.
 use Prim.Native.Nat.{ℕ, _*_}
-use mathlib.Core.Bool.{Bool, cond, _||_}
+use mathlib.Core.Bool.{Bool, true, false, cond, _||_}
 use mathlib.Core.List.{List}
 use lib.ListN.{length, getD}
 use lib.Dec.{ltb, eqb}
@@ -12,6 +12,7 @@ use Rattle.pairs.specs.declared.Pair.the-variants.{Carried, NotCarried, Unknown
 use Rattle.pairs.specs.Pairs.{kindNamed, pairOf}
 use Rattle.packet.specs.declared.Packet.{Packet}
 use Rattle.packet.specs.declared.Packet.the-variants.{Memory, Io, Config, Completion, Message}
+use Rattle.packet.specs.Fields.{isPosted}
 use Rattle.packet.specs.Rules.{ruleNumber}
 use Rattle.tlp_fields.specs.Fields.{requestHeadAt, completionHeadAt, messageHeadAt, messageCodeAt, enablesAt, addressAt, targetAt}
 use Rattle.tlp_fields.specs.Fields.{outcomeAt, unnamed, unnamedTarget, unnamedLower}
@@ -28,12 +29,12 @@ unfoldable pub judged : Bool → Packet → Reading
 judged stray p = cond stray (Refused 4) (cond (eqb (ruleNumber p) 0) (Accepted p) (Refused (ruleNumber p)))
 
 abbrev pub readAs : Kind → ℕ → List ℕ → Reading
-readAs (MemoryKind k) form s = judged (unnamed s) (Memory k (requestHeadAt form s) (enablesAt s) (addressAt form s))
-readAs (IoKind k) form s = judged (unnamed s) (Io k (requestHeadAt form s) (enablesAt s) (addressAt form s))
-readAs (ConfigKind k) form s = judged (unnamed s || unnamedTarget s) (Config k (requestHeadAt form s) (enablesAt s) (targetAt s))
-readAs (CompletionKind k) form s = judged (unnamed s || unnamedLower s) (Completion k (completionHeadAt k form s) (outcomeAt s))
+readAs (MemoryKind k) form s = judged (unnamed (isPosted (MemoryKind k)) s) (Memory k (requestHeadAt form s) (enablesAt s) (addressAt form s))
+readAs (IoKind k) form s = judged (unnamed false s) (Io k (requestHeadAt form s) (enablesAt s) (addressAt form s))
+readAs (ConfigKind k) form s = judged (unnamed false s || unnamedTarget s) (Config k (requestHeadAt form s) (enablesAt s) (targetAt s))
+readAs (CompletionKind k) form s = judged (unnamed false s || unnamedLower s) (Completion k (completionHeadAt k form s) (outcomeAt s))
 readAs (MessageKind k routing) form s =
-    judged (unnamed s) (Message k (messageHeadAt k form s) routing (messageCodeAt s) (addressAt form s))
+    judged (unnamed true s) (Message k (messageHeadAt k form s) routing (messageCodeAt s) (addressAt form s))
 readAs FetchAdd form s = Refused 3
 readAs Swap form s = Refused 3
 readAs Cas form s = Refused 3

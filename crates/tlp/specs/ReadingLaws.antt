@@ -1,8 +1,8 @@
 -- Reading a layout gives the packet back, and the layout of the packet that was read gives the header back. Assumes nothing.
-use Prim.Native.Nat.{ℕ, _+_, _*_, _-_, _≤_}
+use Prim.Native.Nat.{ℕ, _+_, _*_, _-_, _≤_, _<_}
 use mathlib.Core.Path.{_≡_, refl, sym, ap, ap₂, subst, _∙_}
 use mathlib.Core.Logic.{_⊎_}
-use mathlib.Core.Bool.{Bool, true, false, cond, _&&_, _||_}
+use mathlib.Core.Bool.{Bool, true, false, cond, _&&_, _||_, false≢true}
 use mathlib.Core.List.{List, _++_, append-assoc}
 use native.Mathlib.Omega.{arith}
 use borrow.Author.Tests.{eqb-true, le-ltb, ltb-false, not-false}
@@ -28,13 +28,13 @@ use Rattle.packet.specs.declared.Enables.{Enables}
 use Rattle.packet.specs.declared.Packet.{Packet}
 use Rattle.packet.specs.declared.Packet.the-variants.{Memory, Io, Config, Completion, Message}
 use Rattle.packet.specs.declared.Verdict.the-variants.{Lawful}
-use Rattle.packet.specs.Fields.{kindOf, headOf}
+use Rattle.packet.specs.Fields.{kindOf, headOf, isPosted}
 use Rattle.packet.specs.Widths.{lengthIn, lengthFits, enablesFit, addressFits, bodyFits}
-use Rattle.packet.specs.WidthsLaws.{and-intro, FieldsFit, fields-fit-intro, fields-fit-elim}
+use Rattle.packet.specs.WidthsLaws.{and-intro, FieldsFit, fields-fit-intro, fields-fit-elim, tag-fits-intro}
 use Rattle.packet.specs.Rules.{reservedSet, fixedWrong, fromRule6, fromRule5, ruleNumber}
 use Rattle.packet.specs.Verdict.{verdictOf}
 use Rattle.packet.specs.VerdictLaws.{lawful-intro, lawful-elim, RequestBounds, memory-of-lawful, io-of-lawful, config-of-lawful}
-use Rattle.packet.specs.VerdictLaws.{completion-of-lawful, message-of-lawful}
+use Rattle.packet.specs.VerdictLaws.{completion-of-lawful, message-of-lawful, tag-of-lawful}
 use Rattle.tlp.specs.declared.Reading.the-variants.{Accepted, Refused}
 use Rattle.tlp_layout.specs.Layout.{frontBytes, requestBytes, addressBytes, targetBytes, completionBytes, messageBytes, bodyBytes, layout, size}
 use Rattle.tlp_layout.specs.LayoutLaws.{form-of-lawful, form-of-message, size-of-lawful, layout-carried, length-layout}
@@ -47,7 +47,7 @@ use Rattle.tlp_fields.specs.FieldsLaws.{frontBytes-headAt, requestBytes-request
 use Rattle.tlp_fields.specs.FieldsLaws.{completionBytes-completionHeadAt, requestHeadAt-fits, completionHeadAt-fits, enablesAt-fits}
 use Rattle.tlp_fields.specs.FieldsLaws.{addressAt-fits, targetAt-fits, outcomeAt-fits, lengthOf-fits, code-of-length, code-of-completion}
 use Rattle.tlp_fields.specs.FieldsLaws.{messageHeadAt-message, messageCodeAt-message, addressAt-message, messageBytes-messageHeadAt}
-use Rattle.tlp_fields.specs.FieldsLaws.{tail-addressAt, messageHeadAt-fits, contentAt-fits, code-of-message}
+use Rattle.tlp_fields.specs.FieldsLaws.{tail-addressAt, tag-of-posted, messageHeadAt-fits, contentAt-fits, code-of-message}
 
 -- ## A lawful packet is read back from its layout
 
@@ -56,15 +56,15 @@ unfolding judged
 judged-intro stray q p clean same rules = rw (clean, same, rules)
 
 -- memory and I/O requests alike
-addressed-read : (make : Head → Enables → ℕ → Packet) (row : Row) (h : Head) (e : Enables) (a : ℕ) (t : List ℕ)
-    → RequestBounds h e → lengthIn (h .length) ≡ true → (h .form ≡ 3) ⊎ (h .form ≡ 4) → addressFits h a ≡ true → ruleNumber (make h e a) ≡ 0
+addressed-read : (posted : Bool) (make : Head → Enables → ℕ → Packet) (row : Row) (h : Head) (e : Enables) (a : ℕ) (t : List ℕ)
+    → (posted ≡ true → h .tag < 256) → RequestBounds h e → lengthIn (h .length) ≡ true → (h .form ≡ 3) ⊎ (h .form ≡ 4) → addressFits h a ≡ true → ruleNumber (make h e a) ≡ 0
     → let s = frontBytes row h ++ (requestBytes h e ++ (addressBytes h a ++ t)) in
-    judged (unnamed s) (make (requestHeadAt (h .form) s) (enablesAt s) (addressAt (h .form) s)) ≡ Accepted (make h e a)
-addressed-read make row h e a t b length form fits rules =
+    judged (unnamed posted s) (make (requestHeadAt (h .form) s) (enablesAt s) (addressAt (h .form) s)) ≡ Accepted (make h e a)
+addressed-read posted make row h e a t small b length form fits rules =
     let head = requestHeadAt-request row h e b (addressBytes h a ++ t) length in
     let enables = enablesAt-request row h e b (addressBytes h a ++ t) in
     let address = addressAt-address row h e t a form fits in
-    let clean = unnamed-front row h (b .head) (requestBytes h e ++ (addressBytes h a ++ t)) in
+    let clean = unnamed-front row h (b .head) (requestBytes h e ++ (addressBytes h a ++ t)) posted small in
     judged-intro _ _ _ clean (λ i. make (head i) (enables i) (address i)) rules
 
 read-as-layout : (row : Row) (p : Packet) (rest : List ℕ) → verdictOf p ≡ Lawful row
@@ -75,13 +75,17 @@ read-as-layout row (Memory k h e a) rest lawful =
     let l = lawful-elim row p lawful in
     let b = memory-of-lawful row k h e a lawful in
     let length = fields-fit-elim p (l .fits) .length in
-    rw append-assoc (addressed-read (Memory k) row h e a rest (b .0) length (form-of-lawful row p lawful) (b .1) (l .rules))
+    rw append-assoc
+    (addressed-read (isPosted (MemoryKind k)) (Memory k) row h e a rest (tag-of-lawful row p lawful) (b .0) length
+    (form-of-lawful row p lawful) (b .1) (l .rules))
 read-as-layout row (Io k h e a) rest lawful =
     let p = Io k h e a in
     let l = lawful-elim row p lawful in
     let b = io-of-lawful row k h e a lawful in
     let length = fields-fit-elim p (l .fits) .length in
-    rw append-assoc (addressed-read (Io k) row h e a rest (b .0) length (form-of-lawful row p lawful) (b .1) (l .rules))
+    rw append-assoc
+    (addressed-read false (Io k) row h e a rest (λ q. absurd (false≢true q)) (b .0) length
+    (form-of-lawful row p lawful) (b .1) (l .rules))
 read-as-layout row (Config k h e t) rest lawful =
     let p = Config k h e t in
     let l = lawful-elim row p lawful in
@@ -89,7 +93,7 @@ read-as-layout row (Config k h e t) rest lawful =
     let head = requestHeadAt-request row h e (b .0) (targetBytes t ++ rest) (fields-fit-elim p (l .fits) .length) in
     let enables = enablesAt-request row h e (b .0) (targetBytes t ++ rest) in
     let target = targetAt-target row h e rest t (b .2) (b .1) in
-    let front = unnamed-front row h (b .0 .head) (requestBytes h e ++ (targetBytes t ++ rest)) in
+    let front = unnamed-front row h (b .0 .head) (requestBytes h e ++ (targetBytes t ++ rest)) false (λ q. absurd (false≢true q)) in
     let clean = ap₂ _||_ front (unnamed-target row h e rest t (b .2)) in
     rw append-assoc (judged-intro _ _ _ clean (λ i. Config k (head i) (enables i) (target i)) (l .rules))
 read-as-layout row (Completion k h o) rest lawful =
@@ -98,7 +102,8 @@ read-as-layout row (Completion k h o) rest lawful =
     let b = completion-of-lawful row k h o lawful in
     let head = completionHeadAt-completion row h o (b .1) rest k (b .0) (fields-fit-elim p (l .fits) .length) in
     let outcome = outcomeAt-completion row h o (b .1) rest in
-    let clean = ap₂ _||_ (unnamed-front row h (b .0) (completionBytes h o ++ rest)) (unnamed-completion row h o (b .1) rest) in
+    let front = unnamed-front row h (b .0) (completionBytes h o ++ rest) false (λ q. absurd (false≢true q)) in
+    let clean = ap₂ _||_ front (unnamed-completion row h o (b .1) rest) in
     judged-intro _ _ _ clean (λ i. Completion k (head i) (outcome i)) (l .rules)
 read-as-layout row (Message k h routing code tail) rest lawful =
     let p = Message k h routing code tail in
@@ -108,7 +113,7 @@ read-as-layout row (Message k h routing code tail) rest lawful =
     let head = messageHeadAt-message row k h routing code tail after (b .0) (fields-fit-elim p (l .fits) .length) in
     let content = messageCodeAt-message row k h routing code tail after in
     let address = addressAt-message row k h routing code tail rest (form-of-message row k h routing code tail lawful) (b .2) in
-    let clean = unnamed-front row h (b .0) (messageBytes h code ++ after) in
+    let clean = unnamed-front row h (b .0) (messageBytes h code ++ after) true (tag-of-lawful row p lawful) in
     rw append-assoc (judged-intro _ _ _ clean (λ i. Message k (head i) routing (content i) (address i)) (l .rules))
 
 -- the pair found and the bytes there, the rest of the reading is by kind
@@ -212,23 +217,24 @@ module _ (s : List ℕ) (bytes : Bytes s) (row : Row) (c : CarriedRow row)
         bytes = layout-carried row p lawful ∙ append-take 4 (4 * row .form - 4) s 0 front body ∙ ap (λ (n : ℕ). take n s) sum;
       }
 
-  request-front : unnamed s ≡ false → frontBytes row (requestHeadAt (row .form) s) ≡ take 4 s
-  request-front clean =
+  request-front : (posted : Bool) → unnamed posted s ≡ false → frontBytes row (requestHeadAt (row .form) s) ≡ take 4 s
+  request-front posted clean =
       let code = code-of-length s bytes in
       let four : 4 ≤ length s = omega (arith, three-le-form) in
-      frontBytes-headAt s bytes row (row .form) (lengthOf (codeAt s)) (be 2 s 4) (getD s 6 0) four clean pair code
+      frontBytes-headAt s bytes posted row (row .form) (lengthOf (codeAt s)) (be 2 s 4) (getD s 6 0) (bytes 6) four clean pair code
 
-  completion-front : (k : Completing) → unnamed s ≡ false → frontBytes row (completionHeadAt k (row .form) s) ≡ take 4 s
+  completion-front : (k : Completing) → unnamed false s ≡ false → frontBytes row (completionHeadAt k (row .form) s) ≡ take 4 s
   completion-front k clean =
       let code = code-of-completion s bytes k in
       let four : 4 ≤ length s = omega (arith, three-le-form) in
-      frontBytes-headAt s bytes row (row .form) (completionLength k (codeAt s)) (be 2 s 8) (getD s 10 0) four clean pair code
+      frontBytes-headAt s bytes false row (row .form) (completionLength k (codeAt s)) (be 2 s 8) (getD s 10 0) (bytes 10) four clean pair
+      code
 
-  message-front : (k : Messaging) → unnamed s ≡ false → frontBytes row (messageHeadAt k (row .form) s) ≡ take 4 s
+  message-front : (k : Messaging) → unnamed true s ≡ false → frontBytes row (messageHeadAt k (row .form) s) ≡ take 4 s
   message-front k clean =
       let code = code-of-message s bytes k in
       let four : 4 ≤ length s = omega (arith, three-le-form) in
-      frontBytes-headAt s bytes row (row .form) (messageLength k (codeAt s)) (be 2 s 4) (getD s 6 0) four clean pair code
+      frontBytes-headAt s bytes true row (row .form) (messageLength k (codeAt s)) (be 2 s 4) (getD s 6 0) (bytes 6) four clean pair code
 
   -- memory and I/O requests alike
   request-body : let h = requestHeadAt (row .form) s in
@@ -289,44 +295,51 @@ module _ (s : List ℕ) (bytes : Bytes s) (row : Row) (c : CarriedRow row)
   read-as-back : (p : Packet) (k : Kind) → kindNamed (row .name) ≡ k → readAs k (row .form) s ≡ Accepted p → WrittenBack s p
   unfolding headAt lengthFits bodyFits
   read-as-back p (MemoryKind k) kind e =
+      let posted = isPosted (MemoryKind k) in
       let q = Memory k (requestHeadAt (row .form) s) (enablesAt s) (addressAt (row .form) s) in
       let head = requestHeadAt-fits s bytes (row .form) in
-      let fits : FieldsFit q = record { head = head; length = lengthOf-fits s bytes; body = request-fits } in
-      judged-back (unnamed s) q p e (λ clean rules. written-back q kind refl fits rules (request-front clean) request-body)
+      judged-back (unnamed posted s) q p e
+      (λ clean rules.
+      let small : posted ≡ true → headOf q .tag < 256 = λ yes. tag-of-posted s bytes (getD s 6 0) (bytes 6) (rw yes at clean) in
+      let tag = tag-fits-intro q small in
+      let fits : FieldsFit q = record { head = head; tag = tag; length = lengthOf-fits s bytes; body = request-fits } in
+      written-back q kind refl fits rules (request-front posted clean) request-body)
   read-as-back p (IoKind k) kind e =
       let q = Io k (requestHeadAt (row .form) s) (enablesAt s) (addressAt (row .form) s) in
       let head = requestHeadAt-fits s bytes (row .form) in
-      let fits : FieldsFit q = record { head = head; length = lengthOf-fits s bytes; body = request-fits } in
-      judged-back (unnamed s) q p e (λ clean rules. written-back q kind refl fits rules (request-front clean) request-body)
+      let fits : FieldsFit q = record { head = head; tag = refl; length = lengthOf-fits s bytes; body = request-fits } in
+      judged-back (unnamed false s) q p e (λ clean rules. written-back q kind refl fits rules (request-front false clean) request-body)
   read-as-back p (ConfigKind k) kind e =
       let form : row .form ≡ 3 = forms-of-kind c kind in
       let q = Config k (requestHeadAt (row .form) s) (enablesAt s) (targetAt s) in
       let body-fits = and-intro _ _ (enablesAt-fits s bytes) (targetAt-fits s bytes) in
-      let fits : FieldsFit q = record { head = requestHeadAt-fits s bytes (row .form); length = lengthOf-fits s bytes; body = body-fits } in
-      judged-back (unnamed s || unnamedTarget s) q p e
+      let head = requestHeadAt-fits s bytes (row .form) in
+      let fits : FieldsFit q = record { head = head; tag = refl; length = lengthOf-fits s bytes; body = body-fits } in
+      judged-back (unnamed false s || unnamedTarget s) q p e
       (λ clean rules.
-      let each = false-of-or (unnamed s) (unnamedTarget s) clean in
+      let each = false-of-or (unnamed false s) (unnamedTarget s) clean in
       let request = requestBytes-requestHeadAt s bytes (row .form) (omega arith) in
       let body = append-take 4 4 s 4 request (targetBytes-targetAt s bytes (omega arith) (each .1)) in
-      written-back q kind refl fits rules (request-front (each .0)) (three-dwords form body))
+      written-back q kind refl fits rules (request-front false (each .0)) (three-dwords form body))
   read-as-back p (CompletionKind k) kind e =
       let form : row .form ≡ 3 = forms-of-kind c kind in
       let q = Completion k (completionHeadAt k (row .form) s) (outcomeAt s) in
-      judged-back (unnamed s || unnamedLower s) q p e
+      judged-back (unnamed false s || unnamedLower s) q p e
       (λ clean rules.
-      let each = false-of-or (unnamed s) (unnamedLower s) clean in
+      let each = false-of-or (unnamed false s) (unnamedLower s) clean in
       let head = completionHeadAt-fits s bytes k (row .form) in
-      let fits : FieldsFit q = record { head = head; length = completion-length-fits k rules; body = outcomeAt-fits s bytes } in
+      let fits : FieldsFit q = record { head = head; tag = refl; length = completion-length-fits k rules; body = outcomeAt-fits s bytes } in
       let body = completionBytes-completionHeadAt s bytes k (row .form) (omega arith) (each .1) in
       written-back q kind refl fits rules (completion-front k (each .0)) (three-dwords form body))
   read-as-back p (MessageKind k routing) kind e =
       let form : row .form ≡ 4 = forms-of-kind c kind in
       let q = Message k (messageHeadAt k (row .form) s) routing (messageCodeAt s) (addressAt (row .form) s) in
-      judged-back (unnamed s) q p e
+      judged-back (unnamed true s) q p e
       (λ clean rules.
       let head = messageHeadAt-fits s bytes k (row .form) in
+      let tag = tag-fits-intro q (λ yes. tag-of-posted s bytes (getD s 6 0) (bytes 6) clean) in
       let content = contentAt-fits s bytes (row .form) in
-      let fits : FieldsFit q = record { head = head; length = message-length-fits k routing rules; body = content } in
+      let fits : FieldsFit q = record { head = head; tag = tag; length = message-length-fits k routing rules; body = content } in
       written-back q kind refl fits rules (message-front k clean) (message-body k form))
   read-as-back p FetchAdd kind e = refused-not-accepted e
   read-as-back p Swap kind e = refused-not-accepted e

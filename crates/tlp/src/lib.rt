@@ -120,7 +120,7 @@ fn read_memory(k: MemoryKind, form: u8, s: &[u8]) -> Reading
     let h = tlp_fields::request_head_at(form, s);
     let e = tlp_fields::enables_at(s);
     let a = tlp_fields::address_at(form, s);
-    let stray = tlp_fields::unnamed(s);
+    let stray = tlp_fields::unnamed(packet::is_write(k), s);
     let n = packet::memory_rules(h, e, a);
     judge(stray, n, Packet::Memory(k, h, e, a))
 }
@@ -132,7 +132,7 @@ fn read_io(k: IoKind, form: u8, s: &[u8]) -> Reading
     let h = tlp_fields::request_head_at(form, s);
     let e = tlp_fields::enables_at(s);
     let a = tlp_fields::address_at(form, s);
-    let stray = tlp_fields::unnamed(s);
+    let stray = tlp_fields::unnamed(false, s);
     let n = packet::io_rules(h, e, a);
     judge(stray, n, Packet::Io(k, h, e, a))
 }
@@ -144,7 +144,7 @@ fn read_config(k: ConfigKind, form: u8, s: &[u8]) -> Reading
     let h = tlp_fields::request_head_at(form, s);
     let e = tlp_fields::enables_at(s);
     let t = tlp_fields::target_at(s);
-    let stray = tlp_fields::unnamed(s) | tlp_fields::unnamed_target(s);
+    let stray = tlp_fields::unnamed(false, s) | tlp_fields::unnamed_target(s);
     let n = packet::config_rules(h, e);
     judge(stray, n, Packet::Config(k, h, e, t))
 }
@@ -155,7 +155,7 @@ fn read_completion(k: CompletionKind, form: u8, s: &[u8]) -> Reading
 {
     let h = tlp_fields::completion_head_at(k, form, s);
     let o = tlp_fields::outcome_at(s);
-    let stray = tlp_fields::unnamed(s) | tlp_fields::unnamed_lower(s);
+    let stray = tlp_fields::unnamed(false, s) | tlp_fields::unnamed_lower(s);
     let n = packet::completion_rules(k, h, o);
     judge(stray, n, Packet::Completion(k, h, o))
 }
@@ -167,7 +167,7 @@ fn read_message(k: MessageKind, routing: MessageRouting, form: u8, s: &[u8]) -> 
     let h = tlp_fields::message_head_at(k, form, s);
     let code = tlp_fields::message_code_at(s);
     let tail = tlp_fields::address_at(form, s);
-    let stray = tlp_fields::unnamed(s);
+    let stray = tlp_fields::unnamed(true, s);
     let n = packet::message_rules(k, h, routing, tail);
     judge(stray, n, Packet::Message(k, h, routing, code, tail))
 }

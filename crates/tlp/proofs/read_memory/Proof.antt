@@ -12,6 +12,9 @@ enables-at-requires c κs = search needs
 address-at-requires : tie.Need-address-at-requires
 address-at-requires c κs = search needs
 
+is-write-requires : tie.Need-is-write-requires
+is-write-requires c κs = search needs
+
 unnamed-requires : tie.Need-unnamed-requires
 unnamed-requires c κs = search needs
 
@@ -24,10 +27,17 @@ judge-requires c κs = c .memory-rules .ensures _
 returns : tie.Need-returns
 returns c =
     let stray = c .before .before in
-    let address = stray .before in
+    let written = stray .before in
+    let address = written .before in
     let enables = address .before in
     let head = enables .before in
-    rw (← head .request-head-at .ensures, ← enables .enables-at .ensures, ← address .address-at .ensures, ← stray .unnamed .ensures)
+    rw (
+      ← head .request-head-at .ensures,
+      ← enables .enables-at .ensures,
+      ← address .address-at .ensures,
+      ← written .is-write .ensures,
+      ← stray .unnamed .ensures,
+    )
     (c .judge .ensures)
 
 pub read-memory-spec : {M : Type 1} → statement M
@@ -37,6 +47,7 @@ read-memory-spec =
     request-head-at-requires
     enables-at-requires
     address-at-requires
+    is-write-requires
     unnamed-requires
     memory-rules-requires
     judge-requires
