@@ -133,6 +133,15 @@ pub fn completion(byte0: u8, requester: u16) -> Vec<u8> {
     header
 }
 
+/// The header with another tag, of ten bits: byte 1 bits 7 and 3, then byte 6, in a completion byte 10.
+pub fn tagged(mut header: Vec<u8>, tag: u16) -> Vec<u8> {
+    let is_completion = header[0] & 0x1E == CPL;
+    let [high, low] = tag.to_be_bytes();
+    header[1] = header[1] & 0x77 | (high & 2) << 6 | (high & 1) << 3;
+    header[if is_completion { 10 } else { 6 }] = low;
+    header
+}
+
 /// A message, with one dword of data if it has any; `tail` is bytes 8 to 15.
 pub fn message(byte0: u8, routing: u8, code: u8, tail: u64) -> Vec<u8> {
     let length = byte0 >> 6;

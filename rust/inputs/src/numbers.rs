@@ -33,6 +33,8 @@ pub const TAIL: usize = 12;
 
 /// The kinds of memory requests, MRd, MRdLk and MWr.
 const MEMORY: Range<u64> = 0..3;
+/// The kind of memory writes.
+const MWR: u64 = 2;
 /// The kinds of messages, Msg and MsgD.
 const MESSAGES: Range<u64> = 13..15;
 
@@ -40,14 +42,23 @@ const MESSAGES: Range<u64> = 13..15;
 const BYTE0: [u32; 15] = [0x00, 0x01, 0x40, 0x02, 0x42, 0x04, 0x44, 0x05, 0x45, 0x0A, 0x4A, 0x0B, 0x4B, 0x10, 0x50];
 
 /// How many bits each field has in a header, and in a message's.
-const WIDTHS: [u32; 20] = [8, 3, 3, 3, 1, 1, 2, 10, 16, 8, 4, 4, 64, 16, 10, 16, 3, 1, 12, 7];
-const MESSAGE_WIDTHS: [u32; 20] = [8, 3, 3, 3, 1, 1, 2, 10, 16, 8, 3, 8, 64, 16, 10, 16, 3, 1, 12, 7];
+const WIDTHS: [u32; 20] = [8, 3, 3, 3, 1, 1, 2, 10, 16, 10, 4, 4, 64, 16, 10, 16, 3, 1, 12, 7];
+const MESSAGE_WIDTHS: [u32; 20] = [8, 3, 3, 3, 1, 1, 2, 10, 16, 10, 3, 8, 64, 16, 10, 16, 3, 1, 12, 7];
 
 fn widths(kind: u64) -> &'static [u32; 20] {
     if MESSAGES.contains(&kind) {
         &MESSAGE_WIDTHS
     } else {
         &WIDTHS
+    }
+}
+
+/// The bits that a tag may have: the upper two of a memory write and of a message are zero.
+fn tag_bits(kind: u64) -> u32 {
+    if kind == MWR || MESSAGES.contains(&kind) {
+        8
+    } else {
+        10
     }
 }
 
@@ -184,8 +195,18 @@ fn start(random: &mut Random, kinds: Range<u64>) -> Numbers {
     numbers[TD] = random.below(2);
     numbers[EP] = random.below(2);
     numbers[REQUESTER] = random.below(1 << 16);
-    numbers[TAG] = random.below(1 << 8);
+    numbers[TAG] = tag(random, tag_bits(numbers[KIND]));
     numbers
+}
+
+/// Any of so many bits, often one of eight, or at an edge of either of the two upper ones.
+fn tag(random: &mut Random, bits: u32) -> u64 {
+    let tag = match random.below(8) {
+        0 => [0x000, 0x0FF, 0x100, 0x1FF, 0x200, 0x2FF, 0x300, 0x3FF][random.below(8) as usize],
+        1 | 2 => random.below(1 << 8),
+        _ => random.below(1 << 10),
+    };
+    tag & ((1 << bits) - 1)
 }
 
 /// A lawful memory or I/O request of one dword, or of as many as the page has room for, at an address.
@@ -206,15 +227,20 @@ pub fn request(random: &mut Random, is_io: bool, address: u64) -> Numbers {
 }
 
 /// Gives one or two fields another value: at an edge of the field, past it, or any. A request of two dwords often keeps
-/// its enables and starts 4 bytes off instead, where gaps are lawful if they were not, or the other way round.
+/// its enables and starts 4 bytes off instead, where gaps are lawful if they were not, or the other way round. At times
+/// only the tag is another: in bits 8 and 9, which memory writes and messages do not have, or bit 10, which none has.
 pub fn spoil(numbers: &mut Numbers, random: &mut Random) {
     if MEMORY.contains(&numbers[KIND]) && numbers[LENGTH] == 2 && random.chance(1, 2) {
         numbers[ADDRESS] ^= 4;
         return;
     }
+    if random.chance(1, 12) {
+        numbers[TAG] ^= (1 + random.below(7)) << 8;
+        return;
+    }
     for _ in 0..1 + random.below(2) {
         let field = random.below(20) as usize;
-        let width = widths(numbers[KIND])[field];
+        let width = if field == TAG { tag_bits(numbers[KIND]) } else { widths(numbers[KIND])[field] };
         let most = u64::MAX >> (64 - width);
         numbers[field] = match random.below(10) {
             0 => 0,
@@ -231,7 +257,8 @@ pub fn spoil(numbers: &mut Numbers, random: &mut Random) {
     }
 }
 
-/// The header of these numbers by the layout alone: of a value too wide for its field the low bits are taken.
+/// The header of these numbers by the layout alone: of a value too wide for its field the low bits are taken, of a tag
+/// ten, whatever the kind.
 pub fn header(numbers: &Numbers) -> Vec<u8> {
     let kind = numbers[KIND] % BYTE0.len() as u64;
     let widths = widths(kind);
@@ -239,21 +266,23 @@ pub fn header(numbers: &Numbers) -> Vec<u8> {
     let has_four = numbers[FORM] == 4;
     let routing = if MESSAGES.contains(&kind) { field(ROUTING) } else { 0 };
     let first = (BYTE0[kind as usize] | u32::from(has_four) << 5 | routing) << 24
+        | (field(TAG) & 0x200) << 14
         | field(TC) << 20
+        | (field(TAG) & 0x100) << 11
         | (field(ATTR) & 4) << 16
         | field(TD) << 15
         | field(EP) << 14
         | (field(ATTR) & 3) << 12
         | field(AT) << 10
         | field(LENGTH);
-    let asker = field(REQUESTER) << 16 | field(TAG) << 8;
-    let request = asker | field(LAST) << 4 | field(FIRST);
+    let transaction = field(REQUESTER) << 16 | (field(TAG) & 0xFF) << 8;
+    let request = transaction | field(LAST) << 4 | field(FIRST);
     let completion = field(COMPLETER) << 16 | field(STATUS) << 13 | field(BCM) << 12 | field(COUNT);
     let mut dwords = match kind {
         0..=4 => vec![first, request, numbers[ADDRESS] as u32],
         5..=8 => vec![first, request, field(TARGET) << 16 | field(REGISTER) << 2],
-        9..=12 => vec![first, completion, asker | field(LOWER)],
-        _ => vec![first, asker | field(CODE), numbers[TAIL] as u32],
+        9..=12 => vec![first, completion, transaction | field(LOWER)],
+        _ => vec![first, transaction | field(CODE), numbers[TAIL] as u32],
     };
     if has_four {
         // The address's upper half, or the tail's.

@@ -1,5 +1,5 @@
-//! Document 01, with requests E1, E2 and E4 of document 02, in plain, safe Rust: the header codec, the board planner,
-//! the packet router and the trace annotator.
+//! Document 01, with requests E1, E2, E4 and E5 of document 02, in plain, safe Rust: the header codec, the board
+//! planner, the packet router and the trace annotator.
 //!
 //! Written from the documents and the readings of their open points in docs/DECISIONS.md, not from the proved code. The
 //! proved library is compared with it, and the stored answers of the test programs come from it. Every refusal is the

@@ -75,6 +75,14 @@ impl Kind {
         !matches!(self, Kind::Cpl | Kind::CplLk | Kind::Msg)
     }
 
+    /// The bits of a tag: non-posted requests and completions have two more, in byte 1, than posted requests.
+    const fn tag_bits(self) -> u32 {
+        match self {
+            Kind::MWr | Kind::Msg | Kind::MsgD => 8,
+            _ => 10,
+        }
+    }
+
     /// Byte 0 of the header, Fmt 7:5 and Type 4:0, where this kind is carried in this form. Of a message, whose Type
     /// 2:0 is its routing, that of routing 000.
     const fn byte0(self, form: Form) -> Option<u8> {
@@ -171,7 +179,8 @@ pub struct Packet {
     /// In dwords, 1 to 1,024; 0 for Cpl, CplLk and Msg.
     pub length: u16,
     pub requester: u16,
-    pub tag: u8,
+    /// Ten bits, eight in MWr, Msg and MsgD.
+    pub tag: u16,
     /// Requests.
     pub last_enables: u8,
     /// Requests.
@@ -217,8 +226,9 @@ pub fn read(header: &[u8]) -> Result<Packet, u8> {
             u64::from_be_bytes(std::array::from_fn(|i| whole[8 + i]))
         }
     };
-    // Byte 1: bits 7, 3 and 1 have no name, bit 0 is TH.
-    if first & 0x008B_0000 != 0 {
+    // Byte 1: bit 7 is tag bit 9 and bit 3 tag bit 8, where the tag has them. Bit 1 has no name, bit 0 is TH.
+    let tag_high = (first >> 14 & 0x200 | first >> 11 & 0x100) as u16;
+    if first & 0x0003_0000 != 0 || tag_high >> kind.tag_bits() != 0 {
         return Err(4);
     }
     let code = (first & 0x3FF) as u16;
@@ -232,7 +242,7 @@ pub fn read(header: &[u8]) -> Result<Packet, u8> {
         at: (first >> 10 & 3) as u8,
         length: if code == 0 && kind.has_length() { 1024 } else { code },
         requester: (second >> 16) as u16,
-        tag: (second >> 8) as u8,
+        tag: tag_high | u16::from(head[6]),
         last_enables: (second >> 4 & 0xF) as u8,
         first_enables: (second & 0xF) as u8,
         address: 0,
@@ -267,7 +277,7 @@ pub fn read(header: &[u8]) -> Result<Packet, u8> {
             packet.bcm = second & 1 << 12 != 0;
             packet.byte_count = (second & 0xFFF) as u16;
             packet.requester = (third >> 16) as u16;
-            packet.tag = (third >> 8) as u8;
+            packet.tag = tag_high | u16::from(head[10]);
             packet.lower_address = (third & 0x7F) as u8;
         }
         Family::Message => {
@@ -312,7 +322,11 @@ impl Packet {
     fn fits(&self) -> bool {
         let family = self.kind.family();
         let lengths = if self.kind.has_length() { 1..=1024 } else { 0..=0 };
-        let common = self.tc < 8 && self.attr < 8 && self.at < 4 && lengths.contains(&self.length);
+        let common = self.tc < 8
+            && self.attr < 8
+            && self.at < 4
+            && lengths.contains(&self.length)
+            && self.tag >> self.kind.tag_bits() == 0;
         let request = self.last_enables < 16 && self.first_enables < 16;
         let no_request = self.last_enables == 0 && self.first_enables == 0;
         let no_address = self.address == 0;
@@ -404,18 +418,20 @@ impl Packet {
 
     /// The header's dwords, of which the form has the first three or all four.
     fn dwords(&self, byte0: u8) -> [u32; 4] {
-        let attr = u32::from(self.attr);
+        let (attr, tag) = (u32::from(self.attr), u32::from(self.tag));
         // The code of 1,024 is 0.
         let first = u32::from(byte0) << 24
+            | (tag & 0x200) << 14
             | u32::from(self.tc) << 20
+            | (tag & 0x100) << 11
             | (attr & 4) << 16
             | u32::from(self.td) << 15
             | u32::from(self.ep) << 14
             | (attr & 3) << 12
             | u32::from(self.at) << 10
             | u32::from(self.length & 0x3FF);
-        let (requester, tag) = (u32::from(self.requester), u32::from(self.tag));
-        let request = requester << 16 | tag << 8 | u32::from(self.last_enables << 4 | self.first_enables);
+        let transaction = u32::from(self.requester) << 16 | (tag & 0xFF) << 8;
+        let request = transaction | u32::from(self.last_enables << 4 | self.first_enables);
         match self.kind.family() {
             Family::Memory | Family::Io => {
                 let (upper, lower) = ((self.address >> 32) as u32, self.address as u32);
@@ -430,12 +446,9 @@ impl Packet {
                     | u32::from(self.status) << 13
                     | u32::from(self.bcm) << 12
                     | u32::from(self.byte_count);
-                [first, second, requester << 16 | tag << 8 | u32::from(self.lower_address), 0]
+                [first, second, transaction | u32::from(self.lower_address), 0]
             }
-            Family::Message => {
-                let second = requester << 16 | tag << 8 | u32::from(self.code);
-                [first, second, (self.tail >> 32) as u32, self.tail as u32]
-            }
+            Family::Message => [first, transaction | u32::from(self.code), (self.tail >> 32) as u32, self.tail as u32],
         }
     }
 }
