@@ -1,14 +1,17 @@
 //! Chosen cases as scripts, one request to a line (`plain`'s program `answers` says which), and as runs of the program
-//! `annotate`: the same bytes at every run.
+//! `annotate`: the same bytes at every run. The answers to the lines of `test_headers`, which are chosen by hand.
 
 #![forbid(unsafe_code)]
 
+mod headers;
 mod messages;
 mod planning;
 mod routing;
 mod script;
+mod tags;
 mod traces;
 
+pub use headers::answers as headers;
 pub use planning::script as boards;
 pub use routing::script as routes;
 pub use traces::runs as traces;

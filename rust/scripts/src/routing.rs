@@ -1,8 +1,9 @@
-//! The router's script: planned sheets at their edges, command words, sheets that no planner wrote, refusals, and
-//! messages last.
+//! The router's script: planned sheets at their edges, command words, sheets that no planner wrote, refusals,
+//! messages, and tags of ten bits last.
 
 use crate::messages;
 use crate::script::Script;
+use crate::tags;
 use inputs::board::{self, memory, wide, Board, Style};
 use inputs::foreign::*;
 use inputs::random::Random;
@@ -28,6 +29,7 @@ pub fn script() -> String {
     two_faults(&mut script);
     full_sheets(&mut script);
     messages::groups(&mut script);
+    tags::groups(&mut script);
     script.0
 }
 
@@ -695,7 +697,7 @@ fn damaged_headers(script: &mut Script) {
         changed(low(), &[(0, 0x30)]),
         changed(low(), &[(0, 0x80)]),
         changed(low(), &[(0, 0x6D)]),
-        changed(low(), &[(1, 0x80)]),
+        changed(request(MWR, 0xF900_0000), &[(1, 0x80)]),
         changed(low(), &[(1, 0x01)]),
         changed(low(), &[(2, 0x0C)]),
         changed(low(), &[(11, 0x02)]),

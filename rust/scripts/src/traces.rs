@@ -1,6 +1,7 @@
 //! Runs of the program `annotate`: what each reads.
 
 use crate::routing::{bridge_and_end, changed};
+use crate::tags;
 use inputs::board::{self, Board};
 use inputs::foreign::*;
 use inputs::trace::{self, input};
@@ -40,6 +41,7 @@ fn headers() -> Vec<Run> {
     vec![
         ("p10", input(&p10(), &trace::of(&examples()))),
         ("kinds", input(&p10(), &trace::of(&kinds()))),
+        ("ten-bit-tags", input(&p10(), &trace::of(&ten_bit_tags()))),
         ("refused-headers", input(&p10(), &trace::of(&refused_headers()))),
         ("refused-routes", input(&sheet(&windows_overlap), &trace::of(&refused_routes()))),
     ]
@@ -64,6 +66,13 @@ fn kinds() -> [Vec<u8>; 15] {
         message(MSG, 0b010, 0x7E, 0x0100 << 48),
         message(MSGD, 0b001, 0x50, 0xF900_0000),
     ]
+}
+
+/// Every kind whose tag has ten bits, with 1,023; those whose tag has eight, with 255, 256 and 512.
+fn ten_bit_tags() -> Vec<Vec<u8>> {
+    let long = tags::with_ten_bits().map(|header| tagged(header, 1023));
+    let short = tags::with_eight_bits().map(|header| [255, 256, 512].map(|tag| tagged(header.clone(), tag)));
+    [&long[..], short.as_flattened()].concat()
 }
 
 /// In the order of their numbers, 1 to 9.

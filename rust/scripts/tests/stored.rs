@@ -1,7 +1,15 @@
-//! tests/annotate has the runs of `traces`, with what plain prints for them, and no other file.
+//! tests/annotate has the runs of `traces`, with what plain prints for them, and no other file. The stored lines of
+//! `test_headers` have plain's answers.
 
 use std::collections::BTreeMap;
 use std::fs;
+
+#[test]
+fn lines_of_test_headers() {
+    let file = |name| fs::read_to_string(format!("{}/../../crates/test_headers/{name}", env!("CARGO_MANIFEST_DIR")));
+    let answers = scripts::headers(&file("stdin").unwrap());
+    assert!(answers == file("stdout").unwrap(), "cargo run --bin headers < stdin > stdout");
+}
 
 #[test]
 fn runs_of_annotate() {
