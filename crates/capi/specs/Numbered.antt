@@ -28,7 +28,6 @@ use Rattle.packet_numbers.specs.Parsing.{lastKind, isReserved, kindAt, byAddres
 use Rattle.packet_numbers.specs.Parsing.{onPair, onKind, fromKind, packetOf}
 use Rattle.tlp.specs.declared.Reading.{Reading}
 use Rattle.tlp.specs.declared.Reading.the-variants.{Accepted, Refused as NotRead}
-use Rattle.tlp_fields.specs.Fields.{unnamed, unnamedTarget, unnamedLower}
 use Rattle.tlp.specs.Reading.{judged, readAs, readPair, readOf}
 use Rattle.tlp.specs.declared.Writing.the-variants.{Written, Refused as NotWritten}
 use Rattle.tlp_layout.specs.Layout.{size}
@@ -94,11 +93,11 @@ numbered-judged stray p =
     either NumberedReading stray (NotRead 4) rest (omega arith) (unless-zero NumberedReading n (Accepted p) (NotRead n) tt (λ h. h))
 
 numbered-as : (kind : Kind) (form : ℕ) (s : List ℕ) → NumberedReading (readAs kind form s)
-numbered-as (MemoryKind k) form s = numbered-judged (unnamed s) _
-numbered-as (IoKind k) form s = numbered-judged (unnamed s) _
-numbered-as (ConfigKind k) form s = numbered-judged (unnamed s || unnamedTarget s) _
-numbered-as (CompletionKind k) form s = numbered-judged (unnamed s || unnamedLower s) _
-numbered-as (MessageKind k routing) form s = numbered-judged (unnamed s) _
+numbered-as (MemoryKind k) form s = numbered-judged _ _
+numbered-as (IoKind k) form s = numbered-judged _ _
+numbered-as (ConfigKind k) form s = numbered-judged _ _
+numbered-as (CompletionKind k) form s = numbered-judged _ _
+numbered-as (MessageKind k routing) form s = numbered-judged _ _
 numbered-as FetchAdd form s = omega arith
 numbered-as Swap form s = omega arith
 numbered-as Cas form s = omega arith

@@ -23,7 +23,6 @@ use Rattle.packet.specs.Rules.{fromRule5, fromRule6, fromRule7, fromRule8, from
 use Rattle.tlp.specs.declared.Reading.{Reading}
 use Rattle.tlp.specs.declared.Reading.the-variants.{Accepted, Refused as NotRead}
 use Rattle.tlp.specs.Reading.{judged, readAs, readPair, readOf}
-use Rattle.tlp_fields.specs.Fields.{unnamed, unnamedTarget, unnamedLower}
 use Rattle.pools.specs.declared.Space.{Space}
 use Rattle.sheet_record.specs.Entry.{Entry}
 use Rattle.sheet_record.specs.Spaces.{nodeOf}
@@ -81,11 +80,11 @@ small-judged stray p =
     (small-reading-cond (eqb (ruleNumber p) 0) (Accepted p) (NotRead (ruleNumber p)) tt (small-rule p))
 
 small-as : (kind : Kind) (form : ℕ) (s : List ℕ) → SmallReading (readAs kind form s)
-small-as (Memory k) form s = small-judged (unnamed s) _
-small-as (Io k) form s = small-judged (unnamed s) _
-small-as (Config k) form s = small-judged (unnamed s || unnamedTarget s) _
-small-as (Completion k) form s = small-judged (unnamed s || unnamedLower s) _
-small-as (Message k routing) form s = small-judged (unnamed s) _
+small-as (Memory k) form s = small-judged _ _
+small-as (Io k) form s = small-judged _ _
+small-as (Config k) form s = small-judged _ _
+small-as (Completion k) form s = small-judged _ _
+small-as (Message k routing) form s = small-judged _ _
 small-as FetchAdd form s = omega arith
 small-as Swap form s = omega arith
 small-as Cas form s = omega arith
