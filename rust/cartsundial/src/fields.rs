@@ -22,7 +22,7 @@ pub struct Fields {
     pub length: u16,
     /// Who asked.
     pub requester: Id,
-    /// 8 bits.
+    /// 10 bits; 8 in a memory write or a message.
     pub tag: u16,
     /// What the packet is, with the fields of its kind.
     pub body: Body,

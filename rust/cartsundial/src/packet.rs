@@ -30,7 +30,7 @@ const LONGEST: usize = Form::FourDwords.bytes();
 ///
 /// let next = Packet::new(&Fields { tag: 0x22, ..packet.fields() }).unwrap();
 /// assert_eq!(next.header()[6], 0x22);
-/// assert_eq!(Packet::new(&Fields { tag: 256, ..packet.fields() }), Err(Refusal::TooWide));
+/// assert_eq!(Packet::new(&Fields { tag: 1024, ..packet.fields() }), Err(Refusal::TooWide));
 /// ```
 #[derive(Clone, Copy, PartialEq, Eq, Hash)]
 // Aligned, so that in a `Result` the bytes are not where the refusal is, and are moved as two words.
@@ -178,10 +178,11 @@ impl Packet {
         Id(self.word(self.transaction()))
     }
 
-    /// 0 to 255.
+    /// 0 to 1,023; 0 to 255 of a memory write or a message, whose bits in byte 1 are 0.
     #[inline]
     pub fn tag(&self) -> u16 {
-        self.bytes[self.transaction() + 2].into()
+        let (byte1, low) = (u16::from(self.bytes[1]), u16::from(self.bytes[self.transaction() + 2]));
+        (byte1 & 0x80) << 2 | (byte1 & 0x08) << 5 | low
     }
 
     /// What the packet is, with the fields that only some kinds have.

@@ -70,13 +70,15 @@ fn a_value_too_wide() {
     let fields = read(&request(MRD, 1 << 32)).unwrap().fields();
     let Body::Memory { kind, enables, address, .. } = fields.body else { panic!("{fields:?}") };
     let body = Body::Memory { kind, form: Form::ThreeDwords, enables, address };
+    let written = Body::Memory { kind: MemoryKind::MWr, form: Form::FourDwords, enables, address };
     for wide in [
         Fields { tc: 8, ..fields },
         Fields { attr: 8, ..fields },
         Fields { at: 4, ..fields },
         Fields { length: 0, ..fields },
         Fields { length: 1025, ..fields },
-        Fields { tag: 256, ..fields },
+        Fields { tag: 1024, ..fields },
+        Fields { tag: 256, body: written, ..fields },
         Fields { body, ..fields },
     ] {
         let mut room = [0xA5; 16];
