@@ -58,8 +58,8 @@ enum cartsundial_number {
     CARTSUNDIAL_HEADER_SHORT = 1,      /* header under 12 bytes, or under 16 in the four-dword form */
     CARTSUNDIAL_PAIR_UNKNOWN = 2,      /* Fmt and Type unknown, a message's routing 6 or 7 among them; written: kind and form not carried */
     CARTSUNDIAL_NOT_CARRIED = 3,       /* AtomicOps, prefixes */
-    CARTSUNDIAL_RESERVED = 4,          /* an unnamed bit, TH, an address's low two bits, memory AT 11, completion or message AT not 00; tag bits 9 and
-                                          8 of a memory write or message */
+    CARTSUNDIAL_RESERVED = 4,          /* an unnamed bit, TH, an address's low two bits, memory AT 11, completion or message AT not 00;
+                                          tag bits 9 and 8 of a memory write or message */
     CARTSUNDIAL_FIXED = 5,             /* I/O and configuration: TC, Attr, AT 0, Length 1, last enables 0; Cpl, CplLk and Msg: no Length */
     CARTSUNDIAL_UPPER_ZERO = 6,        /* a memory request in the 64-bit form with upper half zero */
     CARTSUNDIAL_ENABLES = 7,           /* memory byte enables */
