@@ -25,10 +25,10 @@
  * Nothing is kept after a call returns: how far a trace was read is in numbers that the caller lends. There is no allocation and no I/O,
  * so calls on different slices may run at the same time.
  *
- * Stack to allow, measured and not proved: cartsundial_plan 32 KiB; cartsundial_route 16 KiB over a planned sheet, which has at most 16
- * bridges in a row, and 96 KiB over a foreign one with 255; every other call 12 KiB. That is what a call takes. A thread's library takes
- * its own part of the same stack (guard page, thread-local data, first frames), and so does each signal handler: a pthread of glibc 2.36
- * needed 36 KiB for the deepest board and 68 KiB for the deepest sheet, where 32 and 64 KiB were too little.
+ * Stack to allow, measured and not proved: cartsundial_plan 32 KiB; cartsundial_route and cartsundial_annotate 16 KiB over a planned sheet,
+ * which has at most 16 bridges in a row, and 96 KiB over a foreign one with 255; every other call 12 KiB. That is what a call takes. A
+ * thread's library takes its own part of the same stack (guard page, thread-local data, first frames), and so does each signal handler: a
+ * pthread of glibc 2.36 needed 36 KiB for the deepest board and 68 KiB for the deepest sheet, where 32 and 64 KiB were too little.
  *
  * Red zone. The code keeps live data in the 128 bytes below the stack pointer, as the System V convention allows. In user mode nothing has
  * to be done: signal handlers keep clear of it. In ring 0 an interrupt or exception that is handled on the interrupted stack overwrites

@@ -14,23 +14,23 @@ const RECORD: usize = 92;
 const REGISTERS: usize = 4;
 
 /// A trace is so long, about.
-const TRACE_BYTES: usize = 1 << 18;
+const TRACE_BYTES: usize = 1 << 17;
 
-/// The lengths of pieces: by name, and in bytes.
-const PIECES: [(&str, usize); 2] = [("4 KiB", 4 << 10), ("64 KiB", 64 << 10)];
+/// The lengths of pieces, in KiB.
+const PIECES: [usize; 2] = [4, 64];
 
 pub fn print(backplanes: &[Backplane]) {
     println!();
-    println!(
-        "A trace annotated in pieces, one after the other: nanoseconds a record, and bytes of the trace a second."
-    );
-    println!("At least {FEWEST} rounds. Each piece is a call, and each call checks the sheet.");
+    println!("A trace annotated: nanoseconds a record, and bytes of the trace a second. At least {FEWEST} rounds.");
+    println!("In pieces, each is a call, and each call checks the sheet. Whole, plain Rust takes records as slices and has no");
+    println!("state; the proved library takes the trace as one piece.");
     println!();
-    println!("| sheet | pieces | plain ns | proved ns | proved/plain | plain MB/s | proved MB/s |");
-    println!("|---|---:|---:|---:|---:|---:|---:|");
+    println!("| sheet | trace | plain ns | proved ns | proved/plain | plain MB/s | proved MB/s |");
+    println!("|---|---|---:|---:|---:|---:|---:|");
     for backplane in backplanes {
         let trace = trace_for(&backplane.sheet);
-        PIECES.iter().for_each(|&(name, length)| row(backplane, &trace, name, length));
+        PIECES.iter().for_each(|&length| in_pieces(backplane, &trace, length));
+        whole(backplane, &trace);
     }
 }
 
@@ -88,23 +88,38 @@ impl<'a> Turns<'a> {
     }
 }
 
-fn row(backplane: &Backplane, trace: &[u8], name: &str, length: usize) {
+fn in_pieces(backplane: &Backplane, trace: &[u8], kib: usize) {
     let sheet = &backplane.sheet;
     // Whole pieces only, so that all are as long.
-    let pieces: Vec<&[u8]> = trace.chunks_exact(length).collect();
+    let pieces: Vec<&[u8]> = trace.chunks_exact(kib << 10).collect();
     let records = tried(sheet, &pieces);
-    let times = compare(plain_side(sheet, &pieces), proved_side(sheet, &pieces));
+    let Times { plain, proved } = compare(plain_side(sheet, &pieces), proved_side(sheet, &pieces));
+    let count = pieces.len() as f64;
+    let times = Times { plain: plain * count, proved: proved * count };
+    row(backplane, &format!("pieces of {kib} KiB"), pieces.concat().len(), records, times);
+}
+
+fn whole(backplane: &Backplane, trace: &[u8]) {
+    let sheet = &backplane.sheet;
+    let mut room = room_for(&[trace]);
+    let length = proved_feed(&mut [0; TRACE], sheet, trace, &mut room);
+    assert!(plain_whole(sheet, trace).as_bytes() == &room[..length]);
+    let times = compare(
+        || plain_whole(black_box(sheet), black_box(trace)),
+        || proved_feed(&mut [0; TRACE], black_box(sheet), black_box(trace), black_box(&mut room)),
+    );
+    row(backplane, "whole", trace.len(), tried(sheet, &[trace]), times);
+}
+
+/// Of a trace of so many bytes and records, by the time for all of it.
+fn row(backplane: &Backplane, name: &str, bytes: usize, records: u64, times: Times) {
     let Times { plain, proved } = times;
-    let per_record = |piece: f64| piece * pieces.len() as f64 / records as f64;
-    let rate = |piece: f64| length as f64 / piece * 1000.0;
+    let [plain_record, proved_record] = [plain, proved].map(|time| time / records as f64);
+    let [plain_rate, proved_rate] = [plain, proved].map(|time| bytes as f64 / time * 1000.0);
     println!(
-        "| {} | {name} | {:.1} | {:.1} | {:.2} | {:.1} | {:.1} |",
+        "| {} | {name} | {plain_record:.1} | {proved_record:.1} | {:.2} | {plain_rate:.1} | {proved_rate:.1} |",
         backplane.name,
-        per_record(plain),
-        per_record(proved),
-        proved / plain,
-        rate(plain),
-        rate(proved)
+        proved / plain
     );
 }
 
@@ -149,6 +164,11 @@ fn tried(sheet: &[u8], pieces: &[&[u8]]) -> u64 {
         assert!(rooms.0[..length] == rooms.1[..length]);
     }
     state[2]
+}
+
+#[inline(never)]
+fn plain_whole(sheet: &[u8], trace: &[u8]) -> String {
+    plain::annotate(sheet, trace)
 }
 
 #[inline(never)]
