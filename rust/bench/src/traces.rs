@@ -30,6 +30,7 @@ pub fn print(backplanes: &[Backplane]) {
     for backplane in backplanes {
         let trace = trace_for(&backplane.sheet);
         PIECES.iter().for_each(|&length| in_pieces(backplane, &trace, length));
+        in_short_room(backplane, &trace, PIECES[0]);
         whole(backplane, &trace);
     }
 }
@@ -89,26 +90,37 @@ impl<'a> Turns<'a> {
 }
 
 fn in_pieces(backplane: &Backplane, trace: &[u8], kib: usize) {
-    let sheet = &backplane.sheet;
     // Whole pieces only, so that all are as long.
     let pieces: Vec<&[u8]> = trace.chunks_exact(kib << 10).collect();
-    let records = tried(sheet, &pieces);
-    let Times { plain, proved } = compare(plain_side(sheet, &pieces), proved_side(sheet, &pieces));
+    timed(backplane, &format!("pieces of {kib} KiB"), &pieces, Annotator::room_for(kib << 10));
+}
+
+/// In room for the longest lines of any piece: less than 40 bytes a record, so each line is measured first.
+fn in_short_room(backplane: &Backplane, trace: &[u8], kib: usize) {
+    let pieces: Vec<&[u8]> = trace.chunks_exact(kib << 10).collect();
+    let (_, longest) = tried(&backplane.sheet, &pieces);
+    timed(backplane, &format!("pieces of {kib} KiB, room for their lines only"), &pieces, longest);
+}
+
+fn timed(backplane: &Backplane, name: &str, pieces: &[&[u8]], room: usize) {
+    let sheet = &backplane.sheet;
+    let (records, _) = tried(sheet, pieces);
+    let Times { plain, proved } = compare(plain_side(sheet, pieces, room), proved_side(sheet, pieces, room));
     let count = pieces.len() as f64;
     let times = Times { plain: plain * count, proved: proved * count };
-    row(backplane, &format!("pieces of {kib} KiB"), pieces.concat().len(), records, times);
+    row(backplane, name, pieces.concat().len(), records, times);
 }
 
 fn whole(backplane: &Backplane, trace: &[u8]) {
     let sheet = &backplane.sheet;
-    let mut room = room_for(&[trace]);
+    let mut room = vec![0; Annotator::room_for(trace.len())];
     let length = proved_feed(&mut [0; TRACE], sheet, trace, &mut room);
     assert!(plain_whole(sheet, trace).as_bytes() == &room[..length]);
     let times = compare(
         || plain_whole(black_box(sheet), black_box(trace)),
         || proved_feed(&mut [0; TRACE], black_box(sheet), black_box(trace), black_box(&mut room)),
     );
-    row(backplane, "whole", trace.len(), tried(sheet, &[trace]), times);
+    row(backplane, "whole", trace.len(), tried(sheet, &[trace]).0, times);
 }
 
 /// Of a trace of so many bytes and records, by the time for all of it.
@@ -123,10 +135,10 @@ fn row(backplane: &Backplane, name: &str, bytes: usize, records: u64, times: Tim
     );
 }
 
-fn plain_side<'a>(sheet: &'a [u8], pieces: &'a [&'a [u8]]) -> impl FnMut() -> usize + 'a {
+fn plain_side<'a>(sheet: &'a [u8], pieces: &'a [&'a [u8]], room: usize) -> impl FnMut() -> usize + 'a {
     let mut turns = Turns { pieces, next: 0 };
     let mut annotator = plain::Annotator::new();
-    let mut room = room_for(pieces);
+    let mut room = vec![0; room];
     move || {
         let (piece, is_first) = turns.next();
         if is_first {
@@ -136,10 +148,10 @@ fn plain_side<'a>(sheet: &'a [u8], pieces: &'a [&'a [u8]]) -> impl FnMut() -> us
     }
 }
 
-fn proved_side<'a>(sheet: &'a [u8], pieces: &'a [&'a [u8]]) -> impl FnMut() -> usize + 'a {
+fn proved_side<'a>(sheet: &'a [u8], pieces: &'a [&'a [u8]], room: usize) -> impl FnMut() -> usize + 'a {
     let mut turns = Turns { pieces, next: 0 };
     let mut state = [0; TRACE];
-    let mut room = room_for(pieces);
+    let mut room = vec![0; room];
     move || {
         let (piece, is_first) = turns.next();
         if is_first {
@@ -149,21 +161,20 @@ fn proved_side<'a>(sheet: &'a [u8], pieces: &'a [&'a [u8]]) -> impl FnMut() -> u
     }
 }
 
-/// Room for the lines of any of the pieces.
-fn room_for(pieces: &[&[u8]]) -> Vec<u8> {
-    vec![0; Annotator::room_for(pieces[0].len())]
-}
-
-/// Both sides write the same lines for each piece. Returns how many records there are.
-fn tried(sheet: &[u8], pieces: &[&[u8]]) -> u64 {
+/// Both sides write the same lines for each piece. Returns how many records there are, and the greatest length of a piece's
+/// lines.
+fn tried(sheet: &[u8], pieces: &[&[u8]]) -> (u64, usize) {
     let (mut annotator, mut state) = (plain::Annotator::new(), [0; TRACE]);
-    let mut rooms = (room_for(pieces), room_for(pieces));
+    let mut longest = 0;
     for piece in pieces {
+        let room = Annotator::room_for(piece.len());
+        let mut rooms = (vec![0; room], vec![0; room]);
         let length = plain_feed(&mut annotator, sheet, piece, &mut rooms.0);
         assert_eq!(proved_feed(&mut state, sheet, piece, &mut rooms.1), length);
-        assert!(rooms.0[..length] == rooms.1[..length]);
+        assert!(rooms.0 == rooms.1);
+        longest = longest.max(length);
     }
-    state[2]
+    (state[2], longest)
 }
 
 #[inline(never)]
