@@ -92,8 +92,8 @@ commandNumber sheet id command = cond (ltb word command) 10 (lookupNumber (looku
 unfoldable pub commandLeft : List ℕ → ℕ → ℕ → List ℕ
 commandLeft sheet id command = cond (ltb word command) sheet (withCommand (lookupOf sheet id) sheet command)
 
--- ## Routing: record, bridges, and the packet as it arrives. A broadcast has record 0, how many functions, and after the packet their record
--- numbers; the port has 0 and 0
+-- ## Routing: record, bridges, and the packet as it arrives. A broadcast has record 0, how many functions, and after the packet their
+-- record numbers; the port has 0 and 0
 
 abbrev pub onRouting : Routing → List ℕ → Answer
 onRouting (Delivered d) sheet = gives (d .owner ∷ d .bridges ∷ numbersOf (d .packet))

@@ -63,7 +63,8 @@ use Rattle.trace_numbers.specs.NumbersLaws.{NumberedParsed as NumberedParsedSta
 use Rattle.capi_answers.specs.Answers.{refuses, gives}
 use Rattle.capi_answers.specs.AnswersLaws.{Numbered}
 use Rattle.capi_trace.specs.Calls.{onLines, annotateOn, annotateAnswer, endOn, endAnswer}
-use Rattle.capi.specs.Calls.{onReading, readAnswer, onWriting, onParsed, writeAnswer, onLookup, lookupAnswer, onRecordId, idAnswer, onRouting, routeAnswer}
+use Rattle.capi.specs.Calls.{onReading, readAnswer, onWriting, onParsed, writeAnswer, onLookup, lookupAnswer}
+use Rattle.capi.specs.Calls.{onRecordId, idAnswer, onRouting, routeAnswer}
 use Rattle.capi.specs.Calls.{onPlanning, planAnswer}
 
 -- ## A test between two answers, and a number that is given back where it is not 0
@@ -254,7 +255,8 @@ unfolding fromSheet routePacket from42
 numbered-from-sheet p s =
     let headed = onHeading (headingOf p) p s in
     let by-type = cond (typeWrong (root s) p) (NotDelivered 42) headed in
-    let typed = either (NumberedRouting s) (typeWrong (root s) p) (NotDelivered 42) headed (omega arith) (numbered-heading (headingOf p) p s) in
+    let typed = either (NumberedRouting s) (typeWrong (root s) p) (NotDelivered 42) headed (omega arith)
+    (numbered-heading (headingOf p) p s) in
     let peopled = either (NumberedRouting s) (eqb (length (nodesOf s)) 0) (NotDelivered 40) by-type (omega arith) typed in
     unless-zero (NumberedRouting s) (sheetNumber s) (routePacket p s) (NotDelivered (sheetNumber s)) peopled (λ h. h)
 

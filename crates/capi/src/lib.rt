@@ -110,8 +110,8 @@ pub extern "C" fn cartsundial_command(sheet: &mut [u8], id: u32, command: u32) -
     sheet::set_command(sheet, id as u16, command as u16) as u32
 }
 
-// Walks a header over a sheet: the record that gets the packet, the bridges crossed, and the packet as it arrives, 22 numbers. A broadcast has
-// record 0, how many functions, the packet, and then their record numbers; what ends at the port has 0 and 0.
+// Walks a header over a sheet: the record that gets the packet, the bridges crossed, and the packet as it arrives, 22 numbers. A broadcast
+// has record 0, how many functions, the packet, and then their record numbers; what ends at the port has 0 and 0.
 #[no_mangle]
 pub extern "C" fn cartsundial_route(header: &[u8], sheet: &[u8], answer: &mut [u64]) -> u32
     ensures { λ r. ⌜ r ≡ returned (routeAnswer (now (header .entry)) (now (sheet .entry))) (now (answer .entry)) ⌝ }

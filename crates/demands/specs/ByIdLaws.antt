@@ -293,7 +293,8 @@ never-contested b room n bytes planned t same header p read = go p read
     passes : sheetNumber t ≡ 0
     passes = planned-sheet-of-answer b room n bytes planned t same .passes
 
-    request : (q : Packet) → readOf header ≡ Accepted q → (sp : Space) (address : ℕ) → IsRequest q sp address → ¬ (routeNumber header t ≡ 41)
+    request : (q : Packet) → readOf header ≡ Accepted q → (sp : Space) (address : ℕ) → IsRequest q sp address
+        → ¬ (routeNumber header t ≡ 41)
     request q r sp address is =
         not-41-of-settled header t
         (demand-3 .requests-routed b room n bytes planned t same header q r sp address is .delivered-or-40)

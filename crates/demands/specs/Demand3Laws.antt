@@ -285,7 +285,8 @@ module _ (b room : List ℕ) (n : ℕ) (bytes : Bytes b) (planned : planning b (
           nobody : (k : ℕ) → Owns b t sp address k → ⊥
           nobody k o = let d = delivered-of-owner k o in suc-ne-zero 0 (cc)
 
-      crosses : (d : Delivery) → routeOf header t ≡ Delivered d → Crosses (Address sp address) t (reverse (bridgesAbove b (d .owner))) (d .owner)
+      crosses : (d : Delivery) → routeOf header t ≡ Delivered d
+          → Crosses (Address sp address) t (reverse (bridgesAbove b (d .owner))) (d .owner)
       crosses d e = crosses-above-owner sp address (d .owner) (owner-of d e .0)
 
       routed : Routed b t header p sp address

@@ -90,8 +90,8 @@ pub record Messages : Type 0 where
   pub no-functions-40 : (header s : List ℕ) (p : Packet) → readOf header ≡ Accepted p → sheetNumber s ≡ 0 → length (nodesOf s) ≡ 0
       → routeNumber header s ≡ 40
   -- "011 lists every function once, in record order": the answer is every function, and the list 1, 2, .. to the last record
-  pub to-every-function : (header s : List ℕ) (p : Packet) (tail : ℕ) → readOf header ≡ Accepted p → Populated s → IsMessage p Broadcast tail
-      → routeOf header s ≡ ToEvery (length (nodesOf s)) p
+  pub to-every-function : (header s : List ℕ) (p : Packet) (tail : ℕ) → readOf header ≡ Accepted p → Populated s
+      → IsMessage p Broadcast tail → routeOf header s ≡ ToEvery (length (nodesOf s)) p
   pub lists-once : (s : List ℕ)
       → (length (listOf s) ≡ length (nodesOf s)) × ((i : ℕ) → i < length (nodesOf s) → getD (listOf s) i 0 ≡ i + 1)
   -- "(short room 11)", and then the room stays as it was

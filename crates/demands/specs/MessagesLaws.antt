@@ -35,7 +35,8 @@ use Rattle.route.specs.Listed.{listOf, onRoom, listAfter}
 use Rattle.route.specs.ListedLaws.{list-counted}
 use Rattle.route.specs.OrderLaws.{route-no-functions, route-wrong-type, route-headed, goes-to-every, goes-to-port, goes-up-iff}
 use Rattle.demands.specs.Demand3.{routeNumber}
-use Rattle.demands.specs.Messages.{IsMessage, IsMemoryRequest, IsCompletionFor, ReservedRouting, Place, function, every-function, port}
+use Rattle.demands.specs.Messages.{IsMessage, IsMemoryRequest, IsCompletionFor, ReservedRouting}
+use Rattle.demands.specs.Messages.{Place, function, every-function, port}
 use Rattle.demands.specs.Messages.{refused, placeOf, Populated, Messages}
 
 -- ## Where a packet is headed

@@ -60,8 +60,8 @@ isFirst x = eqb x 15 || eqb x 14 || eqb x 12 || eqb x 8
 abbrev pub isLast : ℕ → Bool
 isLast x = eqb x 15 || eqb x 7 || eqb x 3 || eqb x 1
 
--- Length 1: last is 0000 and first is free. Length 2 from an 8-byte edge on: both nonzero, any pattern. Length 2 off that edge, and Length 3
--- and up: by the patterns
+-- Length 1: last is 0000 and first is free. Length 2 from an 8-byte edge on: both nonzero, any pattern. Length 2 off that edge, and
+-- Length 3 and up: by the patterns
 abbrev pub enablesLawful : ℕ → ℕ → Enables → Bool
 enablesLawful n a e =
     cond (eqb n 1) (eqb (e .last) 0)

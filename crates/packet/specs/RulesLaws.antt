@@ -16,7 +16,8 @@ use Rattle.packet.specs.declared.Enables.{Enables}
 use Rattle.packet.specs.declared.Target.{Target}
 use Rattle.packet.specs.declared.Outcome.{Outcome}
 use Rattle.packet.specs.declared.Packet.the-variants.{Memory, Io, Config, Completion, Message}
-use Rattle.packet.specs.Rules.{isByAddress, reservedSet, oneDword, fixedWrong, upperZero, enablesLawful, enablesWrong, crossesPage, isStatus}
+use Rattle.packet.specs.Rules.{isByAddress, reservedSet, oneDword, fixedWrong, upperZero}
+use Rattle.packet.specs.Rules.{enablesLawful, enablesWrong, crossesPage, isStatus}
 use Rattle.packet.specs.Rules.{statusWrong, fromRule9, fromRule8, fromRule7, fromRule6, fromRule5, ruleNumber}
 
 -- a check that answers no leaves those after it; one that answers yes gives its number

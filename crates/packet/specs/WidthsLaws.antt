@@ -10,7 +10,8 @@ use Rattle.packet.specs.declared.Target.{Target}
 use Rattle.packet.specs.declared.Outcome.{Outcome}
 use Rattle.packet.specs.declared.Packet.{Packet}
 use Rattle.packet.specs.Fields.{kindOf, headOf, isPosted}
-use Rattle.packet.specs.Widths.{headFits, tagFits, lengthIn, lengthFits, enablesFit, addressFits, targetFits, outcomeFits, contentFits, bodyFits, fieldsFit}
+use Rattle.packet.specs.Widths.{headFits, tagFits, lengthIn, lengthFits, enablesFit, addressFits}
+use Rattle.packet.specs.Widths.{targetFits, outcomeFits, contentFits, bodyFits, fieldsFit}
 
 pub and-elim : (a b : Bool) → a && b ≡ true → (a ≡ true) × (b ≡ true)
 and-elim a b = and-eq-true-iff a b .0

@@ -29,7 +29,8 @@ unfoldable pub judged : Bool → Packet → Reading
 judged stray p = cond stray (Refused 4) (cond (eqb (ruleNumber p) 0) (Accepted p) (Refused (ruleNumber p)))
 
 abbrev pub readAs : Kind → ℕ → List ℕ → Reading
-readAs (MemoryKind k) form s = judged (unnamed (isPosted (MemoryKind k)) s) (Memory k (requestHeadAt form s) (enablesAt s) (addressAt form s))
+readAs (MemoryKind k) form s =
+    judged (unnamed (isPosted (MemoryKind k)) s) (Memory k (requestHeadAt form s) (enablesAt s) (addressAt form s))
 readAs (IoKind k) form s = judged (unnamed false s) (Io k (requestHeadAt form s) (enablesAt s) (addressAt form s))
 readAs (ConfigKind k) form s = judged (unnamed false s || unnamedTarget s) (Config k (requestHeadAt form s) (enablesAt s) (targetAt s))
 readAs (CompletionKind k) form s = judged (unnamed false s || unnamedLower s) (Completion k (completionHeadAt k form s) (outcomeAt s))

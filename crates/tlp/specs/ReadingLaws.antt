@@ -36,7 +36,8 @@ use Rattle.packet.specs.Verdict.{verdictOf}
 use Rattle.packet.specs.VerdictLaws.{lawful-intro, lawful-elim, RequestBounds, memory-of-lawful, io-of-lawful, config-of-lawful}
 use Rattle.packet.specs.VerdictLaws.{completion-of-lawful, message-of-lawful, tag-of-lawful}
 use Rattle.tlp.specs.declared.Reading.the-variants.{Accepted, Refused}
-use Rattle.tlp_layout.specs.Layout.{frontBytes, requestBytes, addressBytes, targetBytes, completionBytes, messageBytes, bodyBytes, layout, size}
+use Rattle.tlp_layout.specs.Layout.{frontBytes, requestBytes, addressBytes, targetBytes, completionBytes, messageBytes}
+use Rattle.tlp_layout.specs.Layout.{bodyBytes, layout, size}
 use Rattle.tlp_layout.specs.LayoutLaws.{form-of-lawful, form-of-message, size-of-lawful, layout-carried, length-layout}
 use Rattle.tlp_fields.specs.Fields.{codeAt, lengthOf, completionLength, headAt, requestHeadAt, completionHeadAt, enablesAt, addressAt}
 use Rattle.tlp_fields.specs.Fields.{messageLength, messageHeadAt, messageCodeAt, targetAt, outcomeAt, unnamed, unnamedTarget, unnamedLower}
@@ -57,7 +58,8 @@ judged-intro stray q p clean same rules = rw (clean, same, rules)
 
 -- memory and I/O requests alike
 addressed-read : (posted : Bool) (make : Head → Enables → ℕ → Packet) (row : Row) (h : Head) (e : Enables) (a : ℕ) (t : List ℕ)
-    → (posted ≡ true → h .tag < 256) → RequestBounds h e → lengthIn (h .length) ≡ true → (h .form ≡ 3) ⊎ (h .form ≡ 4) → addressFits h a ≡ true → ruleNumber (make h e a) ≡ 0
+    → (posted ≡ true → h .tag < 256) → RequestBounds h e → lengthIn (h .length) ≡ true
+    → (h .form ≡ 3) ⊎ (h .form ≡ 4) → addressFits h a ≡ true → ruleNumber (make h e a) ≡ 0
     → let s = frontBytes row h ++ (requestBytes h e ++ (addressBytes h a ++ t)) in
     judged (unnamed posted s) (make (requestHeadAt (h .form) s) (enablesAt s) (addressAt (h .form) s)) ≡ Accepted (make h e a)
 addressed-read posted make row h e a t small b length form fits rules =

@@ -34,7 +34,8 @@ use Rattle.tlp_layout.specs.LayoutLaws.{bit-le-one}
 use Rattle.tlp_layout.specs.Layout.{bit, lengthCode, frontBytes, requestBytes, addressBytes, targetBytes, outcomeBytes, completionBytes}
 use Rattle.tlp_layout.specs.Layout.{messageBytes}
 use Rattle.tlp_fields.specs.Fields.{isSet, codeAt, lengthOf, completionLength, headAt, requestHeadAt, completionHeadAt, enablesAt}
-use Rattle.tlp_fields.specs.Fields.{tagWith, messageLength, messageHeadAt, messageCodeAt, addressAt, targetAt, outcomeAt, unnamed, unnamedTarget, unnamedLower}
+use Rattle.tlp_fields.specs.Fields.{tagWith, messageLength, messageHeadAt, messageCodeAt, addressAt, targetAt, outcomeAt}
+use Rattle.tlp_fields.specs.Fields.{unnamed, unnamedTarget, unnamedLower}
 
 -- ## Bits
 
@@ -98,7 +99,8 @@ record Byte1 (byte t c e a : ℕ) : Type 0 where
   none : byte / 1 % 2 ≡ 0
 
 byte1-fields : (h : Head) → HeadBounds h
-    → Byte1 (h .tag / 512 * 128 + h .tc * 16 + h .tag / 256 % 2 * 8 + h .attr / 4 * 4) (h .tag / 512) (h .tc) (h .tag / 256 % 2) (h .attr / 4)
+    → Byte1 (h .tag / 512 * 128 + h .tc * 16 + h .tag / 256 % 2 * 8 + h .attr / 4 * 4)
+    (h .tag / 512) (h .tc) (h .tag / 256 % 2) (h .attr / 4)
 byte1-fields h b =
     parts (h .tag / 512) (h .tc) (h .tag / 256 % 2) (h .attr / 4) (omega (arith, b .tag)) (b .tc) (omega arith) (omega (arith, b .attr))
   where
@@ -371,7 +373,8 @@ module _ (s : List ℕ) (bytes : Bytes s) where
   pub requestBytes-requestHeadAt : (form : ℕ) → 8 ≤ length s → requestBytes (requestHeadAt form s) (enablesAt s) ≡ take 4 (drop 4 s)
   unfolding requestBytes headAt enablesAt
   requestBytes-requestHeadAt form fits =
-      append-take 2 2 s 4 (beBytes-be 2 s 4 bytes (omega arith)) (take-two s 6 (omega arith) (low-of-tag (getD s 6 0) (bytes 6)) (div-add-mod' (getD s 7 0) 16))
+      append-take 2 2 s 4 (beBytes-be 2 s 4 bytes (omega arith))
+      (take-two s 6 (omega arith) (low-of-tag (getD s 6 0) (bytes 6)) (div-add-mod' (getD s 7 0) 16))
 
   pub addressBytes-addressAt : (h : Head) → (h .form ≡ 3) ⊎ (h .form ≡ 4) → 4 * h .form ≤ length s
       → addressBytes h (addressAt (h .form) s) ≡ take (4 * h .form - 8) (drop 8 s)
@@ -402,13 +405,15 @@ module _ (s : List ℕ) (bytes : Bytes s) where
       let status : x / 32 * 32 + bit (isSet 4 x) * 16 + (x % 16 * 256 + y) / 256 ≡ x =
       rw (bit-eqb (x / 16 % 2) (omega arith), count) (omega arith) in
       let four = append-take 2 2 s 4 (beBytes-be 2 s 4 bytes (omega arith)) (take-two s 6 (omega arith) status low) in
-      append-take 6 2 s 4 (append-take 4 2 s 4 four (beBytes-be 2 s 8 bytes (omega arith))) (take-two s 10 fits (low-of-tag (getD s 10 0) (bytes 10)) lower)
+      append-take 6 2 s 4 (append-take 4 2 s 4 four (beBytes-be 2 s 8 bytes (omega arith)))
+      (take-two s 10 fits (low-of-tag (getD s 10 0) (bytes 10)) lower)
 
   pub messageBytes-messageHeadAt : (k : Messaging) (form : ℕ) → 8 ≤ length s
       → messageBytes (messageHeadAt k form s) (messageCodeAt s) ≡ take 4 (drop 4 s)
   unfolding messageBytes headAt
   messageBytes-messageHeadAt k form fits =
-      append-take 2 2 s 4 (beBytes-be 2 s 4 bytes (omega arith)) (take-two s 6 (omega arith) (low-of-tag (getD s 6 0) (bytes 6)) refl)
+      append-take 2 2 s 4 (beBytes-be 2 s 4 bytes (omega arith))
+      (take-two s 6 (omega arith) (low-of-tag (getD s 6 0) (bytes 6)) refl)
 
   pub tail-addressAt : (form : ℕ) → form ≡ 4 → 16 ≤ length s → beBytes 8 (addressAt form s) ≡ take 8 (drop 8 s)
   unfolding addressAt

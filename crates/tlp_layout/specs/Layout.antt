@@ -24,7 +24,8 @@ bit false = 0
 abbrev pub lengthCode : ℕ → ℕ
 lengthCode n = n % 1024
 
--- Byte 0: Fmt 7:5, Type 4:0. Byte 1: tag bit 9 in 7, TC 6:4, tag bit 8 in 3, Attr2 bit 2. Byte 2: TD 7, EP 6, Attr 5:4, AT 3:2, Length 9:8 in 1:0. Byte 3: Length 7:0
+-- Byte 0: Fmt 7:5, Type 4:0. Byte 1: tag bit 9 in 7, TC 6:4, tag bit 8 in 3, Attr2 bit 2. Byte 2: TD 7, EP 6, Attr 5:4, AT 3:2,
+-- Length 9:8 in 1:0. Byte 3: Length 7:0
 unfoldable pub frontBytes : Row → Head → List ℕ
 frontBytes row h =
     row .byte

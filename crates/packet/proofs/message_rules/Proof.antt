@@ -33,7 +33,8 @@ returns-2 c = λ code.
     let asked = c .before .before in
     let routed = asked .before .before in
     let start = routed .before .before .args in
-    sym (rule-number-message _ _ _ code _ ∙ passed 4 (four (start .h) (start .tail) (routed .is-by-address .ensures)) (asked .before .if1 .left)
+    sym (rule-number-message _ _ _ code _
+    ∙ passed 4 (four (start .h) (start .tail) (routed .is-by-address .ensures)) (asked .before .if1 .left)
     ∙ stopped _ (five (start .h) (asked .is-without-data .ensures)) (c .if2 .taken))
 
 returns-3 : tie.Need-returns-3
@@ -41,7 +42,8 @@ returns-3 c = λ code.
     let asked = c .before .before in
     let routed = asked .before .before in
     let start = routed .before .before .args in
-    sym (rule-number-message _ _ _ code _ ∙ passed 4 (four (start .h) (start .tail) (routed .is-by-address .ensures)) (asked .before .if1 .left)
+    sym (rule-number-message _ _ _ code _
+    ∙ passed 4 (four (start .h) (start .tail) (routed .is-by-address .ensures)) (asked .before .if1 .left)
     ∙ passed 5 (five (start .h) (asked .is-without-data .ensures)) (c .if2 .left))
 
 pub message-rules-spec : {M : Type 1} → statement M

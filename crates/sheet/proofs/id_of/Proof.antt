@@ -52,7 +52,8 @@ returns-4 c =
     let check = c .before .before .before .before .before .before .check in
     let zero-is = c .before .before .before .before .before .if1 .left in
     let f = checked-of-zero _ (sym (check .ensures) ∙ zero-is) .framed in
-    record-id-here _ (check .ensures) _ _ _ _ zero-is f (c .before .before .before .count .ensures) (c .before .before .before .before .if2 .left)
+    record-id-here _ (check .ensures) _ _ _ _ zero-is f (c .before .before .before .count .ensures)
+    (c .before .before .before .before .if2 .left)
     (c .before .before .if3 .left) (c .before .part .ensures) (c .id-of .ensures)
 
 pub id-of-spec : {M : Type 1} → statement M
