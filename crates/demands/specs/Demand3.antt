@@ -133,24 +133,25 @@ DeliveredTo header t k = (d : Delivery) × (routeOf header t ≡ Delivered d) ×
 abbrev pub Crosses : Aim → List ℕ → List ℕ → ℕ → Type 0
 Crosses aim t bridges k = Trail (tallyFor aim t) (root t) bridges k
 
--- What becomes of a header that is read as p, such a request, over a sheet t of board b
-pub record Routed (b t header : List ℕ) (p : Packet) (sp : Space) (address : ℕ) : Type 0 where
+-- What becomes of a header that is read as p, such a request, over a sheet t. `Owner k` says that function k owns the address, so that the
+-- same is said of any accepted sheet (Audit)
+pub record Routed (Owner : ℕ → Type 0) (above : ℕ → List ℕ) (most : ℕ) (t header : List ℕ) (p : Packet) (sp : Space) (address : ℕ)
+    : Type 0 where
   -- "It is delivered to a function exactly when one of that function's BARs in the request's space holds its start address and that
   -- function, and each bridge above it, has that space enabled."
-  pub delivered-exactly : (k : ℕ) → DeliveredTo header t k ↔ Owns b t sp address k
+  pub delivered-exactly : (k : ℕ) → DeliveredTo header t k ↔ Owner k
   -- "Otherwise it is refused with 40, no owner."
-  pub else-no-owner : (routeNumber header t ≡ 40) ↔ ((k : ℕ) → ¬ Owns b t sp address k)
+  pub else-no-owner : (routeNumber header t ≡ 40) ↔ ((k : ℕ) → ¬ Owner k)
   -- one or the other: never 41, and no other number
   pub delivered-or-40 : ((k : ℕ) × DeliveredTo header t k) ⊎ (routeNumber header t ≡ 40)
-  pub one-owner : (j k : ℕ) → Owns b t sp address j → Owns b t sp address k → j ≡ k
+  pub one-owner : (j k : ℕ) → Owner j → Owner k → j ≡ k
   -- "A delivered request arrives unchanged."
   pub arrives-unchanged : (d : Delivery) → routeOf header t ≡ Delivered d → d .packet ≡ p
   -- "It crosses exactly the bridges above the owner, ..": those and no others, the uppermost first
   pub crosses-exactly : (d : Delivery) → routeOf header t ≡ Delivered d
-      → (bridges : List ℕ) → Crosses (Address sp address) t bridges (d .owner) ↔ (bridges ≡ reverse (bridgesAbove b (d .owner)))
-  -- ".. and their number, at most 16, is the one reported."
-  pub count-reported : (d : Delivery) → routeOf header t ≡ Delivered d
-      → (d .bridges ≡ length (bridgesAbove b (d .owner))) × (d .bridges ≤ mostAbove)
+      → (bridges : List ℕ) → Crosses (Address sp address) t bridges (d .owner) ↔ (bridges ≡ reverse (above (d .owner)))
+  -- ".. and their number, at most 16 (`most`), is the one reported."
+  pub count-reported : (d : Delivery) → routeOf header t ≡ Delivered d → (d .bridges ≡ length (above (d .owner))) × (d .bridges ≤ most)
 
 -- ## The demand
 
@@ -179,4 +180,5 @@ pub record Demand3 : Type 0 where
   pub requests-routed : (b room : List ℕ) (n : ℕ) → Bytes b → planning b (length room) ≡ Planned n
       → (t : List ℕ) → SameButCommands (take n (sheetAfter b room)) t
       → (header : List ℕ) (p : Packet) → readOf header ≡ Accepted p
-      → (sp : Space) (address : ℕ) → IsRequest p sp address → Routed b t header p sp address
+      → (sp : Space) (address : ℕ) → IsRequest p sp address
+      → Routed (Owns b t sp address) (bridgesAbove b) mostAbove t header p sp address

@@ -1,22 +1,16 @@
 -- Demand 3 is proved: the planner's answers from what runs out, and the router's from the walk over the planned sheet. Assumes nothing.
 use mathlib.Core.Path.{_≡_, refl, sym, ap, subst, _∙_}
 use mathlib.Core.Logic.{_⊎_, inl, inr, ⊎-elim, _↔_, Iff·trans}
-use mathlib.Core.Bool.{Bool, true}
-use mathlib.Core.List.{List, [], _∷_, reverse}
+use mathlib.Core.Bool.{true}
+use mathlib.Core.List.{List, reverse}
 use Prim.Native.Nat.{ℕ, _≤_, _<_}
-use native.Mathlib.Nat.{suc-ne-zero}
 use native.Mathlib.Omega.{arith}
 use lib.ListN.{length, take, drop}
 use lib.Seq.{drop-at}
 use borrow.Author.Tests.{eq-eqb, ne-eqb, lt-ltb, le-ltb}
 use Rattle.endian.specs.Endian.{Bytes}
-use Rattle.pairs.specs.declared.MessageRouting.{MessageRouting}
-use Rattle.pairs.specs.declared.MessageRouting.the-variants.{ToRoot, ByAddress, ById, Broadcast, Local, Gathered}
-use Rattle.packet.specs.declared.Packet.{Packet}
-use Rattle.packet.specs.declared.Packet.the-variants.{Memory, Io, Config, Completion, Message}
-use Rattle.tlp.specs.declared.Reading.the-variants.{Accepted}
-use Rattle.tlp.specs.Reading.{readOf}
 use Rattle.pools.specs.declared.Space.{Space}
+use Rattle.records.specs.Limits.{mostAbove}
 use Rattle.plan_rule.specs.Pools.{low, high, io}
 use Rattle.lists.specs.ListLaws.{all-of}
 use Rattle.plan_rule.specs.Order.{eq-or-ne, le-or-lt}
@@ -25,12 +19,9 @@ use Rattle.plan_rule.specs.Refusals.{refusalOf}
 use Rattle.board.specs.Board.{boardNumber, hostOf, functionsOf}
 use Rattle.board.specs.ToPlacing.{devfnOf}
 use Rattle.board.specs.ToPlacingLaws.{lawful-of-accepted}
-use Rattle.walk.specs.Registers.{Node, Registers, nodes, rootOf}
+use Rattle.walk.specs.Registers.{Node, Registers, rootOf}
 use Rattle.walk.specs.Tally.{tallyOn}
-use Rattle.walk.specs.TallyLaws.{tally-nil}
-use Rattle.walk.specs.Walk.{Outcome, delivered, refused, Trail}
-use Rattle.walk.specs.WalkLaws.{trail-unique}
-use Rattle.walk.specs.Good.{FirstOn}
+use Rattle.walk.specs.Walk.{Trail}
 use Rattle.sheet.specs.Sheet.{entriesOf}
 use Rattle.sheet.specs.SheetLaws.{nodes-functions}
 use Rattle.sheet.specs.Spaces.{registersOf, enabledOf}
@@ -38,7 +29,7 @@ use Rattle.sheet.specs.Commands.{SameButCommands}
 use Rattle.sheet_bytes.specs.Layout.{sheetBytes}
 use Rattle.plan_good.specs.RefusedExactly.{RefusedExactly, refused-exactly}
 use Rattle.plan_good.specs.NestedAndApart.{NestedAndApart, planned-nested-and-apart}
-use Rattle.plan_good.specs.Delivery.{OwnsAsPlaced, DeliversAsPlaced}
+use Rattle.plan_good.specs.Delivery.{OwnsAsPlaced}
 use Rattle.plan_good.specs.DeliveryLaws.{crosses-above, planned-delivers}
 use Rattle.plan_answer.specs.declared.Planning.{Planning}
 use Rattle.plan_answer.specs.declared.Planning.the-variants.{Planned, Refused}
@@ -49,14 +40,10 @@ use Rattle.plan_sheet.specs.Delivery.{PlannedSheet}
 use Rattle.plan_sheet.specs.Answer.{AnswersPlanned, planned-of-answer, planned-sheet-of-answer}
 use Rattle.claims.specs.declared.Aim.the-variants.{Address}
 use Rattle.claims.specs.Claims.{tallyFor}
-use Rattle.route_arrival.specs.declared.Heading.the-variants.{Aimed}
-use Rattle.route_arrival.specs.Arrival.{headingOf}
-use Rattle.route.specs.declared.Delivery.{Delivery}
-use Rattle.route.specs.declared.Routing.the-variants.{Delivered}
-use Rattle.route.specs.Route.{numberOf as routingNumber, answer, walked, root, routeOf}
-use Rattle.route.specs.RequestLaws.{route-request, request-delivered-iff}
+use Rattle.route.specs.Route.{root}
 use Rattle.demands.specs.Demand3.{Lawful, host, functions, lengthOfSheet, RunsOut, planNumber, AnswersByNumber, SheetSays, Demand3}
-use Rattle.demands.specs.Demand3.{IsRequest, HasBarOver, bridgesAbove, Owns, routeNumber, DeliveredTo, Crosses, Routed}
+use Rattle.demands.specs.Demand3.{HasBarOver, bridgesAbove, Owns}
+use Rattle.demands.specs.RoutedLaws.{trail-from-root, Comes, routed}
 
 -- ## What the planner answers
 
@@ -177,28 +164,6 @@ module _ (b room : List ℕ) (n : ℕ) where
 
 -- ## Requests
 
--- the router's aim of a request is its space and start address
-aim-of-request : (p : Packet) (sp : Space) (address : ℕ) → IsRequest p sp address → headingOf p ≡ Aimed (Address sp address)
-aim-of-request (Memory k h e a) sp address (in-memory, starts) = rw (in-memory, starts)
-aim-of-request (Io k h e a) sp address (in-io, starts) = rw (in-io, starts)
-aim-of-request (Config k h e t) sp address is = absurd is
-aim-of-request (Completion k h o) sp address is = absurd is
-aim-of-request (Message k h ToRoot code tail) sp address is = absurd is
-aim-of-request (Message k h ByAddress code tail) sp address (in-memory, starts) = rw (in-memory, starts)
-aim-of-request (Message k h ById code tail) sp address is = absurd is
-aim-of-request (Message k h Broadcast code tail) sp address is = absurd is
-aim-of-request (Message k h Local code tail) sp address is = absurd is
-aim-of-request (Message k h Gathered code tail) sp address is = absurd is
-
--- a trail from the first bus is one from the bus of the first record: where there is no record, there is none
-trail-from-root : (enabled : ℕ → Bool) (address first : ℕ) (rs : List Registers) → FirstOn first (nodes rs) → (ns : List ℕ) (k : ℕ)
-    → Trail (tallyOn enabled rs address) first ns k → Trail (tallyOn enabled rs address) (rootOf (nodes rs)) ns k
-unfolding Trail
-trail-from-root enabled address first [] on [] k e = let n = tally-nil enabled address first in absurd (suc-ne-zero 0 (cc))
-trail-from-root enabled address first [] on (m ∷ ns) k (s, e, rest) = let n = tally-nil enabled address first in absurd (suc-ne-zero 0 (cc))
-trail-from-root enabled address first (r ∷ rs) on ns k trail =
-    subst (λ (bus : ℕ). Trail (tallyOn enabled (r ∷ rs) address) bus ns k) (sym on) trail
-
 module _ (b room : List ℕ) (n : ℕ) (bytes : Bytes b) (planned : planning b (length room) ≡ Planned n) where
   answers : AnswersPlanned b n
   answers = planned-of-answer b (length room) n planned
@@ -239,73 +204,16 @@ module _ (b room : List ℕ) (n : ℕ) (bytes : Bytes b) (planned : planning b (
         subst (λ (ns : List Node). Trail (tallyOn enabled registers address) (rootOf ns) way k) (nodes-functions sp 1 (entriesOf t))
         (trail-from-root enabled address (host b .firstBus) registers (sheet .good sp .tree .first-on-root) way k by-sheet)
 
-    module _ (header : List ℕ) (p : Packet) (read : readOf header ≡ Accepted p) (sp : Space) (address : ℕ)
-        (is : IsRequest p sp address) where
-      aim : headingOf p ≡ Aimed (Address sp address)
-      aim = aim-of-request p sp address is
-
-      -- what the walk comes to
-      abbrev outcome : Outcome
-      outcome = walked (Address sp address) t (root t) 0
-
-      delivers : DeliversAsPlaced sp (host b) (functions b) (enabledOf sp t) address outcome
-      delivers = sheet .delivers sp address
-
-      -- and so what the router answers
-      route-is : routeOf header t ≡ answer p outcome
-      route-is = route-request sp address header t p read aim (sheet .passes)
-
-      delivered-iff : (d : Delivery) → (routeOf header t ≡ Delivered d) ↔ ((outcome ≡ delivered (d .owner) (d .bridges)) × (d .packet ≡ p))
-      delivered-iff = request-delivered-iff sp address header t p read aim (sheet .passes)
-
-      delivered-to : (k count : ℕ) → outcome ≡ delivered k count → DeliveredTo header t k
-      delivered-to k count e =
-          let d : Delivery = record { owner = k; bridges = count; packet = p } in (d, delivered-iff d .1 (e, refl), refl)
-
-      -- a number that is not 0 is the walk's
-      number-iff-refused : (m : ℕ) → 0 < m → (routeNumber header t ≡ m) ↔ (outcome ≡ refused m)
-      number-iff-refused m pos = (λ e. go outcome (sym (ap routingNumber route-is) ∙ e), λ e. ap routingNumber (route-is ∙ ap (answer p) e))
-        where
-          go : (o : Outcome) → routingNumber (answer p o) ≡ m → o ≡ refused m
-          go (delivered j c) e = absurd (omega arith)
-          go (refused i) e = ap refused e
-
-      owner-of : (d : Delivery) → routeOf header t ≡ Delivered d
-          → Owns b t sp address (d .owner) × (d .bridges ≡ length (bridgesAbove b (d .owner)))
-      owner-of d e = delivers .delivered-exactly (d .owner) (d .bridges) .0 (delivered-iff d .0 e .0)
-
-      delivered-of-owner : (k : ℕ) → Owns b t sp address k → outcome ≡ delivered k (length (bridgesAbove b k))
-      delivered-of-owner k o = delivers .delivered-exactly k (length (bridgesAbove b k)) .1 (o, refl)
-
-      -- a refused walk has no owner, and so the number 40
-      owner-or-40 : (o : Outcome) → outcome ≡ o → ((k : ℕ) × DeliveredTo header t k) ⊎ (routeNumber header t ≡ 40)
-      owner-or-40 (delivered k count) e = inl (k, delivered-to k count e)
-      owner-or-40 (refused m) e = inr (number-iff-refused 40 (omega arith) .1 (delivers .else-no-owner .1 nobody))
-        where
-          nobody : (k : ℕ) → Owns b t sp address k → ⊥
-          nobody k o = let d = delivered-of-owner k o in suc-ne-zero 0 (cc)
-
-      crosses : (d : Delivery) → routeOf header t ≡ Delivered d
-          → Crosses (Address sp address) t (reverse (bridgesAbove b (d .owner))) (d .owner)
-      crosses d e = crosses-above-owner sp address (d .owner) (owner-of d e .0)
-
-      routed : Routed b t header p sp address
-      routed =
-          record {
-            delivered-exactly = λ k. (
-              λ (d, e, is-k). subst (Owns b t sp address) is-k (owner-of d e .0),
-              λ o. delivered-to k (length (bridgesAbove b k)) (delivered-of-owner k o),
-            );
-            else-no-owner = Iff·trans (number-iff-refused 40 (omega arith)) (delivers .else-no-owner);
-            delivered-or-40 = owner-or-40 outcome refl;
-            one-owner = delivers .one-owner;
-            arrives-unchanged = λ d e. delivered-iff d .0 e .1;
-            crosses-exactly = λ d e bridges. (
-              λ trail. trail-unique _ _ _ _ _ _ trail (crosses d e) .0,
-              λ those. rw those (crosses d e),
-            );
-            count-reported = λ d e. let c = owner-of d e .1 in (c, omega (arith, sheet .not-too-deep (d .owner)));
-          }
+    comes : (sp : Space) (address : ℕ) → Comes (Owns b t sp address) (bridgesAbove b) mostAbove t sp address
+    comes sp address =
+        let delivers = sheet .delivers sp address in
+        record {
+          delivered-exactly = delivers .delivered-exactly;
+          else-no-owner = delivers .else-no-owner;
+          one-owner = delivers .one-owner;
+          crosses = crosses-above-owner sp address;
+          few = λ k o. sheet .not-too-deep k;
+        }
 
 -- ## The demand
 
@@ -321,5 +229,7 @@ demand-3 =
       nested-and-apart = nested;
       one-holder = holder-unique;
       sheet-says = says;
-      requests-routed = routed;
+      requests-routed = λ b room n bytes planned t same header p read sp address is.
+          routed (Owns b t sp address) (bridgesAbove b) mostAbove t sp address (sheet b room n bytes planned t same .passes)
+          (comes b room n bytes planned t same sp address) header p read is;
     }

@@ -1,7 +1,9 @@
--- Document 01's examples, the user's demands, what becomes of a packet that goes by ID, messages (document 02, E1) and traces (E4).
+-- Document 01's examples, the user's demands, what becomes of a packet that goes by ID, and of document 02 messages (E1), traces (E4) and
+-- the audit (E6).
 pub mod Examples
 pub mod Demand2
 pub mod Demand3
+pub mod RoutedLaws
 pub mod Demand3Laws
 pub mod ById
 pub mod ByIdLaws
@@ -9,3 +11,5 @@ pub mod Messages
 pub mod MessagesLaws
 pub mod Trace
 pub mod TraceLaws
+pub mod Audit
+pub mod AuditLaws

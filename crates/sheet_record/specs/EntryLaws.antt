@@ -14,10 +14,10 @@ use Rattle.sheet_record.specs.SpacesLaws.{barsAt}
 
 module _ (p : List ℕ) where
   -- the first read-backs and values of the six that the code reads
-  abbrev firstOf : List ℕ → List ℕ
+  abbrev pub firstOf : List ℕ → List ℕ
   firstOf xs = take (slotCount (headerOf p)) xs
 
-  values-entry : entryOf p .values ≡ firstOf (dwords (le 4) 6 p valuesAt)
+  pub values-entry : entryOf p .values ≡ firstOf (dwords (le 4) 6 p valuesAt)
   unfolding entryOf dwords
   values-entry = go (isBridge (headerOf p))
     where
@@ -25,7 +25,7 @@ module _ (p : List ℕ) where
       go true = refl
       go false = refl
 
-  slots-entry : slotsOf (entryOf p) ≡ slots (firstOf (dwords (be 4) 6 p readbacksAt))
+  pub slots-entry : slotsOf (entryOf p) ≡ slots (firstOf (dwords (be 4) 6 p readbacksAt))
   unfolding entryOf
   slots-entry = refl
 

@@ -1,0 +1,64 @@
+-- The numbers of an audit in their order, in the words of the code. Assumes nothing.
+use mathlib.Core.Path.{_≡_, sym, _∙_}
+use mathlib.Core.Bool.{Bool, true, false}
+use mathlib.Core.List.{List}
+use Prim.Native.Nat.{ℕ}
+use lib.ListN.{length}
+use borrow.Author.Tests.{eq-eqb, ne-eqb}
+use Rattle.board_record.specs.declared.Host.{Host}
+use Rattle.board_record.specs.Host.{hostLength, hostOfPart, hostWrong}
+use Rattle.sheet.specs.Sheet.{entriesOf, sheetNumber}
+use Rattle.sheet_record.specs.Entry.{Entry}
+use Rattle.audit_rule.specs.Audit.{from52, from51, from50, fromSheet, from26, auditNumber}
+use Rattle.auditor.specs.declared.Check.the-variants.{Buses, Places, Overlaps}
+use Rattle.auditor.specs.Checks.{fails}
+
+-- ## The host record, then the sheet by itself
+
+module _ (host s : List ℕ) where
+  pub short-host : (length host ≡ hostLength → ⊥) → auditNumber host s ≡ 20
+  unfolding auditNumber
+  short-host d = rw (ne-eqb (length host) hostLength d)
+
+  module _ (size : length host ≡ hostLength) (h : Host) (is : h ≡ hostOfPart host) (wrong : Bool) (is-wrong : wrong ≡ hostWrong h) where
+    past-size : auditNumber host s ≡ from26 h s
+    unfolding auditNumber
+    past-size = rw (eq-eqb (length host) hostLength size, is)
+
+    pub off-edges : wrong ≡ true → auditNumber host s ≡ 26
+    unfolding from26
+    off-edges e = past-size ∙ rw (sym is-wrong ∙ e)
+
+    module _ (right : wrong ≡ false) (n : ℕ) (number : n ≡ sheetNumber s) where
+      past-edges : auditNumber host s ≡ fromSheet h s
+      unfolding from26
+      past-edges = past-size ∙ rw (sym is-wrong ∙ right)
+
+      pub sheet-refused : (n ≡ 0 → ⊥) → auditNumber host s ≡ n
+      unfolding fromSheet
+      sheet-refused d = past-edges ∙ rw (← number, ne-eqb n 0 d)
+
+      pub sheet-passed : n ≡ 0 → auditNumber host s ≡ from50 h (entriesOf s)
+      unfolding fromSheet
+      sheet-passed z = past-edges ∙ rw (← number, eq-eqb n 0 z)
+
+-- ## The sheet under the host
+
+module _ (h : Host) (es : List Entry) (tree : Bool) (is-tree : tree ≡ fails Buses h es) where
+  pub tree-refused : tree ≡ true → from50 h es ≡ 50
+  unfolding from50
+  tree-refused e = rw (sym is-tree ∙ e)
+
+  module _ (tree-right : tree ≡ false) (place : Bool) (is-place : place ≡ fails Places h es) where
+    pub place-refused : place ≡ true → from50 h es ≡ 51
+    unfolding from50 from51
+    place-refused e = rw (sym is-tree ∙ tree-right, sym is-place ∙ e)
+
+    module _ (place-right : place ≡ false) (apart : Bool) (is-apart : apart ≡ fails Overlaps h es) where
+      pub overlap-refused : apart ≡ true → from50 h es ≡ 52
+      unfolding from50 from51 from52
+      overlap-refused e = rw (sym is-tree ∙ tree-right, sym is-place ∙ place-right, sym is-apart ∙ e)
+
+      pub all-passed : apart ≡ false → from50 h es ≡ 0
+      unfolding from50 from51 from52
+      all-passed e = rw (sym is-tree ∙ tree-right, sym is-place ∙ place-right, sym is-apart ∙ e)

@@ -1,0 +1,67 @@
+// Another firmware's sheet checked for a host record: the number of the first check that fails, or 0 where the sheet is accepted.
+ghost use mathlib.Core.Path.{_≡_};
+ghost use Rattle.sheet.specs.Sheet.{entriesOf};
+ghost use Rattle.sheet.specs.SheetLaws.{Checked};
+ghost use Rattle.audit_rule.specs.Audit.{from50, auditNumber};
+ghost use Rattle.audit_leaders.specs.Table.{Leads};
+ghost use Rattle.auditor.specs.Checks.{fails as failsOf};
+use board_record::Host;
+
+// The checks of a sheet under a host: its buses (50), where BARs and windows lie (51), and that they do not overlap (52).
+pub enum Check {
+    Buses,
+    Places,
+    Overlaps,
+}
+
+// The length of a host record's part.
+const HOST_SIZE: usize = 30;
+
+// Any bytes: the host record first, then the sheet by itself, then the sheet under the host.
+pub fn audit(host: &[u8], sheet: &[u8]) -> u8
+    ensures { λ r. ⌜ r ≡ auditNumber (now (host .entry)) (now (sheet .entry)) ⌝ }
+{
+    if host.len() != HOST_SIZE {
+        return 20;
+    }
+    let h = board_record::host_of(host);
+    if board_record::host_wrong(h) {
+        return 26;
+    }
+    let n = sheet::check(sheet);
+    if n != 0 {
+        return n;
+    }
+    audit_checked(h, sheet)
+}
+
+// 50 to 52, of a sheet that passes its own checks.
+fn audit_checked(host: Host, sheet: &[u8]) -> u8
+    requires { ⌜ Checked (now sheet) ⌝ }
+    ensures { λ r. ⌜ r ≡ from50 host (entriesOf (now (sheet .entry))) ⌝ }
+{
+    let mut table = [0u16; audit_leaders::BUSES];
+    audit_leaders::leaders(sheet, &mut table);
+    if fails(Check::Buses, host, sheet, &table) {
+        return 50;
+    }
+    if fails(Check::Places, host, sheet, &table) {
+        return 51;
+    }
+    if fails(Check::Overlaps, host, sheet, &table) {
+        return 52;
+    }
+    0
+}
+
+// The sheet fails the check, told by the table of its leaders.
+fn fails(check: Check, host: Host, sheet: &[u8], table: &[u16]) -> bool
+    requires { ⌜ Checked (now sheet) × Leads (entriesOf (now sheet)) (now table) ⌝ }
+    ensures { λ r. ⌜ r ≡ failsOf check host (entriesOf (now (sheet .entry))) ⌝ }
+{
+    match check {
+        Check::Buses => audit_tree::tree_wrong(host, sheet, table),
+        Check::Places => audit_place::place_wrong(host, sheet, table),
+        Check::Overlaps => audit_apart::overlaps(sheet),
+    }
+}

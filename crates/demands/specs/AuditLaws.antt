@@ -1,0 +1,258 @@
+-- Document 02, E6, is proved: the audit's number from its tests, delivery from the good sheet, and planned sheets from the planner's
+-- theorems. Assumes nothing.
+use mathlib.Core.Path.{_≡_, refl, sym, ap, ap₂, subst, subst₂, _∙_}
+use mathlib.Core.Logic.{_⊎_, inl, inr}
+use mathlib.Core.Bool.{Bool, true, false, cond}
+use mathlib.Core.List.{List, [], _∷_, _++_, map, reverse, List·Memᴰ·not-nil, List·Memᴰ·cases-cons, Memᴰ·map}
+use Prim.Native.Nat.{ℕ, suc, pred, _+_, _-_, _≤_}
+use native.Mathlib.Omega.{arith}
+use lib.ListN.{length, getD, take, drop, length-drop, length-map}
+use lib.Seq.{length-take-le}
+use Rattle.endian.specs.Endian.{Bytes}
+use Rattle.lists.specs.Lists.{_∈_, All, keep}
+use Rattle.lists.specs.ListLaws.{all-elim, all-intro, all-map-intro}
+use Rattle.pools.specs.declared.Pool.the-variants.{Low, High, Io}
+use Rattle.pools.specs.declared.Space.{Space}
+use Rattle.pools.specs.declared.Space.the-variants.{Memory, Io as Ports}
+use Rattle.records.specs.RecordsLaws.{fits-at}
+use Rattle.board_record.specs.declared.Host.{Host}
+use Rattle.board_record.specs.Host as hosts
+use Rattle.board_record.specs.Host.{hostOfPart}
+use Rattle.board.specs.Board.{hostOf}
+use Rattle.board.specs.BoardLaws.{accepted-of-zero}
+use Rattle.board.specs.ToPlacing.{toHost}
+use Rattle.walk.specs.Ranges as ranges
+use Rattle.walk.specs.Ranges.{Range}
+use Rattle.walk.specs.Registers.{Node, Registers, nodes, rootOf}
+use Rattle.walk.specs.RegistersLaws.{node-mem}
+use Rattle.walk.specs.Tally.{tallyOn}
+use Rattle.walk.specs.Walk.{delivered, refused, walkFrom, Trail}
+use Rattle.walk.specs.Above.{above}
+use Rattle.walk.specs.Good.{Host as WalkHost, Tree, Good, Sound, sound-of-good}
+use Rattle.walk.specs.Reach.{numbersOf}
+use Rattle.walk.specs.Delivery as walking
+use Rattle.walk.specs.Delivery.{outcomeOf, Delivers, owner-of-delivered, delivered-of-owner, outcome-from-first, holder-unique}
+use Rattle.sheet_record.specs.Entry.{Entry}
+use Rattle.sheet_record.specs.Spaces.{nodeOf}
+use Rattle.sheet.specs.Sheet.{entriesOf}
+use Rattle.sheet.specs.Spaces.{registersOf, nodesOf, nodesFrom, enabledOf}
+use Rattle.sheet.specs.SheetLaws.{passes-of-zero, nodes-functions}
+use Rattle.sheet.specs.Commands.{SameButCommands}
+use Rattle.plan_good.specs.Registers.{poolRange, planHost}
+use Rattle.plan_answer.specs.declared.Planning.the-variants.{Planned}
+use Rattle.plan_answer.specs.Plan.{planning, sheetAfter}
+use Rattle.plan_sheet.specs.Answer.{planned-of-answer, planned-sheet-of-answer}
+use Rattle.claims.specs.declared.Aim.the-variants.{Address}
+use Rattle.claims.specs.Claims.{tallyFor}
+use Rattle.route.specs.Route.{root}
+use Rattle.audit_rule.specs.Host.{hostFor}
+use Rattle.audit_rule.specs.Accepted.{Accepted}
+use Rattle.audit_rule.specs.AcceptedLaws.{good-of-accepted, accepted-delivers}
+use Rattle.audit_rule.specs.AuditLaws.{audit-iff, audited-by-number}
+use Rattle.demands.specs.Audit.{busOf, bridgesAbove, HasBarOver, Owns, mostInRow, hostRecord, Audits}
+use Rattle.demands.specs.RoutedLaws.{trail-from-root, Comes, routed}
+
+-- ## Delivery
+
+-- a node's bus is that of the record with its number
+bus-from : (k : ℕ) (es : List Entry) (n : Node) → n ∈ nodesFrom k es
+    → (k ≤ n .number) × (getD (map (λ (m : Node). m .bus) (nodesFrom k es)) (n .number - k) 0 ≡ n .bus)
+unfolding nodesFrom
+bus-from k [] n m = absurd (List·Memᴰ·not-nil m)
+bus-from k (e ∷ es) n m = go (List·Memᴰ·cases-cons m) (λ r. bus-from (k + 1) es n r)
+  where
+    go : (n ≡ nodeOf k e) ⊎ (n ∈ nodesFrom (k + 1) es)
+        → (n ∈ nodesFrom (k + 1) es
+        → (k + 1 ≤ n .number) × (getD (map (λ (m : Node). m .bus) (nodesFrom (k + 1) es)) (n .number - (k + 1)) 0 ≡ n .bus))
+        → (k ≤ n .number) × (getD (nodeOf k e .bus ∷ map (λ (m : Node). m .bus) (nodesFrom (k + 1) es)) (n .number - k) 0 ≡ n .bus)
+    go (inl same) later =
+        let i : n .number - k ≡ 0 = omega (arith, ap (λ (x : Node). x .number) same) in
+        (omega (arith, ap (λ (x : Node). x .number) same), rw i (sym (ap (λ (x : Node). x .bus) same)))
+    go (inr r) later =
+        let (le, at) = later r in
+        let i : n .number - k ≡ suc (n .number - (k + 1)) = omega (arith, le) in
+        (omega (arith, le), rw i at)
+
+bus-of-node : (s : List ℕ) (n : Node) → n ∈ nodesOf s → busOf s (n .number) ≡ n .bus
+bus-of-node s n m =
+    let (le, at) = bus-from 1 (entriesOf s) n m in
+    let i : pred (n .number) ≡ n .number - 1 = omega (arith, le) in
+    rw i at
+
+module _ (host s : List ℕ) (bytes : Bytes s) (a : Accepted host s) (sp : Space) where
+  abbrev walkHost : WalkHost
+  walkHost = hostFor sp (hostOfPart host)
+
+  abbrev fs : List Registers
+  fs = registersOf sp s
+
+  abbrev enabled : ℕ → Bool
+  enabled = enabledOf sp s
+
+  sound : Sound walkHost fs
+  sound = sound-of-good (good-of-accepted host s bytes a sp)
+
+  nodes-are : nodes fs ≡ nodesOf s
+  nodes-are = nodes-functions sp 1 (entriesOf s)
+
+  -- the bridges above, by number
+  above-agree : (f : Registers) → f ∈ fs → numbersOf (walking.bridgesAbove walkHost fs f) ≡ bridgesAbove host s (f .node .number)
+  above-agree f m =
+      let here : f .node ∈ nodesOf s = subst (λ (ns : List Node). f .node ∈ ns) nodes-are (node-mem m) in
+      ap₂ (λ (ns : List Node) (bus : ℕ). numbersOf (above (walkHost .first) ns bus)) nodes-are (sym (bus-of-node s (f .node) here))
+
+  count-agree : (f : Registers) → f ∈ fs
+      → length (walking.bridgesAbove walkHost fs f) ≡ length (bridgesAbove host s (f .node .number))
+  count-agree f m = sym (length-map (walking.bridgesAbove walkHost fs f) (λ (b : Node). b .number)) ∙ ap length (above-agree f m)
+
+  pub holder-is : (address j k : ℕ) → HasBarOver s sp address j → HasBarOver s sp address k → j ≡ k
+  holder-is address j k x y =
+      let same = holder-unique sound (passes-of-zero s bytes (a .passes) .numbered sp) address (x .function) (y .function)
+      (x .in-sheet) (y .in-sheet) (x .bar-holds) (y .bar-holds) in
+      sym (x .number-is) ∙ ap (λ (f : Registers). f .node .number) same ∙ y .number-is
+
+  module _ (address : ℕ) where
+    delivers : Delivers walkHost enabled fs address
+    delivers = accepted-delivers host s bytes a sp address
+
+    owns-by-value : (f : Registers) → walking.Owns walkHost enabled fs address f → Owns host s sp address (f .node .number)
+    owns-by-value f o =
+        let bs = walking.bridgesAbove walkHost fs f in
+        record {
+          has-bar = record { function = f; in-sheet = o .in-sheet; number-is = refl; bar-holds = o .bar-holds };
+          is-enabled = o .is-enabled;
+          bridges-enabled =
+              subst (All (λ b. enabled b ≡ true)) (above-agree f (o .in-sheet))
+              (all-map-intro _ (λ (b : Node). b .number) bs (λ b n. all-elim _ bs (o .bridges-enabled) n));
+        }
+
+    owner-by-value : (k : ℕ) → Owns host s sp address k
+        → (f : Registers) × walking.Owns walkHost enabled fs address f × (f .node .number ≡ k)
+    owner-by-value k o =
+        let x = o .has-bar in
+        let f = x .function in
+        let bs = walking.bridgesAbove walkHost fs f in
+        let numbers : bridgesAbove host s k ≡ numbersOf bs =
+        ap (bridgesAbove host s) (sym (x .number-is)) ∙ sym (above-agree f (x .in-sheet)) in
+        let on : All (λ b. enabled b ≡ true) (numbersOf bs) = subst (All (λ b. enabled b ≡ true)) numbers (o .bridges-enabled) in (
+          f,
+          record {
+            in-sheet = x .in-sheet;
+            bar-holds = x .bar-holds;
+            is-enabled = rw (x .number-is) (o .is-enabled);
+            bridges-enabled = all-intro _ bs (λ b n. all-elim _ (numbersOf bs) on (Memᴰ·map (λ (c : Node). c .number) n));
+          },
+          x .number-is,
+        )
+
+    -- the router's walk is the one that these are said of
+    outcome-is : walkFrom (tallyFor (Address sp address) s) (root s) 0 ≡ outcomeOf walkHost enabled fs address
+    outcome-is =
+        ap (λ (ns : List Node). walkFrom (tallyOn enabled fs address) (rootOf ns) 0) (sym nodes-are)
+        ∙ outcome-from-first fs (sound .tree) enabled address
+
+    reached : (k : ℕ) → Owns host s sp address k → outcomeOf walkHost enabled fs address ≡ delivered k (length (bridgesAbove host s k))
+    reached k o =
+        let (f, owns, is) = owner-by-value k o in
+        delivered-of-owner sound enabled address f owns
+        ∙ ap₂ delivered is (count-agree f (owns .in-sheet) ∙ ap (λ (n : ℕ). length (bridgesAbove host s n)) is)
+
+    comes : Comes (Owns host s sp address) (bridgesAbove host s) mostInRow s sp address
+    comes =
+        record {
+          delivered-exactly = λ k count. (to k count, λ (o, e). outcome-is ∙ reached k o ∙ ap (delivered k) (sym e));
+          else-no-owner = (
+            nobody,
+            λ none. outcome-is ∙ delivers .else-no-owner (λ f o. none (f .node .number) (owns-by-value f o)),
+          );
+          one-owner = λ j k o p. let x = reached j o in let y = reached k p in cc;
+          crosses = crosses;
+          few = few;
+        }
+      where
+        to : (k count : ℕ) → walkFrom (tallyFor (Address sp address) s) (root s) 0 ≡ delivered k count
+            → Owns host s sp address k × (count ≡ length (bridgesAbove host s k))
+        to k count e =
+            let (f, owns, is, counted) = owner-of-delivered sound enabled address k count (sym outcome-is ∙ e) in (
+              subst (Owns host s sp address) is (owns-by-value f owns),
+              counted ∙ count-agree f (owns .in-sheet) ∙ ap (λ (n : ℕ). length (bridgesAbove host s n)) is,
+            )
+
+        nobody : walkFrom (tallyFor (Address sp address) s) (root s) 0 ≡ refused 40 → (k : ℕ) → Owns host s sp address k → ⊥
+        nobody e k o = let d = sym outcome-is ∙ e in let r = reached k o in let z : _≡_ {A = ℕ} 0 1 = cc in omega arith
+
+        crosses : (k : ℕ) → Owns host s sp address k → Trail (tallyFor (Address sp address) s) (root s) (reverse (bridgesAbove host s k)) k
+        crosses k o =
+            let (f, owns, is) = owner-by-value k o in
+            let numbers = above-agree f (owns .in-sheet) ∙ ap (bridgesAbove host s) is in
+            let by-walk =
+            subst₂ (λ (ns : List ℕ) (n : ℕ). Trail (tallyOn enabled fs address) (walkHost .first) (reverse ns) n) numbers is
+            (delivers .crosses-exactly f owns) in
+            subst (λ (ns : List Node). Trail (tallyOn enabled fs address) (rootOf ns) (reverse (bridgesAbove host s k)) k) nodes-are
+            (trail-from-root enabled address (walkHost .first) fs (sound .tree .first-on-root) (reverse (bridgesAbove host s k)) k by-walk)
+
+        few : (k : ℕ) → Owns host s sp address k → length (bridgesAbove host s k) ≤ mostInRow
+        few k o =
+            let (f, owns, is) = owner-by-value k o in
+            let count = count-agree f (owns .in-sheet) ∙ ap (λ (n : ℕ). length (bridgesAbove host s n)) is in
+            omega (arith, delivers .at-most-255 f (owns .in-sheet), count)
+
+-- ## Planned sheets
+
+abbrev hostWith : Host → List Range → WalkHost
+hostWith h pools = record { first = h .«first_bus»; last = h .«last_bus»; pools = pools }
+
+-- the host of a plan and of an audit are one
+host-agree : (sp : Space) (h : Host) → planHost sp (toHost h) ≡ hostFor sp h
+unfolding keep
+host-agree Memory h = ap (hostWith h) (go (hosts.isOpen (h .low)) (hosts.isOpen (h .high)))
+  where
+    low : Range
+    low = record { pool = ranges.low; start = h .low .base; stop = suc (h .low .last) }
+
+    high : Range
+    high = record { pool = ranges.high; start = h .high .base; stop = suc (h .high .last) }
+
+    go : (b c : Bool) → map (poolRange (toHost h)) (cond b (Low ∷ cond c (High ∷ []) []) (cond c (High ∷ []) []))
+        ≡ cond b (low ∷ []) [] ++ cond c (high ∷ []) []
+    go true true = refl
+    go true false = refl
+    go false true = refl
+    go false false = refl
+host-agree Ports h = ap (hostWith h) (go (hosts.isOpen (h .io)))
+  where
+    go : (b : Bool) → map (poolRange (toHost h)) (cond b (Io ∷ []) [])
+        ≡ cond b (record { pool = ranges.io; start = h .io .base; stop = suc (h .io .last) } ∷ []) []
+    go true = refl
+    go false = refl
+
+module _ (b room : List ℕ) (n : ℕ) (bytes : Bytes b) (planned : planning b (length room) ≡ Planned n) (t : List ℕ)
+    (same : SameButCommands (take n (sheetAfter b room)) t) where
+  planned-accepted : Accepted (hostRecord b) t
+  planned-accepted =
+      let x = accepted-of-zero b (planned-of-answer b (length room) n planned .accepted) in
+      let sheet = planned-sheet-of-answer b room n bytes planned t same in
+      let good : (sp : Space) → Good (hostFor sp (hostOfPart (hostRecord b))) (registersOf sp t) = λ sp.
+      subst (λ (h : WalkHost). Good h (registersOf sp t)) (host-agree sp (hostOf b) ∙ ap (hostFor sp) (x .host-read)) (sheet .good sp) in
+      record {
+        host-size = length-take-le 30 (drop 3 b) (omega (arith, fits-at b 1 30 (x .host-record), length-drop 3 b));
+        host-edges = ap hosts.hostWrong (sym (x .host-read)) ∙ x .edges;
+        passes = sheet .passes;
+        tree = λ sp. subst (Tree (hostFor sp (hostOfPart (hostRecord b)))) (nodes-functions sp 1 (entriesOf t)) (good sp .tree);
+        nested = λ sp. good sp .nested;
+        disjoint = λ sp. good sp .disjoint;
+      }
+
+pub audits : Audits
+audits =
+    record {
+      yes-exactly = audit-iff;
+      by-number = audited-by-number;
+      accepted-routed = λ host s bytes a header p read sp address is.
+          routed (Owns host s sp address) (bridgesAbove host s) mostInRow s sp address (a .passes)
+          (comes host s bytes a sp address) header p read is;
+      one-holder = holder-is;
+      planned-accepted = planned-accepted;
+      planned-yes = λ b room n bytes planned t same small.
+          audit-iff (hostRecord b) t small .1 (planned-accepted b room n bytes planned t same);
+    }
