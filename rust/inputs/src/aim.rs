@@ -77,9 +77,9 @@ fn by_id(sheet: &[u8], record: &[u8], random: &mut Random) -> Numbers {
 }
 
 /// A BAR or a window: whether it is I/O, its first address and its last.
-type Range = (bool, u64, u64);
+pub(crate) type Range = (bool, u64, u64);
 
-fn range(record: &[u8], random: &mut Random) -> Option<Range> {
+pub(crate) fn range(record: &[u8], random: &mut Random) -> Option<Range> {
     if record[4 + 0x0E] & 0x7F == 1 && random.chance(1, 2) {
         Some(window(record, random))
     } else {

@@ -74,8 +74,9 @@ impl Board {
         (0..length).fold(parent, |above, _| self.bridge(above, device_function))
     }
 
-    pub fn bytes(&self) -> Vec<u8> {
-        let mut bytes = vec![self.version, 0, 30, self.buses.0, self.buses.1];
+    /// The 30 bytes of the host record.
+    pub fn host(&self) -> Vec<u8> {
+        let mut bytes = vec![self.buses.0, self.buses.1];
         for edge in [self.low.0, self.low.1] {
             bytes.extend(edge.to_be_bytes());
         }
@@ -85,6 +86,12 @@ impl Board {
         for edge in [self.io.0, self.io.1] {
             bytes.extend(edge.to_be_bytes());
         }
+        bytes
+    }
+
+    pub fn bytes(&self) -> Vec<u8> {
+        let mut bytes = vec![self.version, 0, 30];
+        bytes.extend(self.host());
         for function in &self.functions {
             bytes.extend((6 + 4 * function.read_backs.len() as u16).to_be_bytes());
             bytes.extend(function.parent.to_be_bytes());

@@ -3,6 +3,7 @@
 #![forbid(unsafe_code)]
 
 pub mod aim;
+pub mod audit;
 pub mod board;
 pub mod damage;
 pub mod foreign;

@@ -127,7 +127,7 @@ fn bars(mut record: Record, random: &mut Random) -> Record {
 }
 
 /// The command word, header type bit 7, and bytes that nothing looks at.
-fn others(mut record: Record, random: &mut Random) -> Record {
+pub(crate) fn others(mut record: Record, random: &mut Random) -> Record {
     if random.chance(1, 4) {
         record = record.command(random.word() as u16);
     }
@@ -214,7 +214,7 @@ fn double(sheet: &mut Vec<u8>, random: &mut Random) {
     }
 }
 
-fn record_of<'a>(sheet: &'a mut [u8], random: &mut Random) -> Option<&'a mut [u8]> {
+pub(crate) fn record_of<'a>(sheet: &'a mut [u8], random: &mut Random) -> Option<&'a mut [u8]> {
     let count = sheet.len().saturating_sub(1) / RECORD;
     let index = random.below(count.max(1) as u64) as usize;
     sheet.get_mut(1 + RECORD * index..)?.get_mut(..RECORD)

@@ -1,6 +1,6 @@
 //! BAR read-backs: what a function answers after all ones were written.
 
-use crate::pool::{Item, Pool};
+use crate::pool::{Item, Pool, Range};
 
 /// A read-back that no BAR gives (25).
 #[derive(Clone, Copy, Debug, PartialEq, Eq)]
@@ -85,6 +85,11 @@ impl Bar {
     /// Whether a register of this BAR may hold `value`, upper half included.
     pub fn admits(&self, value: u64) -> bool {
         value & !self.mask == u64::from(self.kind) && !(self.is_io && value > 0xFFFF)
+    }
+
+    /// The addresses of the BAR with this register value. They may end at 2^64 - 1.
+    pub fn range(&self, value: u64) -> Range {
+        Range { base: value & self.mask, last: value | !self.mask }
     }
 
     /// Whether the BAR with this register value holds `address`.

@@ -1,27 +1,15 @@
 //! The board: host record, function records and their checks.
 
 use crate::bar;
-use crate::pool::{PerPool, Pool};
+use crate::pool::{PerPool, Pool, Range};
 
 pub const MAX_FUNCTIONS: usize = 256;
 /// The most bridges above any function.
 pub const MAX_ABOVE: usize = 16;
 
-const HOST: usize = 30;
+/// The length of a host record.
+pub const HOST: usize = 30;
 const HEADER: usize = 6;
-
-/// A pool's edges, both inside.
-#[derive(Clone, Copy, Debug)]
-pub struct Range {
-    pub base: u64,
-    pub last: u64,
-}
-
-impl Range {
-    pub fn is_closed(&self) -> bool {
-        self.base > self.last
-    }
-}
 
 #[derive(Clone, Copy, Debug)]
 pub struct Host {
@@ -31,7 +19,7 @@ pub struct Host {
 }
 
 impl Host {
-    fn parse(record: &[u8; HOST]) -> Host {
+    pub fn parse(record: &[u8; HOST]) -> Host {
         let number = |at: usize, width: usize| {
             record[at..at + width].iter().fold(0, |number, &byte| number << 8 | u64::from(byte))
         };
@@ -39,7 +27,8 @@ impl Host {
         Host { first_bus: record[0], last_bus: record[1], pools: [range(2, 4), range(10, 8), range(26, 2)] }
     }
 
-    fn is_lawful(&self) -> bool {
+    /// Check 26.
+    pub fn is_lawful(&self) -> bool {
         let edges = |pool: Pool| {
             let Range { base, last } = self.pools[pool as usize];
             let on_edges = base % pool.granule() == 0 && last % pool.granule() == pool.granule() - 1;

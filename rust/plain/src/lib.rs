@@ -1,5 +1,5 @@
-//! Document 01, with requests E1, E2, E4 and E5 of document 02, in plain, safe Rust: the header codec, the board
-//! planner, the packet router and the trace annotator.
+//! Document 01, with requests E1, E2, E4, E5 and E6 of document 02, in plain, safe Rust: the header codec, the board
+//! planner, the packet router, the trace annotator and the audit of a sheet.
 //!
 //! Written from the documents and the readings of their open points in docs/DECISIONS.md, not from the proved code. The
 //! proved library is compared with it, and the stored answers of the test programs come from it. Every refusal is the
@@ -7,6 +7,7 @@
 
 #![forbid(unsafe_code)]
 
+mod audit;
 mod bar;
 mod board;
 mod packet;
@@ -16,6 +17,7 @@ mod route;
 mod sheet;
 mod trace;
 
+pub use audit::{audit, program as audit_program};
 pub use packet::{read, to_numbers, write, write_numbers, Form, Kind, Packet};
 pub use plan::plan;
 pub use route::{route, Arrival};

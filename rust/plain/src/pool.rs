@@ -28,6 +28,23 @@ impl Pool {
     }
 }
 
+/// The edges of a pool, a window or a BAR, both inside.
+#[derive(Clone, Copy, Debug)]
+pub struct Range {
+    pub base: u64,
+    pub last: u64,
+}
+
+impl Range {
+    pub fn is_closed(&self) -> bool {
+        self.base > self.last
+    }
+
+    pub fn holds(&self, address: u64) -> bool {
+        self.base <= address && address <= self.last
+    }
+}
+
 /// The first multiple of `align`, a power of two, at or after `end`; `u64::MAX` where that is 2^64 or more.
 ///
 /// No open pool reaches 2^52, so a sum that saturates is refused as the exact one would be.

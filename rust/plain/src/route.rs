@@ -173,8 +173,5 @@ fn bars_that_hold(record: Record<'_>, space: Space, address: u64) -> impl Iterat
 /// The windows of the record that hold the address; only a bridge has any.
 fn windows_that_hold(record: Record<'_>, space: Space, address: u64) -> impl Iterator<Item = Pool> + '_ {
     let pools = if record.is_bridge() { space.windows() } else { &[] };
-    pools.iter().copied().filter(move |&pool| {
-        let (first, last) = record.window(pool);
-        first <= address && address <= last
-    })
+    pools.iter().copied().filter(move |&pool| record.window(pool).holds(address))
 }

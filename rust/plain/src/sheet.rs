@@ -4,7 +4,7 @@ use std::fmt::Write;
 
 use crate::bar::{Bar, Malformed};
 use crate::board::{slot_count, Function, MAX_FUNCTIONS};
-use crate::pool::Pool;
+use crate::pool::{Pool, Range};
 
 pub const VERSION: u8 = 1;
 /// A record with its two-byte length.
@@ -172,20 +172,21 @@ impl Record<'_> {
         }
     }
 
-    /// A bridge's window: first and last address, closed when the first is above the last.
-    pub fn window(self, pool: Pool) -> (u64, u64) {
+    /// A bridge's window.
+    pub fn window(self, pool: Pool) -> Range {
         let memory = |at, upper: u32| u64::from(upper) << 32 | u64::from(self.u16(at) & 0xFFF0) << 16;
-        match pool {
+        let (base, limit) = match pool {
             Pool::Io => {
                 let bits = |at: usize| u64::from(self.0[at] & 0xF0) << 8;
-                (bits(IO_BASE), bits(IO_LIMIT) | 0xFFF)
+                (bits(IO_BASE), bits(IO_LIMIT))
             }
-            Pool::Low => (memory(LOW_BASE, 0), memory(LOW_LIMIT, 0) | 0xF_FFFF),
+            Pool::Low => (memory(LOW_BASE, 0), memory(LOW_LIMIT, 0)),
             Pool::High => {
                 let (base, limit) = (self.u32(HIGH_BASE_UPPER), self.u32(HIGH_LIMIT_UPPER));
-                (memory(HIGH_BASE, base), memory(HIGH_LIMIT, limit) | 0xF_FFFF)
+                (memory(HIGH_BASE, base), memory(HIGH_LIMIT, limit))
             }
-        }
+        };
+        Range { base, last: limit | (pool.granule() - 1) }
     }
 
     fn bar_register(self, slot: usize) -> u32 {

@@ -1,71 +1,17 @@
 //! The router: demand 3 on planned sheets, and any sheet against the walk written out word for word.
 
+mod decoded;
+
+use decoded::{functions, requests, Function, Range};
 use inputs::board::{self, Board, Style};
-use inputs::foreign::{completion, configuration, message, request, MSG, MSGD};
+use inputs::foreign::{completion, configuration, message, MSG, MSGD};
 use inputs::random::Random;
 use inputs::registers;
 use plain::{Arrival, Kind, Packet};
 
-/// A function of a sheet as the rules see it; ranges over 128-bit numbers, ends inside.
-struct Function {
-    id: u16,
-    command: u16,
-    bridge: Option<(u8, u8)>,
-    bars: Vec<(bool, u128, u128)>,
-    windows: Vec<(bool, u128, u128)>,
-}
-
-fn little(bytes: &[u8]) -> u128 {
-    bytes.iter().rev().fold(0, |number, &byte| number << 8 | u128::from(byte))
-}
-
-fn functions(sheet: &[u8]) -> Vec<Function> {
-    sheet[1..].chunks_exact(92).map(function).collect()
-}
-
-fn function(record: &[u8]) -> Function {
-    let registers = &record[4..68];
-    let is_bridge = registers[0x0E] & 0x7F == 1;
-    let mut bars = Vec::new();
-    let mut slot = 0;
-    while slot < if is_bridge { 2 } else { 6 } {
-        let read_back = u32::from_be_bytes(record[68 + 4 * slot..72 + 4 * slot].try_into().unwrap());
-        let value = little(&registers[0x10 + 4 * slot..0x14 + 4 * slot]);
-        if read_back & 1 == 1 {
-            let size = 1u128 << (read_back & 0xFFFC).trailing_zeros();
-            bars.push((true, value - 1, value - 1 + size - 1));
-        } else if read_back & 4 == 4 {
-            let upper = u32::from_be_bytes(record[72 + 4 * slot..76 + 4 * slot].try_into().unwrap());
-            let mask = u64::from(upper) << 32 | u64::from(read_back & !15);
-            let start = little(&registers[0x14 + 4 * slot..0x18 + 4 * slot]) << 32 | value & !15;
-            bars.push((false, start, start + (1u128 << mask.trailing_zeros()) - 1));
-            slot += 1;
-        } else if read_back != 0 {
-            let start = value & !15;
-            bars.push((false, start, start + (1u128 << (read_back & !15).trailing_zeros()) - 1));
-        }
-        slot += 1;
-    }
-    let mut windows = Vec::new();
-    if is_bridge {
-        windows.push((true, little(&registers[0x1C..0x1D]) << 8, (little(&registers[0x1D..0x1E]) << 8) + 0xFFF));
-        windows.push((false, little(&registers[0x20..0x22]) << 16, (little(&registers[0x22..0x24]) << 16) + 0xF_FFFF));
-        let base = little(&registers[0x28..0x2C]) << 32 | (little(&registers[0x24..0x26]) - 1) << 16;
-        let limit = little(&registers[0x2C..0x30]) << 32 | (little(&registers[0x26..0x28]) - 1) << 16;
-        windows.push((false, base, limit + 0xF_FFFF));
-    }
-    Function {
-        id: u16::from_be_bytes([record[2], record[3]]),
-        command: u16::from_le_bytes([registers[4], registers[5]]),
-        bridge: is_bridge.then_some((registers[0x19], registers[0x1A])),
-        bars,
-        windows,
-    }
-}
-
 /// The whole answer.
 fn walk(functions: &[Function], mut packet: Packet) -> Result<Arrival, u8> {
-    let root = (functions.first().ok_or(40)?.id >> 8) as u8;
+    let root = functions.first().ok_or(40)?.bus();
     let is_io = matches!(packet.kind, Kind::IORd | Kind::IOWr);
     let (record, bridges) = match packet.kind {
         Kind::MRd | Kind::MRdLk | Kind::MWr | Kind::IORd | Kind::IOWr => {
@@ -95,10 +41,10 @@ fn walk(functions: &[Function], mut packet: Packet) -> Result<Arrival, u8> {
 fn by_address(functions: &[Function], bus: u8, is_io: bool, address: u128, crossed: u8) -> Result<(u16, u8), u8> {
     let mut claims: Vec<(u16, Option<u8>)> = Vec::new();
     for (record, function) in (1..).zip(functions) {
-        if (function.id >> 8) as u8 != bus || function.command & if is_io { 1 } else { 2 } == 0 {
+        if function.bus() != bus || !function.enables(is_io) {
             continue;
         }
-        let holds = |range: &&(bool, u128, u128)| range.0 == is_io && range.1 <= address && address <= range.2;
+        let holds = |range: &&Range| range.holds(is_io, address);
         claims.extend(function.bars.iter().filter(holds).map(|_| (record, None)));
         let secondary = function.bridge.map(|range| range.0);
         claims.extend(function.windows.iter().filter(holds).map(|_| (record, secondary)));
@@ -119,7 +65,7 @@ fn by_id(functions: &[Function], bus: u8, id: u16, crossed: u8) -> Result<(u16, 
     }
     let ways: Vec<u8> = functions
         .iter()
-        .filter(|function| (function.id >> 8) as u8 == bus)
+        .filter(|function| function.bus() == bus)
         .filter_map(|function| function.bridge)
         .filter(|range| range.0 <= target && target <= range.1)
         .map(|range| range.0)
@@ -149,29 +95,6 @@ fn planned(numbers: &mut Random) -> Option<(Board, Vec<u8>)> {
     Some((board, room))
 }
 
-/// Addresses at and around the edges of BARs and windows, as headers.
-fn requests(functions: &[Function], numbers: &mut Random) -> Vec<Vec<u8>> {
-    let mut headers = Vec::new();
-    for function in functions {
-        for &(is_io, first, last) in function.bars.iter().chain(&function.windows) {
-            let inside = first + u128::from(numbers.word()) % (last.saturating_sub(first) + 1);
-            for address in [first.wrapping_sub(4), first, inside & !3, last & !3, last + 1] {
-                let limit = if is_io { 1 << 32 } else { 1 << 64 };
-                if address < limit {
-                    let byte0 = [[0x00, 0x40], [0x02, 0x42]][usize::from(is_io)][numbers.below(2) as usize];
-                    headers.push(request(byte0, address as u64));
-                }
-                // By address a message is a memory request, also where the range is one of I/O.
-                if address < limit && numbers.chance(1, 3) {
-                    let byte0 = [MSG, MSGD][numbers.below(2) as usize];
-                    headers.push(message(byte0, 0b001, numbers.word() as u8, address as u64));
-                }
-            }
-        }
-    }
-    headers
-}
-
 #[test]
 fn demand_3() {
     let mut numbers = Random::new(5);
@@ -191,14 +114,12 @@ fn demand_3() {
             let is_message = matches!(packet.kind, Kind::Msg | Kind::MsgD);
             let address = u128::from(if is_message { packet.tail } else { packet.address });
             let owners: Vec<usize> = (0..functions.len())
-                .filter(|&index| {
-                    functions[index].bars.iter().any(|bar| bar.0 == is_io && bar.1 <= address && address <= bar.2)
-                })
+                .filter(|&index| functions[index].bars.iter().any(|bar| bar.holds(is_io, address)))
                 .collect();
             assert!(owners.len() < 2);
             let mut expected = Err(40);
             if let [owner] = owners[..] {
-                let enabled = |index: usize| functions[index].command & if is_io { 1 } else { 2 } != 0;
+                let enabled = |index: usize| functions[index].enables(is_io);
                 let (mut above, mut count, mut all) = (board.functions[owner].parent, 0, enabled(owner));
                 while above != 0 {
                     count += 1;

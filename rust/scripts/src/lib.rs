@@ -1,8 +1,9 @@
-//! Chosen cases as scripts, one request to a line (`plain`'s program `answers` says which), and as runs of the program
-//! `annotate`: the same bytes at every run. The answers to the lines of `test_headers`, which are chosen by hand.
+//! Chosen cases as scripts, one request to a line (`plain`'s program `answers` says which), and as runs of the programs
+//! `annotate` and `audit`: the same bytes at every run. The answers to the lines of `test_headers`, which are chosen by hand.
 
 #![forbid(unsafe_code)]
 
+mod audits;
 mod headers;
 mod messages;
 mod planning;
@@ -11,6 +12,7 @@ mod script;
 mod tags;
 mod traces;
 
+pub use audits::{runs as audits, CAPTURES};
 pub use headers::answers as headers;
 pub use planning::script as boards;
 pub use routing::script as routes;

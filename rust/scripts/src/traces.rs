@@ -6,14 +6,14 @@ use inputs::board::{self, Board};
 use inputs::foreign::*;
 use inputs::trace::{self, input};
 
-/// A run's name, and its whole standard input: a sheet after its length, then a trace.
+/// A run's name, and its whole standard input.
 pub type Run = (&'static str, Vec<u8>);
 
 pub fn runs() -> Vec<Run> {
     [headers(), records(), sheets(), ends()].concat()
 }
 
-fn planned(board: &Board) -> Vec<u8> {
+pub fn planned(board: &Board) -> Vec<u8> {
     let mut room = vec![0; plain::FULL_SHEET];
     let length = plain::plan(&board.bytes(), &mut room).unwrap_or_else(|number| panic!("refused {number}"));
     room.truncate(length);

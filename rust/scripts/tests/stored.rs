@@ -1,31 +1,70 @@
-//! tests/annotate has the runs of `traces`, with what plain prints for them, and no other file. The stored lines of
-//! `test_headers` have plain's answers.
+//! tests/annotate has the runs of `traces` and tests/audit those of `audits`, with what plain prints for them, and no
+//! other file; tests/audit has the sheets that real firmware left as well. The stored lines of `test_headers` have plain's
+//! answers.
 
 use std::collections::BTreeMap;
 use std::fs;
+
+/// File names, and what the files hold.
+type Files = BTreeMap<String, Vec<u8>>;
+
+fn files(directory: &str) -> Files {
+    fs::read_dir(format!("{}/../../tests/{directory}", env!("CARGO_MANIFEST_DIR")))
+        .unwrap()
+        .map(|file| file.unwrap())
+        .map(|file| (file.file_name().into_string().unwrap(), fs::read(file.path()).unwrap()))
+        .collect()
+}
+
+fn stored(runs: Vec<(&str, Vec<u8>)>, program: fn(&[u8]) -> Vec<u8>) -> Files {
+    let mut files = Files::new();
+    for (name, input) in runs {
+        assert!(files.insert(format!("{name}.out"), program(&input)).is_none(), "{name} twice");
+        files.insert(format!("{name}.in"), input);
+    }
+    files
+}
+
+fn agree(files: &Files, runs: &Files, how: &str) {
+    assert!(files.keys().eq(runs.keys()), "{:?}", files.keys());
+    for (name, bytes) in runs {
+        assert!(files[name] == *bytes, "{name}: {how}");
+    }
+}
+
+#[test]
+fn runs_of_annotate() {
+    let runs = stored(scripts::traces(), plain::program);
+    agree(&files("annotate"), &runs, "cargo run --bin traces tests/annotate");
+}
+
+#[test]
+fn runs_of_audit() {
+    let mut files = files("audit");
+    files.remove("README.md");
+    let mut runs = stored(scripts::audits(), plain::audit_program);
+    for name in scripts::CAPTURES {
+        let parts = ["host", "sheet"].map(|extension| format!("{name}.{extension}"));
+        let input = parts.clone().map(|part| files[&part].clone()).concat();
+        runs.insert(format!("{name}.out"), plain::audit_program(&input));
+        runs.extend(parts.map(|part| (part.clone(), files[&part].clone())));
+    }
+    agree(&files, &runs, "cargo run --bin audits tests/audit");
+}
+
+/// A run whose name says a number is refused with it, any other is accepted.
+#[test]
+fn names_of_audits() {
+    for (name, input) in scripts::audits() {
+        let number = name.split_once("refused-").map(|(_, rest)| rest.split('-').next().unwrap());
+        let expected = number.map_or("accepted\n".to_string(), |number| format!("refused {number}\n"));
+        assert_eq!(String::from_utf8(plain::audit_program(&input)).unwrap(), expected, "{name}");
+    }
+}
 
 #[test]
 fn lines_of_test_headers() {
     let file = |name| fs::read_to_string(format!("{}/../../crates/test_headers/{name}", env!("CARGO_MANIFEST_DIR")));
     let answers = scripts::headers(&file("stdin").unwrap());
     assert!(answers == file("stdout").unwrap(), "cargo run --bin headers < stdin > stdout");
-}
-
-#[test]
-fn runs_of_annotate() {
-    let directory = concat!(env!("CARGO_MANIFEST_DIR"), "/../../tests/annotate");
-    let files: BTreeMap<String, Vec<u8>> = fs::read_dir(directory)
-        .unwrap()
-        .map(|file| file.unwrap())
-        .map(|file| (file.file_name().into_string().unwrap(), fs::read(file.path()).unwrap()))
-        .collect();
-    let mut runs = BTreeMap::new();
-    for (name, input) in scripts::traces() {
-        runs.insert(format!("{name}.out"), plain::program(&input));
-        runs.insert(format!("{name}.in"), input);
-    }
-    assert!(files.keys().eq(runs.keys()), "{:?}", files.keys());
-    for (name, bytes) in &runs {
-        assert!(files[name] == *bytes, "{name}: cargo run --bin traces tests/annotate");
-    }
 }

@@ -1,0 +1,163 @@
+//! The audit (request E6 of document 02): whether a sheet that other firmware left keeps, for a host record, to what
+//! every planned sheet keeps to.
+
+use crate::bar;
+use crate::board::{Host, HOST};
+use crate::pool::{Pool, Range};
+use crate::sheet::{Record, Sheet};
+
+/// The number of the first check that the host record or the sheet fails, 0 when the sheet is accepted.
+pub fn audit(host: &[u8], sheet: &[u8]) -> u8 {
+    judge(host, sheet).err().unwrap_or(0)
+}
+
+/// What the program `audit` prints for its whole standard input: the 30 bytes of a host record, then a sheet.
+pub fn program(input: &[u8]) -> Vec<u8> {
+    let (host, sheet) = input.split_at(input.len().min(HOST));
+    let line = match audit(host, sheet) {
+        0 => "accepted\n".to_string(),
+        number => format!("refused {number}\n"),
+    };
+    line.into_bytes()
+}
+
+/// The host record's 20 and 26, the sheet's own checks, then 50, 51 and 52.
+fn judge(host: &[u8], sheet: &[u8]) -> Result<(), u8> {
+    let host: &[u8; HOST] = host.try_into().map_err(|_| 20)?;
+    let host = Host::parse(host);
+    if !host.is_lawful() {
+        return Err(26);
+    }
+    let sheet = Sheet::new(sheet)?;
+    let tree = Tree::new(&host, sheet);
+    if !tree.buses_nest() {
+        return Err(50);
+    }
+    let mut items = Vec::new();
+    for record in sheet.records() {
+        add_items(record, &mut items);
+    }
+    if !items.iter().all(|item| tree.holds(item)) {
+        return Err(51);
+    }
+    // One space on one bus.
+    let keyed = items.iter().map(|item| ((item.bus, item.pool == Pool::Io), item.range.base, item.range.last));
+    if !are_disjoint(keyed.collect()) {
+        return Err(52);
+    }
+    Ok(())
+}
+
+/// A BAR, or an open window.
+struct Item {
+    bus: u8,
+    /// Where document 01 puts its kind.
+    pool: Pool,
+    range: Range,
+}
+
+/// Adds the BARs and open windows of a function, enabled or not.
+fn add_items(record: Record<'_>, items: &mut Vec<Item>) {
+    let bus = record.bus();
+    for bar in bar::bars(record.read_backs()) {
+        items.push(Item { bus, pool: bar.pool, range: bar.range(record.value(&bar)) });
+    }
+    if record.is_bridge() {
+        let windows = Pool::ALL.map(|pool| Item { bus, pool, range: record.window(pool) });
+        items.extend(windows.into_iter().filter(|window| !window.range.is_closed()));
+    }
+}
+
+/// What leads to a bus, by the bridges that have it as their secondary.
+#[derive(Clone, Copy)]
+enum Way<'a> {
+    None,
+    One(Record<'a>),
+    Several,
+}
+
+/// The host, or the bridge just above.
+enum Parent<'a> {
+    Host(&'a Host),
+    Bridge(Record<'a>),
+}
+
+impl Parent<'_> {
+    /// Whether a bridge's buses lie in the parent's.
+    fn spans(&self, bridge: Record<'_>) -> bool {
+        let (first, last) = match self {
+            Parent::Host(host) => (host.first_bus, host.last_bus),
+            Parent::Bridge(above) => (above.secondary(), above.subordinate()),
+        };
+        first <= bridge.secondary() && bridge.subordinate() <= last
+    }
+
+    /// The pool, or the window of that kind.
+    fn range(&self, pool: Pool) -> Range {
+        match self {
+            Parent::Host(host) => host.pools[pool as usize],
+            Parent::Bridge(above) => above.window(pool),
+        }
+    }
+}
+
+/// The buses of a sheet, and what is above each.
+struct Tree<'a> {
+    host: &'a Host,
+    sheet: Sheet<'a>,
+    ways: [Way<'a>; 256],
+}
+
+impl<'a> Tree<'a> {
+    fn new(host: &'a Host, sheet: Sheet<'a>) -> Tree<'a> {
+        let mut ways = [Way::None; 256];
+        for bridge in sheet.records().filter(|record| record.is_bridge()) {
+            let way = &mut ways[usize::from(bridge.secondary())];
+            *way = match way {
+                Way::None => Way::One(bridge),
+                Way::One(_) | Way::Several => Way::Several,
+            };
+        }
+        Tree { host, sheet, ways }
+    }
+
+    /// The parent of a bus's functions. Only the root bus and one that a single bridge leads to have it.
+    fn parent(&self, bus: u8) -> Option<Parent<'a>> {
+        if bus == self.host.first_bus {
+            return Some(Parent::Host(self.host));
+        }
+        match self.ways[usize::from(bus)] {
+            Way::One(bridge) => Some(Parent::Bridge(bridge)),
+            Way::None | Way::Several => None,
+        }
+    }
+
+    /// Check 50.
+    fn buses_nest(&self) -> bool {
+        let host = Parent::Host(self.host);
+        let on_root = self.sheet.records().next().is_none_or(|first| first.bus() == self.host.first_bus);
+        let in_parents = self.sheet.records().all(|record| {
+            self.parent(record.bus())
+                .is_some_and(|parent| !record.is_bridge() || (parent.spans(record) && host.spans(record)))
+        });
+        let bridges = self.sheet.records().filter(|record| record.is_bridge());
+        on_root
+            && in_parents
+            && are_disjoint(bridges.map(|bridge| (bridge.bus(), bridge.secondary(), bridge.subordinate())).collect())
+    }
+
+    /// Check 51 of one item. Nothing lies in a closed window or pool.
+    fn holds(&self, item: &Item) -> bool {
+        self.parent(item.bus).is_some_and(|parent| {
+            let outer = parent.range(item.pool);
+            outer.base <= item.range.base && item.range.last <= outer.last
+        })
+    }
+}
+
+/// Whether no two ranges of one key share a number; each is its key, its first number and its last, not below the first.
+fn are_disjoint<K: Ord, N: Ord>(mut ranges: Vec<(K, N, N)>) -> bool {
+    // In order of their first numbers, the ranges of a key are disjoint when each ends before the next starts.
+    ranges.sort_unstable();
+    ranges.windows(2).all(|pair| pair[0].0 != pair[1].0 || pair[0].2 < pair[1].1)
+}
