@@ -1,6 +1,6 @@
 /*
- * Cartsundial for C: read and write PCI Express headers, plan a board's register sheet, look functions up in it, route packets over it, and
- * label the headers of a trace.
+ * Cartsundial for C: read and write PCI Express headers, plan a board's register sheet, look functions up in it, judge a sheet that other
+ * firmware left, route packets over it, and label the headers of a trace.
  *
  * Build:  rt staticlib capi          proves everything, then writes target/staticlib/libcapi.a
  *         gcc -Iinclude main.c target/staticlib/libcapi.a
@@ -84,7 +84,10 @@ enum cartsundial_number {
     CARTSUNDIAL_NO_OWNER = 40,         /* no function has the address or the ID */
     CARTSUNDIAL_CONTESTED = 41,        /* two claims to it on one bus */
     CARTSUNDIAL_CONFIG_TYPE = 42,      /* configuration type 0 for another bus than the root bus, or type 1 for the root bus */
-    CARTSUNDIAL_UPWARD = 43            /* a message that only travels up: routing 0, to the root complex, or 5, gathered on the way there */
+    CARTSUNDIAL_UPWARD = 43,           /* a message that only travels up: routing 0, to the root complex, or 5, gathered on the way there */
+    CARTSUNDIAL_BUS_TREE = 50,         /* audit: first record not on the host's first bus; not one bridge to a bus; a bridge's buses */
+    CARTSUNDIAL_PLACE = 51,            /* audit: a BAR or open window outside the window above, or the pool, of its kind */
+    CARTSUNDIAL_OVERLAP = 52           /* audit: two BARs or open windows of one space overlap on a bus */
 };
 
 /* ---- a packet as twenty numbers ---- */
@@ -149,6 +152,7 @@ enum cartsundial_field {
 enum cartsundial_size {
     CARTSUNDIAL_HEADER_BYTES = 16,     /* a header written: 12 or 16 bytes */
     CARTSUNDIAL_SHEET_BYTES = 23553,   /* a sheet of 256 functions */
+    CARTSUNDIAL_HOST_BYTES = 30,       /* a board's host record, after its length */
     CARTSUNDIAL_REGISTER_BYTES = 64,   /* a function's configuration header */
     CARTSUNDIAL_ROUTE_NUMBERS = 22,    /* record, bridges, and a packet: every route but a broadcast's */
     CARTSUNDIAL_ANY_ROUTE_NUMBERS = 278, /* any route: a broadcast's has the records of up to 256 functions after it */
@@ -194,6 +198,21 @@ uint32_t cartsundial_plan(const uint8_t *board, size_t board_len, uint8_t *sheet
  * 0 for a sheet that passes its checks, or the number of the first that it fails, 20 to 29. Give the sheet's own length, not the buffer's.
  */
 uint32_t cartsundial_check(const uint8_t *sheet, size_t sheet_len);
+
+/*
+ * Judges a sheet, whoever wrote it, for a host: 0 for one that is accepted, or the number of the first check that fails. host: the
+ * CARTSUNDIAL_HOST_BYTES bytes of a board's host record, without its length; in a board they start at byte 3.
+ * Refused: 20 for a host of another length, then 26 for its buses or edges; the sheet's number, 20 to 29; then
+ *     50   the first record is not on the host's first bus; a function's bus is neither that nor the secondary bus of exactly one bridge;
+ *          a bridge's buses do not lie in the parent's and the host's; two bridges on one bus share a bus
+ *     51   a BAR or an open window does not lie in the window above, or on the root bus in the pool, of its kind: low memory, high memory
+ *          (from 4 GiB on, for what is 64-bit and prefetchable) or I/O
+ *     52   on one bus two BARs or open windows of one space overlap, enabled or not, also of one function
+ * Every sheet from cartsundial_plan is accepted for its own host record. Over an accepted sheet cartsundial_route gives a memory or I/O
+ * request to the one function whose BAR holds the address, where that function and all bridges above it are enabled, and else answers 40,
+ * never 41. Both are proved.
+ */
+uint32_t cartsundial_audit(const uint8_t *host, size_t host_len, const uint8_t *sheet, size_t sheet_len);
 
 /*
  * Finds the function with an ID. offset: where its 64 register bytes start in the sheet.

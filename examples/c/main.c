@@ -1,5 +1,6 @@
 /*
- * Plans document 01's board P10, looks its functions up, routes memory reads over the sheet, and labels a trace that comes in two pieces.
+ * Plans document 01's board P10, looks its functions up, routes memory reads over the sheet, labels a trace that comes in two pieces, and
+ * judges the sheet as another firmware's.
  * examples/c/run builds it and compares what it prints.
  */
 #include <inttypes.h>
@@ -103,6 +104,12 @@ static void annotate(uint64_t *state, const uint8_t *piece, size_t piece_len)
     print_lines(number, lines, written);
 }
 
+/* The sheet judged for the board's host record, which stands after the version and its own length. */
+static void audit(const char *when)
+{
+    printf("audit, %s: %" PRIu32 "\n", when, cartsundial_audit(board + 3, CARTSUNDIAL_HOST_BYTES, sheet, sheet_len));
+}
+
 /* The line that the trace gets if it ends here. */
 static void annotate_end(const uint64_t *state)
 {
@@ -141,5 +148,10 @@ int main(void)
     number = cartsundial_command(sheet, sheet_len, 0x0000, 0x0001);
     printf("command 0001 at 0000: %" PRIu32 "\n", number);
     route_read(0xF9000FFC);
+
+    /* enabled or not, all is in its place; then the first BAR of 01:00.0 moves 1 MiB on, past the window of the bridge above */
+    audit("as planned");
+    sheet[97 + 0x12] = 0x10;
+    audit("a BAR moved");
     return 0;
 }

@@ -6,6 +6,7 @@ ghost use Rattle.tlp.specs.Writing.{writeOf, roomAfter};
 ghost use Rattle.sheet.specs.Sheet.{sheetNumber};
 ghost use Rattle.sheet.specs.Lookup.{lookupOf};
 ghost use Rattle.plan_answer.specs.Plan.{numberOf as planningNumber, planning};
+ghost use Rattle.audit_rule.specs.Audit.{auditNumber};
 ghost use Rattle.capi_answers.specs.Answers.{returned, filled, leftBeside};
 ghost use Rattle.capi_trace.specs.Calls.{annotateAnswer, stateLeft, linesLeft, endAnswer, endLeft};
 ghost use Rattle.capi.specs.Calls.{readAnswer, onWriting, writeAnswer, roomLeft, lookupAnswer, idAnswer, unownedOf};
@@ -69,6 +70,14 @@ pub extern "C" fn cartsundial_check(sheet: &[u8]) -> u32
     ensures { λ r. ⌜ r ≡ sheetNumber (now (sheet .entry)) ⌝ }
 {
     sheet::check(sheet) as u32
+}
+
+// 0 for a sheet that is accepted for a host record, the 30 bytes after its length, or the number of the first check that fails.
+#[no_mangle]
+pub extern "C" fn cartsundial_audit(host: &[u8], sheet: &[u8]) -> u32
+    ensures { λ r. ⌜ r ≡ auditNumber (now (host .entry)) (now (sheet .entry)) ⌝ }
+{
+    auditor::audit(host, sheet) as u32
 }
 
 // Where the 64 register bytes of the function with an ID start in the sheet.

@@ -1,4 +1,4 @@
-//! The library's ten calls as it has them: slices in, numbers out.
+//! The library's eleven calls as it has them: slices in, numbers out.
 //!
 //! Each returns 0 or document 01's number. A refused call changes nothing that it was lent. An answer slice that is too
 //! short is 11, tried last; numbers past the answer's own are left as they were.
@@ -44,6 +44,7 @@ mod c {
             written_len: usize,
         ) -> u32;
         pub fn cartsundial_check(sheet: *const u8, sheet_len: usize) -> u32;
+        pub fn cartsundial_audit(host: *const u8, host_len: usize, sheet: *const u8, sheet_len: usize) -> u32;
         pub fn cartsundial_lookup(
             sheet: *const u8,
             sheet_len: usize,
@@ -128,6 +129,11 @@ pub fn plan(board: &[u8], sheet: &mut [u8], written: &mut [u64]) -> u32 {
 /// Checks a sheet.
 pub fn check(sheet: &[u8]) -> u32 {
     unsafe { c::cartsundial_check(sheet.as_ptr(), sheet.len()) }
+}
+
+/// Audits a sheet for the bytes of a host record. Other than 30 bytes are 20, before the sheet is read.
+pub fn audit(host: &[u8], sheet: &[u8]) -> u32 {
+    unsafe { c::cartsundial_audit(host.as_ptr(), host.len(), sheet.as_ptr(), sheet.len()) }
 }
 
 /// Writes to `offset` where in the sheet the 64 register bytes of the function with this ID start. No function has an

@@ -21,6 +21,7 @@
 //! | a board as a register sheet | [`plan`] |
 //! | the record of a board that finds no room | [`what_does_not_fit`] |
 //! | a sheet: is it lawful, a function's registers, its command word | [`check`], [`registers`], [`set_command`] |
+//! | is a sheet that other firmware left in order, for a host | [`audit`] |
 //! | its functions one by one, or from a record to its ID | [`functions()`], [`id_of`] |
 //! | where a packet goes: a function, every function, the port | [`route`] |
 //! | a line for each header of a trace: in pieces, of a whole one | [`Annotator`], [`lines()`] |
@@ -56,6 +57,7 @@ mod arrival;
 pub mod calls;
 mod fields;
 mod functions;
+mod host;
 mod id;
 mod kind;
 mod label;
@@ -70,6 +72,7 @@ pub use annotator::{Annotator, LONGEST_LINE};
 pub use arrival::{route, Arrival, Delivery};
 pub use fields::{Body, Enables, Fields};
 pub use functions::{functions, Function};
+pub use host::{audit, HostRecord};
 pub use id::Id;
 pub use kind::{CompletionKind, ConfigurationKind, Form, IoKind, Kind, MemoryKind, MessageKind, Routing};
 pub use label::{Label, Owner};

@@ -1,4 +1,4 @@
-//! Document 01's refusal numbers.
+//! The refusal numbers of documents 01 and 02.
 
 use core::error::Error;
 use core::fmt;
@@ -67,11 +67,18 @@ pub enum Refusal {
     ConfigurationType = 42,
     /// A message that only travels up: to the root complex, or gathered on its way there.
     Upward = 43,
+    /// Audit: the first record is not on the host's first bus, not exactly one bridge leads to a function's bus, or a
+    /// bridge's buses lie outside the parent's or the host's or meet a sibling's.
+    BusTree = 50,
+    /// Audit: a BAR or open window outside the window above, or the pool, of its kind.
+    Place = 51,
+    /// Audit: two BARs or open windows of one space overlap on a bus.
+    Overlap = 52,
 }
 
 impl Refusal {
     /// Every refusal, by rising number.
-    pub const ALL: [Refusal; 29] = [
+    pub const ALL: [Refusal; 32] = [
         Refusal::ShortHeader,
         Refusal::UnknownPair,
         Refusal::NotCarried,
@@ -101,6 +108,9 @@ impl Refusal {
         Refusal::Contested,
         Refusal::ConfigurationType,
         Refusal::Upward,
+        Refusal::BusTree,
+        Refusal::Place,
+        Refusal::Overlap,
     ];
 
     /// Document 01's number.
@@ -152,6 +162,9 @@ impl Refusal {
             Refusal::Contested => "contested",
             Refusal::ConfigurationType => "wrong configuration type",
             Refusal::Upward => "a message that only travels up",
+            Refusal::BusTree => "first record's bus, the bridge to a bus, or a bridge's buses",
+            Refusal::Place => "a BAR or window outside the window or pool above",
+            Refusal::Overlap => "two BARs or windows overlap on a bus",
         }
     }
 }

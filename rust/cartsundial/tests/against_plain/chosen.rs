@@ -1,7 +1,7 @@
-//! The chosen cases of the scripts, and the runs of the annotator, once, whatever the rounds.
+//! The chosen cases of the scripts, and the runs of the annotator and of the audit, once, whatever the rounds.
 
 use crate::tally::Tally;
-use crate::{boards, headers, routes, sheets, traces};
+use crate::{audits, boards, headers, routes, sheets, traces};
 use inputs::random::Random;
 
 pub fn compare(random: &mut Random, _: u64, tally: &mut Tally) {
@@ -17,6 +17,7 @@ pub fn compare(random: &mut Random, _: u64, tally: &mut Tally) {
             traces::annotate(sheet, trace, random, tally);
         }
     }
+    audits::chosen(random, tally);
 }
 
 /// One line. A board that is planned, and a sheet, become the current sheet.

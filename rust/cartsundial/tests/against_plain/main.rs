@@ -6,6 +6,7 @@
 //!
 //! `CARTSUNDIAL_SEED` changes the inputs, `CARTSUNDIAL_ROUNDS` multiplies them.
 
+mod audits;
 mod boards;
 mod chosen;
 mod headers;
@@ -30,13 +31,14 @@ fn main() -> ExitCode {
     let rounds = setting("CARTSUNDIAL_ROUNDS", 1);
     println!("against plain: seed {seed}, rounds {rounds}");
     let mut tally = Tally::default();
-    let parts: [(&str, Part); 6] = [
+    let parts: [(&str, Part); 7] = [
         ("chosen", chosen::compare),
         ("headers", headers::compare),
         ("boards", boards::compare),
         ("sheets", sheets::compare),
         ("routes", routes::compare),
         ("traces", traces::compare),
+        ("audits", audits::compare),
     ];
     for (number, (name, compare)) in (0..).zip(parts) {
         let before = tally.total();

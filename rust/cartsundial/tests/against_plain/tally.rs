@@ -10,6 +10,7 @@ pub enum Call {
     Write,
     Plan,
     Check,
+    Audit,
     Lookup,
     Id,
     Command,
@@ -18,11 +19,12 @@ pub enum Call {
     End,
 }
 
-const CALLS: [Call; 10] = [
+const CALLS: [Call; 11] = [
     Call::Read,
     Call::Write,
     Call::Plan,
     Call::Check,
+    Call::Audit,
     Call::Lookup,
     Call::Id,
     Call::Command,
@@ -32,16 +34,17 @@ const CALLS: [Call; 10] = [
 ];
 
 /// One more than the greatest number.
-const NUMBERS: usize = 44;
+const NUMBERS: usize = 53;
 
 impl Call {
-    /// The numbers that the call can give, by document 01 and, for 11, by the boundary's answer slices.
+    /// The numbers that the call can give, by documents 01 and 02 and, for 11, by the boundary's answer slices.
     fn numbers(self) -> &'static [usize] {
         match self {
             Call::Read => &[0, 1, 2, 3, 4, 5, 6, 7, 8, 9, 11],
             Call::Write => &[0, 2, 4, 5, 6, 7, 8, 9, 10, 11],
             Call::Plan => &[0, 11, 20, 21, 22, 23, 24, 25, 26, 30, 31, 32, 33],
             Call::Check => &[0, 20, 21, 22, 24, 25, 27, 28, 29],
+            Call::Audit => &[0, 20, 21, 22, 24, 25, 26, 27, 28, 29, 50, 51, 52],
             Call::Lookup => &[0, 11, 20, 21, 22, 24, 25, 27, 28, 29, 40],
             Call::Id => &[0, 11, 20, 21, 22, 24, 25, 27, 28, 29, 40],
             Call::Command => &[0, 10, 20, 21, 22, 24, 25, 27, 28, 29, 40],
@@ -86,7 +89,7 @@ impl Tally {
     pub fn count(&mut self, call: Call, number: u32) {
         match self.numbers[call as usize].get_mut(number as usize) {
             Some(count) => *count += 1,
-            None => panic!("{call:?} gave {number}, which is no number of document 01"),
+            None => panic!("{call:?} gave {number}, which is no number of documents 01 and 02"),
         }
     }
 

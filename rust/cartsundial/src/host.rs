@@ -1,0 +1,78 @@
+//! A host record, and the sheets that fit it.
+
+use crate::{accepted, calls, Refusal};
+
+/// A board's host record: its buses and its pools, each by its first and its last. A pool with its first address above its
+/// last is closed.
+#[derive(Clone, Copy, Debug, PartialEq, Eq, Hash)]
+pub struct HostRecord {
+    /// The host's first bus, the root bus, and its last.
+    pub buses: (u8, u8),
+    /// The low memory pool: 1 MiB edges.
+    pub low: (u32, u32),
+    /// The high memory pool: 1 MiB edges, from 4 GiB to below 2^52.
+    pub high: (u64, u64),
+    /// The I/O pool: 4 KiB edges.
+    pub io: (u16, u16),
+}
+
+impl HostRecord {
+    /// The length of a host record, without the two bytes of its length.
+    pub const BYTES: usize = 30;
+
+    /// From the bytes after the record's length, in a board those from 3 on.
+    pub const fn from_bytes(b: &[u8; HostRecord::BYTES]) -> HostRecord {
+        HostRecord {
+            buses: (b[0], b[1]),
+            low: (u32::from_be_bytes([b[2], b[3], b[4], b[5]]), u32::from_be_bytes([b[6], b[7], b[8], b[9]])),
+            high: (
+                u64::from_be_bytes([b[10], b[11], b[12], b[13], b[14], b[15], b[16], b[17]]),
+                u64::from_be_bytes([b[18], b[19], b[20], b[21], b[22], b[23], b[24], b[25]]),
+            ),
+            io: (u16::from_be_bytes([b[26], b[27]]), u16::from_be_bytes([b[28], b[29]])),
+        }
+    }
+
+    /// The record's bytes, each number's high byte first.
+    pub fn bytes(&self) -> [u8; HostRecord::BYTES] {
+        let mut bytes = [0; HostRecord::BYTES];
+        bytes[..2].copy_from_slice(&[self.buses.0, self.buses.1]);
+        bytes[2..6].copy_from_slice(&self.low.0.to_be_bytes());
+        bytes[6..10].copy_from_slice(&self.low.1.to_be_bytes());
+        bytes[10..18].copy_from_slice(&self.high.0.to_be_bytes());
+        bytes[18..26].copy_from_slice(&self.high.1.to_be_bytes());
+        bytes[26..28].copy_from_slice(&self.io.0.to_be_bytes());
+        bytes[28..].copy_from_slice(&self.io.1.to_be_bytes());
+        bytes
+    }
+}
+
+/// Judges a sheet, whoever wrote it, for a host: the host's own check (26), the sheet's (20 to 29), then whether its buses
+/// are a tree below the host (50), whether each BAR and open window lies in the window or pool above it (51), and whether
+/// no two of them overlap on a bus (52).
+///
+/// Every sheet from [`plan`](crate::plan) is accepted for its own host record. Over an accepted sheet
+/// [`route`](crate::route) gives a memory or I/O request to the one function whose BAR holds the address, where that
+/// function and all bridges above it are enabled, and else refuses it with 40, never 41.
+///
+/// ```
+/// use cartsundial::{audit, HostRecord, Refusal};
+///
+/// let host = HostRecord {
+///     buses: (0, 255),
+///     low: (0xF900_0000, 0xF9FF_FFFF),
+///     high: (0x2_4000_0000, 0x2_7FFF_FFFF),
+///     io: (0x4000, 0x4FFF),
+/// };
+/// // A function on bus 0 with a memory BAR of 4 KiB: first at F9FFF000, then one page on, past the pool.
+/// let mut sheet = [0; 93];
+/// sheet[..3].copy_from_slice(&[1, 0, 90]);
+/// sheet[5 + 0x10..][..4].copy_from_slice(&0xF9FF_F000_u32.to_le_bytes());
+/// sheet[69..73].copy_from_slice(&0xFFFF_F000_u32.to_be_bytes());
+/// assert_eq!(audit(&host, &sheet), Ok(()));
+/// sheet[5 + 0x10..][..4].copy_from_slice(&0xFA00_0000_u32.to_le_bytes());
+/// assert_eq!(audit(&host, &sheet), Err(Refusal::Place));
+/// ```
+pub fn audit(host: &HostRecord, sheet: &[u8]) -> Result<(), Refusal> {
+    accepted(calls::audit(&host.bytes(), sheet))
+}
