@@ -15,7 +15,7 @@ pub enum Check {
 }
 
 // The length of a host record's part.
-const HOST_SIZE: usize = 30;
+pub const HOST_SIZE: usize = 30;
 
 // Any bytes: the host record first, then the sheet by itself, then the sheet under the host.
 pub fn audit(host: &[u8], sheet: &[u8]) -> u8

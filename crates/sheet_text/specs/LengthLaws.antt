@@ -155,11 +155,14 @@ module _ (n : ℕ) (few : n < 1000) where
       let word : List ℕ = ascii "plan " in
       omega (arith, length-append (word ++ decimal n) newline, length-append word (decimal n), three-digits n few)
 
-  pub refusal-le : length (refusalText n) ≤ longest
+  pub refusal-short : length (refusalText n) ≤ 12
   unfolding refusalText ascii
-  refusal-le =
+  refusal-short =
       let word : List ℕ = ascii "refused " in
       omega (arith, length-append (word ++ decimal n) newline, length-append word (decimal n), three-digits n few)
+
+  pub refusal-le : length (refusalText n) ≤ longest
+  refusal-le = omega (arith, refusal-short)
 
 plan-le : (s : List ℕ) → length (entriesOf s) ≤ mostFunctions → length (planText (entriesOf s)) ≤ longest
 unfolding planText entriesFrom
