@@ -25,10 +25,11 @@
  * Nothing is kept after a call returns: how far a trace was read is in numbers that the caller lends. There is no allocation and no I/O,
  * so calls on different slices may run at the same time.
  *
- * Stack to allow, measured and not proved: cartsundial_plan 32 KiB; cartsundial_route and cartsundial_annotate 16 KiB over a planned sheet,
- * which has at most 16 bridges in a row, and 96 KiB over a foreign one with 255; every other call 12 KiB. That is what a call takes. A
- * thread's library takes its own part of the same stack (guard page, thread-local data, first frames), and so does each signal handler: a
- * pthread of glibc 2.36 needed 36 KiB for the deepest board and 68 KiB for the deepest sheet, where 32 and 64 KiB were too little.
+ * Stack to allow, measured and not proved: 64 KiB for any call. cartsundial_plan 60 KiB, of which a board with few bridges in a row needs
+ * 50; cartsundial_route and cartsundial_annotate 12 KiB over a planned sheet, which has at most 32 bridges above a function, and 62 KiB
+ * over a foreign one with 255 in a row; every other call 12 KiB. That is what a call takes. A thread's library takes its own part of the
+ * same stack (guard page, thread-local data, first frames), and so does each signal handler: a pthread of glibc 2.36 needed 64 KiB for the
+ * deepest board and 68 KiB for the deepest sheet, where 60 and 64 KiB were too little.
  *
  * Red zone. The code keeps live data in the 128 bytes below the stack pointer, as the System V convention allows. In user mode nothing has
  * to be done: signal handlers keep clear of it. In ring 0 an interrupt or exception that is handled on the interrupted stack overwrites
@@ -69,7 +70,7 @@ enum cartsundial_number {
     CARTSUNDIAL_SHORT = 11,            /* a lent slice is too short */
     CARTSUNDIAL_FRAME = 20,            /* empty; lengths not ending at the end; no host of 30; function under 6; sheet record not 90 */
     CARTSUNDIAL_VERSION = 21,          /* version not 1 */
-    CARTSUNDIAL_FUNCTIONS = 22,        /* over 256 functions */
+    CARTSUNDIAL_FUNCTIONS = 22,        /* over 512 functions */
     CARTSUNDIAL_ORDER = 23,            /* parent, order, depth or function 0 */
     CARTSUNDIAL_HEADER_TYPE = 24,      /* header type not 0 or 1, or a wrong length for it */
     CARTSUNDIAL_READBACK = 25,         /* read-back; on a sheet also a BAR value */
@@ -151,11 +152,11 @@ enum cartsundial_field {
 /* Sizes that are always enough. */
 enum cartsundial_size {
     CARTSUNDIAL_HEADER_BYTES = 16,     /* a header written: 12 or 16 bytes */
-    CARTSUNDIAL_SHEET_BYTES = 23553,   /* a sheet of 256 functions */
+    CARTSUNDIAL_SHEET_BYTES = 47105,   /* a sheet of 512 functions */
     CARTSUNDIAL_HOST_BYTES = 30,       /* a board's host record, after its length */
     CARTSUNDIAL_REGISTER_BYTES = 64,   /* a function's configuration header */
     CARTSUNDIAL_ROUTE_NUMBERS = 22,    /* record, bridges, and a packet: every route but a broadcast's */
-    CARTSUNDIAL_ANY_ROUTE_NUMBERS = 278, /* any route: a broadcast's has the records of up to 256 functions after it */
+    CARTSUNDIAL_ANY_ROUTE_NUMBERS = 534, /* any route: a broadcast's has the records of up to 512 functions after it */
     CARTSUNDIAL_TRACE_NUMBERS = 6,     /* the state of a trace */
     CARTSUNDIAL_LINE_BYTES = 40        /* a line of a trace, with its newline */
 };

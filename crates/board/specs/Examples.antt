@@ -39,10 +39,14 @@ unfoldable pub chain : ℕ → ℕ → List ℕ
 chain zero k = []
 chain (suc n) k = bridge k 0 1 ++ chain n (suc k)
 
--- n bridges of the host, at device/function k and on, with bit 7 of their header types set
-unfoldable pub row : ℕ → ℕ → List ℕ
-row zero k = []
-row (suc n) k = bridge 0 k 129 ++ row n (suc k)
+-- n bridges below record p, at device/function k and on, with bit 7 of their header types set
+unfoldable pub row : ℕ → ℕ → ℕ → List ℕ
+row p zero k = []
+row p (suc n) k = bridge p k 129 ++ row p n (suc k)
+
+-- 512 functions, as many below the host's last bridge as beside it
+abbrev pub full : List ℕ
+full = 1 ∷ host ++ row 0 256 0 ++ row 256 256 0
 
 -- P10, after source document 004
 abbrev pub p10 : List ℕ
@@ -65,10 +69,10 @@ rows =
     -- a stray last byte
     ∷ record { board = 1 ∷ host ++ 0 ∷ []; number = 20 }
     ∷ record { board = p10; number = 0 }
-    -- 17 bridges in a row have at most 16 above; an 18th has 17
-    ∷ record { board = 1 ∷ host ++ chain 17 0; number = 0 }
-    ∷ record { board = 1 ∷ host ++ chain 18 0; number = 23 }
-    ∷ record { board = 1 ∷ host ++ chain 17 0 ++ end 17 0 0; number = 23 }
+    -- 33 bridges in a row have at most 32 above; a 34th has 33
+    ∷ record { board = 1 ∷ host ++ chain 33 0; number = 0 }
+    ∷ record { board = 1 ∷ host ++ chain 34 0; number = 23 }
+    ∷ record { board = 1 ∷ host ++ chain 33 0 ++ end 33 0 0; number = 23 }
     -- siblings rise strictly; a function 1 wants a function 0 with bit 7 of its header type set
     ∷ record { board = 1 ∷ host ++ bridge 0 8 1 ++ end 1 0 0 ++ bridge 0 16 1; number = 0 }
     ∷ record { board = 1 ∷ host ++ bridge 0 8 1 ++ end 1 0 0 ++ bridge 0 8 1; number = 23 }
@@ -76,9 +80,9 @@ rows =
     ∷ record { board = 1 ∷ host ++ end 0 8 0 ++ end 0 9 0; number = 23 }
     -- a bridge that was left is no parent any more
     ∷ record { board = 1 ∷ host ++ bridge 0 0 1 ++ bridge 0 8 1 ++ end 1 0 0; number = 23 }
-    -- 256 functions are enough
-    ∷ record { board = 1 ∷ host ++ row 256 0; number = 0 }
-    ∷ record { board = 1 ∷ host ++ row 256 0 ++ end 0 0 0; number = 22 }
+    -- 512 functions are enough; one more is 22 before its place is looked at
+    ∷ record { board = full; number = 0 }
+    ∷ record { board = full ++ end 0 0 0; number = 22 }
     -- a function of 5 bytes, of 6, and a header type 2
     ∷ record { board = 1 ∷ host ++ 0 ∷ 5 ∷ 0 ∷ 0 ∷ 0 ∷ 0 ∷ 0 ∷ []; number = 20 }
     ∷ record { board = 1 ∷ host ++ 0 ∷ 6 ∷ 0 ∷ 0 ∷ 0 ∷ 0 ∷ 0 ∷ 0 ∷ []; number = 24 }

@@ -1,5 +1,5 @@
 // A board of any length, fed in pieces and planned. As many bytes are kept as a lawful board can have, and one more. Of a longer input only
-// the frame is looked at, which tells its number: 21, 20 or 22, and else 24, since at most 256 functions of 30 bytes do not come to that
+// the frame is looked at, which tells its number: 21, 20 or 22, and else 24, since at most 512 functions of 30 bytes do not come to that
 // length.
 ghost use mathlib.Core.Path.{_≡_};
 ghost use mathlib.Core.List.{_++_};

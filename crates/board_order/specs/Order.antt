@@ -40,7 +40,7 @@ isFunctionZero p device g = eqb (g .parent) p && eqb (g .devfn / 8) device && is
 abbrev pub hasFunctionZero : List Function → Function → Bool
 hasFunctionZero before f = eqb (f .devfn % 8) 0 || any (isFunctionZero (f .parent) (f .devfn / 8)) before
 
--- "at most 16 bridges above any" is `mostAbove`
+-- "at most 32 bridges above any" is `mostAbove`
 unfoldable pub misplaced : ℕ → List Function → Function → Bool
 misplaced n before f =
     not (any (eqb (f .parent)) (parents n before))

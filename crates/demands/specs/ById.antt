@@ -107,6 +107,6 @@ pub record RoutedById (b t header : List ℕ) (p : Packet) (id : ℕ) : Type 0 w
   -- the walk crosses exactly the bridges above the function, those and no others, the uppermost first
   pub crosses-exactly : (d : Delivery) → routeOf header t ≡ Delivered d
       → (bridges : List ℕ) → Crosses (Id id) t bridges (d .owner) ↔ (bridges ≡ reverse (bridgesAbove b (d .owner)))
-  -- and their number, at most 16 (`mostAbove`), is the one reported
+  -- and their number, at most 32 (`mostAbove`), is the one reported
   pub count-reported : (d : Delivery) → routeOf header t ≡ Delivered d
       → (d .bridges ≡ length (bridgesAbove b (d .owner))) × (d .bridges ≤ mostAbove)

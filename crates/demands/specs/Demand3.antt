@@ -150,7 +150,7 @@ pub record Routed (Owner : ℕ → Type 0) (above : ℕ → List ℕ) (most : �
   -- "It crosses exactly the bridges above the owner, ..": those and no others, the uppermost first
   pub crosses-exactly : (d : Delivery) → routeOf header t ≡ Delivered d
       → (bridges : List ℕ) → Crosses (Address sp address) t bridges (d .owner) ↔ (bridges ≡ reverse (above (d .owner)))
-  -- ".. and their number, at most 16 (`most`), is the one reported."
+  -- ".. and their number, at most 32 (`most`), is the one reported."
   pub count-reported : (d : Delivery) → routeOf header t ≡ Delivered d → (d .bridges ≡ length (above (d .owner))) × (d .bridges ≤ most)
 
 -- ## The demand

@@ -145,8 +145,8 @@ examples =
     ∷ P 5 (reads (request64 MRd4 0) 6)
     ∷ P 5 (reads (request64 MRd4 1) 0)
     -- buses 0 to 255: 255 bridges, and 256
-    ∷ P 6 (plans (1 ∷ host ++ row 255 0) 0)
-    ∷ P 6 (plans (1 ∷ host ++ row 256 0) 30)
+    ∷ P 6 (plans (1 ∷ host ++ row 0 255 0) 0)
+    ∷ P 6 (plans (1 ∷ host ++ row 0 256 0) 30)
     -- a low pool of 1 MiB: one BAR of 1 MiB on the root bus, and two
     ∷ P 7 (plans (1 ∷ hostWith 0xF9000000 0xF90FFFFF ++ card 0 0 0xFFF00000) 0)
     ∷ P 7 (plans (1 ∷ hostWith 0xF9000000 0xF90FFFFF ++ card 0 0 0xFFF00000 ++ card 0 8 0xFFF00000) 31)

@@ -1,9 +1,10 @@
--- Document 01, "The board": "At most 256 functions, depth-first, siblings in rising device/function order, at most 16 bridges above any."
--- A sheet has a record for each function, and so no more. Assumes nothing.
+-- Document 01, "The board": at most so many functions, depth-first, at most so many bridges above any. Document 02, E7, has the numbers:
+-- "Raise functions to 512 and bridges above a function to 32. A full sheet is then 47,105 bytes." A sheet has a record for each function,
+-- and so no more. Assumes nothing.
 use Prim.Native.Nat.{ℕ}
 
 abbrev pub mostFunctions : ℕ
-mostFunctions = 256
+mostFunctions = 512
 
 abbrev pub mostAbove : ℕ
-mostAbove = 16
+mostAbove = 32

@@ -8,9 +8,9 @@ ghost use lib.ListN.{length, take, drop};
 ghost use Rattle.records.specs.Records.{nextOf};
 
 // The most functions that a board or a sheet has, and the most bridges that stand above one of them.
-pub const MOST_FUNCTIONS: usize = 256;
+pub const MOST_FUNCTIONS: usize = 512;
 
-pub const MOST_ABOVE: usize = 16;
+pub const MOST_ABOVE: usize = 32;
 
 // What stands at a place of the bytes after the version byte: the end, a record whose part has this many bytes, or a length that does
 // not end at or before the end.

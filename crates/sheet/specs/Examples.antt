@@ -117,9 +117,9 @@ examples =
     ∷ numbered (take 184 p10) 20
     ∷ numbered (p10 ++ (0 ∷ [])) 20
     ∷ numbered (set p10 2 89) 20
-    -- 257 functions, and 256
-    ∷ numbered (1 ∷ blank 257) 22
-    ∷ numbered (1 ∷ blank 256) 28
+    -- 513 functions, and 512
+    ∷ numbered (1 ∷ blank 513) 22
+    ∷ numbered (1 ∷ blank 512) 28
     ∷ numbered (typed (sunk p10)) 24
     ∷ numbered (sunk (doubled p10)) 27
     -- 28 is tried before 25

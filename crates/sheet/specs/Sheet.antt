@@ -28,7 +28,7 @@ sheetLength n = 1 + stride * n
 abbrev pub recordAt : ℕ → ℕ
 recordAt k = sheetLength k
 
--- "At most 23,553 bytes"
+-- "A full sheet is then 47,105 bytes."
 abbrev pub fullSheet : ℕ
 fullSheet = sheetLength mostFunctions
 

@@ -12,7 +12,7 @@
 // HEX is any number of bytes, none too, ID and VALUE two bytes each, as hexadecimal digits in either
 // case with spaces between bytes as one likes. Before the first sheet the current one is empty. A
 // line that starts with `#` and a blank one are passed over. Any other line is answered by
-// `not a line`, one of more than 32,768 bytes by `line too long`, and neither changes the current
+// `not a line`, one of more than 65,536 bytes by `line too long`, and neither changes the current
 // sheet. The last line may lack its newline. Where standard input cannot be read, what was read of
 // the last line has no answer; there, and where standard output cannot be written, a message goes to
 // standard error and the program ends.

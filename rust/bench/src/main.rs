@@ -43,7 +43,7 @@ fn main() {
     read_mixed(&mixed);
     headers.iter().for_each(|(name, header)| write(name, header));
     write_mixed(&mixed);
-    let backplanes = [16, 64, 256].map(Backplane::new);
+    let backplanes = [16, 64, 256, 512].map(Backplane::new);
     backplanes.iter().for_each(plan);
     backplanes.iter().for_each(plan_fresh);
     backplanes.iter().for_each(check);

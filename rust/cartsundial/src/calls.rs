@@ -15,7 +15,7 @@ pub const PACKET: usize = 20;
 pub const ROUTE: usize = 2 + PACKET;
 
 /// How many numbers are always enough for [`route`]: a broadcast's answer ends with the record of every function.
-pub const ANY_ROUTE: usize = ROUTE + 256;
+pub const ANY_ROUTE: usize = ROUTE + 512;
 
 /// How many numbers the state of a trace has, in [`annotate`] and [`annotate_end`]. All zero is a trace of which nothing
 /// was read yet.

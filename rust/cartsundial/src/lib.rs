@@ -83,8 +83,8 @@ pub use packet::{read, write, Packet};
 pub use refusal::Refusal;
 pub use unfit::{what_does_not_fit, Pool, Unfit};
 
-/// The length of the largest sheet: a version byte and 256 records.
-pub const FULL_SHEET: usize = 23_553;
+/// The length of the largest sheet: a version byte and 512 records.
+pub const FULL_SHEET: usize = 47_105;
 
 /// The length of a function's configuration header.
 pub const REGISTERS: usize = 64;

@@ -35,7 +35,7 @@ pub enum Refusal {
     Frame = 20,
     /// Version not 1.
     Version = 21,
-    /// Over 256 functions.
+    /// Over 512 functions.
     TooManyFunctions = 22,
     /// Parent, order, depth or function 0.
     Tree = 23,
@@ -146,7 +146,7 @@ impl Refusal {
             Refusal::ShortRoom => "short room",
             Refusal::Frame => "empty, or lengths of records",
             Refusal::Version => "version not 1",
-            Refusal::TooManyFunctions => "over 256 functions",
+            Refusal::TooManyFunctions => "over 512 functions",
             Refusal::Tree => "parent, order, depth or function 0",
             Refusal::HeaderType => "header type, or wrong length for it",
             Refusal::ReadBack => "read-back, or BAR value",

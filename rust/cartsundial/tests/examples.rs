@@ -120,14 +120,10 @@ fn messages() {
 
 /// A message for every function of the largest sheet.
 #[test]
-fn broadcast_to_256() {
-    let mut board = Board::new();
-    for device_function in 0..=255 {
-        board.add(0, device_function, 0x80, &[]);
-    }
-    let sheet = planned(&board).unwrap();
+fn broadcast_to_512() {
+    let sheet = planned(&board::full(&[])).unwrap();
     let arrival = route(&message(MSGD, 0b011, 0x50, 0), &sheet).unwrap();
-    assert!(matches!(arrival, Arrival::Every { functions: 256, .. }));
+    assert!(matches!(arrival, Arrival::Every { functions: 512, .. }));
     assert_eq!((arrival.packet().kind(), arrival.delivery()), (Kind::MsgD, None));
 }
 
@@ -170,8 +166,8 @@ fn empty_slices() {
 fn deep_on_a_small_stack() {
     let mut board = Board::new();
     for device in 0..4 {
-        let last = board.chain(0, device << 3, 16);
-        for device_function in 0..48 {
+        let last = board.chain(0, device << 3, 32);
+        for device_function in 0..96 {
             board.add(last, device_function, 0x80, &[memory(14)]);
         }
     }

@@ -2,7 +2,7 @@
 //! register, a bus number or an edge moved.
 
 use crate::aim;
-use crate::board::{self, Board, CLOSED_HIGH, CLOSED_IO, CLOSED_LOW};
+use crate::board::{self, Board, CLOSED_HIGH, CLOSED_IO, CLOSED_LOW, MOST_FUNCTIONS};
 use crate::damage;
 use crate::foreign::{self, Record};
 use crate::random::Random;
@@ -163,7 +163,7 @@ impl Nest<'_> {
         let count = if self.in_a_row { 1 + self.random.below(2) } else { self.random.below(8) };
         let mut device_function = self.random.below(32) as u8;
         for _ in 0..count {
-            if self.records.len() >= 256 {
+            if self.records.len() >= MOST_FUNCTIONS {
                 return;
             }
             let id = u16::from_be_bytes([bus, device_function]);

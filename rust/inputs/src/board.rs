@@ -2,6 +2,10 @@
 
 use crate::random::Random;
 
+/// The most functions of a board or a sheet, and the most bridges above one (document 02, E7).
+pub const MOST_FUNCTIONS: usize = 512;
+pub const MOST_ABOVE: usize = 32;
+
 #[derive(Clone)]
 pub struct Function {
     pub parent: u16,
@@ -151,6 +155,19 @@ pub fn p10() -> Board {
     board
 }
 
+/// As many functions as there may be, each with these read-backs: 255 and a bridge on the root bus, 256 below the bridge.
+pub fn full(read_backs: &[u32]) -> Board {
+    let mut board = Board::new();
+    for device_function in 0..=254 {
+        board.add(0, device_function, 0x80, read_backs);
+    }
+    let bridge = board.bridge(0, 255);
+    for device_function in 0..=255 {
+        board.add(bridge, device_function, 0x80, read_backs);
+    }
+    board
+}
+
 /// Source document 001's tree: bridges A to J, and endpoints where it has them.
 pub fn document_001() -> Board {
     let mut board = Board::new();
@@ -199,7 +216,7 @@ pub fn random_tree(random: &mut Random, style: &Style, leave: (u64, u64)) -> Boa
     // The open buses: bridge, next free device/function byte.
     let mut path: Vec<(u16, u16)> = vec![(0, 0)];
     while board.functions.len() < style.functions {
-        while path.len() > 1 && (path.len() > 17 || random.chance(leave.0, leave.1)) {
+        while path.len() > 1 && (path.len() > MOST_ABOVE + 1 || random.chance(leave.0, leave.1)) {
             path.pop();
         }
         let (parent, next) = path.last_mut().map(|bus| (bus.0, &mut bus.1)).unwrap();

@@ -1,6 +1,6 @@
 //! Random sheets: ones that no planner wrote, and planned ones with other registers.
 
-use crate::board;
+use crate::board::{self, MOST_FUNCTIONS};
 use crate::damage;
 use crate::foreign::{self, Record};
 use crate::random::Random;
@@ -194,10 +194,10 @@ pub fn spoil(sheet: &mut Vec<u8>, random: &mut Random) {
     }
 }
 
-/// Appends the sheet's records again, under other IDs where `random` says so, up to about 256.
+/// Appends the sheet's records again, under other IDs where `random` says so, up to about 512.
 fn double(sheet: &mut Vec<u8>, random: &mut Random) {
     let fresh = random.chance(3, 4);
-    let most = 1 + RECORD * (254 + random.below(5) as usize);
+    let most = 1 + RECORD * (MOST_FUNCTIONS - 2 + random.below(5) as usize);
     let mut next = 0;
     while sheet.len() > RECORD && sheet.len() < most {
         let start = sheet.len();

@@ -5,7 +5,7 @@ use crate::damage;
 use crate::random::Random;
 
 /// The length of the largest sheet.
-const FULL_SHEET: u16 = 23_553;
+const FULL_SHEET: u16 = 47_105;
 
 /// A trace of these headers: the version byte, then each after its two-byte length.
 pub fn of<H: AsRef<[u8]>>(headers: &[H]) -> Vec<u8> {

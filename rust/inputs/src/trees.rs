@@ -1,6 +1,6 @@
 //! Random boards beyond [`board::random`]: deep ones, huge ones, other pools and buses, and boards that are not lawful.
 
-use crate::board::{self, Board, Function, Style, CLOSED_HIGH, CLOSED_IO, CLOSED_LOW};
+use crate::board::{self, Board, Function, Style, CLOSED_HIGH, CLOSED_IO, CLOSED_LOW, MOST_ABOVE, MOST_FUNCTIONS};
 use crate::damage;
 use crate::random::Random;
 
@@ -8,8 +8,8 @@ use crate::random::Random;
 pub fn lawful(random: &mut Random) -> Board {
     let mut board = match random.below(8) {
         0 => {
-            let depth = 14 + random.below(4) as usize;
-            deep(random, depth, 17)
+            let depth = MOST_ABOVE - 2 + random.below(4) as usize;
+            deep(random, depth, MOST_ABOVE + 1)
         }
         1 => huge(random),
         2 if random.chance(1, 2) => large(random),
@@ -81,10 +81,10 @@ fn deep(random: &mut Random, depth: usize, bottom: usize) -> Board {
     board
 }
 
-/// 64 to 256 functions, often 256, few of them with I/O, so that many are planned.
+/// 64 to 512 functions, often 512, few of them with I/O, so that many are planned.
 pub fn large(random: &mut Random) -> Board {
     let style = Style {
-        functions: if random.chance(1, 2) { 256 } else { 64 + random.below(193) as usize },
+        functions: if random.chance(1, 2) { MOST_FUNCTIONS } else { 64 + random.below(449) as usize },
         bridges: 5 + random.below(40),
         memory_bits: 6 + random.below(12) as u32,
         io_bits: 3,
@@ -202,9 +202,9 @@ fn one_address(board: &mut Board, random: &mut Random) {
     }
 }
 
-/// Functions until there are about 256, so that some boards have too many.
+/// Functions until there are about 512, so that some boards have too many.
 fn lengthen(board: &mut Board, random: &mut Random) {
-    let count = 254 + random.below(5) as usize;
+    let count = MOST_FUNCTIONS - 2 + random.below(5) as usize;
     let function = Function { parent: 0, device_function: 0, header_type: 0x80, command: 0, read_backs: vec![0; 6] };
     board.functions.resize(count.max(board.functions.len()), function);
 }
@@ -212,8 +212,8 @@ fn lengthen(board: &mut Board, random: &mut Random) {
 /// The bytes of a board that is lawful, spoilt, cut, lengthened, or no board at all.
 pub fn any(random: &mut Random) -> Vec<u8> {
     let mut board = if random.chance(1, 64) {
-        let depth = 16 + random.below(4) as usize;
-        deep(random, depth, 20)
+        let depth = MOST_ABOVE + random.below(4) as usize;
+        deep(random, depth, MOST_ABOVE + 4)
     } else {
         lawful(random)
     };

@@ -3,9 +3,9 @@
 use crate::bar;
 use crate::pool::{PerPool, Pool, Range};
 
-pub const MAX_FUNCTIONS: usize = 256;
+pub const MAX_FUNCTIONS: usize = 512;
 /// The most bridges above any function.
-pub const MAX_ABOVE: usize = 16;
+pub const MAX_ABOVE: usize = 32;
 
 /// The length of a host record.
 pub const HOST: usize = 30;
@@ -159,7 +159,7 @@ fn count_functions(mut rest: &[u8]) -> Option<usize> {
 }
 
 /// The bridges from the host down to where the next record may stand, as records come depth-first. `T` is what is
-/// kept for each of their buses. Host and 17 bridges are the most: nothing stands below a seventeenth.
+/// kept for each of their buses. Host and 33 bridges are the most: nothing stands below the last of them.
 pub struct Path<T> {
     buses: [(u16, T); MAX_ABOVE + 2],
     bridges: usize,

@@ -113,7 +113,7 @@ impl Sheet<'_> {
                 _ => return Err(43),
             },
         };
-        // A sheet has at most 256 records.
+        // A sheet has at most 512 records.
         Ok(Arrival::Function { record: index as u16 + 1, bridges, packet })
     }
 

@@ -154,7 +154,7 @@ fn numbers_in_turn() {
     records.push(Record::bridge(0x2030, 0x20, 0x24));
     records.push(Record::end(0x2038).set(0x0E, 2));
     let count = records.len();
-    records.resize(257, Record::end(0x2040));
+    records.resize(513, Record::end(0x2040));
     let mut bytes = sheet(&records);
     bytes.push(0);
     bytes[0] = 2;

@@ -219,10 +219,10 @@ fn delivery() {
         }
     }
     assert!(accepted > 1_500 && delivered > 10_000 && refused > 10_000, "{accepted} {delivered} {refused}");
-    assert!(most > 16, "{most}");
+    assert!(most > 32, "{most}");
 }
 
-/// Sheets that other firmware could leave are accepted, bridges beyond sixteen in a row as well.
+/// Sheets that other firmware could leave are accepted, bridges beyond thirty-two in a row as well.
 #[test]
 fn nested_sheets() {
     let mut random = Random::new(24);

@@ -385,11 +385,11 @@ fn foreign_sheets() {
     assert_eq!(route(&header, &unreached), Ok(Arrival::Every { functions: 3, packet }));
     assert_eq!(owner(&by_id(0x0700), &unreached), Err(40));
     // Every function of a full sheet, once, in record order.
-    let full: Vec<Record> = (0..256).map(Record::end).collect();
+    let full: Vec<Record> = (0..512).map(Record::end).collect();
     let numbers = route(&header, &sheet(&full)).unwrap().numbers();
-    assert_eq!(numbers.len(), 22 + 256);
-    assert_eq!(numbers[..2], [0, 256]);
-    assert!(numbers[22..].iter().copied().eq(1..=256));
+    assert_eq!(numbers.len(), 22 + 512);
+    assert_eq!(numbers[..2], [0, 512]);
+    assert!(numbers[22..].iter().copied().eq(1..=512));
 }
 
 /// The random packets have messages of both kinds, every routing and every code, and spoilt ones get every number.

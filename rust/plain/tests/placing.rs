@@ -199,7 +199,7 @@ fn random_boards_agree() {
     let (mut planned, mut refused) = (0, [0; 4]);
     for round in 0..3000 {
         let style = Style {
-            functions: 1 + numbers.below(if round % 20 == 0 { 256 } else { 24 }) as usize,
+            functions: 1 + numbers.below(if round % 20 == 0 { 512 } else { 24 }) as usize,
             bridges: 10 + numbers.below(60),
             memory_bits: 6 + numbers.below(22) as u32,
             io_bits: 3 + numbers.below(8) as u32,

@@ -34,10 +34,8 @@ fn board_20_21_22() {
     assert_eq!(board_with(|board| board.tail = vec![0]), 20);
     assert_eq!(board_with(|board| board.tail = vec![0, 5, 0, 0, 0, 9, 0]), 20);
     assert_eq!(board_with(|board| board.version = 0), 21);
-    let mut board = Board::new();
-    for device_function in 0..=255 {
-        board.add(0, device_function, 0x80, &[]);
-    }
+    let mut board = board::full(&[]);
+    assert_eq!(board.functions.len(), 512);
     assert_eq!(refusal(&board.bytes()), 0);
     board.end(9, 9, &[]);
     assert_eq!(refusal(&board.bytes()), 22);
@@ -77,7 +75,7 @@ fn board_23() {
         }),
         0
     );
-    for (length, end, number) in [(16, true, 0), (17, false, 0), (17, true, 23), (18, false, 23)] {
+    for (length, end, number) in [(32, true, 0), (33, false, 0), (33, true, 23), (34, false, 23)] {
         let mut board = Board::new();
         let last = board.chain(0, 0, length);
         if end {
@@ -135,7 +133,7 @@ fn sheet_20_21_22() {
     assert_eq!(plain::check(&[2]), 21);
     assert_eq!(sheet_with(|records| records[1].length = 91), 20);
     assert_eq!(sheet_with(|records| records[0].length = 346), 20);
-    let mut records: Vec<Record> = (0..256).map(Record::end).collect();
+    let mut records: Vec<Record> = (0..512).map(Record::end).collect();
     assert_eq!(plain::check(&sheet(&records)), 0);
     records.push(Record::end(7).set(0x0E, 9));
     assert_eq!(plain::check(&sheet(&records)), 22);

@@ -163,10 +163,10 @@ fn bad_sheets() {
     assert_eq!(annotate(&sheet(&[Record::end(0x0100), Record::end(0x0100)]), &trace), lines(28));
     // A sheet with no functions passes its checks.
     assert_eq!(annotate(&[1], &trace), lines(40));
-    let full: Vec<Record> = (0..257).map(Record::end).collect();
+    let full: Vec<Record> = (0..513).map(Record::end).collect();
     assert_eq!(annotate(&sheet(&full), &trace), lines(22));
-    // The list of 256 needs no room in a line.
-    let lines = annotate(&sheet(&full[..256]), &trace::of(&[&examples()[3], &completion(CPL, 0x00FF)]));
+    // The list of 512 needs no room in a line.
+    let lines = annotate(&sheet(&full[..512]), &trace::of(&[&examples()[3], &completion(CPL, 0x00FF)]));
     assert_eq!(lines, "1 Msg owner all\n2 Cpl owner 256\n");
 }
 
@@ -392,14 +392,14 @@ fn the_program() {
     // A sheet that fails its checks.
     assert_eq!(printed(&input(&bad_sheet(), &trace[..15])), "1 MRd refused 27\n");
     // Any length up to a full sheet's is read, whatever its bytes.
-    assert_eq!(printed(&input(&vec![1; 23_553], &trace[..15])), "1 MRd refused 20\n");
-    assert_eq!(printed(&input(&vec![1; 23_553], &[])), "refused 20\n");
-    assert_eq!(printed(&input(&vec![1; 23_554], &trace)), "refused 22\n");
-    assert_eq!(printed(&[0x5C, 0x02]), "refused 22\n");
-    assert_eq!(printed(&[0x5C, 0x01]), "refused 20\n");
+    assert_eq!(printed(&input(&vec![1; 47_105], &trace[..15])), "1 MRd refused 20\n");
+    assert_eq!(printed(&input(&vec![1; 47_105], &[])), "refused 20\n");
+    assert_eq!(printed(&input(&vec![1; 47_106], &trace)), "refused 22\n");
+    assert_eq!(printed(&[0xB8, 0x02]), "refused 22\n");
+    assert_eq!(printed(&[0xB8, 0x01]), "refused 20\n");
     assert_eq!(printed(&[0xFF, 0xFF, 1]), "refused 22\n");
-    let full: Vec<Record> = (0..256).map(Record::end).collect();
-    assert_eq!(sheet(&full).len(), 23_553);
+    let full: Vec<Record> = (0..512).map(Record::end).collect();
+    assert_eq!(sheet(&full).len(), 47_105);
     assert_eq!(printed(&input(&sheet(&full), &trace[..15])), "1 MRd refused 40\n");
 }
 

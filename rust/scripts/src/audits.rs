@@ -48,9 +48,12 @@ fn with(change: impl Fn([Record; 2]) -> [Record; 2]) -> Vec<u8> {
     of(&change(bridge_and_end()))
 }
 
-/// 256 functions of the root bus, a page each.
+/// 512 functions: a page each, 255 and a bridge on the root bus, 256 below the bridge.
 fn full() -> Vec<Record> {
-    (0..256u16).map(|id| Record::end(id).bar(0, memory(12), 0xF900_0000 + (u32::from(id) << 12))).collect()
+    let page = |id: u16| Record::end(id).bar(0, memory(12), 0xF900_0000 + (u32::from(id) << 12));
+    let mut records: Vec<Record> = (0..512).map(page).collect();
+    records[255] = Record::bridge(0x00FF, 1, 1).low(0xF910, 0xF910);
+    records
 }
 
 fn accepted() -> Vec<Run> {
@@ -169,7 +172,7 @@ fn ends() -> Vec<Run> {
 
 /// More than a full sheet.
 fn long() -> Vec<Run> {
-    let over = of(&[full(), vec![Record::end(0x0100)]].concat());
+    let over = of(&[full(), vec![Record::end(0x0200)]].concat());
     // Past 64 KiB.
     let far = of(&vec![Record::end(0); 720]);
     let last_length = far.len() - 91;

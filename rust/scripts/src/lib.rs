@@ -1,5 +1,5 @@
 //! Chosen cases as scripts, one request to a line (`plain`'s program `answers` says which), and as runs of the programs
-//! `annotate` and `audit`: the same bytes at every run. The answers to the lines of `test_headers`, which are chosen by hand.
+//! `plan`, `annotate` and `audit`: the same bytes at every run. The answers to the lines of `test_headers`, which are chosen by hand.
 
 #![forbid(unsafe_code)]
 
@@ -7,6 +7,7 @@ mod audits;
 mod headers;
 mod messages;
 mod planning;
+mod plans;
 mod routing;
 mod script;
 mod tags;
@@ -15,5 +16,6 @@ mod traces;
 pub use audits::{runs as audits, CAPTURES};
 pub use headers::answers as headers;
 pub use planning::script as boards;
+pub use plans::{program as plan_program, runs as plans};
 pub use routing::script as routes;
 pub use traces::runs as traces;

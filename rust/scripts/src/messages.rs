@@ -148,9 +148,9 @@ fn planned_trees(script: &mut Script) {
     }
     put_every(script);
     let mut board = Board::new();
-    let last = board.chain(0, 0, 16);
+    let last = board.chain(0, 0, 32);
     board.end(last, 0x18, &[memory(12), board::io(8), board::high(24)[0], board::high(24)[1]]);
-    script.note("messages: 16 bridges");
+    script.note("messages: 32 bridges");
     script.board(&board.bytes());
     for header in [
         by_address(0x8000_0FFC),
@@ -158,16 +158,16 @@ fn planned_trees(script: &mut Script) {
         by_address(0x10_00FF_FFFC),
         by_address(0x10_0100_0000),
         by_address(0x1000),
-        by_id(0x1018),
-        by_id(0x0F00),
-        by_id(0x1100),
+        by_id(0x2018),
+        by_id(0x1F00),
+        by_id(0x2100),
         broadcast(),
     ] {
         script.header(&header);
     }
     script.command(0x0800, 0x0005);
     script.header(&by_address(0x8000_0FFC));
-    script.header(&by_id(0x1018));
+    script.header(&by_id(0x2018));
     script.header(&broadcast());
 }
 

@@ -25,6 +25,7 @@ pub fn script() -> String {
     refused_23(&mut script);
     two_faults(&mut script);
     random_boards(&mut script);
+    long_boards(&mut script);
     script.0
 }
 
@@ -64,14 +65,14 @@ fn flat_bridges(count: usize) -> Board {
 fn shapes(script: &mut Script) {
     let card = [memory(12), 0, io(4), prefetchable(16), high(21)[0], high(21)[1]];
     let mut board = Board::new();
-    let last = board.chain(0, 0, 16);
+    let last = board.chain(0, 0, 32);
     board.end(last, 0, &card);
-    put(script, "16 bridges above an endpoint", &board);
+    put(script, "32 bridges above an endpoint", &board);
 
     let mut board = Board::new();
     let mut above = 0;
     let mut levels = Vec::new();
-    for _ in 0..16 {
+    for _ in 0..32 {
         board.end(above, 0x00, &[memory(12)]);
         levels.push(above);
         above = board.add(above, 0x08, 1, &[memory(13), prefetchable(5)]);
@@ -80,26 +81,26 @@ fn shapes(script: &mut Script) {
     for level in levels.into_iter().rev() {
         board.end(level, 0xF8, &[memory(4), high(4)[0], high(4)[1]]);
     }
-    put(script, "16 bridges with endpoints before and after each", &board);
+    put(script, "32 bridges with endpoints before and after each", &board);
 
     let mut board = Board::new();
-    board.chain(0, 0, 17);
-    put(script, "a chain of 17 bridges with nothing below", &board);
+    board.chain(0, 0, 33);
+    put(script, "a chain of 33 bridges with nothing below", &board);
     board.end(0, 0x08, &card);
     put(script, "the same with an endpoint on the root bus after it", &board);
     let mut board = Board::new();
-    let last = board.chain(0, 0, 17);
+    let last = board.chain(0, 0, 33);
     board.end(last, 0, &card);
-    put(script, "an endpoint below 17 bridges: 23", &board);
+    put(script, "an endpoint below 33 bridges: 23", &board);
     let mut board = Board::new();
-    board.chain(0, 0, 18);
-    put(script, "a chain of 18 bridges: 23", &board);
+    board.chain(0, 0, 34);
+    put(script, "a chain of 34 bridges: 23", &board);
     let mut board = Board::new();
     for device_function in [0x00, 0x08, 0x10] {
-        let last = board.chain(0, device_function, 16);
+        let last = board.chain(0, device_function, 32);
         board.end(last, 0x10, &card);
     }
-    put(script, "three chains of 16 bridges", &board);
+    put(script, "three chains of 32 bridges", &board);
 
     let mut board = Board::new();
     for device in 0..32 {
@@ -111,14 +112,16 @@ fn shapes(script: &mut Script) {
         board.add(0, device_function, 0x80, &[0, 0, 0, 0, 0, memory(12)]);
     }
     put(script, "256 functions on the root bus", &board);
+    put(script, "512 functions: 255 and a bridge on the root bus, 256 below it", &full(&[0, 0, 0, 0, 0, memory(12)]));
     let mut board = Board { io: (0, 0xFFFF), ..Board::new() };
-    for device in 0..16 {
+    for device in 0..32 {
         let bridge = board.bridge(0, device << 3);
         for end in 0..15 {
-            board.end(bridge, end << 3, &[prefetchable(14), io(4)]);
+            // 64 KiB of I/O are 16 windows.
+            board.end(bridge, end << 3, &[prefetchable(14), if device % 2 == 0 { io(4) } else { 0 }]);
         }
     }
-    put(script, "256 functions: 16 bridges with 15 endpoints each", &board);
+    put(script, "512 functions: 32 bridges with 15 endpoints each", &board);
     let mut board = Board::new();
     halves(&mut board, 0, 0, 7);
     put(script, "bridges in pairs, seven deep, 128 endpoints", &board);
@@ -553,9 +556,9 @@ fn refused_20_21(script: &mut Script) {
 }
 
 fn refused_22_24(script: &mut Script) {
-    let mut board = flat_bridges(256);
+    let mut board = full(&[]);
     board.bridge(1, 0);
-    put(script, "22: 257 functions", &board);
+    put(script, "22: 513 functions", &board);
     board.functions[3].header_type = 2;
     board.buses = (9, 3);
     put(script, "22 before 24 and 26", &board);
@@ -641,13 +644,13 @@ fn refused_23(script: &mut Script) {
     board.functions[3].header_type = 1;
     put(script, "23: the same while the bridge lacks bit 7", &board);
     let mut board = Board::new();
-    let last = board.chain(0, 0, 16);
+    let last = board.chain(0, 0, 32);
     board.add(last, 0x00, 0x81, &[]);
     board.end(last, 0x03, &[]);
-    put(script, "16 bridges above two functions, one a bridge", &board);
-    board.functions[17].parent = 17;
-    board.functions[17].device_function = 0;
-    put(script, "23: 17 above one of them", &board);
+    put(script, "32 bridges above two functions, one a bridge", &board);
+    board.functions[33].parent = 33;
+    board.functions[33].device_function = 0;
+    put(script, "23: 33 above one of them", &board);
 }
 
 /// Boards with two faults, whose numbers show the order of the checks.
@@ -707,6 +710,32 @@ fn random_boards(script: &mut Script) {
             put(script, "one granule less", &short);
         }
     }
+}
+
+/// As long as a lawful board can be, of 16,417 bytes, and longer.
+fn long_boards(script: &mut Script) {
+    let longest = {
+        let mut board = Board { functions: vec![], ..p10() };
+        for _ in 0..512 {
+            board.end(0, 0, &[]);
+        }
+        board
+    };
+    put(script, "23: as long as a lawful board, 512 functions of one device/function", &longest);
+    let mut board = longest.clone();
+    board.tail = vec![0];
+    put(script, "20: a byte after 512 functions of 30 bytes", &board);
+    board.version = 2;
+    put(script, "21: the same of another version", &board);
+    let mut board = longest.clone();
+    board.end(0, 8, &[]);
+    put(script, "22: 513 functions of 30 bytes", &board);
+    let mut board = longest;
+    board.tail = vec![0, 5, 0, 0, 0, 0, 0];
+    put(script, "20: 513 functions, the last under 6 bytes", &board);
+    let mut board = Board { functions: vec![], ..p10() };
+    board.tail = [&16_384u16.to_be_bytes()[..], &[0; 16_384]].concat();
+    put(script, "24: one function of 16,384 bytes", &board);
 }
 
 /// Moves each pool's base and takes the least last address with which the board is planned.

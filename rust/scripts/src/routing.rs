@@ -157,9 +157,9 @@ fn tree(script: &mut Script) {
 
 fn depth(script: &mut Script) {
     let mut board = Board::new();
-    let last = board.chain(0, 0, 16);
+    let last = board.chain(0, 0, 32);
     board.end(last, 0x18, &[memory(12), board::io(8), board::high(24)[0], board::high(24)[1]]);
-    script.note("16 bridges");
+    script.note("32 bridges");
     script.board(&board.bytes());
     for header in [
         request(MRD, 0x8000_0FFC),
@@ -168,18 +168,18 @@ fn depth(script: &mut Script) {
         request(IORD, 0x1100),
         request(MWR, 0x10_00FF_FFFC),
         request(MWR, 0x10_0100_0000),
-        configuration(CFGRD1, 0x1018, 0),
-        configuration(CFGRD1, 0x0F00, 0),
-        completion(CPL, 0x1018),
-        completion(CPL, 0x1100),
+        configuration(CFGRD1, 0x2018, 0),
+        configuration(CFGRD1, 0x1F00, 0),
+        completion(CPL, 0x2018),
+        completion(CPL, 0x2100),
     ] {
         script.header(&header);
     }
     script.command(0x0800, 0x0001);
     script.header(&request(MRD, 0x8000_0000));
     script.header(&request(IORD, 0x1000));
-    script.header(&configuration(CFGRD1, 0x1018, 0));
-    script.command(0x1018, 0x0002);
+    script.header(&configuration(CFGRD1, 0x2018, 0));
+    script.command(0x2018, 0x0002);
     script.header(&request(IORD, 0x1000));
 }
 
@@ -631,7 +631,7 @@ fn odd_buses(script: &mut Script) {
 }
 
 fn long_chains(script: &mut Script) {
-    for count in [20, 255] {
+    for count in [40, 255] {
         let mut records: Vec<Record> = (0..count)
             .map(|bus: u16| Record::bridge(bus << 8, bus as u8 + 1, count as u8).low(0x1000, 0x1000).io(0x30, 0x30))
             .collect();
@@ -855,24 +855,24 @@ fn two_faults(script: &mut Script) {
 /// A full sheet, and one record more.
 fn full_sheets(script: &mut Script) {
     let mut board = Board { io: (0, 0xFFFF), ..Board::new() };
-    for device in 0..16 {
+    for device in 0..32 {
         let bridge = board.bridge(0, device << 3);
         for end in 0..15 {
-            board.end(bridge, end << 3, &[memory(12), board::io(4)]);
+            board.end(bridge, end << 3, &[memory(12), if device % 2 == 0 { board::io(4) } else { 0 }]);
         }
     }
     script.note("a full sheet");
     script.board(&board.bytes());
     for header in [
         request(MRD, 0x8000_0000),
-        request(MRD, 0x80F0_EFFC),
-        request(MRD, 0x80F0_F000),
+        request(MRD, 0x81F0_EFFC),
+        request(MRD, 0x81F0_F000),
         request(IORD, 0xF0EC),
         request(IORD, 0xF0F0),
-        configuration(CFGRD1, 0x1070, 0),
-        completion(CPL, 0x1070),
-        message(MSG, 0b001, 0x50, 0x80F0_EFFC),
-        message(MSGD, 0b010, 0x7E, 0x1070 << 48),
+        configuration(CFGRD1, 0x2070, 0),
+        completion(CPL, 0x2070),
+        message(MSG, 0b001, 0x50, 0x81F0_EFFC),
+        message(MSGD, 0b010, 0x7E, 0x2070 << 48),
         message(MSG, 0b011, 0x19, 0),
         message(MSGD, 0b011, 0x7F, 0),
         message(MSG, 0b100, 0x20, 0),
@@ -880,13 +880,13 @@ fn full_sheets(script: &mut Script) {
     ] {
         script.header(&header);
     }
-    for id in [0x0000, 0x0170, 0x1070, 0x1078] {
+    for id in [0x0000, 0x0170, 0x2070, 0x2078] {
         script.lookup(id);
     }
-    script.command(0x1070, 0);
-    script.header(&request(MRD, 0x80F0_EFFC));
-    let mut records: Vec<Record> = (0..257).map(Record::end).collect();
+    script.command(0x2070, 0);
+    script.header(&request(MRD, 0x81F0_EFFC));
+    let mut records: Vec<Record> = (0..513).map(Record::end).collect();
     records[200].registers[0x0E] = 5;
-    records[256].id = 0;
+    records[512].id = 0;
     put(script, "22 before 24 and 28", &records, &[request(MRD, 0), message(MSG, 0b011, 0x19, 0)]);
 }

@@ -128,16 +128,16 @@ fn refused(script: &mut Script) {
 
 fn deep(script: &mut Script) {
     let mut board = Board::new();
-    let last = board.chain(0, 0, 16);
+    let last = board.chain(0, 0, 32);
     board.end(last, 0x18, &[board::memory(12), board::io(8)]);
-    script.note("tags of ten bits: 16 bridges");
+    script.note("tags of ten bits: 32 bridges");
     script.board(&board.bytes());
     for header in [
         request(MRD, 0x8000_0FFC),
         request(IORD, 0x10FC),
-        configuration(CFGRD1, 0x1018, 0),
-        configuration(CFGWR1, 0x0F00, 0),
-        completion(CPLDLK, 0x1018),
+        configuration(CFGRD1, 0x2018, 0),
+        configuration(CFGWR1, 0x1F00, 0),
+        completion(CPLDLK, 0x2018),
         request(MWR, 0x8000_0FFC),
     ] {
         script.header(&tagged(header, 0x35A));

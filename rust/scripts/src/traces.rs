@@ -125,23 +125,25 @@ fn records() -> Vec<Run> {
 
 fn sheets() -> Vec<Run> {
     let examples = trace::of(&examples());
-    let full: Vec<Record> = (0..256).map(|id| Record::end(id).bar(0, board::memory(12), u32::from(id) << 12)).collect();
     let in_full = [
-        request(MRD, 0),
-        request(MRD, 0xF_FFFC),
-        request(MRD, 0x10_0000),
-        completion(CPLD, 0x00FF),
+        request(MRD, 0x8000_0000),
+        request(MRD, 0x801F_FFFC),
+        request(MRD, 0x8020_0000),
+        completion(CPLD, 0x01FF),
         message(MSG, 0b011, 0x19, 0),
     ];
+    let full = input(&planned(&board::full(&[board::memory(12)])), &trace::of(&in_full));
     let long = vec![1; plain::FULL_SHEET + 1];
+    let over: Vec<Record> = (0..513).map(Record::end).collect();
     vec![
         ("tree-001", tree_001()),
-        ("full-sheet", input(&sheet(&full), &trace::of(&in_full))),
+        ("full-sheet", full),
         ("no-functions", input(&[1], &examples)),
         ("bad-sheet", input(&sheet(&[Record::bridge(0x0000, 0, 0)]), &examples)),
         ("sheet-of-no-bytes", input(&[], &examples)),
         ("sheet-cut-refused-20", input(&p10(), &[])[..100].to_vec()),
         ("long-sheet-refused-22", input(&long, &examples)),
+        ("513-functions-refused-22", input(&sheet(&over), &examples)),
         // At once: nothing follows the length.
         ("length-alone-refused-22", vec![0xFF, 0xFF]),
     ]

@@ -1,6 +1,6 @@
-//! tests/annotate has the runs of `traces` and tests/audit those of `audits`, with what plain prints for them, and no
-//! other file; tests/audit has the sheets that real firmware left as well. The stored lines of `test_headers` have plain's
-//! answers.
+//! tests/plan has the runs of `plans`, tests/annotate those of `traces` and tests/audit those of `audits`, with what plain
+//! prints for them, and no other file; tests/audit has the sheets that real firmware left as well. The stored lines of
+//! `test_headers` have plain's answers.
 
 use std::collections::BTreeMap;
 use std::fs;
@@ -16,11 +16,11 @@ fn files(directory: &str) -> Files {
         .collect()
 }
 
-fn stored(runs: Vec<(&str, Vec<u8>)>, program: fn(&[u8]) -> Vec<u8>) -> Files {
+fn stored(runs: Vec<(&str, Vec<u8>)>, ending: &str, program: fn(&[u8]) -> Vec<u8>) -> Files {
     let mut files = Files::new();
     for (name, input) in runs {
         assert!(files.insert(format!("{name}.out"), program(&input)).is_none(), "{name} twice");
-        files.insert(format!("{name}.in"), input);
+        files.insert(format!("{name}.{ending}"), input);
     }
     files
 }
@@ -33,8 +33,14 @@ fn agree(files: &Files, runs: &Files, how: &str) {
 }
 
 #[test]
+fn runs_of_plan() {
+    let runs = stored(scripts::plans(), "board", scripts::plan_program);
+    agree(&files("plan"), &runs, "cargo run --bin plans tests/plan");
+}
+
+#[test]
 fn runs_of_annotate() {
-    let runs = stored(scripts::traces(), plain::program);
+    let runs = stored(scripts::traces(), "in", plain::program);
     agree(&files("annotate"), &runs, "cargo run --bin traces tests/annotate");
 }
 
@@ -42,7 +48,7 @@ fn runs_of_annotate() {
 fn runs_of_audit() {
     let mut files = files("audit");
     files.remove("README.md");
-    let mut runs = stored(scripts::audits(), plain::audit_program);
+    let mut runs = stored(scripts::audits(), "in", plain::audit_program);
     for name in scripts::CAPTURES {
         let parts = ["host", "sheet"].map(|extension| format!("{name}.{extension}"));
         let input = parts.clone().map(|part| files[&part].clone()).concat();
@@ -59,6 +65,15 @@ fn names_of_audits() {
         let number = name.split_once("refused-").map(|(_, rest)| rest.split('-').next().unwrap());
         let expected = number.map_or("accepted\n".to_string(), |number| format!("refused {number}\n"));
         assert_eq!(String::from_utf8(plain::audit_program(&input)).unwrap(), expected, "{name}");
+    }
+}
+
+/// After the scripts' lines stand some that show how a line may be written.
+#[test]
+fn lines_of_the_scripts() {
+    for (name, script) in [("boards", scripts::boards()), ("routes", scripts::routes())] {
+        let path = format!("{}/../../crates/test_{name}/stdin", env!("CARGO_MANIFEST_DIR"));
+        assert!(fs::read_to_string(path).unwrap().contains(&script), "cargo run --bin boards {name}");
     }
 }
 

@@ -1,6 +1,7 @@
 //! How often each call gave each number, and how large what it accepted was.
 
 use cartsundial::{Label, Owner, Refusal};
+use inputs::board::{MOST_ABOVE, MOST_FUNCTIONS};
 use plain::Arrival;
 use std::fmt;
 
@@ -61,11 +62,11 @@ const LABELS: [&str; 8] =
 pub struct Tally {
     numbers: [[u64; NUMBERS]; CALLS.len()],
     /// Boards planned, by their functions.
-    functions: [u64; 257],
+    functions: [u64; MOST_FUNCTIONS + 1],
     /// Packets delivered, by the bridges that they crossed.
     bridges: [u64; 256],
     /// Messages that went to every function, by how many there are.
-    broadcasts: [u64; 257],
+    broadcasts: [u64; MOST_FUNCTIONS + 1],
     /// Messages that ended at the port.
     ports: u64,
     /// Lines of traces, by what they say.
@@ -76,9 +77,9 @@ impl Default for Tally {
     fn default() -> Tally {
         Tally {
             numbers: [[0; NUMBERS]; CALLS.len()],
-            functions: [0; 257],
+            functions: [0; MOST_FUNCTIONS + 1],
             bridges: [0; 256],
-            broadcasts: [0; 257],
+            broadcasts: [0; MOST_FUNCTIONS + 1],
             ports: 0,
             labels: [0; LABELS.len()],
         }
@@ -136,14 +137,14 @@ impl Tally {
                 }
             }
         }
-        if self.functions[256] == 0 {
-            faults.push("no board of 256 functions was planned".into());
+        if self.functions[MOST_FUNCTIONS] == 0 {
+            faults.push("no board of 512 functions was planned".into());
         }
-        if self.bridges[..=16].contains(&0) || self.bridges[255] == 0 {
-            faults.push("some number of bridges, 0 to 16 or 255, was never crossed".into());
+        if self.bridges[..=MOST_ABOVE].contains(&0) || self.bridges[255] == 0 {
+            faults.push("some number of bridges, 0 to 32 or 255, was never crossed".into());
         }
-        if self.broadcasts[1] == 0 || self.broadcasts[256] == 0 || self.ports == 0 {
-            faults.push("no message went to the one function, to all 256, or to the port".into());
+        if self.broadcasts[1] == 0 || self.broadcasts[MOST_FUNCTIONS] == 0 || self.ports == 0 {
+            faults.push("no message went to the one function, to all 512, or to the port".into());
         }
         for (label, _) in LABELS.iter().zip(self.labels).filter(|&(_, count)| count == 0) {
             faults.push(format!("no line of a trace was: {label}"));
@@ -154,7 +155,7 @@ impl Tally {
 
 /// Counts by size, in a few parts.
 fn by_size(counts: &[u64]) -> String {
-    let parts = [0..=0, 1..=1, 2..=4, 5..=15, 16..=16, 17..=64, 65..=254, 255..=255, 256..=256];
+    let parts = [0..=0, 1..=1, 2..=4, 5..=31, 32..=32, 33..=64, 65..=254, 255..=255, 256..=511, 512..=512];
     let parts = parts.into_iter().filter(|part| *part.end() < counts.len()).map(|part| {
         let count: u64 = counts[part.clone()].iter().sum();
         if part.start() == part.end() {

@@ -5,6 +5,7 @@ use Prim.Native.Nat.{_+_, _-_, _≤_, _<_}
 use native.Mathlib.Omega.{arith}
 use borrow.Author.Needs.{needs}
 use lib.ListN.{take, length}
+use Rattle.records.specs.Limits.{mostFunctions}
 use Rattle.walk.specs.Tally.{join}
 use Rattle.claims.specs.Claims.{tallyOf, tallyFor}
 use Rattle.sheet_record.specs.Places.{recordSize}
@@ -38,7 +39,7 @@ whole c =
     let counted = tested .before .before in
     sized _ (counted .before .before .pre) _ _ (counted .count .ensures) (tested .records-test .taken) _ (c .part .ensures)
 
-numbered : (c : tie.After-part Inv-loop μ-loop Inv-records μ-records) → c .before .before .records .k + 1 ≤ 256
+numbered : (c : tie.After-part Inv-loop μ-loop Inv-records μ-records) → c .before .before .records .k + 1 ≤ mostFunctions
 numbered c =
     let tested = c .before in
     let counted = tested .before .before in

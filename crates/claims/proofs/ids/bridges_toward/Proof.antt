@@ -6,6 +6,7 @@ use Prim.Native.Nat.{_+_, _-_, _≤_}
 use native.Mathlib.Omega.{arith}
 use borrow.Author.Needs.{needs}
 use lib.ListN.{length}
+use Rattle.records.specs.Limits.{mostFunctions}
 use Rattle.lists.specs.Lists.{keep}
 use Rattle.walk.specs.Tally.{none, join}
 use Rattle.walk.specs.Ids.{leadsToward, bridgeClaim}
@@ -32,7 +33,7 @@ whole c =
     let counted = tested .before .before in
     sized _ (counted .before .before .pre) _ _ (counted .count .ensures) (tested .loop-test .taken) _ (c .part .ensures)
 
-numbered : (c : tie.After-part Inv-loop μ-loop) → c .before .before .loop .k + 1 ≤ 256
+numbered : (c : tie.After-part Inv-loop μ-loop) → c .before .before .loop .k + 1 ≤ mostFunctions
 numbered c =
     let tested = c .before in
     let counted = tested .before .before in

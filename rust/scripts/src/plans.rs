@@ -1,0 +1,117 @@
+//! Runs of the program `plan`: the board that each reads, and what it prints.
+
+use crate::traces::Run;
+use inputs::board::*;
+
+pub fn runs() -> Vec<Run> {
+    [planned(), refused(), edges(), long()].concat()
+}
+
+/// What the program `plan` prints for its whole standard input.
+pub fn program(board: &[u8]) -> Vec<u8> {
+    let mut room = vec![0; plain::FULL_SHEET];
+    let text = match plain::plan(board, &mut room) {
+        Ok(length) => plain::listing(&room[..length]),
+        Err(number) => format!("refused {number}\n"),
+    };
+    text.into_bytes()
+}
+
+fn of(board: Board, change: impl Fn(&mut Board)) -> Vec<u8> {
+    let mut board = board;
+    change(&mut board);
+    board.bytes()
+}
+
+fn planned() -> Vec<Run> {
+    let host = Board { high: (1, 0), io: (1, 0), ..p10() };
+    // 4 KiB, 1 MiB and 4 KiB, in record order.
+    let in_order = |last| {
+        of(Board { low: (0xF900_0000, last), functions: vec![], ..host.clone() }, |board| {
+            for (device, bits) in [(0, 12), (1, 20), (2, 12)] {
+                board.end(0, device << 3, &[memory(bits)]);
+            }
+        })
+    };
+    vec![
+        ("p10", p10().bytes()),
+        ("p8", Board::closed().bytes()),
+        ("tree-001", document_001().bytes()),
+        ("record-order-2-mib", in_order(0xF91F_FFFF)),
+        ("record-order-3-mib", in_order(0xF92F_FFFF)),
+    ]
+}
+
+/// Every number that the program can print, each of a small board; 22 and 23 are among the edges.
+fn refused() -> Vec<Run> {
+    let two = |board: &mut Board, first: &[u32], second: &[u32]| {
+        board.end(0, 0x00, first);
+        board.end(0, 0x08, second);
+    };
+    vec![
+        ("refused-20", vec![]),
+        ("refused-21", of(p10(), |board| board.version = 0)),
+        ("refused-24", of(p10(), |board| board.tail = vec![0, 6, 0, 0, 8, 0, 0, 0])),
+        ("refused-25", of(Board::new(), |board| _ = board.end(0, 0, &[0xF0FF_F000]))),
+        ("refused-26", of(p10(), |board| board.buses = (1, 0))),
+        ("refused-30", of(Board { buses: (0, 0), ..Board::new() }, |board| _ = board.bridge(0, 0))),
+        (
+            "refused-31",
+            of(Board { low: (0xF900_0000, 0xF90F_FFFF), ..Board::new() }, |board| {
+                two(board, &[memory(20)], &[memory(20)])
+            }),
+        ),
+        (
+            "refused-32",
+            of(Board { high: (0x1_0000_0000, 0x1_3FFF_FFFF), ..Board::new() }, |board| {
+                two(board, &[high(29), high(28), high(28)].concat(), &high(28));
+            }),
+        ),
+        (
+            "refused-33",
+            of(Board { io: (0x4000, 0x4FFF), ..Board::new() }, |board| {
+                two(board, &[io(11), io(10), short_io(10)], &[short_io(10)]);
+            }),
+        ),
+    ]
+}
+
+/// As many functions, and as many bridges above one, as there may be; and one more.
+fn edges() -> Vec<Run> {
+    let below = |bridges| {
+        of(Board::new(), |board| {
+            let last = board.chain(0, 0, bridges);
+            board.end(last, 0, &[memory(12)]);
+        })
+    };
+    vec![
+        ("512-functions", full(&[memory(12)]).bytes()),
+        ("refused-22", of(full(&[memory(12)]), |board| _ = board.end(256, 0, &[]))),
+        ("32-bridges-above", below(32)),
+        ("33-bridges", of(Board::new(), |board| _ = board.chain(0, 0, 33))),
+        ("refused-23", below(33)),
+        ("34-bridges-refused-23", of(Board::new(), |board| _ = board.chain(0, 0, 34))),
+    ]
+}
+
+/// The longest input that is kept whole, of 16,417 bytes, and longer ones.
+fn long() -> Vec<Run> {
+    let ends = |count| {
+        of(Board { functions: vec![], ..p10() }, |board| {
+            for _ in 0..count {
+                board.end(0, 0, &[]);
+            }
+        })
+    };
+    let (longest, long) = (ends(512), ends(600));
+    // A record of 20,000 bytes after the host and three functions.
+    let record = [&ends(3)[..], &20_000u16.to_be_bytes(), &[0; 20_000]].concat();
+    vec![
+        ("longest-refused-23", longest.clone()),
+        ("longest-and-a-byte-refused-20", [&longest[..], &[0]].concat()),
+        ("long-refused-20", [&long[..], &[0]].concat()),
+        ("long-refused-21", [&[2], &long[1..]].concat()),
+        ("long-refused-22", long),
+        ("long-refused-24", record),
+    ]
+}
