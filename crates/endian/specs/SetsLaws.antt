@@ -1,12 +1,12 @@
--- Stores of several elements from a place on (`sets` of lib.Seq): two runs that meet, and what stands at each index after.
--- Assumes nothing.
+-- Stores of several elements from a place on (`sets` of lib.Seq): two runs that meet, that stand apart, one over the other; and what
+-- stands at each index after. Assumes nothing.
 use mathlib.Core.Path.{_≡_, refl, sym, ap, _∙_}
 use Prim.Native.Nat.{ℕ, zero, suc, _+_, _≤_, _<_}
 use native.Mathlib.Nat.{add-zero, add-suc, suc-add}
 use native.Mathlib.Omega.{arith}
 use mathlib.Core.List.{List, [], _∷_, _++_}
 use lib.ListN.{length, getD, set, length-set}
-use lib.Seq.{sets, getD-set-same, getD-set-other}
+use lib.Seq.{sets, set-set, set-comm, getD-set-same, getD-set-other}
 
 module _ {ℓ} {A : Type ℓ} where
   -- two runs of stores that meet are one
@@ -21,6 +21,29 @@ module _ {ℓ} {A : Type ℓ} where
       → length vs ≡ k → o₁ ≡ sets o i vs → o₂ ≡ sets o₁ (i + k) ws
       → o₂ ≡ sets o i (vs ++ ws)
   sets-append o i k vs ws l p q = q ∙ rw (p, ← l) (sets-sets o i vs ws)
+
+  sets-set : (o : List A) (k : ℕ) (a : A) (i : ℕ) (vs : List A) → k < i → sets (set o k a) i vs ≡ set (sets o i vs) k a
+  sets-set o k a i [] h = refl
+  sets-set o k a i (v ∷ vs) h =
+      ap (λ (t : List A). sets t (suc i) vs) (set-comm o k i a v (λ e. omega arith)) ∙ sets-set (set o i v) k a (suc i) vs (omega arith)
+
+  -- two runs that stand apart, in either order
+  pub sets-comm : (o : List A) (i : ℕ) (vs : List A) (j : ℕ) (ws : List A)
+      → i + length vs ≤ j → sets (sets o i vs) j ws ≡ sets (sets o j ws) i vs
+  sets-comm o i [] j ws h = refl
+  sets-comm o i (v ∷ vs) j ws h =
+      sets-comm (set o i v) (suc i) vs j ws (omega arith)
+      ∙ ap (λ (t : List A). sets t (suc i) vs) (sets-set o i v j ws (omega arith))
+
+  -- one run over another
+  pub sets-over : (o : List A) (i : ℕ) (vs ws : List A) → length vs ≡ length ws → sets (sets o i vs) i ws ≡ sets o i ws
+  sets-over o i [] [] h = refl
+  sets-over o i [] (w ∷ ws) h = absurd (omega (arith, h))
+  sets-over o i (v ∷ vs) [] h = absurd (omega (arith, h))
+  sets-over o i (v ∷ vs) (w ∷ ws) h =
+      ap (λ (t : List A). sets t (suc i) ws)
+      (sym (sets-set (set o i v) i w (suc i) vs (omega arith)) ∙ ap (λ (t : List A). sets t (suc i) vs) (set-set o i v w))
+      ∙ sets-over (set o i w) (suc i) vs ws (omega (arith, h))
 
   -- before the stores, and after them, all is as it was
   pub getD-sets-before : (o : List A) (i : ℕ) (vs : List A) (k : ℕ) (d : A) → k < i → getD (sets o i vs) k d ≡ getD o k d

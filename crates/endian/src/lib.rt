@@ -1,5 +1,5 @@
 // Numbers in bytes: 2, 4 and 8 bytes of a slice read as a number, and a number stored as that many, in both orders.
-// A wider number is two narrower ones. The definitions and their laws stand in specs/Endian and specs/EndianLaws.
+// A wider number is two narrower ones, but for the 8 bytes that a search reads key by key. The definitions and their laws stand in specs/Endian and specs/EndianLaws.
 ghost use mathlib.Core.Path.{_≡_};
 ghost use Prim.Native.Nat.{_+_, _<_, _≤_};
 ghost use lib.ListN.{length};
@@ -82,6 +82,32 @@ pub fn read_le32(s: &[u8], at: usize) -> u64
     read_le16(s, at) + 65536 * read_le16(s, at + 2)
 }
 
+// Byte by byte, each place the one before plus 1: compiled, one load.
+pub fn read_le64(s: &[u8], at: usize) -> u64
+    requires { ⌜ at + 8 ≤ length (now s) ⌝ }
+    ensures { λ r. ⌜ (r ≡ le 8 (now (s .entry)) at) × (r < 18446744073709551616) ⌝ }
+{
+    let b = at + 1;
+    let c = b + 1;
+    let d = c + 1;
+    let e = d + 1;
+    let f = e + 1;
+    let g = f + 1;
+    let h = g + 1;
+    wide(s[at])
+        + 256
+            * (wide(s[b])
+                + 256
+                    * (wide(s[c])
+                        + 256
+                            * (wide(s[d])
+                                + 256
+                                    * (wide(s[e])
+                                        + 256
+                                            * (wide(s[f])
+                                                + 256 * (wide(s[g]) + 256 * wide(s[h])))))))
+}
+
 // The low 2 bytes of v.
 pub fn write_le16(out: &mut [u8], at: usize, v: u64)
     requires { ⌜ at + 2 ≤ length (now out) ⌝ }
@@ -98,4 +124,12 @@ pub fn write_le32(out: &mut [u8], at: usize, v: u64)
 {
     write_le16(out, at, v);
     write_le16(out, at + 2, v / 65536);
+}
+
+pub fn write_le64(out: &mut [u8], at: usize, v: u64)
+    requires { ⌜ at + 8 ≤ length (now out) ⌝ }
+    ensures { λ _. ⌜ now (out .exit) ≡ sets (now (out .entry)) at (leBytes 8 v) ⌝ }
+{
+    write_le32(out, at, v);
+    write_le32(out, at + 4, v / 4294967296);
 }
