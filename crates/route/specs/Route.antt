@@ -61,20 +61,31 @@ walked aim s bus crossed = walkFrom (tallyFor aim s) bus crossed
 abbrev pub root : List ℕ → ℕ
 root s = rootOf (nodesOf s)
 
--- ## A packet over a sheet that passes its checks
+-- ## A packet, over any number of functions, root bus and outcome by what the packet is looked for by. One definition for all who route.
 
--- 43, the walk, every function of the sheet, or the port
+-- 43, the outcome, every function, or the port
+abbrev pub headedOver : ℕ → (Aim → Outcome) → Heading → Packet → Routing
+headedOver functions outcome (Aimed aim) p = answer p (outcome aim)
+headedOver functions outcome Up p = Refused onlyUp
+headedOver functions outcome Every p = Broadcast functions p
+headedOver functions outcome ToPort p = Port p
+
+-- 42 before the outcome; 43 at the same place: no packet can get both
+abbrev pub typedOver : ℕ → ℕ → (Aim → Outcome) → Packet → Routing
+typedOver functions bus outcome p = cond (typeWrong bus p) (Refused wrongType) (headedOver functions outcome (headingOf p) p)
+
+-- 40 where there are no functions before 42
+abbrev pub routeOver : ℕ → ℕ → (Aim → Outcome) → Packet → Routing
+routeOver functions bus outcome p = cond (eqb functions 0) (Refused noOwner) (typedOver functions bus outcome p)
+
+-- ## A packet over a sheet that passes its checks: the walk begins on the bus of the first record
+
 abbrev pub onHeading : Heading → Packet → List ℕ → Routing
-onHeading (Aimed aim) p s = answer p (walked aim s (root s) 0)
-onHeading Up p s = Refused onlyUp
-onHeading Every p s = Broadcast (length (nodesOf s)) p
-onHeading ToPort p s = Port p
+onHeading h p s = headedOver (length (nodesOf s)) (λ aim. walked aim s (root s) 0) h p
 
--- 42 before the walk, which begins on the bus of the first record; 43 at the same place: no packet can get both
 unfoldable pub from42 : Packet → List ℕ → Routing
-from42 p s = cond (typeWrong (root s) p) (Refused wrongType) (onHeading (headingOf p) p s)
+from42 p s = typedOver (length (nodesOf s)) (root s) (λ aim. walked aim s (root s) 0) p
 
--- 40 for a sheet with no functions before 42
 unfoldable pub routePacket : Packet → List ℕ → Routing
 routePacket p s = cond (eqb (length (nodesOf s)) 0) (Refused noOwner) (from42 p s)
 

@@ -1,11 +1,12 @@
 -- The walk and the checks before it, one step each in the words of the code. Assumes nothing.
 use mathlib.Core.Path.{_≡_, refl, sym, ap, _∙_}
-use mathlib.Core.Bool.{Bool, true, false}
+use mathlib.Core.Bool.{Bool, true, false, cond}
 use mathlib.Core.List.{List, [], _∷_}
 use Prim.Native.Nat.{ℕ, suc, _+_, _/_, _<_, _≤_}
 use native.Mathlib.Omega.{arith}
 use lib.ListN.{length}
-use borrow.Author.Tests.{eq-eqb, ne-eqb}
+use lib.Dec.{eqb}
+use borrow.Author.Tests.{eqb-false, eq-eqb, ne-eqb}
 use Rattle.endian.specs.Endian.{Bytes}
 use Rattle.packet.specs.declared.Packet.{Packet}
 use Rattle.tlp.specs.declared.Reading.{Reading}
@@ -13,7 +14,7 @@ use Rattle.tlp.specs.declared.Reading.the-variants.{Accepted, Refused as NotRea
 use Rattle.tlp.specs.Reading.{numberOf as readingNumber, readOf}
 use Rattle.walk.specs.Registers.{rootOf}
 use Rattle.walk.specs.TallyLaws.{rising-of-bridges}
-use Rattle.walk.specs.Walk.{Outcome, delivered, refused, settle, Rising}
+use Rattle.walk.specs.Walk.{Outcome, delivered, refused, noOwner, settle, Rising}
 use Rattle.walk.specs.WalkLaws.{walk-step}
 use Rattle.walk.specs.IdsLaws.{rising-by-id}
 use Rattle.sheet_record.specs.Places.{recordSize}
@@ -36,7 +37,8 @@ use Rattle.route.specs.declared.Routing.{Routing}
 use Rattle.route.specs.declared.Routing.the-variants.{Delivered, Broadcast, Port, Refused}
 use Rattle.route.specs.declared.Walked.{Walked}
 use Rattle.route.specs.declared.Walked.the-variants.{Delivered as WalkedTo, Refused as WalkRefused}
-use Rattle.route.specs.Route.{answer, outcomeOf, walked, root, onHeading, from42, routePacket, fromSheet, fromReading, routeOf}
+use Rattle.route.specs.Route.{wrongType, answer, outcomeOf, walked, root, headedOver, typedOver, routeOver, onHeading, from42}
+use Rattle.route.specs.Route.{routePacket, fromSheet, fromReading, routeOf}
 
 -- ## The walk
 
@@ -194,3 +196,31 @@ module _ (header s : List ℕ) (reading : Reading) (e : reading ≡ readOf heade
 
     pub packet-routed : (r : Routing) → n ≡ 0 → r ≡ routePacket p s → r ≡ routeOf header s
     packet-routed r z q = q ∙ passed-by-sheet z ∙ header-accepted
+
+-- ## Two who route alike: as many functions, the same root bus if there are any, and the same outcomes
+
+pub packet-over : (p : Packet) (s : List ℕ) → routePacket p s
+    ≡ routeOver (length (nodesOf s)) (root s) (λ aim. walked aim s (root s) 0) p
+unfolding routePacket from42
+packet-over p s = refl
+
+module _ (functions bus bus₂ : ℕ) (outcome outcome₂ : Aim → Outcome) (same-bus : 0 < functions → bus ≡ bus₂)
+    (same-outcome : (aim : Aim) → outcome aim ≡ outcome₂ aim) (p : Packet) where
+  headed-agree : (h : Heading) → headedOver functions outcome h p ≡ headedOver functions outcome₂ h p
+  headed-agree (Aimed aim) = ap (answer p) (same-outcome aim)
+  headed-agree Up = refl
+  headed-agree Every = refl
+  headed-agree ToPort = refl
+
+  typed-agree : 0 < functions → typedOver functions bus outcome p ≡ typedOver functions bus₂ outcome₂ p
+  typed-agree some =
+      ap (λ (b : ℕ). cond (typeWrong b p) (Refused wrongType) (headedOver functions outcome (headingOf p) p)) (same-bus some)
+      ∙ ap (cond (typeWrong bus₂ p) (Refused wrongType)) (headed-agree (headingOf p))
+
+  pub route-agree : routeOver functions bus outcome p ≡ routeOver functions bus₂ outcome₂ p
+  route-agree = go (eqb functions 0) refl
+    where
+      go : (b : Bool) → eqb functions 0 ≡ b
+          → cond b (Refused noOwner) (typedOver functions bus outcome p) ≡ cond b (Refused noOwner) (typedOver functions bus₂ outcome₂ p)
+      go true e = refl
+      go false e = typed-agree (let n = eqb-false functions 0 e in omega (arith, n))
