@@ -1,0 +1,117 @@
+-- Slots put in one by one leave the sorted list of them; what is beside the slots stays; what then stands in an index. Assumes nothing.
+use mathlib.Core.Path.{_≡_, refl, sym, ap, ap₂, _∙_}
+use mathlib.Core.Logic.{_⊎_, inl, inr}
+use Prim.Native.Nat.{ℕ, zero, suc, _+_, _*_, _≤_, _<_}
+use native.Mathlib.Nat.{add-zero, add-suc, suc-add}
+use native.Mathlib.Omega.{arith}
+use mathlib.Core.List.{List, [], _∷_, _++_}
+use lib.ListN.{length, getD}
+use lib.Seq.{sets}
+use Rattle.lists.specs.Lists.{All}
+use Rattle.endian.specs.Endian.{le, leBytes}
+use Rattle.endian.specs.SetsLaws.{getD-sets-after}
+use Rattle.endian.specs.EndianLaws.{length-leBytes, le-sets-before, le-sets-after}
+use Rattle.index_slots.specs.Slots.{indexSize, Slot, noSlot, Fits, Ordered, keyPlace, wordPlace, keyAt, slotAt, putSlot, stored}
+use Rattle.index_slots.specs.Slots.{insert, inserted, moved, placed}
+use Rattle.index_slots.specs.Cleared.{noKey, cleared}
+use Rattle.index_slots.specs.SlotsLaws.{length-stored, slotAt-stored-later, slotAt-stored}
+use Rattle.index_slots.specs.ClearedLaws.{length-cleared, getD-cleared-past, keyAt-cleared, slotAt-cleared-first}
+use Rattle.index_slots.specs.InsertLaws.{moved-stored}
+use Rattle.index_slots.specs.SortedLaws.{length-insert, all-insert, insert-ordered, all-getD, rising-of-ordered}
+
+pub placed-stored : (n : ℕ) (o : List ℕ) (ys xs : List Slot) → length ys + length xs ≤ 7 * n → indexSize n ≤ length o
+    → All Fits ys → All Fits xs → Ordered ys
+    → placed (length ys) n xs (stored n o 1 ys) ≡ stored n o 1 (inserted ys xs)
+unfolding placed inserted
+placed-stored n o ys [] l room f g h = refl
+placed-stored n o ys (x ∷ xs) l room f g h =
+    ap₂ (λ (k : ℕ) (t : List ℕ). placed k n xs t) (sym (length-insert x ys))
+    (moved-stored n o ys x (omega arith) room (all-getD Fits ys (omega arith, omega arith) f) (rising-of-ordered ys h))
+    ∙ placed-stored n o (insert x ys) xs (omega (arith, l, length-insert x ys)) room (all-insert Fits x ys (g .0) f) (g .1)
+    (insert-ordered x ys h)
+
+-- some first, then the others
+pub placed-append : (count n : ℕ) (xs ys : List Slot) (o : List ℕ)
+    → placed count n (xs ++ ys) o ≡ placed (count + length xs) n ys (placed count n xs o)
+unfolding placed
+placed-append count n [] ys o = ap (λ (k : ℕ). placed k n ys o) (sym (add-zero count))
+placed-append count n (x ∷ xs) ys o =
+    placed-append (suc count) n xs ys (moved count n x o)
+    ∙ ap (λ (k : ℕ). placed k n ys (placed (suc count) n xs (moved count n x o)))
+    (suc-add count (length xs) ∙ sym (add-suc count (length xs)))
+
+-- ---- what is beside the slots
+
+-- bytes past the words
+pub getD-stored-past : (n : ℕ) (o : List ℕ) (a : ℕ) (xs : List Slot) (k d : ℕ) → a + length xs ≤ 7 * n + 1 → indexSize n ≤ k
+    → getD (stored n o a xs) k d ≡ getD o k d
+unfolding stored putSlot
+getD-stored-past n o a [] k d l h = refl
+getD-stored-past n o a (x ∷ xs) k d l h =
+    getD-stored-past n (putSlot o n a x) (suc a) xs k d (omega arith) h
+    ∙ getD-sets-after (sets o (keyPlace n a) (leBytes 8 (x .key))) (wordPlace n a) (leBytes 8 (x .word)) k d
+    (omega (arith, h, l, length-leBytes 8 (x .word)))
+    ∙ getD-sets-after o (keyPlace n a) (leBytes 8 (x .key)) k d (omega (arith, h, l, length-leBytes 8 (x .key)))
+
+-- a number of m bytes at a place stands apart from slot j
+abbrev pub Beside : ℕ → ℕ → ℕ → ℕ → Type 0
+Beside n m at j =
+    (at + m ≤ keyPlace n j) ⊎ ((keyPlace n j + 8 ≤ at) × ((at + m ≤ wordPlace n j) ⊎ (wordPlace n j + 8 ≤ at)))
+
+pub le-stored : (n : ℕ) (o : List ℕ) (a : ℕ) (xs : List Slot) (m at : ℕ) → a + length xs ≤ 7 * n + 1
+    → ((j : ℕ) → a ≤ j → j < a + length xs → Beside n m at j)
+    → le m (stored n o a xs) at ≡ le m o at
+unfolding stored putSlot
+le-stored n o a [] m at l h = refl
+le-stored n o a (x ∷ xs) m at l h =
+    le-stored n (putSlot o n a x) (suc a) xs m at (omega arith) (λ j p q. h j (omega arith) (omega arith))
+    ∙ go (h a (omega arith) (omega arith))
+  where
+    go : Beside n m at a → le m (sets (sets o (keyPlace n a) (leBytes 8 (x .key))) (wordPlace n a) (leBytes 8 (x .word))) at ≡ le m o at
+    go (inl p) =
+        le-sets-before m (sets o (keyPlace n a) (leBytes 8 (x .key))) (wordPlace n a) (leBytes 8 (x .word)) at (omega (arith, p, l))
+        ∙ le-sets-before m o (keyPlace n a) (leBytes 8 (x .key)) at p
+    go (inr (p, inl q)) =
+        le-sets-before m (sets o (keyPlace n a) (leBytes 8 (x .key))) (wordPlace n a) (leBytes 8 (x .word)) at q
+        ∙ le-sets-after m o (keyPlace n a) (leBytes 8 (x .key)) at (omega (arith, p, length-leBytes 8 (x .key)))
+    go (inr (p, inr q)) =
+        le-sets-after m (sets o (keyPlace n a) (leBytes 8 (x .key))) (wordPlace n a) (leBytes 8 (x .word)) at
+        (omega (arith, q, length-leBytes 8 (x .word)))
+        ∙ le-sets-after m o (keyPlace n a) (leBytes 8 (x .key)) at (omega (arith, p, length-leBytes 8 (x .key)))
+
+-- the keys behind the last slot are as they were
+keyAt-stored-past : (n : ℕ) (o : List ℕ) (xs : List Slot) (i : ℕ) → length xs ≤ 7 * n → length xs < i → i ≤ 14 * n
+    → keyAt (stored n o 1 xs) n i ≡ keyAt o n i
+unfolding keyAt
+keyAt-stored-past n o xs i l h k =
+    le-stored n o 1 xs 8 (keyPlace n i) (omega arith) (λ j p q. inr (omega arith, inl (omega arith)))
+
+-- ---- over an index with no slots
+
+module _ (n : ℕ) (o : List ℕ) (room : indexSize n ≤ length o) where
+  -- slots put in one by one leave the sorted list of them
+  pub placed-cleared : (xs : List Slot) → length xs ≤ 7 * n → All Fits xs
+      → placed 0 n xs (cleared n o) ≡ stored n (cleared n o) 1 (inserted [] xs)
+  unfolding stored
+  placed-cleared xs few f = placed-stored n (cleared n o) [] xs (omega arith) (omega (arith, room, length-cleared n o room)) tt f tt
+
+  module _ (ys : List Slot) (few : length ys ≤ 7 * n) (fits : All Fits ys) where
+    pub length-held : length (stored n (cleared n o) 1 ys) ≡ length o
+    length-held = length-stored n (cleared n o) 1 ys ∙ length-cleared n o room
+
+    -- slot 0, then the list
+    pub slotAt-held : (i : ℕ) → i ≤ length ys → slotAt (stored n (cleared n o) 1 ys) n i ≡ getD (noSlot ∷ ys) i noSlot
+    slotAt-held zero h = slotAt-stored-later n (cleared n o) 0 1 ys (omega arith) (omega arith) ∙ slotAt-cleared-first n o room
+    slotAt-held (suc i) h =
+        let one : suc i ≡ 1 + i = omega arith in
+        ap (λ (k : ℕ). slotAt (stored n (cleared n o) 1 ys) n k) one
+        ∙ slotAt-stored n (cleared n o) 1 ys i (omega arith) (omega arith) (omega (arith, room, length-cleared n o room))
+        (all-getD Fits ys (omega arith, omega arith) fits i)
+
+    -- then keys above all
+    pub keyAt-held-past : (i : ℕ) → length ys < i → i ≤ 14 * n → keyAt (stored n (cleared n o) 1 ys) n i ≡ noKey
+    keyAt-held-past i h l = keyAt-stored-past n (cleared n o) ys i few h l ∙ keyAt-cleared n o room i (omega arith) l
+
+    -- and past the index what was there
+    pub getD-held-past : (k d : ℕ) → indexSize n ≤ k → getD (stored n (cleared n o) 1 ys) k d ≡ getD o k d
+    getD-held-past k d h = getD-stored-past n (cleared n o) 1 ys k d (omega arith) h ∙ getD-cleared-past n o k d h

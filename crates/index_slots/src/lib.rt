@@ -1,0 +1,75 @@
+// Slots of an index of n functions, in a lent slice: keys in one run of 8 bytes each, words in another, both little-endian. Slot 0 stands
+// before all others; slots 1 to 7 n are put in by the order of their keys, and behind the last of them the keys are above all.
+ghost use mathlib.Core.Path.{_≡_};
+ghost use Prim.Native.Nat.{_+_, _*_, _<_, _≤_};
+ghost use lib.ListN.{length};
+ghost use lib.Seq.{sets};
+ghost use Rattle.index_slots.specs.Slots.{indexSize, keyAt, wordAt, putSlot, moved};
+ghost use Rattle.index_slots.specs.Cleared.{copies, cleared};
+
+// Above every key.
+const NO_KEY: u64 = 4611686018427387904;
+
+// The key of slot i, or of one of the 7 n places behind the slots.
+pub fn key_at(index: &[u8], n: usize, i: usize) -> u64
+    requires { ⌜ (i ≤ 14 * n) × (indexSize n ≤ length (now index)) ⌝ }
+    ensures { λ r. ⌜ r ≡ keyAt (now (index .entry)) n i ⌝ }
+{
+    endian::read_le64(index, 1008 + 64 * n + 8 * i)
+}
+
+pub fn word_at(index: &[u8], n: usize, i: usize) -> u64
+    requires { ⌜ (i ≤ 7 * n) × (indexSize n ≤ length (now index)) ⌝ }
+    ensures { λ r. ⌜ r ≡ wordAt (now (index .entry)) n i ⌝ }
+{
+    endian::read_le64(index, 1016 + 176 * n + 8 * i)
+}
+
+// An index with no slots: zeros, but for the keys behind slot 0.
+pub fn clear(index: &mut [u8], n: usize)
+    requires { ⌜ indexSize n ≤ length (now index) ⌝ }
+    ensures { λ _. ⌜ now (index .exit) ≡ cleared n (now (index .entry)) ⌝ }
+{
+    write_copies(index, 0, 127 + 8 * n, 0);
+    write_copies(index, 1016 + 64 * n, 14 * n, NO_KEY);
+    write_copies(index, 1016 + 176 * n, 10 * n + 1, 0);
+}
+
+// A slot put among slots 1 to count, behind those whose keys are not above its own.
+pub fn insert(index: &mut [u8], n: usize, count: usize, key: u64, word: u64)
+    requires { ⌜ (count < 7 * n) × (indexSize n ≤ length (now index)) ⌝ }
+    ensures { λ _. ⌜ now (index .exit) ≡ moved count n (record { key = key; word = word }) (now (index .entry)) ⌝ }
+{
+    let mut i = count;
+    while 0 < i {
+        let k = key_at(index, n, i);
+        if k <= key {
+            put_slot(index, n, i + 1, key, word);
+            return;
+        }
+        let w = word_at(index, n, i);
+        put_slot(index, n, i + 1, k, w);
+        i -= 1;
+    }
+    put_slot(index, n, 1, key, word);
+}
+
+fn put_slot(index: &mut [u8], n: usize, i: usize, key: u64, word: u64)
+    requires { ⌜ (i ≤ 7 * n) × (indexSize n ≤ length (now index)) ⌝ }
+    ensures { λ _. ⌜ now (index .exit) ≡ putSlot (now (index .entry)) n i (record { key = key; word = word }) ⌝ }
+{
+    endian::write_le64(index, 1008 + 64 * n + 8 * i, key);
+    endian::write_le64(index, 1016 + 176 * n + 8 * i, word);
+}
+
+// A number k times from a place on.
+fn write_copies(out: &mut [u8], at: usize, k: usize, v: u64)
+    requires { ⌜ at + 8 * k ≤ length (now out) ⌝ }
+    ensures { λ _. ⌜ now (out .exit) ≡ sets (now (out .entry)) at (copies k v) ⌝ }
+{
+    let mut i: usize = 0;
+    while i < k {
+        endian::write_le64(out, at + 8 * i, v);
+        i += 1;
+    }
+}
