@@ -1,0 +1,68 @@
+-- Document 02, E8: what becomes of a header by an index, on any bytes: the router's answers in the router's order, with the index's number
+-- of functions, its root bus and what its slots say in place of the sheet's. Nothing of an index is checked but its length. Assumes
+-- nothing.
+use Prim.Native.Nat.{ℕ}
+use mathlib.Core.Bool.{cond}
+use mathlib.Core.List.{List, _++_}
+use lib.ListN.{length, getD, drop}
+use lib.Dec.{ltb}
+use Rattle.endian.specs.Endian.{le}
+use Rattle.packet.specs.declared.Packet.{Packet}
+use Rattle.tlp.specs.declared.Reading.{Reading}
+use Rattle.tlp.specs.declared.Reading.the-variants.{Accepted, Refused as NotRead}
+use Rattle.tlp.specs.Reading.{readOf}
+use Rattle.walk.specs.Walk.{Outcome, refused, noOwner}
+use Rattle.claims.specs.declared.Aim.{Aim}
+use Rattle.route_list.specs.Counted.{counted}
+use Rattle.route.specs.declared.Routing.{Routing}
+use Rattle.route.specs.declared.Routing.the-variants.{Delivered, Broadcast, Port, Refused}
+use Rattle.route.specs.Route.{routeOver}
+use Rattle.index_rule.specs.Owners.{keyOf, inReach}
+use Rattle.index_rule.specs.Search.{answerAt}
+use Rattle.index_slots.specs.Slots.{indexSize, keyAt, wordAt}
+use Rattle.index_table.specs.Table.{segmentOf}
+use Rattle.index_table.specs.Search.{foundAt}
+
+-- ## An index's first bytes
+
+-- a slice shorter than it says has no functions
+unfoldable pub functionsIn : List ℕ → ℕ
+functionsIn ix = cond (ltb (length ix) (indexSize (le 2 ix 0))) 0 (le 2 ix 0)
+
+abbrev pub rootIn : List ℕ → ℕ
+rootIn ix = getD ix 2 0
+
+-- ## Its slots, n functions' worth
+
+-- what the slot at the position found says of a key
+unfoldable pub answerOver : List ℕ → ℕ → ℕ → Outcome
+answerOver ix n key = let p = foundAt ix n (segmentOf key) key in answerAt (keyAt ix n p) (wordAt ix n p) key
+
+-- an address that no owner can have is not looked for
+unfoldable pub outcomeOver : List ℕ → ℕ → Aim → Outcome
+outcomeOver ix n aim = cond (inReach aim) (answerOver ix n (keyOf aim)) (refused noOwner)
+
+abbrev pub outcomeIn : List ℕ → Aim → Outcome
+outcomeIn ix aim = outcomeOver ix (functionsIn ix) aim
+
+-- ## A packet, and a header
+
+unfoldable pub searchPacket : Packet → List ℕ → Routing
+searchPacket p ix = routeOver (functionsIn ix) (rootIn ix) (λ aim. outcomeIn ix aim) p
+
+-- only a header that was accepted is taken further
+abbrev pub fromReading : Reading → List ℕ → Routing
+fromReading (Accepted p) ix = searchPacket p ix
+fromReading (NotRead n) ix = Refused n
+
+unfoldable pub searchOf : List ℕ → List ℕ → Routing
+searchOf header ix = fromReading (readOf header) ix
+
+-- ## A broadcast's list
+
+-- what the lent slice holds after the answer: the record numbers from 1 on, and past them what it held
+abbrev pub listedAfter : Routing → List ℕ → List ℕ
+listedAfter (Delivered d) list = list
+listedAfter (Broadcast functions p) list = counted 1 functions ++ drop functions list
+listedAfter (Port p) list = list
+listedAfter (Refused n) list = list

@@ -1,0 +1,149 @@
+// The search by an index: a header and an index to what the router answers over the sheet that the index was built from. Any bytes may be
+// given as either. Nothing of the index is checked but its length, and the walk over bridges is one slot looked up.
+ghost use mathlib.Core.Path.{_≡_};
+ghost use mathlib.Core.Bool.{true};
+ghost use Prim.Native.Nat.{_<_, _≤_};
+ghost use lib.ListN.{length};
+ghost use Rattle.route.specs.Route.{answer};
+ghost use Rattle.route.specs.Listed.{onRoom};
+ghost use Rattle.index_rule.specs.Owners.{inReach, keyOf};
+ghost use Rattle.index_rule.specs.Search.{isOver};
+ghost use Rattle.index_slots.specs.Slots.{indexSize};
+ghost use Rattle.index_slots.specs.Cleared.{noKey};
+ghost use Rattle.index_search.specs.Search.{functionsIn, outcomeOver, searchPacket, searchOf, listedAfter};
+use claims::Aim;
+use packet::Packet;
+use pools::Space;
+use route::Delivery;
+use route::Routing;
+use route_arrival::Heading;
+use tlp::Reading;
+
+// A header by an index: the header's number before the index is read. What is left is a packet.
+pub fn search(header: &[u8], index: &[u8]) -> Routing
+    ensures { λ r. ⌜ r ≡ searchOf (now (header .entry)) (now (index .entry)) ⌝ }
+{
+    let reading = tlp::read(header);
+    let Reading::Accepted(p) = reading else {
+        return Routing::Refused(reading.number());
+    };
+    search_packet(p, index)
+}
+
+// The same, with a broadcast's list: the number of every record, in order, from the start of the slice. A slice too short is 11 and stays
+// as it was.
+pub fn search_listed(header: &[u8], index: &[u8], list: &mut [u64]) -> Routing
+    ensures { λ r. ⌜ r ≡ onRoom (searchOf (now (header .entry)) (now (index .entry))) (length (now (list .entry))) ⌝ }
+    ensures { λ r. ⌜ now (list .exit) ≡ listedAfter r (now (list .entry)) ⌝ }
+{
+    match search(header, index) {
+        Routing::Delivered(d) => Routing::Delivered(d),
+        Routing::Broadcast(functions, p) => {
+            let size = functions as usize;
+            if list.len() < size {
+                return Routing::Refused(11);
+            }
+            route_list::put_list(list, 0, size);
+            Routing::Broadcast(functions, p)
+        }
+        Routing::Port(p) => Routing::Port(p),
+        Routing::Refused(n) => Routing::Refused(n),
+    }
+}
+
+// A packet by an index: 40 for no functions, 42 and 43, then where it is headed.
+pub fn search_packet(p: Packet, index: &[u8]) -> Routing
+    ensures { λ r. ⌜ r ≡ searchPacket p (now (index .entry)) ⌝ }
+{
+    let n = functions_in(index);
+    if n == 0 {
+        return Routing::Refused(40);
+    }
+    if route_arrival::type_wrong(p, index[2]) {
+        return Routing::Refused(42);
+    }
+    match route_arrival::heading_of(p) {
+        Heading::Aimed(aim) => search_aimed(p, index, n, aim),
+        Heading::Up => Routing::Refused(43),
+        Heading::Every => Routing::Broadcast(n as u16, p),
+        Heading::Port => Routing::Port(p),
+    }
+}
+
+// ---- the index
+
+// How many functions the index is of; none, if it is shorter than it says.
+fn functions_in(index: &[u8]) -> usize
+    ensures { λ r. ⌜ (r ≡ functionsIn (now (index .entry))) × (r < 65536) ⌝ }
+{
+    if index.len() < 1024 {
+        return 0;
+    }
+    let n = endian::read_le16(index, 0) as usize;
+    if index.len() < 1024 + 256 * n {
+        return 0;
+    }
+    n
+}
+
+// A packet that is looked for by an address or an ID: the slot found by its key decides.
+fn search_aimed(p: Packet, index: &[u8], n: usize, aim: Aim) -> Routing
+    requires { ⌜ indexSize n ≤ length (now index) ⌝ }
+    ensures { λ r. ⌜ r ≡ answer p (outcomeOver (now (index .entry)) n aim) ⌝ }
+{
+    if !in_reach(aim) {
+        return Routing::Refused(40);
+    }
+    let key = key_of(aim);
+    let w = index_table::segment_of(key);
+    let i = index_table::find(index, n, w, key);
+    let start = index_slots::key_at(index, n, i);
+    let word = index_slots::word_at(index, n, i);
+    if !is_over(start, word, key) {
+        return Routing::Refused(40);
+    }
+    Routing::Delivered(Delivery {
+        owner: ((word >> 16) % 65536) as u16,
+        bridges: ((word >> 8) % 256) as u8,
+        packet: route_arrival::arrived(p),
+    })
+}
+
+// ---- keys
+
+// May this have an owner at all?
+fn in_reach(aim: Aim) -> bool
+    ensures { λ r. ⌜ r ≡ inReach aim ⌝ }
+{
+    match aim {
+        Aim::Address(space, a) => match space {
+            Space::Memory => a < 4503599627370496,
+            Space::Io => a < 65536,
+        },
+        Aim::Id(id) => (id as u64) < 65536,
+    }
+}
+
+// Memory at its address, then I/O, then IDs.
+fn key_of(aim: Aim) -> u64
+    requires { ⌜ inReach aim ≡ true ⌝ }
+    ensures { λ r. ⌜ (r ≡ keyOf aim) × (r < noKey) ⌝ }
+{
+    match aim {
+        Aim::Address(space, a) => match space {
+            Space::Memory => a,
+            Space::Io => 4503599627370496 + a,
+        },
+        Aim::Id(id) => 4503599627436032 + id as u64,
+    }
+}
+
+// Is this the slot of an owner that holds the key? It is as long from its start as the word's exponent says.
+fn is_over(start: u64, word: u64, key: u64) -> bool
+    ensures { λ r. ⌜ r ≡ isOver start word key ⌝ }
+{
+    if key < start {
+        return false;
+    }
+    ((word >> 16) % 65536 != 0) & ((key - start) >> (word % 64) == 0)
+}
