@@ -20,7 +20,7 @@ use Rattle.audit_leaders.specs.declared.Parent.the-variants.{Host, Bridg
 use Rattle.audit_leaders.specs.Table.{buses, Leads, BridgeAt, IsParent}
 
 -- a bridge that stands above a bus leads to it
-leads-of-parent : (root : ℕ) (es : List Entry) (bus : ℕ) (b : Entry) → parentOf root es bus ≡ rule.underBridge b → leadsTo bus b ≡ true
+pub leads-of-parent : (root : ℕ) (es : List Entry) (bus : ℕ) (b : Entry) → parentOf root es bus ≡ rule.underBridge b → leadsTo bus b ≡ true
 leads-of-parent root es bus b e = go (eqb bus root) (leadersOf es bus) refl e
   where
     go : (t : Bool) (bs : List Entry) → leadersOf es bus ≡ bs → cond t rule.underHost (parentAmong bs) ≡ rule.underBridge b
