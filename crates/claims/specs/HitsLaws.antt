@@ -89,7 +89,7 @@ LawfulFrom rs i = anyBad (slots (drop i rs)) ≡ false
 -- x is the slot at i, n the places that it takes
 module _ (rs : List ℕ) (i : ℕ) (x : Slot) (n : ℕ) (h : i < length rs) (e : x ≡ slotHere (drop i rs)) (m : n ≡ span x)
     (lawful : LawfulFrom rs i) where
-  not-bad : isBad x ≡ false
+  pub not-bad : isBad x ≡ false
   not-bad = go (isBad x) refl
     where
       go : (b : Bool) → isBad x ≡ b → b ≡ false

@@ -1,0 +1,246 @@
+// The owners of an accepted sheet inserted into an index, as slots. Each of four passes over the records inserts those of one segment of
+// the keys behind those that are there: low memory, high memory, I/O, IDs.
+ghost use mathlib.Core.Path.{_≡_};
+ghost use mathlib.Core.Bool.{false, _&&_};
+ghost use Prim.Native.Nat.{_+_, _*_, _<_, _≤_};
+ghost use lib.Dec.{leb, ltb};
+ghost use lib.ListN.{length};
+ghost use Rattle.pools.specs.Pools.{inSpace};
+ghost use Rattle.bar.specs.Bar.{anyBad};
+ghost use Rattle.sheet_record.specs.Places.{recordSize};
+ghost use Rattle.sheet_record.specs.Entry.{entryOf};
+ghost use Rattle.sheet_record.specs.Spaces.{slotsOf, barsOf};
+ghost use Rattle.sheet.specs.Sheet.{entriesOf};
+ghost use Rattle.index_rule.specs.Owners.{exponentOf};
+ghost use Rattle.index_slots.specs.Slots.{indexSize, placed};
+ghost use Rattle.index_above.specs.Bridges.{Climbs};
+ghost use Rattle.index_pass.specs.Pass.{slotsBelow, passSlots, Fits, recordSlots, barSlots, barIn, allOn, wordEnd};
+use bar::Slot;
+use index_above::Bridges;
+use pools::Pool;
+use pools::Space;
+
+// Addresses of a space, from `first` on and before `end`, and the key of address 0.
+pub struct Segment {
+    pub space: Space,
+    pub first: u64,
+    pub end: u64,
+    pub base: u64,
+}
+
+// The owners that a pass inserts: the BARs that start in a segment, or the IDs.
+pub enum Pass {
+    Bars(Segment),
+    Ids,
+}
+
+// The key of ID 0.
+const ID_BASE: u64 = 4503599627436032;
+
+const LOW_MEMORY: Segment = Segment {
+    space: Space::Memory,
+    first: 0,
+    end: 4294967296,
+    base: 0,
+};
+
+const HIGH_MEMORY: Segment = Segment {
+    space: Space::Memory,
+    first: 4294967296,
+    end: 4503599627370496,
+    base: 0,
+};
+
+const IO: Segment = Segment {
+    space: Space::Io,
+    first: 0,
+    end: 65536,
+    base: 4503599627370496,
+};
+
+// All owners, into an index of n functions with no slots: how many there are.
+pub fn insert_owners(index: &mut [u8], n: usize, sheet: &[u8], table: &[u16], root: u8) -> usize
+    requires { ⌜
+        Climbs (now sheet) (now table) root × (n ≡ length (entriesOf (now sheet))) × (indexSize n ≤ length (now index))
+        ⌝ }
+    ensures { λ r. ⌜
+        (now (index .exit) ≡ placed 0 n (slotsBelow root (now (sheet .entry))) (now (index .entry)))
+        × (r ≡ length (slotsBelow root (now (sheet .entry))))
+        ⌝ }
+{
+    let low = insert_pass(index, n, 0, Pass::Bars(LOW_MEMORY), sheet, table, root);
+    let high = insert_pass(index, n, low, Pass::Bars(HIGH_MEMORY), sheet, table, root);
+    let io = insert_pass(index, n, high, Pass::Bars(IO), sheet, table, root);
+    insert_pass(index, n, io, Pass::Ids, sheet, table, root)
+}
+
+// How many slots there are then.
+fn insert_pass(
+    index: &mut [u8],
+    n: usize,
+    count: usize,
+    pass: Pass,
+    sheet: &[u8],
+    table: &[u16],
+    root: u8,
+) -> usize
+    requires { ⌜
+        Climbs (now sheet) (now table) root × Fits pass × (count + length (passSlots pass root (now sheet)) ≤ 7 * n)
+        × (indexSize n ≤ length (now index))
+        ⌝ }
+    ensures { λ r. ⌜
+        (now (index .exit) ≡ placed count n (passSlots pass root (now (sheet .entry))) (now (index .entry)))
+        × (r ≡ count + length (passSlots pass root (now (sheet .entry))))
+        ⌝ }
+{
+    let records = sheet::count(sheet);
+    let mut at = count;
+    let mut k: usize = 0;
+    while k < records {
+        let part = sheet::part(sheet, k);
+        k += 1;
+        let bridges = index_above::above(sheet, table, root, sheet_record::bus_of(part));
+        at = insert_record(index, n, at, pass, part, bridges, k);
+    }
+    at
+}
+
+// ---- one record
+
+// Of the function with this number, below these bridges.
+fn insert_record(
+    index: &mut [u8],
+    n: usize,
+    count: usize,
+    pass: Pass,
+    part: &[u8],
+    bridges: Bridges,
+    number: usize,
+) -> usize
+    requires { ⌜
+        (length (now part) ≡ recordSize) × (anyBad (slotsOf (entryOf (now part))) ≡ false) × Fits pass × (number ≤ 65535)
+        × (count + length (recordSlots pass bridges number (now part)) ≤ 7 * n) × (indexSize n ≤ length (now index))
+        ⌝ }
+    ensures { λ r. ⌜
+        (now (index .exit) ≡ placed count n (recordSlots pass bridges number (now (part .entry))) (now (index .entry)))
+        × (r ≡ count + length (recordSlots pass bridges number (now (part .entry))))
+        ⌝ }
+{
+    let end = word_end(bridges, number);
+    match pass {
+        Pass::Bars(g) => {
+            let space = g.space;
+            if sheet_record::is_enabled(part, space) & all_on(bridges, space) {
+                return insert_bars(index, n, count, part, g, end);
+            }
+            count
+        }
+        Pass::Ids => {
+            let id = sheet_record::id_of(part) as u64;
+            index_slots::insert(index, n, count, ID_BASE + id, end);
+            count + 1
+        }
+    }
+}
+
+// What a word says beside the exponent.
+fn word_end(bridges: Bridges, number: usize) -> u64
+    requires { ⌜ number ≤ 65535 ⌝ }
+    ensures { λ r. ⌜ (r ≡ wordEnd bridges number) × (r < 8589934592) ⌝ }
+{
+    256 * (bridges.count as u64) + 65536 * (number as u64)
+}
+
+// Each bridge enables the space.
+fn all_on(bridges: Bridges, space: Space) -> bool
+    ensures { λ r. ⌜ r ≡ allOn space bridges ⌝ }
+{
+    match space {
+        Space::Memory => bridges.memory,
+        Space::Io => bridges.io,
+    }
+}
+
+// ---- BARs
+
+// A function's that start in the segment, in slot order.
+fn insert_bars(index: &mut [u8], n: usize, count: usize, part: &[u8], g: Segment, end: u64) -> usize
+    requires { ⌜
+        (length (now part) ≡ recordSize) × (anyBad (slotsOf (entryOf (now part))) ≡ false) × (g .base + g .end ≤ 4611686018427387904)
+        × (end < 8589934592) × (count + length (barSlots g end (barsOf (g .space) (entryOf (now part)))) ≤ 7 * n)
+        × (indexSize n ≤ length (now index))
+        ⌝ }
+    ensures { λ r. ⌜
+        (now (index .exit) ≡ placed count n (barSlots g end (barsOf (g .space) (entryOf (now (part .entry))))) (now (index .entry)))
+        × (r ≡ count + length (barSlots g end (barsOf (g .space) (entryOf (now (part .entry))))))
+        ⌝ }
+{
+    let set = sheet_record::readbacks_of(part);
+    let values = sheet_record::values_of(part);
+    let slots = sheet_record::slot_count(part);
+    let mut at = count;
+    let mut i: usize = 0;
+    while i < slots {
+        let x = bar::slot_at(set, slots, i);
+        let value = bar::value_here(x, values, slots, i);
+        at = insert_bar(index, n, at, x, value, g, end);
+        i += bar::span(x);
+    }
+    at
+}
+
+fn insert_bar(
+    index: &mut [u8],
+    n: usize,
+    count: usize,
+    x: Slot,
+    value: u64,
+    g: Segment,
+    end: u64,
+) -> usize
+    requires { ⌜
+        (g .base + g .end ≤ 4611686018427387904) × (end < 8589934592)
+        × (count + length (barSlots g end (barIn (g .space) x value)) ≤ 7 * n) × (indexSize n ≤ length (now index))
+        ⌝ }
+    ensures { λ r. ⌜
+        (now (index .exit) ≡ placed count n (barSlots g end (barIn (g .space) x value)) (now (index .entry)))
+        × (r ≡ count + length (barSlots g end (barIn (g .space) x value)))
+        ⌝ }
+{
+    match x {
+        Slot::Unused => count,
+        Slot::Bar(q, _, size) => {
+            let start = bar::base_of(x, value);
+            if !starts_in(g, q, start) {
+                return count;
+            }
+            index_slots::insert(index, n, count, g.base + start, exponent_of(size) + end);
+            count + 1
+        }
+        Slot::Upper => count,
+        Slot::Bad => count,
+    }
+}
+
+fn starts_in(g: Segment, q: Pool, start: u64) -> bool
+    ensures { λ r. ⌜ r ≡ (inSpace (g .space) q && (leb (g .first) start && ltb start (g .end))) ⌝ }
+{
+    let space = g.space;
+    pools::in_space(space, q) & ((g.first <= start) & (start < g.end))
+}
+
+// Of a power of two, by halving.
+fn exponent_of(size: u64) -> u64
+    ensures { λ r. ⌜ (r ≡ exponentOf size) × (r ≤ 64) ⌝ }
+{
+    let mut left = size;
+    let mut e: u64 = 0;
+    while e < 64 {
+        if left <= 1 {
+            return e;
+        }
+        left = left / 2;
+        e += 1;
+    }
+    e
+}
