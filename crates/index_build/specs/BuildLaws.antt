@@ -1,0 +1,84 @@
+-- The build in the words of the code: one law for each answer. Assumes nothing.
+use mathlib.Core.Path.{_≡_, sym, _∙_}
+use mathlib.Core.List.{List}
+use Prim.Native.Nat.{ℕ, _+_, _*_, _≤_, _<_}
+use lib.ListN.{length}
+use borrow.Author.Tests.{eq-eqb, ne-eqb, lt-ltb, le-ltb}
+use Rattle.endian.specs.Endian.{Bytes}
+use Rattle.records.specs.Limits.{mostFunctions}
+use Rattle.sheet.specs.Sheet.{Framed, entriesOf}
+use Rattle.sheet.specs.SheetLaws.{Checked, checked-of-zero}
+use Rattle.audit_rule.specs.Audit.{auditNumber}
+use Rattle.audit_rule.specs.Accepted.{Accepted}
+use Rattle.audit_rule.specs.AuditLaws.{audit-iff}
+use Rattle.audit_leaders.specs.Table.{Leads}
+use Rattle.index_slots.specs.Slots.{Slot, indexSize, placed}
+use Rattle.index_slots.specs.Cleared.{cleared}
+use Rattle.index_table.specs.Table.{finished, built}
+use Rattle.index_above.specs.Bridges.{Climbs}
+use Rattle.index_above.specs.BridgesLaws.{climbs-of-accepted}
+use Rattle.index_pass.specs.Pass.{slotsBelow}
+use Rattle.index_build.specs.Build.{from11, buildNumber, rootOf, indexAfter}
+
+-- a checked sheet that can be climbed to the root bus by the table of its leaders
+pub record Rooted (s : List ℕ) (root : ℕ) : Type 0 where
+  pub checked : Checked s
+  pub climbs : (table : List ℕ) → Leads (entriesOf s) table → Climbs s table root
+
+-- ## The index filled: what is cleared, then inserted, then finished
+
+pub filled : (n root : ℕ) (xs : List Slot) (o o₁ o₂ o₃ : List ℕ) (count : ℕ) → o₁ ≡ cleared n o
+    → (o₂ ≡ placed 0 n xs o₁) × (count ≡ length xs) → o₃ ≡ finished n root count o₂ → o₃ ≡ built n root xs o
+unfolding built
+filled n root xs o o₁ o₂ o₃ count e (f, c) g = g ∙ rw (c, f, e)
+
+-- ## The answers: a is the audit's number
+
+module _ (host s o : List ℕ) (a : ℕ) (audit : a ≡ auditNumber host s) where
+  pub audit-refused : (a ≡ 0 → ⊥) → buildNumber host s (length o) ≡ a
+  unfolding buildNumber
+  audit-refused d = rw (← audit, ne-eqb a 0 d)
+
+  pub refused-stays : (a ≡ 0 → ⊥) → indexAfter host s o ≡ o
+  unfolding indexAfter
+  refused-stays d = let e : buildNumber host s (length o) ≡ a = audit-refused d in rw (e, ne-eqb a 0 d)
+
+  module _ (zero : a ≡ 0) (bytes : Bytes s) where
+    pub accepted : Accepted host s
+    accepted = audit-iff host s bytes .0 (sym audit ∙ zero)
+
+    pub framed : Framed 1 s
+    framed = checked-of-zero s (accepted .passes) .framed
+
+    pub few : length (entriesOf s) ≤ mostFunctions
+    few = checked-of-zero s (accepted .passes) .count
+
+    pub rooted : (root : ℕ) → root ≡ rootOf host → Rooted s root
+    rooted root e =
+        rw e
+        (record {
+          checked = checked-of-zero s (accepted .passes);
+          climbs = λ table leads. climbs-of-accepted host s table bytes accepted leads;
+        })
+
+    past-audit : buildNumber host s (length o) ≡ from11 s (length o)
+    unfolding buildNumber
+    past-audit = rw (← audit, eq-eqb a 0 zero)
+
+    module _ (n : ℕ) (count : n ≡ length (entriesOf s)) where
+      pub too-short : length o < 1024 + 256 * n → buildNumber host s (length o) ≡ 11
+      unfolding from11
+      too-short h = past-audit ∙ rw (← count, lt-ltb (length o) (indexSize n) h)
+
+      pub short-stays : length o < 1024 + 256 * n → indexAfter host s o ≡ o
+      unfolding indexAfter
+      short-stays h = rw (too-short h)
+
+      pub built-number : 1024 + 256 * n ≤ length o → buildNumber host s (length o) ≡ 0
+      unfolding from11
+      built-number h = past-audit ∙ rw (← count, le-ltb (length o) (indexSize n) h)
+
+      pub built-bytes : 1024 + 256 * n ≤ length o → (root : ℕ) → root ≡ rootOf host → (o₁ : List ℕ)
+          → o₁ ≡ built n root (slotsBelow root s) o → o₁ ≡ indexAfter host s o
+      unfolding indexAfter
+      built-bytes h root e o₁ f = f ∙ rw (built-number h, e, count)

@@ -1,0 +1,208 @@
+-- Document 02, E8: nothing past an index changes when it is built, and a search by it answers as the router does over the sheet. Bytes are
+-- what a slice of u8 holds. Assumes nothing.
+use mathlib.Core.Path.{_≡_, refl, sym, ap, _∙_}
+use mathlib.Core.Bool.{Bool, true, false, cond}
+use mathlib.Core.List.{List, [], _∷_, map}
+use Prim.Native.Nat.{ℕ, zero, suc, _*_, _≤_, _<_}
+use native.Mathlib.Omega.{arith}
+use lib.ListN.{length, getD, length-map, List·getD-map}
+use lib.Dec.{eqb, ltb}
+use borrow.Author.Tests.{eqb-true, eqb-false, ltb-false, lt-ltb, le-ltb}
+use Rattle.lists.specs.Lists.{All}
+use Rattle.lists.specs.ListLaws.{all-map-intro}
+use Rattle.endian.specs.Endian.{Bytes}
+use Rattle.records.specs.Limits.{mostFunctions}
+use Rattle.walk.specs.Walk.{refused, noOwner}
+use Rattle.sheet.specs.Sheet.{entriesOf}
+use Rattle.sheet.specs.SheetLaws.{checked-of-zero}
+use Rattle.claims.specs.declared.Aim.{Aim}
+use Rattle.route.specs.Route.{walked, root, routeOf}
+use Rattle.route.specs.Listed.{onRoom, listAfter}
+use Rattle.audit_rule.specs.Audit.{auditNumber}
+use Rattle.audit_rule.specs.Accepted.{Accepted}
+use Rattle.audit_rule.specs.AuditLaws.{audit-iff}
+use Rattle.index_rule.specs.Owners.{Owner, ownersOf, keyOf, inReach, exponentOver, exponentOf}
+use Rattle.index_rule.specs.Insert as rule
+use Rattle.index_rule.specs.InsertLaws.{map-inserted, insert-is}
+use Rattle.index_rule.specs.Search as owners
+use Rattle.index_rule.specs.Search.{sortedOwners, nobody, answerAt}
+use Rattle.index_rule.specs.CountLaws.{length-nodes}
+use Rattle.index_rule.specs.WordLaws.{word-small}
+use Rattle.index_rule.specs.LineLaws.{owners-fit}
+use Rattle.index_rule.specs.IndexLaws.{root-of-accepted, walked-out-of-reach, key-near, walked-at-last}
+use Rattle.index_slots.specs.Slots as slots
+use Rattle.index_slots.specs.Slots.{Slot, noSlot, indexSize, slotAt}
+use Rattle.index_table.specs.Table.{segmentOf}
+use Rattle.index_table.specs.Search.{foundAt, Last, Searchable}
+use Rattle.index_table.specs.BuiltLaws.{Lawful, built-searchable, length-built, getD-built-past}
+use Rattle.index_search.specs.Search.{functionsIn, answerOver, outcomeOver, searchOf, listedAfter}
+use Rattle.index_search.specs.SearchLaws.{IndexOf, search-agrees, search-listed-agrees}
+use Rattle.index_pass.specs.Pass.{slotOf}
+use Rattle.index_pass.specs.PassLaws.{passes-room}
+use Rattle.index_build.specs.Build.{from11, buildNumber, rootOf, ownerSlots, indexOf, indexAfter}
+
+-- ## Sorted owners are sorted slots
+
+abbrev key : Slot → ℕ
+key x = x .key
+
+insert-same : (x : Slot) (ys : List Slot) → slots.insert x ys ≡ rule.insert key x ys
+unfolding slots.insert
+insert-same x ys = insert-is key slots.insert (λ z. refl) (λ z y zs. refl) x ys
+
+inserted-same : (ys xs : List Slot) → slots.inserted ys xs ≡ rule.inserted key ys xs
+unfolding slots.inserted rule.inserted
+inserted-same ys [] = refl
+inserted-same ys (x ∷ xs) =
+    inserted-same (slots.insert x ys) xs ∙ ap (λ (zs : List Slot). rule.inserted key zs xs) (insert-same x ys)
+
+sorted-slots : (host s : List ℕ) → slots.inserted [] (ownerSlots host s) ≡ map slotOf (sortedOwners host s)
+unfolding sortedOwners
+sorted-slots host s = inserted-same [] (ownerSlots host s) ∙ sym (map-inserted slotOf key [] (ownersOf host s))
+
+-- the slot of a position
+slot-is : (xs : List Owner) (i : ℕ) → i ≤ length xs
+    → getD (noSlot ∷ map slotOf xs) i noSlot ≡ record { key = owners.keyAt xs i; word = owners.wordAt xs i }
+unfolding owners.keyAt owners.wordAt exponentOf exponentOver
+slot-is xs zero h = refl
+slot-is xs (suc i) h =
+    let inside : ltb i (length xs) ≡ true = lt-ltb i (length xs) h in
+    rw inside (List·getD-map slotOf xs i nobody)
+
+-- ## A build that was not refused
+
+module _ (host s o : List ℕ) (host-bytes : Bytes host) (bytes : Bytes s) (done : buildNumber host s (length o) ≡ 0) where
+  abbrev n : ℕ
+  n = length (entriesOf s)
+
+  abbrev index : List ℕ
+  index = indexAfter host s o
+
+  passed : (auditNumber host s ≡ 0) × (indexSize n ≤ length o)
+  unfolding buildNumber from11
+  passed = go (eqb (auditNumber host s) 0) refl (ltb (length o) (indexSize n)) refl done
+    where
+      go : (t : Bool) → eqb (auditNumber host s) 0 ≡ t → (u : Bool) → ltb (length o) (indexSize n) ≡ u
+          → cond t (cond u 11 0) (auditNumber host s) ≡ 0 → (auditNumber host s ≡ 0) × (indexSize n ≤ length o)
+      go true e true f z = absurd (omega (arith, z))
+      go true e false f z = (eqb-true (auditNumber host s) 0 e, ltb-false (length o) (indexSize n) f)
+      go false e u f z = absurd (eqb-false (auditNumber host s) 0 e z)
+
+  accepted : Accepted host s
+  accepted = audit-iff host s bytes .0 (passed .0)
+
+  most : n ≤ mostFunctions
+  most = checked-of-zero s (accepted .passes) .count
+
+  index-is : index ≡ indexOf host s o
+  unfolding indexAfter
+  index-is = rw done
+
+  few : length (ownerSlots host s) ≤ 7 * n
+  few = omega (arith, passes-room (rootOf host) s)
+
+  lawful : All Lawful (ownerSlots host s)
+  lawful =
+      all-map-intro Lawful slotOf (ownersOf host s)
+      (λ x m. let f = owners-fit host s host-bytes bytes accepted x m in (f .start-small, word-small x f))
+
+  pub index-searchable : Searchable n (rootOf host) (map slotOf (sortedOwners host s)) index
+  index-searchable =
+      rw (index-is, ← sorted-slots host s) (built-searchable n (rootOf host) o (ownerSlots host s) few (passed .1) lawful most)
+
+  -- ## What a search finds
+
+  abbrev sorted : List Owner
+  sorted = sortedOwners host s
+
+  length-sorted : length (map slotOf sorted) ≡ length sorted
+  length-sorted = length-map sorted slotOf
+
+  module _ (aim : Aim) (near : inReach aim ≡ true) where
+    abbrev p : ℕ
+    p = foundAt index n (segmentOf (keyOf aim)) (keyOf aim)
+
+    found : Last (λ i. getD (noSlot ∷ map slotOf sorted) i noSlot .key) (suc (length (map slotOf sorted))) (keyOf aim) p
+    found = index-searchable .last (keyOf aim) (key-near host s host-bytes bytes accepted aim near)
+
+    key-is : (i : ℕ) → i < suc (length sorted) → getD (noSlot ∷ map slotOf sorted) i noSlot .key ≡ owners.keyAt sorted i
+    key-is i h = ap (λ (x : Slot). x .key) (slot-is sorted i (omega (arith, h)))
+
+    inside : p < suc (length sorted)
+    inside = omega (arith, found .inside, length-sorted)
+
+    last : owners.Last (owners.keyAt sorted) (suc (length sorted)) (keyOf aim) p
+    last =
+        record {
+          inside = inside;
+          not-above = rw (key-is p inside) at (found .not-above);
+          then-above = λ q l h. rw (key-is q h) at (found .then-above q l (omega (arith, h, length-sorted)));
+        }
+
+    slot-there : slotAt index n p ≡ record { key = owners.keyAt sorted p; word = owners.wordAt sorted p }
+    slot-there = index-searchable .slots p (omega (arith, inside, length-sorted)) ∙ slot-is sorted p (omega (arith, inside))
+
+    answer-there : answerOver index n (keyOf aim) ≡ walked aim s (root s) 0
+    unfolding answerOver
+    answer-there =
+        ap (λ (x : Slot). answerAt (x .key) (x .word) (keyOf aim)) slot-there
+        ∙ sym (walked-at-last host s host-bytes bytes accepted aim near (suc (length sorted)) p (omega arith) last)
+
+  outcome-there : (aim : Aim) → outcomeOver index n aim ≡ walked aim s (root s) 0
+  unfolding outcomeOver
+  outcome-there aim = go (inReach aim) refl
+    where
+      go : (t : Bool) → inReach aim ≡ t → cond t (answerOver index n (keyOf aim)) (refused noOwner) ≡ walked aim s (root s) 0
+      go true e = answer-there aim e
+      go false e = sym (walked-out-of-reach host s host-bytes bytes accepted aim e)
+
+  functions-are : functionsIn index ≡ n
+  unfolding functionsIn
+  functions-are =
+      let c = index-searchable .count in
+      rw (c, le-ltb (length index) (indexSize n) (index-searchable .size))
+
+  pub index-of-built : IndexOf index s
+  index-of-built =
+      record {
+        functions-are = functions-are ∙ sym (length-nodes 1 (entriesOf s));
+        root-is = λ some.
+            index-searchable .root-bus
+            ∙ sym (root-of-accepted host s host-bytes bytes accepted (omega (arith, some, functions-are, length-nodes 1 (entriesOf s))));
+        outcomes-are = λ aim. ap (λ (m : ℕ). outcomeOver index m aim) functions-are ∙ outcome-there aim;
+      }
+
+  -- a header, and a header with a lent slice for a broadcast's list
+  pub search-is-route : (header : List ℕ) → searchOf header index ≡ routeOf header s
+  search-is-route header = search-agrees index s index-of-built (accepted .passes) header
+
+  pub listed-is-route : (header list : List ℕ)
+      → (onRoom (searchOf header index) (length list) ≡ onRoom (routeOf header s) (length list))
+      × (listedAfter (onRoom (searchOf header index) (length list)) list ≡ listAfter (onRoom (routeOf header s) (length list)) s list)
+  listed-is-route header list = search-listed-agrees index s index-of-built (accepted .passes) header list
+
+-- ## Built or refused
+
+module _ (host s o : List ℕ) (host-bytes : Bytes host) (bytes : Bytes s) where
+  pub length-after : length (indexAfter host s o) ≡ length o
+  unfolding indexAfter
+  length-after = go (eqb (buildNumber host s (length o)) 0) refl
+    where
+      go : (t : Bool) → eqb (buildNumber host s (length o)) 0 ≡ t → length (cond t (indexOf host s o) o) ≡ length o
+      go true e =
+          let done = eqb-true (buildNumber host s (length o)) 0 e in
+          length-built (length (entriesOf s)) (rootOf host) o (ownerSlots host s) (few host s o host-bytes bytes done)
+          (passed host s o host-bytes bytes done .1) (lawful host s o host-bytes bytes done)
+      go false e = refl
+
+  -- "nothing past its length does"
+  pub past-stays : (k d : ℕ) → indexSize (length (entriesOf s)) ≤ k → getD (indexAfter host s o) k d ≡ getD o k d
+  unfolding indexAfter
+  past-stays k d h = go (eqb (buildNumber host s (length o)) 0) refl
+    where
+      go : (t : Bool) → eqb (buildNumber host s (length o)) 0 ≡ t → getD (cond t (indexOf host s o) o) k d ≡ getD o k d
+      go true e =
+          let done = eqb-true (buildNumber host s (length o)) 0 e in
+          getD-built-past (length (entriesOf s)) (rootOf host) o (ownerSlots host s) (few host s o host-bytes bytes done)
+          (passed host s o host-bytes bytes done .1) (lawful host s o host-bytes bytes done) k d h
+      go false e = refl

@@ -1,0 +1,40 @@
+// The index of an accepted sheet, built in a lent slice.
+ghost use mathlib.Core.Path.{_≡_};
+ghost use Prim.Native.Nat.{_≤_};
+ghost use lib.ListN.{length};
+ghost use Rattle.sheet.specs.Sheet.{entriesOf};
+ghost use Rattle.index_slots.specs.Slots.{indexSize};
+ghost use Rattle.index_table.specs.Table.{built};
+ghost use Rattle.index_pass.specs.Pass.{slotsBelow};
+ghost use Rattle.index_build.specs.Build.{buildNumber, indexAfter};
+ghost use Rattle.index_build.specs.BuildLaws.{Rooted};
+
+// Any bytes: the audit's number, then 11 where the slice is too short. Refused, no byte changes; built, none past the index does.
+pub fn build(host: &[u8], sheet: &[u8], index: &mut [u8]) -> u8
+    ensures number { λ r. ⌜ r ≡ buildNumber (now (host .entry)) (now (sheet .entry)) (length (now (index .entry))) ⌝ }
+    ensures content { λ _. ⌜ now (index .exit) ≡ indexAfter (now (host .entry)) (now (sheet .entry)) (now (index .entry)) ⌝ }
+{
+    let number = auditor::audit(host, sheet);
+    if number != 0 {
+        return number;
+    }
+    let n = sheet::count(sheet);
+    if index.len() < 1024 + 256 * n {
+        return 11;
+    }
+    let h = board_record::host_of(host);
+    fill(index, n, sheet, h.first_bus);
+    0
+}
+
+// Of a sheet with n functions, whose buses are a tree below the root bus.
+fn fill(index: &mut [u8], n: usize, sheet: &[u8], root: u8)
+    requires { ⌜ Rooted (now sheet) root × (n ≡ length (entriesOf (now sheet))) × (indexSize n ≤ length (now index)) ⌝ }
+    ensures { λ _. ⌜ now (index .exit) ≡ built n root (slotsBelow root (now (sheet .entry))) (now (index .entry)) ⌝ }
+{
+    let mut table = [0u16; audit_leaders::BUSES];
+    audit_leaders::leaders(sheet, &mut table);
+    index_slots::clear(index, n);
+    let count = index_pass::insert_owners(index, n, sheet, &table, root);
+    index_table::finish(index, n, root, count);
+}
