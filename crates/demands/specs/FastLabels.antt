@@ -1,0 +1,54 @@
+-- Document 02, E8, "Fast labels", in the request's sentences, over the number and the bytes of the build and the answers of search and
+-- router. Bytes are what a slice of u8 holds. "On a slice the build did not leave, the search still ends, its answer fixed by the bytes" is
+-- the contract of `index_search::search`, `searchOf` for any bytes; that speed is "measured", docs/BENCHMARK.md. `fast-labels` of
+-- FastLabelsLaws proves the rest. Assumes nothing.
+use mathlib.Core.Path.{_≡_}
+use mathlib.Core.Logic.{_↔_}
+use mathlib.Core.List.{List}
+use Prim.Native.Nat.{ℕ, _<_, _≤_}
+use lib.ListN.{length, getD}
+use Rattle.endian.specs.Endian.{Bytes}
+use Rattle.sheet.specs.Sheet.{entriesOf}
+use Rattle.route.specs.Route.{routeOf}
+use Rattle.route.specs.Listed.{onRoom, listAfter}
+use Rattle.audit_rule.specs.Audit.{auditNumber}
+use Rattle.audit_rule.specs.Accepted.{Accepted}
+use Rattle.index_slots.specs.Slots.{indexSize}
+use Rattle.index_search.specs.Search.{searchOf, listedAfter}
+use Rattle.index_build.specs.Build.{buildNumber, indexAfter}
+
+-- "The index takes 1,024 bytes and 256 a function"
+abbrev pub indexBytes : List ℕ → ℕ
+indexBytes s = indexSize (length (entriesOf s))
+
+-- an index was built, in a slice that held `room`
+abbrev pub IsBuilt : List ℕ → List ℕ → List ℕ → Type 0
+IsBuilt host s room = buildNumber host s (length room) ≡ 0
+
+-- A lent slice for a broadcast's list, after the search and after the router: the same answer, and the same numbers in the slice
+abbrev pub ListedAlike : List ℕ → List ℕ → List ℕ → List ℕ → Type 0
+ListedAlike header index s list =
+    let found = onRoom (searchOf header index) (length list) in
+    let routed = onRoom (routeOf header s) (length list) in
+    (found ≡ routed) × (listedAfter found list ≡ listAfter routed s list)
+
+pub record FastLabels : Type 0 where
+  -- "an index in a lent slice, built once from a host record and a sheet that E6 accepts": exactly then, in room enough
+  pub built-exactly : (host s room : List ℕ) → Bytes s → IsBuilt host s room ↔ (Accepted host s × (indexBytes s ≤ length room))
+  -- "For such a sheet and every header its whole answer equals the router's, number, record, bridge count, packet ..": one equation
+  pub answers-equal : (host s room : List ℕ) → Bytes host → Bytes s → IsBuilt host s room
+      → (header : List ℕ) → searchOf header (indexAfter host s room) ≡ routeOf header s
+  -- ".. and list together."
+  pub lists-equal : (host s room : List ℕ) → Bytes host → Bytes s → IsBuilt host s room
+      → (header list : List ℕ) → ListedAlike header (indexAfter host s room) s list
+  -- "A sheet that E6 refuses gets E6's number and no index."
+  pub refused-by-audit : (host s room : List ℕ) → ¬ (auditNumber host s ≡ 0)
+      → (buildNumber host s (length room) ≡ auditNumber host s) × (indexAfter host s room ≡ room)
+  -- "only a shorter slice gets 11, tried last", and stays as it was
+  pub short-exactly : (host s room : List ℕ) → auditNumber host s ≡ 0
+      → (buildNumber host s (length room) ≡ 11) ↔ (length room < indexBytes s)
+  pub short-stays : (host s room : List ℕ) → buildNumber host s (length room) ≡ 11 → indexAfter host s room ≡ room
+  -- what is past the index stays, and the slice is as long as before
+  pub past-stays : (host s room : List ℕ) → Bytes host → Bytes s
+      → (length (indexAfter host s room) ≡ length room)
+      × ((k : ℕ) → indexBytes s ≤ k → getD (indexAfter host s room) k 0 ≡ getD room k 0)
