@@ -2,6 +2,7 @@
 //! costs a small sheet.
 
 use crate::measure::{compare, Times};
+use crate::subjects::planned;
 use inputs::board::{high, memory, Board};
 use std::hint::black_box;
 use std::iter::successors;
@@ -30,7 +31,7 @@ pub fn print() {
 }
 
 /// Four times as many each time, up to a full sheet.
-fn sizes() -> impl Iterator<Item = usize> {
+pub fn sizes() -> impl Iterator<Item = usize> {
     let most = (plain::FULL_SHEET - 1) / RECORD;
     successors(Some(16), move |&n| (n < most).then_some((4 * n).min(most)))
 }
@@ -67,10 +68,7 @@ fn sheet(functions: usize) -> Vec<u8> {
             board.add(bridge, end as u8 - 1, 0x80, &card);
         }
     }
-    let mut sheet = vec![0; plain::FULL_SHEET];
-    let length = plain::plan(&board.bytes(), &mut sheet).expect("the board is lawful and there is room");
-    sheet.truncate(length);
-    sheet
+    planned(&board.bytes())
 }
 
 fn row(functions: usize, subject: &Subject) {

@@ -1,13 +1,17 @@
 //! Times the proved library and the plain implementation side by side, and prints a table.
 //!
-//! `cargo run --release --offline -p bench`
+//! `cargo run --release --offline -p bench` prints all of it, names after `--` only those parts: `calls`, `ids`, `audits`,
+//! `traces`, `labels`.
 
+mod audits;
 mod ids;
+mod labels;
 mod measure;
 mod subjects;
 mod traces;
 
 use measure::{compare, Times, ROUNDS};
+use std::env;
 use std::hint::black_box;
 use subjects::{plain_calls, proved_calls, Backplane, Mixed};
 
@@ -33,7 +37,25 @@ const NONE: &str = "none";
 const REUSED: &str = "reused, not cleared";
 const FRESH: &str = "new and zeroed, within the time";
 
+/// What is printed, and can be asked for by name.
+const PARTS: [(&str, fn()); 5] = [
+    ("calls", calls),
+    ("ids", ids::print),
+    ("audits", audits::print),
+    ("traces", traces::print),
+    ("labels", labels::print),
+];
+
 fn main() {
+    let asked: Vec<String> = env::args().skip(1).collect();
+    if let Some(other) = asked.iter().find(|name| !PARTS.iter().any(|(part, _)| part == name)) {
+        panic!("no part is called {other}");
+    }
+    let is_asked = |part: &str| asked.is_empty() || asked.iter().any(|name| name == part);
+    PARTS.iter().filter(|(part, _)| is_asked(part)).for_each(|(_, print)| print());
+}
+
+fn calls() {
     println!("Nanoseconds a call, median of {ROUNDS} rounds.\n{ABOUT}");
     println!("| call | input | buffer written | plain ns | proved ns | proved/plain |");
     println!("|---|---|---|---:|---:|---:|");
@@ -43,13 +65,12 @@ fn main() {
     read_mixed(&mixed);
     headers.iter().for_each(|(name, header)| write(name, header));
     write_mixed(&mixed);
-    let backplanes = [16, 64, 256, 512].map(Backplane::new);
+    let backplanes = Backplane::all();
     backplanes.iter().for_each(plan);
     backplanes.iter().for_each(plan_fresh);
     backplanes.iter().for_each(check);
+    backplanes.iter().for_each(audit);
     backplanes.iter().for_each(route);
-    ids::print();
-    traces::print(&backplanes);
 }
 
 fn row(call: &str, input: &str, buffer: &str, times: Times) {
@@ -177,6 +198,15 @@ fn check(backplane: &Backplane) {
     let sheet = &backplane.sheet;
     let times = compare(|| plain_calls::check(black_box(sheet)), || proved_calls::check(black_box(sheet)).is_ok());
     row("check", &backplane.name, NONE, times);
+}
+
+fn audit(backplane: &Backplane) {
+    let Backplane { host, sheet, .. } = backplane;
+    let times = compare(
+        || plain_calls::audit(black_box(host), black_box(sheet)),
+        || proved_calls::audit(black_box(host), black_box(sheet)),
+    );
+    row("audit", &backplane.name, NONE, times);
 }
 
 fn route(backplane: &Backplane) {

@@ -54,7 +54,7 @@ fn round<A>(call: &mut impl FnMut() -> A, count: u32) -> f64 {
     start.elapsed().as_nanos() as f64 / f64::from(count)
 }
 
-fn median(mut rounds: Vec<f64>) -> f64 {
+pub fn median(mut rounds: Vec<f64>) -> f64 {
     rounds.sort_by(f64::total_cmp);
     rounds[rounds.len() / 2]
 }

@@ -45,6 +45,11 @@ pub mod plain_calls {
     }
 
     #[inline(never)]
+    pub fn audit(host: &[u8], sheet: &[u8]) -> u8 {
+        plain::audit(host, sheet)
+    }
+
+    #[inline(never)]
     pub fn route(header: &[u8], sheet: &[u8]) -> Result<plain::Arrival, u8> {
         plain::route(header, sheet)
     }
@@ -92,6 +97,11 @@ pub mod proved_calls {
     #[inline(never)]
     pub fn check(sheet: &[u8]) -> Result<(), Refusal> {
         cartsundial::check(sheet)
+    }
+
+    #[inline(never)]
+    pub fn audit(host: &[u8], sheet: &[u8]) -> u32 {
+        calls::audit(host, sheet)
     }
 
     #[inline(never)]
@@ -146,14 +156,21 @@ fn header(numbers: &[u64; 20]) -> [u8; 16] {
     header
 }
 
-/// Functions in a chain with its endpoints, at most.
-const CHAIN: usize = 64;
-/// The most bridges above any function.
-const DEPTH: usize = 16;
+/// Functions of a board, and the bridges above its endpoints.
+const SIZES: &[(usize, usize)] = &[(16, 8), (64, 16), (256, 16), (512, 16), (512, 32)];
+
+/// The sheet of a board.
+pub fn planned(board: &[u8]) -> Vec<u8> {
+    let mut sheet = vec![0; plain::FULL_SHEET];
+    let length = plain::plan(board, &mut sheet).expect("the board is lawful and there is room");
+    sheet.truncate(length);
+    sheet
+}
 
 /// A board of chains of bridges with endpoints behind the last, its sheet, and a request for the last endpoint.
 pub struct Backplane {
     pub name: String,
+    pub host: Vec<u8>,
     pub board: Vec<u8>,
     pub sheet: Vec<u8>,
     pub header: Vec<u8>,
@@ -161,11 +178,14 @@ pub struct Backplane {
 }
 
 impl Backplane {
-    /// Chains of up to 64 functions: 16 bridges, or half of the functions, then endpoints with a low and a high BAR.
-    pub fn new(functions: usize) -> Backplane {
+    pub fn all() -> Vec<Backplane> {
+        SIZES.iter().map(|&(functions, depth)| Backplane::new(functions, depth)).collect()
+    }
+
+    /// Chains of up to four times as many functions as bridges: the bridges, then endpoints with a low and a high BAR.
+    fn new(functions: usize, depth: usize) -> Backplane {
         let mut board = Board::new();
-        let chain = functions.min(CHAIN);
-        let depth = DEPTH.min(chain / 2);
+        let chain = functions.min(4 * depth);
         let card = [memory(14), high(20)[0], high(20)[1]];
         for number in 0..functions / chain {
             let last = board.chain(0, (number << 3) as u8, depth);
@@ -174,17 +194,17 @@ impl Backplane {
                 board.add(last, end as u8, 0x80, &card);
             }
         }
-        let board = board.bytes();
-        let mut sheet = vec![0; plain::FULL_SHEET];
-        let length = plain::plan(&board, &mut sheet).expect("the board is lawful and there is room");
-        sheet.truncate(length);
+        let (host, board) = (board.host(), board.bytes());
+        let sheet = planned(&board);
         let header = request(MRD, last_bar(&sheet));
-        Backplane { name: format!("{functions} functions, depth {depth}"), board, sheet, header, depth }
+        Backplane { name: format!("{functions} functions, depth {depth}"), host, board, sheet, header, depth }
             .tried(functions)
     }
 
-    /// Both sides plan this board to this sheet, and deliver the request to the last record.
+    /// Both sides plan this board to this sheet, accept it, and deliver the request to the last record.
     fn tried(self, functions: usize) -> Backplane {
+        let audited = (plain::audit(&self.host, &self.sheet), proved_calls::audit(&self.host, &self.sheet));
+        assert_eq!(audited, (0, 0));
         let mut sheet = vec![0; plain::FULL_SHEET];
         assert_eq!(cartsundial::plan(&self.board, &mut sheet), Ok(self.sheet.len()));
         assert_eq!(sheet[..self.sheet.len()], self.sheet);

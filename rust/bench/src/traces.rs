@@ -19,7 +19,7 @@ const TRACE_BYTES: usize = 1 << 17;
 /// The lengths of pieces, in KiB.
 const PIECES: [usize; 2] = [4, 64];
 
-pub fn print(backplanes: &[Backplane]) {
+pub fn print() {
     println!();
     println!("A trace annotated: nanoseconds a record, and bytes of the trace a second. At least {FEWEST} rounds.");
     println!("In pieces, each is a call, and each call checks the sheet. Whole, plain Rust takes records as slices and has no");
@@ -27,7 +27,7 @@ pub fn print(backplanes: &[Backplane]) {
     println!();
     println!("| sheet | trace | plain ns | proved ns | proved/plain | plain MB/s | proved MB/s |");
     println!("|---|---|---:|---:|---:|---:|---:|");
-    for backplane in backplanes {
+    for backplane in &Backplane::all() {
         let trace = trace_for(&backplane.sheet);
         PIECES.iter().for_each(|&length| in_pieces(backplane, &trace, length));
         in_short_room(backplane, &trace, PIECES[0]);

@@ -8,6 +8,7 @@ pub mod board;
 pub mod damage;
 pub mod foreign;
 pub mod header;
+pub mod labels;
 pub mod numbers;
 pub mod random;
 pub mod registers;

@@ -1,5 +1,5 @@
-//! Document 01, with requests E1, E2, E4, E5 and E6 of document 02, in plain, safe Rust: the header codec, the board
-//! planner, the packet router, the trace annotator and the audit of a sheet.
+//! Document 01, with requests E1, E2, E4, E5, E6 and E8 of document 02, in plain, safe Rust: the header codec, the board
+//! planner, the packet router, the trace annotator, the audit of a sheet and the index.
 //!
 //! Written from the documents and the readings of their open points in docs/DECISIONS.md, not from the proved code. The
 //! proved library is compared with it, and the stored answers of the test programs come from it. Every refusal is the
@@ -10,6 +10,7 @@
 mod audit;
 mod bar;
 mod board;
+mod index;
 mod packet;
 mod plan;
 mod pool;
@@ -18,6 +19,7 @@ mod sheet;
 mod trace;
 
 pub use audit::{audit, program as audit_program};
+pub use index::{build, find};
 pub use packet::{read, to_numbers, write, write_numbers, Form, Kind, Packet};
 pub use plan::plan;
 pub use route::{route, Arrival};

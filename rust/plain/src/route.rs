@@ -59,14 +59,14 @@ enum Claim {
 }
 
 #[derive(Clone, Copy, PartialEq, Eq)]
-enum Space {
+pub(crate) enum Space {
     Io,
     Memory,
 }
 
 impl Space {
     /// The command bit that enables the space.
-    fn enable(self) -> u16 {
+    pub(crate) fn enable(self) -> u16 {
         match self {
             Space::Io => 1,
             Space::Memory => 2,
@@ -81,21 +81,32 @@ impl Space {
     }
 }
 
-impl Sheet<'_> {
+/// Who gets a packet: a sheet finds out by its walk, an index by its search. An owner is the index of its record, and how
+/// many bridges are above it; 40 is none.
+pub(crate) trait Owners {
+    fn functions(&self) -> u16;
+
+    /// The root bus, unless there are no functions.
+    fn root(&self) -> Option<u8>;
+
+    fn by_address(&self, root: u8, space: Space, address: u64) -> Result<(usize, u8), u8>;
+
+    fn by_id(&self, root: u8, id: u16) -> Result<(usize, u8), u8>;
+
     /// Routes an accepted packet.
-    pub fn route(&self, mut packet: Packet) -> Result<Arrival, u8> {
-        let root = self.records().next().ok_or(40)?.bus();
+    fn route(&self, mut packet: Packet) -> Result<Arrival, u8> {
+        let root = self.root().ok_or(40)?;
         let (index, bridges) = match packet.kind.family() {
-            Family::Memory => self.walk_by_address(root, Space::Memory, packet.address)?,
-            Family::Io => self.walk_by_address(root, Space::Io, packet.address)?,
-            Family::Completion => self.walk_by_id(root, packet.requester)?,
+            Family::Memory => self.by_address(root, Space::Memory, packet.address)?,
+            Family::Io => self.by_address(root, Space::Io, packet.address)?,
+            Family::Completion => self.by_id(root, packet.requester)?,
             Family::Configuration => {
                 let on_root = packet.target.to_be_bytes()[0] == root;
                 let is_type0 = matches!(packet.kind, Kind::CfgRd0 | Kind::CfgWr0);
                 if on_root != is_type0 {
                     return Err(42);
                 }
-                let owner = self.walk_by_id(root, packet.target)?;
+                let owner = self.by_id(root, packet.target)?;
                 packet.kind = match packet.kind {
                     Kind::CfgRd1 => Kind::CfgRd0,
                     Kind::CfgWr1 => Kind::CfgWr0,
@@ -104,10 +115,10 @@ impl Sheet<'_> {
                 owner
             }
             Family::Message => match packet.routing {
-                routing::BY_ADDRESS => self.walk_by_address(root, Space::Memory, packet.tail)?,
+                routing::BY_ADDRESS => self.by_address(root, Space::Memory, packet.tail)?,
                 // Bytes 8 and 9.
-                routing::BY_ID => self.walk_by_id(root, (packet.tail >> 48) as u16)?,
-                routing::BROADCAST => return Ok(Arrival::Every { functions: self.records().count() as u16, packet }),
+                routing::BY_ID => self.by_id(root, (packet.tail >> 48) as u16)?,
+                routing::BROADCAST => return Ok(Arrival::Every { functions: self.functions(), packet }),
                 routing::LOCAL => return Ok(Arrival::Port { packet }),
                 // To the root complex, or gathered on the way there.
                 _ => return Err(43),
@@ -116,9 +127,19 @@ impl Sheet<'_> {
         // A sheet has at most 512 records.
         Ok(Arrival::Function { record: index as u16 + 1, bridges, packet })
     }
+}
+
+impl Owners for Sheet<'_> {
+    fn functions(&self) -> u16 {
+        self.records().count() as u16
+    }
+
+    fn root(&self) -> Option<u8> {
+        self.records().next().map(|record| record.bus())
+    }
 
     /// The bus number rises at each bridge, so there are at most 255.
-    fn walk_by_address(&self, root: u8, space: Space, address: u64) -> Result<(usize, u8), u8> {
+    fn by_address(&self, root: u8, space: Space, address: u64) -> Result<(usize, u8), u8> {
         let (mut bus, mut bridges) = (root, 0);
         loop {
             match self.claim(bus, space, address)? {
@@ -129,6 +150,24 @@ impl Sheet<'_> {
         }
     }
 
+    fn by_id(&self, root: u8, id: u16) -> Result<(usize, u8), u8> {
+        let target = id.to_be_bytes()[0];
+        let (mut bus, mut bridges) = (root, 0);
+        while bus != target {
+            let mut towards = self.records().filter(|record| record.leads(bus, target));
+            let secondary = towards.next().ok_or(40)?.secondary();
+            if towards.next().is_some() {
+                return Err(41);
+            }
+            bus = secondary;
+            bridges += 1;
+        }
+        let index = self.records().position(|record| record.id() == id).ok_or(40)?;
+        Ok((index, bridges))
+    }
+}
+
+impl Sheet<'_> {
     /// The one claim of an address on a bus, or 40 or 41.
     fn claim(&self, bus: u8, space: Space, address: u64) -> Result<Claim, u8> {
         let mut claim = None;
@@ -145,22 +184,6 @@ impl Sheet<'_> {
             }
         }
         claim.ok_or(40)
-    }
-
-    fn walk_by_id(&self, root: u8, id: u16) -> Result<(usize, u8), u8> {
-        let target = id.to_be_bytes()[0];
-        let (mut bus, mut bridges) = (root, 0);
-        while bus != target {
-            let mut towards = self.records().filter(|record| record.leads(bus, target));
-            let secondary = towards.next().ok_or(40)?.secondary();
-            if towards.next().is_some() {
-                return Err(41);
-            }
-            bus = secondary;
-            bridges += 1;
-        }
-        let index = self.records().position(|record| record.id() == id).ok_or(40)?;
-        Ok((index, bridges))
     }
 }
 

@@ -5,7 +5,7 @@
 use std::mem;
 
 use crate::packet;
-use crate::route::Arrival;
+use crate::route::{Arrival, Owners};
 use crate::sheet::{Sheet, FULL_SHEET};
 
 const VERSION: u8 = 1;

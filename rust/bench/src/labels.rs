@@ -1,0 +1,104 @@
+//! Labels: a million headers over a full sheet, each whole answer summed, by the yardstick and by those that are held
+//! against it. Build with `--profile lto`.
+
+use crate::measure::median;
+use crate::subjects::planned;
+use inputs::labels;
+use std::hint::black_box;
+use std::time::Instant;
+use yardstick::{Index, ANSWER};
+
+/// Functions of a sheet, and the bridges above the deepest of them.
+const SHEETS: &[(usize, usize)] = &[(16, 8), (64, 16), (256, 16), (512, 16), (512, 32)];
+
+const HEADERS: usize = 1_000_000;
+
+/// How many times each engine labels all headers.
+const ROUNDS: usize = 25;
+
+/// The router walks: it gets the first headers only.
+const ROUTED: usize = 20_000;
+
+/// A sum over the whole answers for the headers.
+type Engine<'a> = (&'static str, Box<dyn Fn(&[[u8; 16]]) -> u64 + 'a>);
+
+pub fn print() {
+    println!();
+    println!(
+        "Labels: {HEADERS} headers over a full sheet, 80 % memory, 10 % I/O, 5 % configuration, 5 % completions, 90 %"
+    );
+    println!("delivered, over all depths. Nanoseconds a header, of {ROUNDS} rounds; the engines take turns.");
+    println!();
+    println!("| sheet | engine | least ns | median ns | to the yardstick's least | to its median |");
+    println!("|---|---|---:|---:|---:|---:|");
+    SHEETS.iter().for_each(|&(functions, depth)| row(functions, depth));
+}
+
+fn row(functions: usize, depth: usize) {
+    let board = labels::board(functions, depth);
+    let sheet = planned(&board.bytes());
+    let headers = labels::headers(&sheet, HEADERS);
+    let index = Index::build(&sheet);
+    let mut bytes = vec![0; 1024 + 256 * functions];
+    assert_eq!(plain::build(&board.host(), &sheet, &mut bytes), 0);
+    let engines: Vec<Engine<'_>> = vec![
+        ("yardstick", Box::new(|headers| summed(headers, |header, answer| index.label(header, answer).into()))),
+        ("yardstick, by a call", Box::new(|headers| summed(headers, |header, answer| called(&index, header, answer)))),
+        ("plain", Box::new(|headers| summed(headers, |header, answer| plain_find(header, &bytes, answer)))),
+    ];
+    // What the router answers, on both sides, is what the yardstick does.
+    let first = &headers[..ROUTED];
+    let routed = summed(first, |header, answer| cartsundial::calls::route(header, &sheet, answer));
+    engines.iter().for_each(|(name, engine)| assert_eq!(engine(first), routed, "{name}"));
+
+    let sums: Vec<u64> = engines.iter().map(|(_, engine)| engine(&headers)).collect();
+    assert!(sums.iter().all(|&sum| sum == sums[0]), "{sums:?}");
+    let mut rounds = vec![Vec::new(); engines.len()];
+    for _ in 0..ROUNDS {
+        for ((_, engine), times) in engines.iter().zip(&mut rounds) {
+            let start = Instant::now();
+            assert_eq!(engine(black_box(&headers)), sums[0]);
+            times.push(start.elapsed().as_nanos() as f64 / HEADERS as f64);
+        }
+    }
+    let figures: Vec<(f64, f64)> =
+        rounds.into_iter().map(|times| (times.iter().copied().fold(f64::MAX, f64::min), median(times))).collect();
+    for ((name, _), (least, median)) in engines.iter().zip(&figures) {
+        let ratios = (least / figures[0].0, median / figures[0].1);
+        println!(
+            "| {functions} functions, depth {depth} | {name} | {least:.1} | {median:.1} | {:.2} | {:.2} |",
+            ratios.0, ratios.1
+        );
+    }
+}
+
+/// The numbers of all answers, added up; of a refusal its number.
+#[inline(always)]
+fn summed(headers: &[[u8; 16]], label: impl Fn(&[u8], &mut [u64; ANSWER]) -> u32) -> u64 {
+    let mut answer = [0; ANSWER];
+    headers.iter().fold(0, |sum: u64, header| {
+        let number = label(header, &mut answer);
+        let whole = if number == 0 { answer.iter().fold(0, |sum: u64, &n| sum.wrapping_add(n)) } else { number.into() };
+        sum.wrapping_add(whole)
+    })
+}
+
+/// As the C call is: in a function of its own, with its answer in memory.
+#[inline(never)]
+fn called(index: &Index, header: &[u8], answer: &mut [u64; ANSWER]) -> u32 {
+    index.label(header, answer).into()
+}
+
+/// Plain Rust's search in the index, whose answer is a type of its own first.
+#[inline(never)]
+fn plain_find(header: &[u8], index: &[u8], answer: &mut [u64; ANSWER]) -> u32 {
+    match plain::find(header, index) {
+        Ok(plain::Arrival::Function { record, bridges, packet }) => {
+            (answer[0], answer[1]) = (record.into(), bridges.into());
+            answer[2..].copy_from_slice(&plain::to_numbers(&packet));
+            0
+        }
+        Ok(_) => unreachable!("there are no messages"),
+        Err(number) => number.into(),
+    }
+}

@@ -1,0 +1,179 @@
+//! The owners of a sheet in sorted order, and the search.
+
+use crate::packet::{self, Aim};
+
+/// How many numbers an answer has: record, bridges, and the packet as it arrives.
+pub const ANSWER: usize = 22;
+
+/// A record of a sheet with its length, and where its registers and its read-backs start.
+const RECORD: usize = 92;
+const REGISTERS: usize = 4;
+const READ_BACKS: usize = 68;
+
+/// Command bits.
+const IO_ENABLE: u8 = 1;
+const MEMORY_ENABLE: u8 = 2;
+
+/// A function, and the bridges above it.
+#[derive(Clone, Copy)]
+struct Owner {
+    last: u64,
+    record: u16,
+    bridges: u8,
+}
+
+/// What functions own in one space: first numbers in order, and whose each is.
+#[derive(Default)]
+struct Space {
+    starts: Vec<u64>,
+    owners: Vec<Owner>,
+}
+
+impl Space {
+    fn new(mut owned: Vec<(u64, Owner)>) -> Space {
+        owned.sort_unstable_by_key(|&(start, _)| start);
+        let (starts, owners) = owned.into_iter().unzip();
+        Space { starts, owners }
+    }
+
+    #[inline]
+    fn owner(&self, key: u64) -> Result<Owner, u8> {
+        let after = self.starts.partition_point(|&start| start <= key);
+        match self.owners[..after].last() {
+            Some(owner) if key <= owner.last => Ok(*owner),
+            _ => Err(40),
+        }
+    }
+}
+
+/// A sheet's functions, to be searched by address and by ID.
+pub struct Index {
+    memory: Space,
+    io: Space,
+    ids: Space,
+    /// The root bus, unless there is no function.
+    root: Option<u8>,
+    functions: u64,
+}
+
+impl Index {
+    /// Of a sheet that the audit accepts.
+    pub fn build(sheet: &[u8]) -> Index {
+        let (records, _) = sheet[1..].as_chunks::<RECORD>();
+        let above = above(records);
+        let [mut memory, mut io, mut ids] = [const { Vec::new() }; 3];
+        for (record, number) in records.iter().zip(1..) {
+            let Above { bridges, enables } = above[usize::from(record[2])];
+            let enabled = record[REGISTERS + 0x04] & enables;
+            let owner = |last| Owner { last, record: number, bridges };
+            let id = u64::from(u16::from_be_bytes([record[2], record[3]]));
+            ids.push((id, owner(id)));
+            for bar in bars(record) {
+                let (space, bit) = if bar.is_io { (&mut io, IO_ENABLE) } else { (&mut memory, MEMORY_ENABLE) };
+                if enabled & bit != 0 {
+                    space.push((bar.first, owner(bar.last)));
+                }
+            }
+        }
+        Index {
+            memory: Space::new(memory),
+            io: Space::new(io),
+            ids: Space::new(ids),
+            root: records.first().map(|record| record[2]),
+            functions: records.len() as u64,
+        }
+    }
+
+    /// Labels the header at the start of `header`: the numbers are the answer, unless a refusal's number comes back. Of a
+    /// broadcast the records are 1 up to the number in place of the bridges.
+    #[inline]
+    pub fn label(&self, header: &[u8], answer: &mut [u64; ANSWER]) -> u8 {
+        self.answer(header, answer).err().unwrap_or(0)
+    }
+
+    #[inline]
+    fn answer(&self, header: &[u8], answer: &mut [u64; ANSWER]) -> Result<(), u8> {
+        let [record, bridges, packet @ ..] = answer;
+        let aim = packet::decode(header, packet)?;
+        let root = self.root.ok_or(40)?;
+        let owner = match aim {
+            Aim::Memory(address) => self.memory.owner(address)?,
+            Aim::Io(address) => self.io.owner(address)?,
+            Aim::Id(id) => self.ids.owner(id.into())?,
+            Aim::Target(id, is_type1) => {
+                if is_type1 == (id.to_be_bytes()[0] == root) {
+                    return Err(42);
+                }
+                // It arrives as type 0.
+                packet[0] -= 2 * u64::from(is_type1);
+                self.ids.owner(id.into())?
+            }
+            Aim::Every => {
+                (*record, *bridges) = (0, self.functions);
+                return Ok(());
+            }
+            Aim::Port => {
+                (*record, *bridges) = (0, 0);
+                return Ok(());
+            }
+            Aim::Up => return Err(43),
+        };
+        (*record, *bridges) = (owner.record.into(), owner.bridges.into());
+        Ok(())
+    }
+}
+
+/// The bridges above a bus: how many, and the command bits that all of them have.
+#[derive(Clone, Copy)]
+struct Above {
+    bridges: u8,
+    enables: u8,
+}
+
+/// By bus number. A bus below a bridge has a greater number than the bridge's.
+fn above(records: &[[u8; RECORD]]) -> [Above; 256] {
+    let mut above = [Above { bridges: 0, enables: IO_ENABLE | MEMORY_ENABLE }; 256];
+    let mut bridges: Vec<_> = records.iter().filter(|record| is_bridge(record)).collect();
+    bridges.sort_unstable_by_key(|bridge| bridge[2]);
+    for bridge in bridges {
+        let Above { bridges, enables } = above[usize::from(bridge[2])];
+        let secondary = bridge[REGISTERS + 0x19];
+        above[usize::from(secondary)] = Above { bridges: bridges + 1, enables: enables & bridge[REGISTERS + 0x04] };
+    }
+    above
+}
+
+fn is_bridge(record: &[u8; RECORD]) -> bool {
+    record[REGISTERS + 0x0E] & 0x7F == 1
+}
+
+struct Bar {
+    is_io: bool,
+    first: u64,
+    last: u64,
+}
+
+fn bars(record: &[u8; RECORD]) -> Vec<Bar> {
+    let value = |slot: usize| u64::from(u32::from_le_bytes(record[REGISTERS + 0x10..].as_chunks().0[slot]));
+    let read_back = |slot: usize| u64::from(u32::from_be_bytes(record[READ_BACKS..].as_chunks().0[slot]));
+    let slots = if is_bridge(record) { 2 } else { 6 };
+    let mut bars = Vec::new();
+    let mut slot = 0;
+    while slot < slots {
+        let low = read_back(slot);
+        let (is_io, is_wide) = (low & 1 == 1, low & 5 == 4);
+        let (mut size_bits, mut first) = (low, value(slot));
+        if is_wide {
+            size_bits |= read_back(slot + 1) << 32;
+            first |= value(slot + 1) << 32;
+        }
+        let type_bits = if is_io { 3 } else { 15 };
+        first &= !type_bits;
+        if low != 0 {
+            let size = 1 << (size_bits & !type_bits).trailing_zeros();
+            bars.push(Bar { is_io, first, last: first + (size - 1) });
+        }
+        slot += 1 + usize::from(is_wide);
+    }
+    bars
+}

@@ -1,0 +1,81 @@
+//! Every answer is plain's router's.
+
+use inputs::random::Random;
+use inputs::{aim, audit, header, labels};
+use yardstick::{Index, ANSWER};
+
+fn plan(board: &[u8]) -> Option<Vec<u8>> {
+    let mut room = vec![0; plain::FULL_SHEET];
+    let length = plain::plan(board, &mut room).ok()?;
+    room.truncate(length);
+    Some(room)
+}
+
+/// The number, or 0 and the answer, of which a broadcast's list is left out.
+fn routed(header: &[u8], sheet: &[u8]) -> Result<[u64; ANSWER], u8> {
+    plain::route(header, sheet).map(|arrival| *arrival.numbers().first_chunk().unwrap())
+}
+
+fn labelled(header: &[u8], index: &Index) -> Result<[u64; ANSWER], u8> {
+    let mut answer = [u64::MAX; ANSWER];
+    match index.label(header, &mut answer) {
+        0 => Ok(answer),
+        number => Err(number),
+    }
+}
+
+/// The headers that are timed, and how they divide.
+#[test]
+fn timed() {
+    let sheet = plan(&labels::board(256, 16).bytes()).unwrap();
+    assert_eq!(sheet.len(), 1 + 92 * 256);
+    let index = Index::build(&sheet);
+    let headers = labels::headers(&sheet, 200_000);
+    let (mut kinds, mut depths, mut refused) = ([0; 15], [0; 17], 0);
+    for header in &headers {
+        let answer = routed(header, &sheet);
+        assert_eq!(labelled(header, &index), answer, "{header:02X?}");
+        kinds[plain::read(header).unwrap().kind as usize] += 1;
+        match answer {
+            Ok(answer) => depths[answer[1] as usize] += 1,
+            Err(number) => {
+                assert_eq!(number, 40);
+                refused += 1;
+            }
+        }
+    }
+    let share = |count: u32, percent: u32| count.abs_diff(headers.len() as u32 * percent / 100) < 1000;
+    let sum = |kinds: &[u32]| kinds.iter().sum();
+    assert!(share(sum(&kinds[..3]), 80) && share(sum(&kinds[3..5]), 10), "{kinds:?}");
+    assert!(share(sum(&kinds[5..9]), 5) && share(sum(&kinds[9..13]), 5), "{kinds:?}");
+    assert!(share(refused, 10), "{refused}");
+    assert!(depths.iter().all(|&count| count > 9000), "{depths:?}");
+}
+
+/// Over accepted sheets, planned here or not, and headers of every kind, lawful or not.
+#[test]
+fn accepted_sheets() {
+    let mut random = Random::new(11);
+    let (mut sheets, mut delivered, mut refused) = (0, 0, [0; 44]);
+    while sheets < 2000 {
+        let (host, sheet) = audit::any(&mut random, plan);
+        if plain::audit(&host, &sheet) != 0 {
+            continue;
+        }
+        sheets += 1;
+        let index = Index::build(&sheet);
+        for turn in 0..100 {
+            let header = if turn % 4 == 0 { header::any(&mut random) } else { aim::header(&sheet, &mut random) };
+            let answer = routed(&header, &sheet);
+            assert_eq!(labelled(&header, &index), answer, "{header:02X?} over {sheet:02X?}");
+            match answer {
+                Ok(_) => delivered += 1,
+                Err(number) => refused[usize::from(number)] += 1,
+            }
+        }
+    }
+    assert!(delivered > 20_000, "{delivered}");
+    let all = (1..=9).chain([40, 42, 43]);
+    assert!(all.clone().all(|number| refused[number] > 0), "{refused:?}");
+    assert_eq!(refused.iter().sum::<u32>(), all.map(|number| refused[number]).sum::<u32>(), "{refused:?}");
+}
