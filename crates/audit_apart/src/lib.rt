@@ -1,5 +1,5 @@
-// 52: on each bus all BARs and open windows of one space are disjoint, enabled or not. Each record's ranges are decoded once and compared
-// among themselves, then with those of every later record on its bus.
+// 52: on each bus all BARs and open windows of one space are disjoint, enabled or not. Where they rise, one pass tells so. Else each
+// record's ranges are compared among themselves, then with those of every later record on its bus.
 ghost use mathlib.Core.Path.{_≡_};
 ghost use mathlib.Core.Bool.{false};
 ghost use Prim.Native.Nat.{_+_, _-_, _*_, _≤_, _<_};
@@ -20,6 +20,16 @@ use sheet_record::places;
 
 // Some two of a checked sheet's ranges are of one bus and one space, and overlap.
 pub fn overlaps(sheet: &[u8]) -> bool
+    requires { ⌜ Checked (now sheet) ⌝ }
+    ensures { λ r. ⌜ r ≡ overlapsOf (entriesOf (now (sheet .entry))) ⌝ }
+{
+    if audit_rising::ranges_rise(sheet) {
+        return false;
+    }
+    overlaps_by_pairs(sheet)
+}
+
+fn overlaps_by_pairs(sheet: &[u8]) -> bool
     requires { ⌜ Checked (now sheet) ⌝ }
     ensures { λ r. ⌜ r ≡ overlapsOf (entriesOf (now (sheet .entry))) ⌝ }
 {
@@ -55,10 +65,11 @@ fn meets_later(sheet: &[u8], from: usize, bus: u8, own: &[u64], n: usize) -> boo
     requires { ⌜ Checked (now sheet) × (3 * n ≤ length (now own)) ⌝ }
     ensures { λ r. ⌜ r ≡ any (overlapsOn bus (rangesIn n (now (own .entry)))) (entriesFrom (now (sheet .entry)) (recordAt from)) ⌝ }
 {
+    let mut room = [0u64; audit_ranges::ROOM];
     let records = sheet::count(sheet);
     let mut j = from;
     while j < records {
-        if meets(sheet::part(sheet, j), bus, own, n) {
+        if meets(sheet::part(sheet, j), bus, own, n, &mut room) {
             return true;
         }
         j += 1;
@@ -74,19 +85,19 @@ fn is_on(part: &[u8], bus: u8) -> bool
     bus == part[places::ID]
 }
 
-// The record is on the bus, and one of its ranges overlaps one of the n.
-fn meets(part: &[u8], bus: u8, own: &[u64], n: usize) -> bool
+// The record is on the bus, and one of its ranges, decoded into the room, overlaps one of the n.
+fn meets(part: &[u8], bus: u8, own: &[u64], n: usize, room: &mut [u64]) -> bool
     requires { ⌜
         (length (now part) ≡ recordSize) × (breaks ReadBacks (entryOf (now part)) ≡ false) × (3 * n ≤ length (now own))
+        × (18 ≤ length (now room))
         ⌝ }
     ensures { λ r. ⌜ r ≡ overlapsOn bus (rangesIn n (now (own .entry))) (entryOf (now (part .entry))) ⌝ }
 {
     if !is_on(part, bus) {
         return false;
     }
-    let mut other = [0u64; audit_ranges::ROOM];
-    let m = audit_ranges::ranges_of(part, &mut other);
-    any_overlap(own, n, &other, m)
+    let m = audit_ranges::ranges_of(part, room);
+    any_overlap(own, n, room, m)
 }
 
 // ---- ranges

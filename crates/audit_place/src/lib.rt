@@ -23,10 +23,19 @@ pub fn place_wrong(host: Host, sheet: &[u8], table: &[u16]) -> bool
     requires { ⌜ Checked (now sheet) × Leads (entriesOf (now sheet)) (now table) ⌝ }
     ensures { λ r. ⌜ r ≡ placeWrong host (entriesOf (now (sheet .entry))) ⌝ }
 {
+    let mut own = [0u64; audit_ranges::ROOM];
+    let mut above = [0u64; audit_ranges::ROOM];
     let records = sheet::count(sheet);
     let mut k: usize = 0;
     while k < records {
-        if misplaced(host, sheet, table, sheet::part(sheet, k)) {
+        if misplaced(
+            host,
+            sheet,
+            table,
+            sheet::part(sheet, k),
+            &mut own,
+            &mut above,
+        ) {
             return true;
         }
         k += 1;
@@ -34,19 +43,24 @@ pub fn place_wrong(host: Host, sheet: &[u8], table: &[u16]) -> bool
     false
 }
 
-// Of the function with this part.
-fn misplaced(host: Host, sheet: &[u8], table: &[u16], part: &[u8]) -> bool
+// Of the function with this part. Its ranges and those above are decoded into the two rooms.
+fn misplaced(
+    host: Host,
+    sheet: &[u8],
+    table: &[u16],
+    part: &[u8],
+    own: &mut [u64],
+    above: &mut [u64],
+) -> bool
     requires { ⌜
         Checked (now sheet) × Leads (entriesOf (now sheet)) (now table) × (length (now part) ≡ recordSize)
-        × (breaks ReadBacks (entryOf (now part)) ≡ false)
+        × (breaks ReadBacks (entryOf (now part)) ≡ false) × (18 ≤ length (now own)) × (18 ≤ length (now above))
         ⌝ }
     ensures { λ r. ⌜ r ≡ misplacedOf host (entriesOf (now (sheet .entry))) (entryOf (now (part .entry))) ⌝ }
 {
-    let mut own = [0u64; audit_ranges::ROOM];
-    let n = audit_ranges::ranges_of(part, &mut own);
-    let mut above = [0u64; audit_ranges::ROOM];
-    let m = ranges_above(host, sheet, table, sheet_record::bus_of(part), &mut above);
-    any_outside(&own, n, &above, m)
+    let n = audit_ranges::ranges_of(part, own);
+    let m = ranges_above(host, sheet, table, sheet_record::bus_of(part), above);
+    any_outside(own, n, above, m)
 }
 
 // What the ranges of a bus's functions may lie in. Under no one bridge that is nothing.

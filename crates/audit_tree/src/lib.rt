@@ -100,7 +100,18 @@ fn buses_outside(first: u8, last: u8, part: &[u8]) -> bool
 
 // ---- each two bridges of one bus
 
+// Where the buses of each bus's bridges rise, one pass tells that they share none.
 fn any_buses_shared(sheet: &[u8]) -> bool
+    requires { ⌜ Framed 1 (now sheet) ⌝ }
+    ensures { λ r. ⌜ r ≡ anyPair busesShared (entriesOf (now (sheet .entry))) ⌝ }
+{
+    if audit_rising::buses_rise(sheet) {
+        return false;
+    }
+    shared_by_pairs(sheet)
+}
+
+fn shared_by_pairs(sheet: &[u8]) -> bool
     requires { ⌜ Framed 1 (now sheet) ⌝ }
     ensures { λ r. ⌜ r ≡ anyPair busesShared (entriesOf (now (sheet .entry))) ⌝ }
 {

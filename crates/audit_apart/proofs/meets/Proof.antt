@@ -11,36 +11,24 @@ is-on-requires c κs = search needs
 returns : tie.Need-returns
 returns c =
     let on = c .before in
-    meets-off _ _ _ _ (on .is-on .ensures) (on .before .before .shared-slice-known .given 1 .fits) (not-true _ (c .if1 .taken))
-
-slice-aggregate-ranges-of : tie.Need-slice-aggregate-ranges-of
-slice-aggregate-ranges-of c = search needs
+    meets-off _ _ _ _ (on .is-on .ensures) (on .before .before .before .shared-slice-known .given 1 .fits) (not-true _ (c .if1 .taken))
 
 ranges-of-requires : tie.Need-ranges-of-requires
 ranges-of-requires c κs = search needs
 
-slice-aggregate-any-overlap : tie.Need-slice-aggregate-any-overlap
-slice-aggregate-any-overlap c = search needs
-
 any-overlap-requires : tie.Need-any-overlap-requires
 any-overlap-requires c κs = search needs
 
+same-length : tie.Need-same-length
+same-length c = search needs
+
 returns-2 : tie.Need-returns-2
 returns-2 c =
-    let decoded = c .before .before .before in
+    let decoded = c .before .before .before .before in
     let passed = decoded .before .before in
     let on = passed .before in
-    meets-on _ _ _ _ (on .is-on .ensures) (on .before .before .shared-slice-known .given 1 .fits) _ _ (not-false _ (passed .if1 .left))
-    (decoded .ranges-of .ensures .0) (c .any-overlap .ensures)
+    meets-on _ _ _ _ (on .is-on .ensures) (on .before .before .before .shared-slice-known .given 1 .fits) _ _
+    (not-false _ (passed .if1 .left)) (decoded .ranges-of .ensures .0) (c .any-overlap .ensures)
 
 pub meets-spec : {M : Type 1} → statement M
-meets-spec =
-    tie.close
-    (tie.spec
-    is-on-requires
-    returns
-    slice-aggregate-ranges-of
-    ranges-of-requires
-    slice-aggregate-any-overlap
-    any-overlap-requires
-    returns-2)
+meets-spec = tie.close (tie.spec is-on-requires returns ranges-of-requires any-overlap-requires same-length returns-2)

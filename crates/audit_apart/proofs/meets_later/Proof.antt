@@ -14,11 +14,13 @@ use Rattle.audit_apart.proofs.meets_later.Statement.{statement}
 use Rattle.audit_apart.proofs.meets_later.Tie as tie
 
 abbrev Inv-loop : tie.InvT-loop
-Inv-loop sheet from bus own n records j₀ j = any (overlapsOn bus (rangesIn n own)) (entriesFrom sheet (recordAt j))
-    ≡ any (overlapsOn bus (rangesIn n own)) (entriesFrom sheet (recordAt from))
+Inv-loop sheet from bus own n room₀ records j₀ room j =
+    (length room ≡ 18)
+    × (any (overlapsOn bus (rangesIn n own)) (entriesFrom sheet (recordAt j))
+    ≡ any (overlapsOn bus (rangesIn n own)) (entriesFrom sheet (recordAt from)))
 
 abbrev μ-loop : tie.MeasureT-loop
-μ-loop sheet from bus own n records j₀ j = records - j
+μ-loop sheet from bus own n room₀ records j₀ room j = records - j
 
 -- the record of a turn is one of the sheet's
 inside : (c : tie.In-loop Inv-loop μ-loop)
@@ -29,30 +31,37 @@ count-requires : tie.Need-count-requires Inv-loop μ-loop
 count-requires c κs = c .before .before .pre .0 .framed
 
 loop-holds : tie.Need-loop-holds Inv-loop μ-loop
-loop-holds c = refl
+loop-holds c = (refl, refl)
 
 part-requires : tie.Need-part-requires Inv-loop μ-loop
 part-requires c κs = part-fits _ (c .before .before .before .before .before .pre .0) _ (inside c)
 
+slice-aggregate-meets : tie.Need-slice-aggregate-meets Inv-loop μ-loop
+slice-aggregate-meets c = sym (c .before .before .before .loop .inv .0)
+
 meets-requires : tie.Need-meets-requires Inv-loop μ-loop
 meets-requires c κs =
-    let more = c .before in
-    let start = more .before .before .before .before .before in (
-      part-sized _ (start .pre .0) _ (inside more) _ (c .part .ensures),
-      part-lawful _ (start .pre .0) _ (inside more) _ (c .part .ensures),
+    let parted = c .before in
+    let more = parted .before in
+    let turn = more .before in
+    let start = turn .before .before .before .before in (
+      part-sized _ (start .pre .0) _ (inside more) _ (parted .part .ensures),
+      part-lawful _ (start .pre .0) _ (inside more) _ (parted .part .ensures),
       start .pre .1,
+      omega (arith, turn .loop .inv .0),
     )
 
 returns : tie.Need-returns Inv-loop μ-loop
 returns c =
-    let parted = c .before .before in
+    let met = c .before .before in
+    let parted = met .before .before in
     let turn = parted .before .before in
     let counted = turn .before in
     let start = counted .before .before .before in
     let a = start .args in
     sym (any-hit _ (start .pre .0 .framed) _ _ (counted .count .ensures) (parted .before .loop-test .taken)
-    (overlapsOn (a .bus) (rangesIn (a .n) (a .own .now))) _ (parted .part .ensures) (sym (c .before .meets .ensures) ∙ c .if1 .taken))
-    ∙ turn .loop .inv
+    (overlapsOn (a .bus) (rangesIn (a .n) (a .own .now))) _ (parted .part .ensures) (sym (met .meets .ensures) ∙ c .if1 .taken))
+    ∙ turn .loop .inv .1
 
 add-j : tie.Need-add-j Inv-loop μ-loop
 add-j c = omega arith
@@ -62,14 +71,17 @@ loop-less c = omega arith
 
 loop-again : tie.Need-loop-again Inv-loop μ-loop
 loop-again c =
-    let parted = c .before .before in
+    let met = c .before .before in
+    let parted = met .before .before in
     let turn = parted .before .before in
     let counted = turn .before in
     let start = counted .before .before .before in
-    let a = start .args in
-    sym (any-miss _ (start .pre .0 .framed) _ _ (counted .count .ensures) (parted .before .loop-test .taken)
-    (overlapsOn (a .bus) (rangesIn (a .n) (a .own .now))) _ (parted .part .ensures) (sym (c .before .meets .ensures) ∙ c .if1 .left))
-    ∙ turn .loop .inv
+    let a = start .args in (
+      omega arith,
+      sym (any-miss _ (start .pre .0 .framed) _ _ (counted .count .ensures) (parted .before .loop-test .taken)
+          (overlapsOn (a .bus) (rangesIn (a .n) (a .own .now))) _ (parted .part .ensures) (sym (met .meets .ensures) ∙ c .if1 .left))
+          ∙ turn .loop .inv .1,
+    )
 
 returns-2 : tie.Need-returns-2 Inv-loop μ-loop
 returns-2 c =
@@ -79,7 +91,7 @@ returns-2 c =
     let a = start .args in
     sym (any-past _ (start .pre .0 .framed) _ _ (counted .count .ensures) (c .loop-test .left)
     (overlapsOn (a .bus) (rangesIn (a .n) (a .own .now))))
-    ∙ turn .loop .inv
+    ∙ turn .loop .inv .1
 
 pub meets-later-spec : {M : Type 1} → statement M
 meets-later-spec =
@@ -90,6 +102,7 @@ meets-later-spec =
     count-requires
     loop-holds
     part-requires
+    slice-aggregate-meets
     meets-requires
     returns
     add-j

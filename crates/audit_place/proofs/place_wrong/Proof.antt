@@ -13,11 +13,13 @@ use Rattle.audit_place.proofs.place_wrong.Statement.{statement}
 use Rattle.audit_place.proofs.place_wrong.Tie as tie
 
 abbrev Inv-loop : tie.InvT-loop
-Inv-loop host sheet table records k₀ k =
-    any (misplaced host (entriesOf sheet)) (entriesFrom sheet (recordAt k)) ≡ any (misplaced host (entriesOf sheet)) (entriesOf sheet)
+Inv-loop host sheet table own₀ above₀ records k₀ own above k =
+    (length own ≡ 18)
+    × (length above ≡ 18)
+    × (any (misplaced host (entriesOf sheet)) (entriesFrom sheet (recordAt k)) ≡ any (misplaced host (entriesOf sheet)) (entriesOf sheet))
 
 abbrev μ-loop : tie.MeasureT-loop
-μ-loop host sheet table records k₀ k = records - k
+μ-loop host sheet table own₀ above₀ records k₀ own above k = records - k
 
 -- the record of a turn is one of the sheet's
 inside : (c : tie.In-loop Inv-loop μ-loop)
@@ -28,32 +30,43 @@ count-requires : tie.Need-count-requires Inv-loop μ-loop
 count-requires c κs = c .before .before .pre .0 .framed
 
 loop-holds : tie.Need-loop-holds Inv-loop μ-loop
-loop-holds c = refl
+loop-holds c = (refl, refl, refl)
 
 part-requires : tie.Need-part-requires Inv-loop μ-loop
 part-requires c κs = part-fits _ (c .before .before .before .before .before .pre .0) _ (inside c)
 
+slice-aggregate-misplaced : tie.Need-slice-aggregate-misplaced Inv-loop μ-loop
+slice-aggregate-misplaced c = sym (c .before .before .before .loop .inv .0)
+
+slice-aggregate-misplaced-2 : tie.Need-slice-aggregate-misplaced-2 Inv-loop μ-loop
+slice-aggregate-misplaced-2 c = sym (c .before .before .before .before .loop .inv .1)
+
 misplaced-requires : tie.Need-misplaced-requires Inv-loop μ-loop
 misplaced-requires c κs =
-    let more = c .before in
-    let start = more .before .before .before .before .before in (
+    let parted = c .before .before in
+    let more = parted .before in
+    let turn = more .before in
+    let start = turn .before .before .before .before in (
       start .pre .0,
       start .pre .1,
-      part-sized _ (start .pre .0) _ (inside more) _ (c .part .ensures),
-      part-lawful _ (start .pre .0) _ (inside more) _ (c .part .ensures),
+      part-sized _ (start .pre .0) _ (inside more) _ (parted .part .ensures),
+      part-lawful _ (start .pre .0) _ (inside more) _ (parted .part .ensures),
+      omega (arith, turn .loop .inv .0),
+      omega (arith, turn .loop .inv .1),
     )
 
 returns : tie.Need-returns Inv-loop μ-loop
 unfolding placeWrong
 returns c =
-    let parted = c .before .before in
+    let judged = c .before .before .before in
+    let parted = judged .before .before .before in
     let turn = parted .before .before in
     let counted = turn .before in
     let start = counted .before .before .before in
     sym (any-hit _ (start .pre .0 .framed) _ _ (counted .count .ensures) (parted .before .loop-test .taken)
     (misplaced (start .args .host) (entriesOf (start .args .sheet .now))) _ (parted .part .ensures)
-    (sym (c .before .misplaced .ensures) ∙ c .if1 .taken))
-    ∙ turn .loop .inv
+    (sym (judged .misplaced .ensures) ∙ c .if1 .taken))
+    ∙ turn .loop .inv .2
 
 add-k : tie.Need-add-k Inv-loop μ-loop
 add-k c = omega arith
@@ -63,14 +76,18 @@ loop-less c = omega arith
 
 loop-again : tie.Need-loop-again Inv-loop μ-loop
 loop-again c =
-    let parted = c .before .before in
+    let judged = c .before .before .before in
+    let parted = judged .before .before .before in
     let turn = parted .before .before in
     let counted = turn .before in
-    let start = counted .before .before .before in
-    sym (any-miss _ (start .pre .0 .framed) _ _ (counted .count .ensures) (parted .before .loop-test .taken)
-    (misplaced (start .args .host) (entriesOf (start .args .sheet .now))) _ (parted .part .ensures)
-    (sym (c .before .misplaced .ensures) ∙ c .if1 .left))
-    ∙ turn .loop .inv
+    let start = counted .before .before .before in (
+      omega arith,
+      omega arith,
+      sym (any-miss _ (start .pre .0 .framed) _ _ (counted .count .ensures) (parted .before .loop-test .taken)
+          (misplaced (start .args .host) (entriesOf (start .args .sheet .now))) _ (parted .part .ensures)
+          (sym (judged .misplaced .ensures) ∙ c .if1 .left))
+          ∙ turn .loop .inv .2,
+    )
 
 returns-2 : tie.Need-returns-2 Inv-loop μ-loop
 unfolding placeWrong
@@ -80,7 +97,7 @@ returns-2 c =
     let start = counted .before .before .before in
     sym (any-past _ (start .pre .0 .framed) _ _ (counted .count .ensures) (c .loop-test .left)
     (misplaced (start .args .host) (entriesOf (start .args .sheet .now))))
-    ∙ turn .loop .inv
+    ∙ turn .loop .inv .2
 
 pub place-wrong-spec : {M : Type 1} → statement M
 place-wrong-spec =
@@ -91,6 +108,8 @@ place-wrong-spec =
     count-requires
     loop-holds
     part-requires
+    slice-aggregate-misplaced
+    slice-aggregate-misplaced-2
     misplaced-requires
     returns
     add-k
