@@ -1,6 +1,6 @@
 /*
  * Cartsundial for C: read and write PCI Express headers, plan a board's register sheet, look functions up in it, judge a sheet that other
- * firmware left, route packets over it, and label the headers of a trace.
+ * firmware left, route packets over it or by an index of it, and label the headers of a trace.
  *
  * Build:  rt staticlib capi          proves everything, then writes target/staticlib/libcapi.a
  *         gcc -Iinclude main.c target/staticlib/libcapi.a
@@ -157,6 +157,7 @@ enum cartsundial_size {
     CARTSUNDIAL_REGISTER_BYTES = 64,   /* a function's configuration header */
     CARTSUNDIAL_ROUTE_NUMBERS = 22,    /* record, bridges, and a packet: every route but a broadcast's */
     CARTSUNDIAL_ANY_ROUTE_NUMBERS = 534, /* any route: a broadcast's has the records of up to 512 functions after it */
+    CARTSUNDIAL_INDEX_BYTES = 132096,  /* the index of a sheet of 512 functions: 1,024, and 256 a function */
     CARTSUNDIAL_TRACE_NUMBERS = 6,     /* the state of a trace */
     CARTSUNDIAL_LINE_BYTES = 40        /* a line of a trace, with its newline */
 };
@@ -164,8 +165,8 @@ enum cartsundial_size {
 /* ---- headers ---- */
 
 /*
- * header, here and in cartsundial_route: bytes in the order of the link, byte 0 (Fmt and Type) first, and each number's high byte first.
- * Of 32-bit words, as a header log has them, give each word's high byte first.
+ * header, here and wherever a packet is delivered: bytes in the order of the link, byte 0 (Fmt and Type) first, and each number's high byte
+ * first. Of 32-bit words, as a header log has them, give each word's high byte first.
  */
 
 /*
@@ -252,6 +253,29 @@ uint32_t cartsundial_command(uint8_t *sheet, size_t sheet_len, uint32_t id, uint
  */
 uint32_t cartsundial_route(const uint8_t *header, size_t header_len, const uint8_t *sheet, size_t sheet_len,
                            uint64_t *answer, size_t answer_len);
+
+/* ---- routing by an index ---- */
+
+/*
+ * For many headers over one sheet: an index of it, built once, and a search in it for each header in place of the walk.
+ *
+ * Builds the index of a sheet that cartsundial_audit accepts for the host, at the front of index: 1,024 bytes, and 256 for each function.
+ * Nothing past them is written. host: as for cartsundial_audit.
+ * Refused: the audit's number, 20 to 29 and 50 to 52; then 11 for a shorter slice.
+ * The index is of the sheet as it is now: build it again after cartsundial_command. It holds no addresses of memory, so it may be copied.
+ */
+uint32_t cartsundial_index(const uint8_t *host, size_t host_len, const uint8_t *sheet, size_t sheet_len, uint8_t *index, size_t index_len);
+
+/*
+ * Where a header goes, by an index that cartsundial_index left: for every header the answer and the number of cartsundial_route over the
+ * index's sheet. A longer slice with the index at its front will do.
+ * Any other bytes may be given too. The call then ends with an answer that they decide, a record and bridges that need not be anyone's,
+ * or a number. A slice shorter than 1,024 bytes, or than the number of functions in its first two bytes asks for, has no functions: 40.
+ * A broadcast's n is at most 65,535 then, and at most 512 for an index that was built.
+ * Refused: the header's number, 1 to 9, before the index is read; 40, 42 or 43; then 11 for fewer numbers than the answer has.
+ */
+uint32_t cartsundial_find(const uint8_t *header, size_t header_len, const uint8_t *index, size_t index_len,
+                          uint64_t *answer, size_t answer_len);
 
 /* ---- traces ---- */
 

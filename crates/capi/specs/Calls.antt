@@ -2,7 +2,7 @@
 -- holds. Assumes nothing.
 use Prim.Native.Nat.{ℕ}
 use mathlib.Core.Bool.{cond}
-use mathlib.Core.List.{List, [], _∷_, _++_}
+use mathlib.Core.List.{List, [], _∷_}
 use lib.Dec.{ltb, eqb}
 use Rattle.packet_numbers.specs.declared.Parsed.{Parsed}
 use Rattle.packet_numbers.specs.declared.Parsed.the-variants.{Accepted as Taken, Refused as NotTaken}
@@ -20,14 +20,13 @@ use Rattle.sheet.specs.declared.Lookup.{Lookup}
 use Rattle.sheet.specs.declared.Lookup.the-variants.{Registers, Refused as NotFound}
 use Rattle.sheet.specs.Sheet.{sheetNumber}
 use Rattle.sheet.specs.Lookup.{lookupOf, lookupNumber, withCommand, recordId}
-use Rattle.route.specs.declared.Routing.{Routing}
-use Rattle.route.specs.declared.Routing.the-variants.{Delivered, Broadcast, Port, Refused as NotDelivered}
 use Rattle.route.specs.Route.{routeOf}
 use Rattle.route.specs.Listed.{listOf}
 use Rattle.plan_answer.specs.declared.Planning.{Planning}
 use Rattle.plan_answer.specs.declared.Planning.the-variants.{Planned, Refused as NotPlanned}
 use Rattle.plan_answer.specs.Plan.{planning, sheetAfter}
 use Rattle.capi_answers.specs.Answers.{Answer, refuses, gives, leftBeside}
+use Rattle.capi_find.specs.Calls.{onRouting}
 
 -- ## Reading: the packet's twenty numbers
 
@@ -92,17 +91,10 @@ commandNumber sheet id command = cond (ltb word command) 10 (lookupNumber (looku
 unfoldable pub commandLeft : List ℕ → ℕ → ℕ → List ℕ
 commandLeft sheet id command = cond (ltb word command) sheet (withCommand (lookupOf sheet id) sheet command)
 
--- ## Routing: record, bridges, and the packet as it arrives. A broadcast has record 0, how many functions, and after the packet their
--- record numbers; the port has 0 and 0
-
-abbrev pub onRouting : Routing → List ℕ → Answer
-onRouting (Delivered d) sheet = gives (d .owner ∷ d .bridges ∷ numbersOf (d .packet))
-onRouting (Broadcast n p) sheet = gives (0 ∷ n ∷ (numbersOf p ++ listOf sheet))
-onRouting (Port p) sheet = gives (0 ∷ 0 ∷ numbersOf p)
-onRouting (NotDelivered n) sheet = refuses n
+-- ## Routing: a broadcast's list is that of the sheet's record numbers
 
 abbrev pub routeAnswer : List ℕ → List ℕ → Answer
-routeAnswer header sheet = onRouting (routeOf header sheet) sheet
+routeAnswer header sheet = onRouting (routeOf header sheet) (λ n. listOf sheet)
 
 -- ## Planning: the sheet's length
 

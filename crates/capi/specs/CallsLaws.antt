@@ -45,13 +45,18 @@ use Rattle.plan_answer.specs.declared.Planning.the-variants.{Planned, Refused a
 use Rattle.plan_answer.specs.Plan.{onRoom, onBoard, planning, numberOf as planningNumber, sheetAfter}
 use Rattle.route_list.specs.Counted.{counted}
 use Rattle.route.specs.declared.Routing.{Routing}
-use Rattle.route.specs.declared.Routing.the-variants.{Broadcast}
+use Rattle.route.specs.declared.Routing.the-variants.{Delivered, Broadcast, Port, Refused as NotDelivered}
 use Rattle.route.specs.Route.{routeOf}
+use Rattle.route.specs.Listed.{listOf}
 use Rattle.route.specs.ListedLaws.{list-of-broadcast}
+use Rattle.index_search.specs.Search.{searchOf}
+use Rattle.index_build.specs.Build.{buildNumber, indexAfter}
+use Rattle.index_build.specs.BuiltLaws.{search-is-route}
 use Rattle.capi_answers.specs.Answers.{refuses, gives, returned, filled, leftBeside}
 use Rattle.capi_answers.specs.AnswersLaws.{Answered, answered-short}
 use Rattle.capi.specs.Calls.{onWriting, onParsed, roomOf, unownedOf, word, commandNumber, commandLeft, onPlanning, planAnswer}
-use Rattle.capi.specs.Calls.{sheetLeft, onRouting, routeAnswer}
+use Rattle.capi_find.specs.Calls.{onRouting, findAnswer}
+use Rattle.capi.specs.Calls.{sheetLeft, routeAnswer}
 
 -- the number with no room for the answer
 abbrev shortOf : Writing → ℕ
@@ -228,4 +233,21 @@ pub answer-broadcast : (header s : List ℕ) (n : ℕ) (p : Packet) → routeOf 
     → gives (0 ∷ n ∷ (numbersOf p ++ counted 1 n)) ≡ routeAnswer header s
 answer-broadcast header s n p e =
     ap (λ (list : List ℕ). gives (0 ∷ n ∷ (numbersOf p ++ list))) (sym (list-of-broadcast header s n p e))
-    ∙ ap (λ (r : Routing). onRouting r s) (sym e)
+    ∙ ap (λ (r : Routing). onRouting r (λ n. listOf s)) (sym e)
+
+-- where an index finds what the router answers over a sheet, the two calls answer the same
+pub find-agrees : (header ix s : List ℕ) → searchOf header ix ≡ routeOf header s → findAnswer header ix ≡ routeAnswer header s
+find-agrees header ix s e = ap (λ (r : Routing). onRouting r (counted 1)) e ∙ go (routeOf header s) refl
+  where
+    go : (r : Routing) → routeOf header s ≡ r → onRouting r (counted 1) ≡ onRouting r (λ n. listOf s)
+    go (Delivered d) f = refl
+    go (Broadcast n p) f =
+        ap (λ (list : List ℕ). gives (0 ∷ n ∷ (numbersOf p ++ list))) (sym (list-of-broadcast header s n p f))
+    go (Port p) f = refl
+    go (NotDelivered n) f = refl
+
+-- the index that a build left finds every header as the router does over its sheet: number, record, bridges, packet and list
+pub find-is-route : (host s slice header : List ℕ) → Bytes host → Bytes s → buildNumber host s (length slice) ≡ 0
+    → findAnswer header (indexAfter host s slice) ≡ routeAnswer header s
+find-is-route host s slice header host-bytes bytes done =
+    find-agrees header (indexAfter host s slice) s (search-is-route host s slice host-bytes bytes done header)

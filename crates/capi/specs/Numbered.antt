@@ -34,7 +34,7 @@ use Rattle.tlp_layout.specs.Layout.{size}
 use Rattle.tlp.specs.Writing.{writeAs, writeOf}
 use Rattle.walk.specs.Registers.{bar, window}
 use Rattle.walk.specs.Tally.{Tally, none, one, several}
-use Rattle.walk.specs.Walk.{settle, walkOver, walkFrom}
+use Rattle.walk.specs.Walk.{Outcome, delivered, refused, noOwner, settle, walkOver, walkFrom}
 use Rattle.sheet.specs.declared.Found.{Found}
 use Rattle.sheet.specs.declared.Found.the-variants.{At, Nothing}
 use Rattle.sheet.specs.declared.RecordId.{RecordId}
@@ -43,13 +43,24 @@ use Rattle.sheet.specs.Sheet.{entriesOf, findFrom, sheetNumber, sheetLength}
 use Rattle.sheet_record.specs.Entry.{Entry}
 use Rattle.sheet.specs.Lookup.{placed, lookupOf, idAt, idOfRecord, recordId}
 use Rattle.sheet.specs.Spaces.{nodesOf}
+use Rattle.claims.specs.declared.Aim.{Aim}
 use Rattle.claims.specs.Claims.{tallyFor}
 use Rattle.route_arrival.specs.declared.Heading.{Heading}
 use Rattle.route_arrival.specs.declared.Heading.the-variants.{Aimed, Up, Every, Port as ToPort}
 use Rattle.route_arrival.specs.Arrival.{headingOf, typeWrong}
 use Rattle.route.specs.declared.Routing.{Routing}
 use Rattle.route.specs.declared.Routing.the-variants.{Refused as NotDelivered}
-use Rattle.route.specs.Route.{answer, root, onHeading, from42, routePacket, fromSheet, fromReading, routeOf}
+use Rattle.route.specs.Route.{answer, walked, root, headedOver, typedOver, routeOver, from42, routePacket, fromSheet, fromReading}
+use Rattle.route.specs.Route.{routeOf}
+use Rattle.route.specs.Listed.{listOf}
+use Rattle.route_list.specs.Counted.{counted}
+use Rattle.index_rule.specs.Owners.{keyOf, inReach}
+use Rattle.index_rule.specs.Search.{recordIn, bridgesIn, isOver, answerAt}
+use Rattle.index_slots.specs.Slots.{keyAt, wordAt}
+use Rattle.index_table.specs.Table.{segmentOf}
+use Rattle.index_table.specs.Search.{foundAt}
+use Rattle.index_search.specs.Search.{functionsIn, rootIn, answerOver, outcomeOver, outcomeIn, searchPacket, searchOf}
+use Rattle.index_search.specs.Search.{fromReading as searchReading}
 use Rattle.plan_rule.specs.Refusals.{refusalOf}
 use Rattle.board.specs.Board.{boardNumber, hostOf, functionsOf}
 use Rattle.board.specs.ToPlacing.{toHost, toPlacing}
@@ -64,7 +75,8 @@ use Rattle.capi_answers.specs.Answers.{refuses, gives}
 use Rattle.capi_answers.specs.AnswersLaws.{Numbered}
 use Rattle.capi_trace.specs.Calls.{onLines, annotateOn, annotateAnswer, endOn, endAnswer}
 use Rattle.capi.specs.Calls.{onReading, readAnswer, onWriting, onParsed, writeAnswer, onLookup, lookupAnswer}
-use Rattle.capi.specs.Calls.{onRecordId, idAnswer, onRouting, routeAnswer}
+use Rattle.capi_find.specs.Calls.{onRouting, findAnswer}
+use Rattle.capi.specs.Calls.{onRecordId, idAnswer, routeAnswer}
 use Rattle.capi.specs.Calls.{onPlanning, planAnswer}
 
 -- ## A test between two answers, and a number that is given back where it is not 0
@@ -225,47 +237,84 @@ numbered-id sheet number = unless-zero NumberedId (sheetNumber sheet) _ _ (of-re
     of-record zero = omega arith
     of-record (suc i) = numbered-id-at (entriesOf sheet) i
 
--- ## Routing
+-- ## Routing: by a walk over a sheet, or by an index
 
-abbrev NumberedRouting : List ℕ → Routing → Type 0
-NumberedRouting s r = Numbered (onRouting r s)
+abbrev NumberedRouting : (ℕ → List ℕ) → Routing → Type 0
+NumberedRouting list r = Numbered (onRouting r list)
 
-numbered-walk : (n : ℕ) (p : Packet) (s : List ℕ) (tally : ℕ → Tally) (bus crossed : ℕ)
-    → NumberedRouting s (answer p (walkOver n tally bus crossed))
-unfolding walkOver
-numbered-walk zero p s tally bus crossed = omega arith
-numbered-walk (suc n) p s tally bus crossed = go (tally bus) (λ b. numbered-walk n p s tally b (crossed + 1))
-  where
-    go : (t : Tally) → ((b : ℕ) → NumberedRouting s (answer p (walkOver n tally b (crossed + 1))))
-        → NumberedRouting s (answer p (settle t crossed (λ b. walkOver n tally b (crossed + 1))))
-    go none h = omega arith
-    go several h = omega arith
-    go (one (bar k)) h = tt
-    go (one (window k secondary)) h = h secondary
+module _ (list : ℕ → List ℕ) where
+  numbered-walk : (n : ℕ) (p : Packet) (tally : ℕ → Tally) (bus crossed : ℕ)
+      → NumberedRouting list (answer p (walkOver n tally bus crossed))
+  unfolding walkOver
+  numbered-walk zero p tally bus crossed = omega arith
+  numbered-walk (suc n) p tally bus crossed = go (tally bus) (λ b. numbered-walk n p tally b (crossed + 1))
+    where
+      go : (t : Tally) → ((b : ℕ) → NumberedRouting list (answer p (walkOver n tally b (crossed + 1))))
+          → NumberedRouting list (answer p (settle t crossed (λ b. walkOver n tally b (crossed + 1))))
+      go none h = omega arith
+      go several h = omega arith
+      go (one (bar k)) h = tt
+      go (one (window k secondary)) h = h secondary
 
-numbered-heading : (h : Heading) (p : Packet) (s : List ℕ) → NumberedRouting s (onHeading h p s)
-unfolding walkFrom
-numbered-heading (Aimed aim) p s = numbered-walk 256 p s (tallyFor aim s) (root s) 0
-numbered-heading Up p s = omega arith
-numbered-heading Every p s = tt
-numbered-heading ToPort p s = tt
+  module _ (functions bus : ℕ) (outcome : Aim → Outcome) (p : Packet)
+      (aimed : (aim : Aim) → NumberedRouting list (answer p (outcome aim))) where
+    numbered-heading : (h : Heading) → NumberedRouting list (headedOver functions outcome h p)
+    numbered-heading (Aimed aim) = aimed aim
+    numbered-heading Up = omega arith
+    numbered-heading Every = tt
+    numbered-heading ToPort = tt
 
-numbered-from-sheet : (p : Packet) (s : List ℕ) → NumberedRouting s (fromSheet p s)
-unfolding fromSheet routePacket from42
+    numbered-over : NumberedRouting list (routeOver functions bus outcome p)
+    numbered-over =
+        let headed = headedOver functions outcome (headingOf p) p in
+        let typed = either (NumberedRouting list) (typeWrong bus p) (NotDelivered 42) headed (omega arith) (numbered-heading (headingOf p)) in
+        either (NumberedRouting list) (eqb functions 0) (NotDelivered 40) (typedOver functions bus outcome p) (omega arith) typed
+
+numbered-from-sheet : (p : Packet) (s : List ℕ) → NumberedRouting (λ n. listOf s) (fromSheet p s)
+unfolding fromSheet routePacket from42 walkFrom
 numbered-from-sheet p s =
-    let headed = onHeading (headingOf p) p s in
-    let by-type = cond (typeWrong (root s) p) (NotDelivered 42) headed in
-    let typed = either (NumberedRouting s) (typeWrong (root s) p) (NotDelivered 42) headed (omega arith)
-    (numbered-heading (headingOf p) p s) in
-    let peopled = either (NumberedRouting s) (eqb (length (nodesOf s)) 0) (NotDelivered 40) by-type (omega arith) typed in
-    unless-zero (NumberedRouting s) (sheetNumber s) (routePacket p s) (NotDelivered (sheetNumber s)) peopled (λ h. h)
+    let list : ℕ → List ℕ = λ n. listOf s in
+    let walks : (aim : Aim) → NumberedRouting list (answer p (walked aim s (root s) 0)) =
+    λ aim. numbered-walk list 256 p (tallyFor aim s) (root s) 0 in
+    let routed = numbered-over list (length (nodesOf s)) (root s) (λ aim. walked aim s (root s) 0) p walks in
+    unless-zero (NumberedRouting list) (sheetNumber s) (routePacket p s) (NotDelivered (sheetNumber s)) routed (λ h. h)
 
 pub numbered-route : (header sheet : List ℕ) → Numbered (routeAnswer header sheet)
 unfolding routeOf
 numbered-route header sheet = go (readOf header) (numbered-read header)
   where
-    go : (r : Reading) → NumberedReading r → NumberedRouting sheet (fromReading r sheet)
+    go : (r : Reading) → NumberedReading r → NumberedRouting (λ n. listOf sheet) (fromReading r sheet)
     go (Accepted p) h = numbered-from-sheet p sheet
+    go (NotRead n) h = h
+
+numbered-slot : (p : Packet) (start word key : ℕ) → NumberedRouting (counted 1) (answer p (answerAt start word key))
+numbered-slot p start word key = go (isOver start word key)
+  where
+    go : (held : Bool) → NumberedRouting (counted 1) (answer p (cond held (delivered (recordIn word) (bridgesIn word)) (refused noOwner)))
+    go true = tt
+    go false = omega arith
+
+numbered-search : (p : Packet) (ix : List ℕ) → NumberedRouting (counted 1) (searchPacket p ix)
+unfolding searchPacket outcomeOver answerOver
+numbered-search p ix = numbered-over (counted 1) (functionsIn ix) (rootIn ix) (λ aim. outcomeIn ix aim) p aimed
+  where
+    near : (reached : Bool) (o : Outcome) → NumberedRouting (counted 1) (answer p o)
+        → NumberedRouting (counted 1) (answer p (cond reached o (refused noOwner)))
+    near true o h = h
+    near false o h = omega arith
+
+    aimed : (aim : Aim) → NumberedRouting (counted 1) (answer p (outcomeIn ix aim))
+    aimed aim =
+        let n = functionsIn ix in
+        let i = foundAt ix n (segmentOf (keyOf aim)) (keyOf aim) in
+        near (inReach aim) (answerOver ix n (keyOf aim)) (numbered-slot p (keyAt ix n i) (wordAt ix n i) (keyOf aim))
+
+pub numbered-find : (header ix : List ℕ) → Numbered (findAnswer header ix)
+unfolding searchOf
+numbered-find header ix = go (readOf header) (numbered-read header)
+  where
+    go : (r : Reading) → NumberedReading r → NumberedRouting (counted 1) (searchReading r ix)
+    go (Accepted p) h = numbered-search p ix
     go (NotRead n) h = h
 
 -- ## Planning

@@ -5,6 +5,7 @@ use mathlib.Core.Bool.{Bool, true, false, cond}
 use mathlib.Core.List.{List}
 use lib.ListN.{length}
 use lib.Dec.{ltb, eqb}
+use borrow.Author.Tests.{ne-eqb}
 use Rattle.packet.specs.declared.Packet.{Packet}
 use Rattle.packet_numbers.specs.declared.Parsed.{Parsed}
 use Rattle.packet_numbers.specs.declared.Parsed.the-variants.{Accepted as Taken, Refused as NotTaken}
@@ -18,6 +19,7 @@ use Rattle.sheet.specs.Lookup.{lookupOf, lookupNumber, withCommand}
 use Rattle.plan_answer.specs.declared.Planning.{Planning}
 use Rattle.plan_answer.specs.declared.Planning.the-variants.{Planned, Refused as NotPlanned}
 use Rattle.plan_answer.specs.Plan.{planning, sheetAs, sheetAfter}
+use Rattle.index_build.specs.Build.{buildNumber, indexAfter}
 use Rattle.capi_answers.specs.Answers.{Answer, returned, filled}
 use Rattle.capi_answers.specs.AnswersLaws.{one-given, refused-keeps-slice}
 use Rattle.capi_trace.specs.Calls.{annotateAnswer, stateLeft, linesLeft, endAnswer, endLeft}
@@ -36,6 +38,8 @@ pub record RefusedKeeps : Type 0 where
       → sheetLeft board sheet written ≡ sheet
   -- the sheet of a command word
   pub commanded-sheet : (sheet : List ℕ) (id command : ℕ) → ¬ (commandNumber sheet id command ≡ 0) → commandLeft sheet id command ≡ sheet
+  -- the slice of an index
+  pub index-slice : (host sheet slice : List ℕ) → ¬ (buildNumber host sheet (length slice) ≡ 0) → indexAfter host sheet slice ≡ slice
   -- the state and the lines of a trace, and the line of its end
   pub trace-state : (state sheet piece written : List ℕ) (room : ℕ) → ¬ (returned (annotateAnswer state sheet piece room) written ≡ 0)
       → stateLeft state sheet piece room written ≡ state
@@ -90,6 +94,10 @@ keeps-sheet sheet id command = go (ltb word command) (lookupOf sheet id)
     go false (Registers at) h = absurd (h refl)
     go false (NotFound n) h = refl
 
+keeps-index : (host sheet slice : List ℕ) → ¬ (buildNumber host sheet (length slice) ≡ 0) → indexAfter host sheet slice ≡ slice
+unfolding indexAfter
+keeps-index host sheet slice h = rw (ne-eqb (buildNumber host sheet (length slice)) 0 h)
+
 pub refused-keeps : RefusedKeeps
 refused-keeps =
     record {
@@ -97,6 +105,7 @@ refused-keeps =
       room = keeps-room;
       planned-sheet = keeps-planned;
       commanded-sheet = keeps-sheet;
+      index-slice = keeps-index;
       trace-state = refused-keeps-state;
       trace-lines = refused-keeps-lines;
       end-lines = refused-keeps-last;

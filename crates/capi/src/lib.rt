@@ -7,7 +7,9 @@ ghost use Rattle.sheet.specs.Sheet.{sheetNumber};
 ghost use Rattle.sheet.specs.Lookup.{lookupOf};
 ghost use Rattle.plan_answer.specs.Plan.{numberOf as planningNumber, planning};
 ghost use Rattle.audit_rule.specs.Audit.{auditNumber};
+ghost use Rattle.index_build.specs.Build.{buildNumber, indexAfter};
 ghost use Rattle.capi_answers.specs.Answers.{returned, filled, leftBeside};
+ghost use Rattle.capi_find.specs.Calls.{findAnswer};
 ghost use Rattle.capi_trace.specs.Calls.{annotateAnswer, stateLeft, linesLeft, endAnswer, endLeft};
 ghost use Rattle.capi.specs.Calls.{readAnswer, onWriting, writeAnswer, roomLeft, lookupAnswer, idAnswer, unownedOf};
 ghost use Rattle.capi.specs.Calls.{commandNumber, commandLeft, routeAnswer, planAnswer, sheetLeft};
@@ -137,6 +139,26 @@ pub extern "C" fn cartsundial_route(header: &[u8], sheet: &[u8], answer: &mut [u
         Routing::Port(p) => capi_answers::give_delivery(0, 0, p, answer),
         Routing::Refused(n) => n as u32,
     }
+}
+
+// Builds the index of a sheet that is accepted for a host record: the audit's number, then 11 where the slice is shorter than 1,024 bytes
+// and 256 a function. Nothing past them is written.
+#[no_mangle]
+pub extern "C" fn cartsundial_index(host: &[u8], sheet: &[u8], index: &mut [u8]) -> u32
+    ensures { λ r. ⌜ r ≡ buildNumber (now (host .entry)) (now (sheet .entry)) (length (now (index .entry))) ⌝ }
+    ensures { λ _. ⌜ now (index .exit) ≡ indexAfter (now (host .entry)) (now (sheet .entry)) (now (index .entry)) ⌝ }
+{
+    index_build::build(host, sheet, index) as u32
+}
+
+// Searches an index for a header: the answer is that of a route over the sheet that the index was built from. Any bytes may be given as an
+// index.
+#[no_mangle]
+pub extern "C" fn cartsundial_find(header: &[u8], index: &[u8], answer: &mut [u64]) -> u32
+    ensures { λ r. ⌜ r ≡ returned (findAnswer (now (header .entry)) (now (index .entry))) (now (answer .entry)) ⌝ }
+    ensures { λ _. ⌜ now (answer .exit) ≡ filled (findAnswer (now (header .entry)) (now (index .entry))) (now (answer .entry)) ⌝ }
+{
+    capi_find::find(header, index, answer)
 }
 
 // Takes a piece of a trace: the lines of the records that end in it, over a sheet, and how many bytes they are. The state is six numbers
