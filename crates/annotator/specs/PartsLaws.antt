@@ -14,7 +14,8 @@ use Rattle.trace.specs.Trace.{stateOf, linesOf}
 use Rattle.trace.specs.TraceLaws.{state-append, state-past}
 use Rattle.trace.specs.Feed.{takenFed, refusedFed, fedOf}
 use Rattle.trace.specs.FeedLaws.{Sound, lines-le, count-le-length, state-sound}
-use Rattle.trace_line.specs.Line.{lineOver}
+use Rattle.trace_line.specs.declared.Engine.{Engine}
+use Rattle.trace_line.specs.Engine.{lineBy}
 use Rattle.trace_line.specs.LineLaws.{line-le}
 
 -- a piece that was taken moves the state by all of it
@@ -30,19 +31,24 @@ taken-of-zero line t piece room fed e z =
     go false z = absurd (omega (arith, z))
 
 -- i and end are places in the piece, with at most 112 bytes between them; 4,480 bytes hold as many lines
-module _ (sheet : List ℕ) (t : Trace) (piece : List ℕ) (i end room : ℕ) (fed : Fed) (sound : Sound (t .number)) (on : i < end)
-    (inside : end ≤ length piece) (few : end ≤ i + 112) (size : room ≡ 4480)
-    (e : fed ≡ fedOf (lineOver sheet) t (take (end - i) (drop i piece)) room) where
-  part-fits : length (linesOf (lineOver sheet) t (take (end - i) (drop i piece))) ≤ room
+module _ (engine : Engine) (bytes : List ℕ) (t : Trace) (piece : List ℕ) (i end room : ℕ) (fed : Fed) (sound : Sound (t .number))
+    (on : i < end) (inside : end ≤ length piece) (few : end ≤ i + 112) (size : room ≡ 4480)
+    (e : fed ≡ fedOf (lineBy engine bytes) t (take (end - i) (drop i piece)) room) where
+  part-fits : length (linesOf (lineBy engine bytes) t (take (end - i) (drop i piece))) ≤ room
   part-fits =
       let p = take (end - i) (drop i piece) in
-      omega (arith, lines-le (lineOver sheet) (line-le sheet) t p sound, count-le-length (t .stage) p, length-take (end - i) (drop i piece))
+      omega (
+        arith,
+        lines-le (lineBy engine bytes) (line-le engine bytes) t p sound,
+        count-le-length (t .stage) p,
+        length-take (end - i) (drop i piece),
+      )
 
   part-taken : fed .state ≡ stateOf t (take (end - i) (drop i piece))
   unfolding fedOf
   part-taken =
       let p = take (end - i) (drop i piece) in
-      ap (λ (f : Fed). f .state) e ∙ rw (le-leb (length (linesOf (lineOver sheet) t p)) room part-fits)
+      ap (λ (f : Fed). f .state) e ∙ rw (le-leb (length (linesOf (lineBy engine bytes) t p)) room part-fits)
 
   pub part-sound : Sound (fed .state .number)
   part-sound = rw part-taken (state-sound t (take (end - i) (drop i piece)) sound)

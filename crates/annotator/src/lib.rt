@@ -5,11 +5,12 @@ ghost use mathlib.Core.Path.{_≡_};
 ghost use mathlib.Core.Bool.{true};
 ghost use Prim.Native.Nat.{_+_, _≤_, _<_};
 ghost use lib.ListN.{length};
-ghost use Rattle.sheet.specs.Sheet.{sheetNumber};
 ghost use Rattle.trace.specs.Trace.{stateOf};
+ghost use Rattle.trace_line.specs.Engine.{Knows};
 ghost use Rattle.annotator.specs.Program.{openingOf};
 use console::Piece;
 use trace::Trace;
+use trace_line::Engine;
 
 // Where bytes are held: the sheet, a piece of the trace, its lines; 8,192 bytes in which the sheet's check marks IDs, 4,096 in which `io`
 // goes on after a short write, 40 for a line that is measured. With a full sheet of 47,105 bytes that is 65,481 of the 65,536 allowed.
@@ -27,8 +28,17 @@ pub enum Opening {
 }
 
 // A room filled from standard input, with the pieces that may still come; or the input ends before; or it cannot be read.
-enum Filling {
+pub enum Filling {
     Full(u64),
+    Short,
+    Failed,
+}
+
+// A sheet read: how long it is, with the pieces that may still come; or its length is above a full sheet's; or the input ends before; or
+// it cannot be read.
+pub enum SheetRead {
+    Whole(usize, u64),
+    Long,
     Short,
     Failed,
 }
@@ -40,23 +50,33 @@ struct Labelled {
 }
 
 pub fn annotate(sheet: &mut [u8; sheet::FULL], piece: &mut [u8; PIECE], lines: &mut [u8; LINES]) {
+    match read_sheet(console::PIECES, sheet) {
+        SheetRead::Whole(size, left) => {
+            read_over(left, text::front(sheet, size), piece, lines);
+        }
+        SheetRead::Long => {
+            console::print(b"refused 22\n");
+        }
+        SheetRead::Short => {
+            console::print(b"refused 20\n");
+        }
+        SheetRead::Failed => {}
+    }
+}
+
+// A length, and a sheet of so many bytes.
+pub fn read_sheet(start: u64, sheet: &mut [u8; sheet::FULL]) -> SheetRead {
     let mut length = [0u8; 2];
-    match fill(console::PIECES, &mut length) {
+    match fill(start, &mut length) {
         Filling::Full(left) => {
             let size = endian::read_be16(&length, 0) as usize;
             match opening_of(size) {
-                Opening::Sheet(n) => {
-                    read_sheet(left, n, sheet, piece, lines);
-                }
-                Opening::Long => {
-                    console::print(b"refused 22\n");
-                }
+                Opening::Sheet(n) => fill_sheet(left, n, sheet),
+                Opening::Long => SheetRead::Long,
             }
         }
-        Filling::Short => {
-            console::print(b"refused 20\n");
-        }
-        Filling::Failed => {}
+        Filling::Short => SheetRead::Short,
+        Filling::Failed => SheetRead::Failed,
     }
 }
 
@@ -69,37 +89,38 @@ fn opening_of(size: usize) -> Opening
     Opening::Sheet(size)
 }
 
-// A sheet of so many bytes, and then the trace.
-fn read_sheet(
-    left: u64,
-    size: usize,
-    sheet: &mut [u8],
-    piece: &mut [u8; PIECE],
-    lines: &mut [u8; LINES],
-)
+fn fill_sheet(start: u64, size: usize, sheet: &mut [u8]) -> SheetRead
     requires { ⌜ size ≤ length (now sheet) ⌝ }
 {
-    let room = &mut sheet[..size];
-    match fill(left, room) {
-        Filling::Full(fewer) => {
-            read_trace(fewer, room, piece, lines);
-        }
-        Filling::Short => {
-            console::print(b"refused 20\n");
-        }
-        Filling::Failed => {}
+    match fill(start, &mut sheet[..size]) {
+        Filling::Full(left) => SheetRead::Whole(size, left),
+        Filling::Short => SheetRead::Short,
+        Filling::Failed => SheetRead::Failed,
     }
 }
 
-// The sheet is checked once in all.
-fn read_trace(start: u64, sheet: &[u8], piece: &mut [u8; PIECE], lines: &mut [u8; LINES]) {
-    let number = sheet::check(sheet);
+// The trace over a sheet, which is checked once in all.
+fn read_over(start: u64, sheet: &[u8], piece: &mut [u8; PIECE], lines: &mut [u8; LINES]) {
+    let engine = Engine::Sheet(sheet::check(sheet));
+    read_trace(start, engine, sheet, piece, lines);
+}
+
+// The trace to its end, by an engine.
+pub fn read_trace(
+    start: u64,
+    engine: Engine,
+    bytes: &[u8],
+    piece: &mut [u8; PIECE],
+    lines: &mut [u8; LINES],
+)
+    requires { ⌜ Knows engine (now bytes) ⌝ }
+{
     let mut t = Trace::start();
     let mut left = start;
     loop {
         match console::read_piece(left, piece) {
             Piece::Bytes(count, fewer) => {
-                let labelled = label(t, number, sheet, text::front(piece, count), lines);
+                let labelled = label(t, engine, bytes, text::front(piece, count), lines);
                 if !labelled.written {
                     return;
                 }
@@ -123,34 +144,34 @@ fn finish(t: Trace, lines: &mut [u8; LINES]) {
 }
 
 // A piece whose lines do not fit at once is taken in parts, each of no more bytes than lines fit.
-fn label(t: Trace, number: u8, sheet: &[u8], piece: &[u8], lines: &mut [u8; LINES]) -> Labelled
-    requires { ⌜ number ≡ sheetNumber (now sheet) ⌝ }
+fn label(t: Trace, engine: Engine, bytes: &[u8], piece: &[u8], lines: &mut [u8; LINES]) -> Labelled
+    requires { ⌜ Knows engine (now bytes) ⌝ }
     ensures { λ r. ⌜ (r .written ≡ true → r .state ≡ stateOf t (now (piece .entry))) ⌝ }
 {
-    let fed = trace_feed::feed_over(t, number, sheet, piece, lines);
+    let fed = trace_feed::feed_by(t, engine, bytes, piece, lines);
     if fed.number == 0 {
         let state = fed.state;
         let written = console::print(text::front(lines, fed.written));
         return Labelled { state, written };
     }
-    label_parts(t, number, sheet, piece, lines)
+    label_parts(t, engine, bytes, piece, lines)
 }
 
 fn label_parts(
     start: Trace,
-    number: u8,
-    sheet: &[u8],
+    engine: Engine,
+    bytes: &[u8],
     piece: &[u8],
     lines: &mut [u8; LINES],
 ) -> Labelled
-    requires { ⌜ number ≡ sheetNumber (now sheet) ⌝ }
+    requires { ⌜ Knows engine (now bytes) ⌝ }
     ensures { λ r. ⌜ (r .written ≡ true → r .state ≡ stateOf start (now (piece .entry))) ⌝ }
 {
     let mut t = start;
     let mut i = 0;
     while i < piece.len() {
         let end = part_end(i, piece.len());
-        let fed = trace_feed::feed_over(t, number, sheet, &piece[i..end], lines);
+        let fed = trace_feed::feed_by(t, engine, bytes, &piece[i..end], lines);
         t = fed.state;
         if !console::print(text::front(lines, fed.written)) {
             return Labelled {
@@ -178,7 +199,7 @@ fn part_end(from: usize, size: usize) -> usize
 }
 
 // Reads until the room is full.
-fn fill(start: u64, room: &mut [u8]) -> Filling {
+pub fn fill(start: u64, room: &mut [u8]) -> Filling {
     let mut left = start;
     let mut at = 0;
     while at < room.len() {

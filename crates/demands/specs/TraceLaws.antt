@@ -16,7 +16,7 @@ use Rattle.trace.specs.Trace.{fresh, linesOf, endLine}
 use Rattle.trace.specs.TraceLaws.{state-all, pieces-told}
 use Rattle.trace.specs.Feed.{textPut, fedOf, endedOf}
 use Rattle.trace.specs.FeedLaws.{short-front, Call, called-state, called-lines}
-use Rattle.trace_line.specs.Line.{labelOver, lineOver}
+use Rattle.trace_line.specs.Line.{labelWith, lineWith, lineOver}
 use Rattle.trace_line.specs.LineLaws.{line-front}
 use Rattle.annotator.specs.ProgramLaws.{program-no-length, program-long, program-short, program-pieces}
 use Rattle.demands.specs.Trace.{Labels, linesAfter, told, Annotates, Feeds, Ends, Calls, Prints, TraceAnnotated}
@@ -24,7 +24,7 @@ use Rattle.demands.specs.Trace.{Labels, linesAfter, told, Annotates, Fee
 -- ## One line
 
 labels : (sheet : List ℕ) (n : ℕ) (header : List ℕ) → Labels sheet n header
-unfolding lineOver labelOver routeOf
+unfolding lineOver lineWith labelWith routeOf
 labels sheet n header =
     record {
       owner-line = λ p d r e. rw (e, r);

@@ -19,18 +19,22 @@ use Rattle.trace.specs.Trace.{stateOf, textOf, linesOf, lineCount}
 use Rattle.trace.specs.Feed.{fedOf, fedPut}
 use Rattle.trace.specs.TraceLaws.{Turn, lines-past, state-past}
 use Rattle.trace.specs.FeedLaws.{Sound, text-le, lines-le, put-front, short-front}
-use Rattle.trace_line.specs.Line.{lineOver}
+use Rattle.trace_line.specs.declared.Engine.{Engine}
+use Rattle.trace_line.specs.Engine.{lineBy}
 use Rattle.trace_line.specs.LineLaws.{line-le}
 
 -- ## Lengths
 
 -- lines that are few enough fit
-pub few-fit : (sheet : List ℕ) (t : Trace) (piece : List ℕ) (room count : ℕ) → Sound (t .number) → count ≡ lineCount (t .stage) piece
-    → count ≤ room / 40 → length (linesOf (lineOver sheet) t piece) ≤ room
-few-fit sheet t piece room count sound is few = omega (arith, lines-le (lineOver sheet) (line-le sheet) t piece sound)
+pub few-fit : (engine : Engine) (bytes : List ℕ) (t : Trace) (piece : List ℕ) (room count : ℕ) → Sound (t .number)
+    → count ≡ lineCount (t .stage) piece
+    → count ≤ room / 40 → length (linesOf (lineBy engine bytes) t piece) ≤ room
+few-fit engine bytes t piece room count sound is few =
+    omega (arith, lines-le (lineBy engine bytes) (line-le engine bytes) t piece sound)
 
-pub emitted-le : (sheet : List ℕ) (m : Emits) (n : ℕ) (header : List ℕ) → Sound n → length (textOf (lineOver sheet) m n header) ≤ 40
-emitted-le sheet = text-le (lineOver sheet) (line-le sheet)
+pub emitted-le : (engine : Engine) (bytes : List ℕ) (m : Emits) (n : ℕ) (header : List ℕ) → Sound n
+    → length (textOf (lineBy engine bytes) m n header) ≤ 40
+emitted-le engine bytes = text-le (lineBy engine bytes) (line-le engine bytes)
 
 -- ## A piece taken or not, in the words of the code
 

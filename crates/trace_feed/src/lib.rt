@@ -1,63 +1,64 @@
-// A trace fed in pieces and labelled over one sheet: a line for each record that ends in a piece. A piece may hold no bytes. A piece whose
+// A trace fed in pieces and labelled by one engine: a line for each record that ends in a piece. A piece may hold no bytes. A piece whose
 // lines do not fit is not taken: fed again with more room, or in smaller pieces, it comes to the same lines.
 ghost use mathlib.Core.Path.{_≡_};
 ghost use Prim.Native.Nat.{_≤_};
 ghost use lib.ListN.{length};
 ghost use lib.Dec.{leb};
 ghost use Rattle.text.specs.Text.{Put};
-ghost use Rattle.sheet.specs.Sheet.{sheetNumber};
 ghost use Rattle.trace.specs.Trace.{textOf, linesOf};
 ghost use Rattle.trace.specs.Feed.{fedOf, fedPut};
 ghost use Rattle.trace_line.specs.Line.{lineOver};
+ghost use Rattle.trace_line.specs.Engine.{Knows, lineBy};
 use records::frame;
 use trace::Emits;
 use trace::Fed;
 use trace::Trace;
+use trace_line::Engine;
 
-// The sheet is checked once a call.
+// Over a sheet, which is checked once a call.
 pub fn feed(t: Trace, sheet: &[u8], piece: &[u8], out: &mut [u8]) -> Fed
     ensures { λ r. ⌜
         (r ≡ fedOf (lineOver (now (sheet .entry))) t (now (piece .entry)) (length (now (out .entry))))
         × (now (out .exit) ≡ fedPut (lineOver (now (sheet .entry))) t (now (piece .entry)) (now (out .entry)))
         ⌝ }
 {
-    feed_over(t, sheet::check(sheet), sheet, piece, out)
+    feed_by(t, Engine::Sheet(sheet::check(sheet)), sheet, piece, out)
 }
 
-// The same, for who has the sheet's number already.
-pub fn feed_over(t: Trace, number: u8, sheet: &[u8], piece: &[u8], out: &mut [u8]) -> Fed
-    requires { ⌜ number ≡ sheetNumber (now sheet) ⌝ }
+// The same by an engine, which has the number of its sheet already.
+pub fn feed_by(t: Trace, engine: Engine, bytes: &[u8], piece: &[u8], out: &mut [u8]) -> Fed
+    requires { ⌜ Knows engine (now bytes) ⌝ }
     ensures { λ r. ⌜
-        (r ≡ fedOf (lineOver (now (sheet .entry))) t (now (piece .entry)) (length (now (out .entry))))
-        × (now (out .exit) ≡ fedPut (lineOver (now (sheet .entry))) t (now (piece .entry)) (now (out .entry)))
+        (r ≡ fedOf (lineBy engine (now (bytes .entry))) t (now (piece .entry)) (length (now (out .entry))))
+        × (now (out .exit) ≡ fedPut (lineBy engine (now (bytes .entry))) t (now (piece .entry)) (now (out .entry)))
         ⌝ }
 {
-    if !fits(t, number, sheet, piece, out.len()) {
+    if !fits(t, engine, bytes, piece, out.len()) {
         return Fed {
             number: 11,
             written: 0,
             state: t,
         };
     }
-    put_lines(t, number, sheet, piece, out)
+    put_lines(t, engine, bytes, piece, out)
 }
 
 // Whether the piece's lines fit so many bytes. Their count tells it of an ordinary trace, so that no record is routed twice.
-fn fits(t: Trace, number: u8, sheet: &[u8], piece: &[u8], room: usize) -> bool
-    requires { ⌜ number ≡ sheetNumber (now sheet) ⌝ }
-    ensures { λ r. ⌜ r ≡ leb (length (linesOf (lineOver (now (sheet .entry))) t (now (piece .entry)))) room ⌝ }
+fn fits(t: Trace, engine: Engine, bytes: &[u8], piece: &[u8], room: usize) -> bool
+    requires { ⌜ Knows engine (now bytes) ⌝ }
+    ensures { λ r. ⌜ r ≡ leb (length (linesOf (lineBy engine (now (bytes .entry))) t (now (piece .entry)))) room ⌝ }
 {
     let stage = t.stage;
     if trace::count_lines(stage, piece) <= room / trace::LONGEST {
         return true;
     }
-    measured(t, number, sheet, piece, room)
+    measured(t, engine, bytes, piece, room)
 }
 
 // The same by each line's length.
-fn measured(t: Trace, number: u8, sheet: &[u8], piece: &[u8], room: usize) -> bool
-    requires { ⌜ number ≡ sheetNumber (now sheet) ⌝ }
-    ensures { λ r. ⌜ r ≡ leb (length (linesOf (lineOver (now (sheet .entry))) t (now (piece .entry)))) room ⌝ }
+fn measured(t: Trace, engine: Engine, bytes: &[u8], piece: &[u8], room: usize) -> bool
+    requires { ⌜ Knows engine (now bytes) ⌝ }
+    ensures { λ r. ⌜ r ≡ leb (length (linesOf (lineBy engine (now (bytes .entry))) t (now (piece .entry)))) room ⌝ }
 {
     let mut stage = t.stage;
     let mut n = t.number;
@@ -70,7 +71,7 @@ fn measured(t: Trace, number: u8, sheet: &[u8], piece: &[u8], room: usize) -> bo
         let emits = trace::emitted(event);
         n = trace::number_after(n, emits);
         kept = trace::keep(&mut head, kept, event);
-        let size = size_of(emits, n, text::front(&head, kept), number, sheet);
+        let size = size_of(emits, n, text::front(&head, kept), engine, bytes);
         if room - total < size {
             return false;
         }
@@ -82,14 +83,14 @@ fn measured(t: Trace, number: u8, sheet: &[u8], piece: &[u8], room: usize) -> bo
 }
 
 // The piece's lines, which fit.
-fn put_lines(t: Trace, number: u8, sheet: &[u8], piece: &[u8], out: &mut [u8]) -> Fed
+fn put_lines(t: Trace, engine: Engine, bytes: &[u8], piece: &[u8], out: &mut [u8]) -> Fed
     requires { ⌜
-        (number ≡ sheetNumber (now sheet))
-        × (length (linesOf (lineOver (now sheet)) t (now piece)) ≤ length (now out))
+        Knows engine (now bytes)
+        × (length (linesOf (lineBy engine (now bytes)) t (now piece)) ≤ length (now out))
         ⌝ }
     ensures { λ r. ⌜
-        (r ≡ fedOf (lineOver (now (sheet .entry))) t (now (piece .entry)) (length (now (out .entry))))
-        × (now (out .exit) ≡ fedPut (lineOver (now (sheet .entry))) t (now (piece .entry)) (now (out .entry)))
+        (r ≡ fedOf (lineBy engine (now (bytes .entry))) t (now (piece .entry)) (length (now (out .entry))))
+        × (now (out .exit) ≡ fedPut (lineBy engine (now (bytes .entry))) t (now (piece .entry)) (now (out .entry)))
         ⌝ }
 {
     let mut stage = t.stage;
@@ -103,7 +104,7 @@ fn put_lines(t: Trace, number: u8, sheet: &[u8], piece: &[u8], out: &mut [u8]) -
         let emits = trace::emitted(event);
         n = trace::number_after(n, emits);
         kept = trace::keep(&mut head, kept, event);
-        at = put_emitted(out, at, emits, n, text::front(&head, kept), number, sheet);
+        at = put_emitted(out, at, emits, n, text::front(&head, kept), engine, bytes);
         stage = frame::stage_after(event);
         i += 1;
     }
@@ -120,12 +121,12 @@ fn put_lines(t: Trace, number: u8, sheet: &[u8], piece: &[u8], out: &mut [u8]) -
 }
 
 // How many bytes an event gives, with the record's number and header.
-fn size_of(emits: Emits, n: u64, header: &[u8], number: u8, sheet: &[u8]) -> usize
-    requires { ⌜ number ≡ sheetNumber (now sheet) ⌝ }
-    ensures { λ r. ⌜ r ≡ length (textOf (lineOver (now (sheet .entry))) emits n (now (header .entry))) ⌝ }
+fn size_of(emits: Emits, n: u64, header: &[u8], engine: Engine, bytes: &[u8]) -> usize
+    requires { ⌜ Knows engine (now bytes) ⌝ }
+    ensures { λ r. ⌜ r ≡ length (textOf (lineBy engine (now (bytes .entry))) emits n (now (header .entry))) ⌝ }
 {
     let mut line = [0u8; trace::LONGEST];
-    put_emitted(&mut line, 0, emits, n, header, number, sheet)
+    put_emitted(&mut line, 0, emits, n, header, engine, bytes)
 }
 
 // What it gives, put at a place.
@@ -135,17 +136,17 @@ fn put_emitted(
     emits: Emits,
     n: u64,
     header: &[u8],
-    number: u8,
-    sheet: &[u8],
+    engine: Engine,
+    bytes: &[u8],
 ) -> usize
-    requires { ⌜ number ≡ sheetNumber (now sheet) ⌝ }
+    requires { ⌜ Knows engine (now bytes) ⌝ }
     ensures { λ r. ⌜
-        Put (now (out .entry)) at (textOf (lineOver (now (sheet .entry))) emits n (now (header .entry))) (now (out .exit)) r
+        Put (now (out .entry)) at (textOf (lineBy engine (now (bytes .entry))) emits n (now (header .entry))) (now (out .exit)) r
         ⌝ }
 {
     match emits {
         Emits::Nothing => text::place(out, at),
         Emits::Refusal => text::put_text(out, at, b"refused 21\n"),
-        Emits::Line => trace_line::put_line(out, at, n, header, number, sheet),
+        Emits::Line => trace_line::put_line(out, at, n, header, engine, bytes),
     }
 }

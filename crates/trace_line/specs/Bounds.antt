@@ -1,4 +1,5 @@
--- Every number that stands in a label has at most three digits: refusals, and record numbers of a sheet that passes. Assumes nothing.
+-- Every number that stands in a label is small, by either engine: a refusal has at most three digits, a record number two bytes. Assumes
+-- nothing.
 use Prim.Native.Nat.{ℕ, zero, suc, _+_, _*_, _/_, _%_, _<_}
 use mathlib.Core.Path.{_≡_, refl, ap, subst}
 use mathlib.Core.Bool.{Bool, true, false, cond, _||_}
@@ -36,7 +37,7 @@ use Rattle.walk.specs.Tally.{Tally, none, one, several, join, tallyOn}
 use Rattle.walk.specs.RegistersLaws.{node-mem}
 use Rattle.walk.specs.TallyLaws.{claims-of-one, bar-of-tally}
 use Rattle.walk.specs.Ids.{hasId, leadsToward, bridgeClaim, firstOf, tallyById}
-use Rattle.walk.specs.Walk.{Outcome, delivered, refused, settle, walkOver, walkFrom}
+use Rattle.walk.specs.Walk.{Outcome, delivered, refused, noOwner, settle, walkOver, walkFrom}
 use Rattle.claims.specs.declared.Aim.{Aim}
 use Rattle.claims.specs.declared.Aim.the-variants.{Address, Id}
 use Rattle.claims.specs.Claims.{tallyFor}
@@ -45,7 +46,18 @@ use Rattle.route_arrival.specs.declared.Heading.the-variants.{Aimed, Up, Every,
 use Rattle.route_arrival.specs.Arrival.{headingOf, typeWrong}
 use Rattle.route.specs.declared.Routing.{Routing}
 use Rattle.route.specs.declared.Routing.the-variants.{Delivered, Broadcast, Port, Refused}
-use Rattle.route.specs.Route.{answer, walked, root, onHeading, from42, routePacket, fromSheet, fromReading, routeOf}
+use Rattle.route.specs.Route.{wrongType, answer, walked, root, headedOver, typedOver, routeOver, from42}
+use Rattle.route.specs.Route.{routePacket, fromSheet, fromReading, routeOf}
+use Rattle.index_rule.specs.Owners.{keyOf, inReach}
+use Rattle.index_rule.specs.Search.{recordIn, bridgesIn, isOver, answerAt}
+use Rattle.index_slots.specs.Slots.{keyAt, wordAt}
+use Rattle.index_table.specs.Table.{segmentOf}
+use Rattle.index_table.specs.Search.{foundAt}
+use Rattle.index_search.specs.Search.{functionsIn, rootIn, answerOver, outcomeOver, searchPacket, searchOf}
+use Rattle.index_search.specs.Search.{fromReading as fromReadingBy}
+use Rattle.trace_line.specs.declared.Engine.{Engine}
+use Rattle.trace_line.specs.declared.Engine.the-variants.{Sheet, Index}
+use Rattle.trace_line.specs.Engine.{routingBy}
 
 abbrev pub Small : ℕ → Type 0
 Small n = n < 1000
@@ -179,8 +191,12 @@ module _ (s : List ℕ) (c : Checked s) where
 -- ## The walk
 
 abbrev SmallOutcome : Outcome → Type 0
-SmallOutcome (delivered number crossed) = Small number
+SmallOutcome (delivered number crossed) = number < 65536
 SmallOutcome (refused n) = Small n
+
+small-outcome-cond : (b : Bool) (x y : Outcome) → SmallOutcome x → SmallOutcome y → SmallOutcome (cond b x y)
+small-outcome-cond true x y a b = a
+small-outcome-cond false x y a b = b
 
 small-over : (tally : ℕ → Tally) → ((bus number : ℕ) → tally bus ≡ one (bar number) → Small number) → (k bus crossed : ℕ)
     → SmallOutcome (walkOver k tally bus crossed)
@@ -192,7 +208,7 @@ small-over tally small (suc k) bus crossed = go (tally bus) refl (λ b. small-ov
         → SmallOutcome (settle t crossed (λ b. walkOver k tally b (crossed + 1)))
     go none e on = omega arith
     go several e on = omega arith
-    go (one (bar number)) e on = small bus number e
+    go (one (bar number)) e on = omega (arith, small bus number e)
     go (one (window number secondary)) e on = on secondary
 
 small-walk : (s : List ℕ) → Checked s → (aim : Aim) (bus crossed : ℕ) → SmallOutcome (walked aim s bus crossed)
@@ -202,7 +218,7 @@ small-walk s c aim bus crossed = small-over (tallyFor aim s) (small-claim s c ai
 -- ## The router
 
 abbrev pub SmallRouting : Routing → Type 0
-SmallRouting (Delivered d) = Small (d .owner)
+SmallRouting (Delivered d) = d .owner < 65536
 SmallRouting (Broadcast functions p) = Unit {0}
 SmallRouting (Port p) = Unit {0}
 SmallRouting (Refused n) = Small n
@@ -215,18 +231,24 @@ small-answer : (p : Packet) (o : Outcome) → SmallOutcome o → SmallRouting (a
 small-answer p (delivered number crossed) h = h
 small-answer p (refused n) h = h
 
-module _ (s : List ℕ) (c : Checked s) (p : Packet) where
-  small-heading : (h : Heading) → SmallRouting (onHeading h p s)
-  small-heading (Aimed aim) = small-answer p (walked aim s (root s) 0) (small-walk s c aim (root s) 0)
-  small-heading Up = omega arith
-  small-heading Every = tt
-  small-heading ToPort = tt
+-- over any functions, root bus and outcomes
+module _ (functions bus : ℕ) (outcome : Aim → Outcome) (small : (aim : Aim) → SmallOutcome (outcome aim)) (p : Packet) where
+  small-headed : (h : Heading) → SmallRouting (headedOver functions outcome h p)
+  small-headed (Aimed aim) = small-answer p (outcome aim) (small aim)
+  small-headed Up = omega arith
+  small-headed Every = tt
+  small-headed ToPort = tt
 
-  small-packet : SmallRouting (routePacket p s)
-  unfolding routePacket from42
-  small-packet =
-      small-routing-cond (eqb (length (nodesOf s)) 0) (Refused 40) (from42 p s) (omega arith)
-      (small-routing-cond (typeWrong (root s) p) (Refused 42) (onHeading (headingOf p) p s) (omega arith) (small-heading (headingOf p)))
+  small-over-all : SmallRouting (routeOver functions bus outcome p)
+  small-over-all =
+      small-routing-cond (eqb functions 0) (Refused noOwner) (typedOver functions bus outcome p) (omega arith)
+      (small-routing-cond (typeWrong bus p) (Refused wrongType) (headedOver functions outcome (headingOf p) p) (omega arith)
+      (small-headed (headingOf p)))
+
+small-packet : (s : List ℕ) → Checked s → (p : Packet) → SmallRouting (routePacket p s)
+unfolding routePacket from42
+small-packet s c p =
+    small-over-all (length (nodesOf s)) (root s) (λ aim. walked aim s (root s) 0) (λ aim. small-walk s c aim (root s) 0) p
 
 small-from-sheet : (p : Packet) (s : List ℕ) → SmallRouting (fromSheet p s)
 unfolding fromSheet
@@ -236,10 +258,46 @@ small-from-sheet p s = go (eqb (sheetNumber s) 0) refl
     go true e = small-packet s (checked-of-zero s (eqb-true (sheetNumber s) 0 e)) p
     go false e = small-sheet s
 
-pub small-route : (header s : List ℕ) → SmallRouting (routeOf header s)
+small-route : (header s : List ℕ) → SmallRouting (routeOf header s)
 unfolding routeOf
 small-route header s = go (readOf header) (small-read header)
   where
     go : (r : Reading) → SmallReading r → SmallRouting (fromReading r s)
     go (Accepted p) h = small-from-sheet p s
     go (NotRead n) h = h
+
+-- ## The search
+
+small-at : (start word key : ℕ) → SmallOutcome (answerAt start word key)
+small-at start word key =
+    small-outcome-cond (isOver start word key) (delivered (recordIn word) (bridgesIn word)) (refused noOwner) (omega arith) (omega arith)
+
+small-found : (index : List ℕ) (n key : ℕ) → SmallOutcome (answerOver index n key)
+unfolding answerOver
+small-found index n key = let p = foundAt index n (segmentOf key) key in small-at (keyAt index n p) (wordAt index n p) key
+
+small-outcome : (index : List ℕ) (n : ℕ) (aim : Aim) → SmallOutcome (outcomeOver index n aim)
+unfolding outcomeOver
+small-outcome index n aim =
+    small-outcome-cond (inReach aim) (answerOver index n (keyOf aim)) (refused noOwner) (small-found index n (keyOf aim)) (omega arith)
+
+small-by-index : (p : Packet) (index : List ℕ) → SmallRouting (searchPacket p index)
+unfolding searchPacket
+small-by-index p index =
+    let n = functionsIn index in
+    small-over-all n (rootIn index) (λ aim. outcomeOver index n aim) (small-outcome index n) p
+
+small-search : (header index : List ℕ) → SmallRouting (searchOf header index)
+unfolding searchOf
+small-search header index = go (readOf header) (small-read header)
+  where
+    go : (r : Reading) → SmallReading r → SmallRouting (fromReadingBy r index)
+    go (Accepted p) h = small-by-index p index
+    go (NotRead n) h = h
+
+-- ## Either engine
+
+pub small-routing : (engine : Engine) (bytes header : List ℕ) → SmallRouting (routingBy engine bytes header)
+unfolding routingBy
+small-routing (Sheet number) bytes header = small-route header bytes
+small-routing Index bytes header = small-search header bytes

@@ -1,5 +1,5 @@
 -- Document 02, E4: "One line comes out per record, as `1 MRd owner 2` or `2 IOWr refused 40`; the kind is as read, a refused header's `-`,
--- a broadcast's owner `all`, form 100's `port`." By document 01's reader and router. Assumes nothing.
+-- a broadcast's owner `all`, form 100's `port`." By document 01's reader, and its router or another routing. Assumes nothing.
 use Prim.Native.Nat.{ℕ}
 use mathlib.Core.List.{List, _++_}
 use Rattle.text.specs.Text.{ascii, decimal}
@@ -26,9 +26,13 @@ ownerText (Refused n) = named " refused " n
 abbrev pub labelOf : Reading → Routing → List ℕ
 labelOf reading routing = ascii " " ++ (kindRead reading ++ ownerText routing)
 
--- of a header over a sheet, and of record n
-unfoldable pub labelOver : List ℕ → List ℕ → List ℕ
-labelOver sheet header = labelOf (readOf header) (routeOf header sheet)
+-- of a header that `route` takes somewhere, and of record n
+unfoldable pub labelWith : (List ℕ → Routing) → List ℕ → List ℕ
+labelWith route header = labelOf (readOf header) (route header)
 
+unfoldable pub lineWith : (List ℕ → Routing) → ℕ → List ℕ → List ℕ
+lineWith route n header = decimal n ++ (labelWith route header ++ ascii "\n")
+
+-- over a sheet, by the router
 unfoldable pub lineOver : List ℕ → ℕ → List ℕ → List ℕ
-lineOver sheet n header = decimal n ++ (labelOver sheet header ++ ascii "\n")
+lineOver sheet = lineWith (λ (header : List ℕ). routeOf header sheet)

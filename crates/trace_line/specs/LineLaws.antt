@@ -26,8 +26,12 @@ use Rattle.sheet.specs.Sheet.{sheetNumber}
 use Rattle.route.specs.declared.Routing.{Routing}
 use Rattle.route.specs.declared.Routing.the-variants.{Delivered, Broadcast, Port, Refused}
 use Rattle.route.specs.Route.{routePacket, fromSheet, fromReading, routeOf}
-use Rattle.trace_line.specs.Line.{kindRead, ownerText, labelOver, lineOver}
-use Rattle.trace_line.specs.Bounds.{Small, SmallRouting, small-route}
+use Rattle.index_search.specs.Search.{searchOf}
+use Rattle.trace_line.specs.declared.Engine.{Engine}
+use Rattle.trace_line.specs.declared.Engine.the-variants.{Sheet, Index}
+use Rattle.trace_line.specs.Line.{kindRead, ownerText, labelWith, lineWith, lineOver}
+use Rattle.trace_line.specs.Engine.{packetBy, routingBy, labelBy, lineBy}
+use Rattle.trace_line.specs.Bounds.{Small, SmallRouting, small-routing}
 
 -- ## Digits
 
@@ -54,6 +58,10 @@ digits-le (suc d) n h = go (ltb n 10) refl (λ g. digits-le d (n / 10) g)
 decimal-le-20 : (n : ℕ) → n < 18446744073709551616 → length (decimal n) ≤ 20
 unfolding tens
 decimal-le-20 n h = digits-le 19 n (omega arith)
+
+decimal-le-5 : (n : ℕ) → n < 65536 → length (decimal n) ≤ 5
+unfolding tens
+decimal-le-5 n h = digits-le 4 n (omega arith)
 
 decimal-le-3 : (n : ℕ) → Small n → length (decimal n) ≤ 3
 unfolding tens
@@ -86,31 +94,37 @@ kind-le (NotRead n) = omega arith
 
 owner-le : (r : Routing) → SmallRouting r → length (ownerText r) ≤ 12
 unfolding ascii
-owner-le (Delivered d) s = omega (arith, decimal-le-3 (d .owner) s)
+owner-le (Delivered d) s = omega (arith, decimal-le-5 (d .owner) s)
 owner-le (Broadcast functions p) s = omega arith
 owner-le (Port p) s = omega arith
 owner-le (Refused n) s = omega (arith, decimal-le-3 n s)
 
-label-le : (sheet header : List ℕ) → length (labelOver sheet header) ≤ 19
-unfolding labelOver ascii
-label-le sheet header =
-    omega (
-      arith,
-      length-append (kindRead (readOf header)) (ownerText (routeOf header sheet)),
-      kind-le (readOf header),
-      owner-le (routeOf header sheet) (small-route header sheet),
-    )
+-- by any routing
+module _ (route : List ℕ → Routing) (header : List ℕ) (small : SmallRouting (route header)) where
+  label-le : length (labelWith route header) ≤ 19
+  unfolding labelWith ascii
+  label-le =
+      omega (
+        arith,
+        length-append (kindRead (readOf header)) (ownerText (route header)),
+        kind-le (readOf header),
+        owner-le (route header) small,
+      )
 
-pub line-le : (sheet : List ℕ) (n : ℕ) (header : List ℕ) → n < 18446744073709551616 → length (lineOver sheet n header) ≤ 40
-unfolding lineOver ascii
-line-le sheet n header h =
-    omega (
-      arith,
-      decimal-le-20 n h,
-      label-le sheet header,
-      length-append (decimal n) (labelOver sheet header ++ (10 ∷ [])),
-      length-append (labelOver sheet header) (10 ∷ []),
-    )
+  line-with-le : (n : ℕ) → n < 18446744073709551616 → length (lineWith route n header) ≤ 40
+  unfolding lineWith ascii
+  line-with-le n h =
+      omega (
+        arith,
+        decimal-le-20 n h,
+        label-le,
+        length-append (decimal n) (labelWith route header ++ (10 ∷ [])),
+        length-append (labelWith route header) (10 ∷ []),
+      )
+
+pub line-le : (engine : Engine) (bytes : List ℕ) (n : ℕ) (header : List ℕ) → n < 18446744073709551616
+    → length (lineBy engine bytes n header) ≤ 40
+line-le engine bytes n header h = line-with-le (routingBy engine bytes) header (small-routing engine bytes header) n h
 
 -- ## In the words of the code
 
@@ -123,15 +137,28 @@ module _ (p : Packet) (sheet : List ℕ) (n : ℕ) (number : n ≡ sheetNumber s
   unfolding fromSheet
   sheet-passed h r e = rw (← number, eq-eqb n 0 h) e
 
-module _ (sheet header : List ℕ) (reading : Reading) (is-reading : reading ≡ readOf header) where
-  pub label-accepted : (p : Packet) → reading ≡ Accepted p
-      → labelOver sheet header ≡ ascii " " ++ (kindText (kindOf p) ++ ownerText (fromSheet p sheet))
-  unfolding labelOver routeOf
-  label-accepted p e = rw (sym is-reading ∙ e)
+-- only a packet is looked up
+routing-accepted : (engine : Engine) (bytes header : List ℕ) (p : Packet) → readOf header ≡ Accepted p
+    → routingBy engine bytes header ≡ packetBy engine p bytes
+unfolding routingBy packetBy routeOf searchOf
+routing-accepted (Sheet number) bytes header p e = rw e
+routing-accepted Index bytes header p e = rw e
 
-  pub label-refused : (n : ℕ) → reading ≡ NotRead n → labelOver sheet header ≡ ascii " - refused " ++ decimal n
-  unfolding labelOver routeOf ascii
-  label-refused n e = rw (sym is-reading ∙ e)
+routing-refused : (engine : Engine) (bytes header : List ℕ) (n : ℕ) → readOf header ≡ NotRead n
+    → routingBy engine bytes header ≡ Refused n
+unfolding routingBy routeOf searchOf
+routing-refused (Sheet number) bytes header n e = rw e
+routing-refused Index bytes header n e = rw e
+
+module _ (engine : Engine) (bytes header : List ℕ) (reading : Reading) (is-reading : reading ≡ readOf header) where
+  pub label-accepted : (p : Packet) → reading ≡ Accepted p
+      → labelBy engine bytes header ≡ ascii " " ++ (kindText (kindOf p) ++ ownerText (packetBy engine p bytes))
+  unfolding labelWith
+  label-accepted p e = let read = sym is-reading ∙ e in rw (routing-accepted engine bytes header p read, read)
+
+  pub label-refused : (n : ℕ) → reading ≡ NotRead n → labelBy engine bytes header ≡ ascii " - refused " ++ decimal n
+  unfolding labelWith ascii
+  label-refused n e = let read = sym is-reading ∙ e in rw (routing-refused engine bytes header n read, read)
 
 -- ## The front
 
@@ -141,5 +168,5 @@ route-front header sheet = ap (λ (r : Reading). fromReading r sheet) (read-fron
 
 -- "A header over 16 bytes is labelled by its front": which is the whole header's label
 pub line-front : (sheet : List ℕ) (n : ℕ) (header : List ℕ) → lineOver sheet n (take 16 header) ≡ lineOver sheet n header
-unfolding lineOver labelOver
+unfolding lineOver lineWith labelWith
 line-front sheet n header = rw (read-front header, route-front header sheet)

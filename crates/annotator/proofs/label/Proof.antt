@@ -4,8 +4,8 @@ use Rattle.annotator.proofs.label.Statement.{statement}
 use Rattle.annotator.proofs.label.Tie as tie
 use Rattle.annotator.specs.PartsLaws.{taken-of-zero}
 
-feed-over-requires : tie.Need-feed-over-requires
-feed-over-requires c κs = search needs
+feed-by-requires : tie.Need-feed-by-requires
+feed-by-requires c κs = search needs
 
 front-requires : tie.Need-front-requires
 front-requires c κs = search needs
@@ -17,7 +17,7 @@ returns : tie.Need-returns
 returns c =
     let test = c .before .before .before .before .before in
     let fed = test .before .before in
-    λ z. taken-of-zero _ _ _ _ _ (fed .feed-over .ensures .0) (test .if1 .taken)
+    λ z. taken-of-zero _ _ _ _ _ (fed .feed-by .ensures .0) (test .if1 .taken)
 
 label-parts-requires : tie.Need-label-parts-requires
 label-parts-requires c κs = search needs
@@ -29,7 +29,7 @@ pub label-spec : {M : Type 1} → statement M
 label-spec =
     tie.close
     (tie.spec
-    feed-over-requires
+    feed-by-requires
     front-requires
     print-requires
     returns

@@ -9,16 +9,16 @@ use native.Mathlib.Omega.{arith}
 use borrow.Author.Needs.{needs}
 use Rattle.trace.specs.Trace.{stateOf}
 use Rattle.trace.specs.FeedLaws.{Sound}
-use Rattle.trace_line.specs.Line.{lineOver}
+use Rattle.trace_line.specs.Engine.{lineBy}
 use Rattle.annotator.specs.PartsLaws.{part-sound, part-state, parts-done}
 use mathlib.Core.Bool.{true≢false}
 
 abbrev Inv-loop : tie.InvT-loop
-Inv-loop number sheet piece lines₀ t₀ i₀ lines t i =
+Inv-loop engine bytes piece lines₀ t₀ i₀ lines t i =
     (i ≤ length piece) × Sound (t .number) × (stateOf t (drop i piece) ≡ stateOf t₀ piece)
 
 abbrev μ-loop : tie.MeasureT-loop
-μ-loop number sheet piece lines₀ t₀ i₀ lines t i = length piece - i
+μ-loop engine bytes piece lines₀ t₀ i₀ lines t i = length piece - i
 
 loop-holds : tie.Need-loop-holds Inv-loop μ-loop
 loop-holds c = let start = c .before .before in (omega arith, omega (arith, start .good .0 .1 .1 .1 .0), refl)
@@ -26,17 +26,17 @@ loop-holds c = let start = c .before .before in (omega arith, omega (arith, star
 part-end-requires : tie.Need-part-end-requires Inv-loop μ-loop
 part-end-requires c κs = c .loop-test .taken
 
-sub-feed-over : tie.Need-sub-feed-over Inv-loop μ-loop
-sub-feed-over c = search needs
+sub-feed-by : tie.Need-sub-feed-by Inv-loop μ-loop
+sub-feed-by c = search needs
 
-part-feed-over-start : tie.Need-part-feed-over-start Inv-loop μ-loop
-part-feed-over-start c = search needs
+part-feed-by-start : tie.Need-part-feed-by-start Inv-loop μ-loop
+part-feed-by-start c = search needs
 
-part-feed-over-end : tie.Need-part-feed-over-end Inv-loop μ-loop
-part-feed-over-end c = search needs
+part-feed-by-end : tie.Need-part-feed-by-end Inv-loop μ-loop
+part-feed-by-end c = search needs
 
-feed-over-requires : tie.Need-feed-over-requires Inv-loop μ-loop
-feed-over-requires c κs = let start = c .before .before .before .before .before .before .before in start .pre
+feed-by-requires : tie.Need-feed-by-requires Inv-loop μ-loop
+feed-by-requires c κs = let start = c .before .before .before .before .before .before .before in start .pre
 
 front-requires : tie.Need-front-requires Inv-loop μ-loop
 front-requires c κs = search needs
@@ -58,22 +58,23 @@ loop-again c =
     let test = end .before in
     let top = test .before in
     let start = top .before .before .before in
-    let sheet = start .args .sheet .now in
+    let engine = start .args .engine in
+    let bytes = start .args .bytes .now in
     let piece = start .args .piece .now in
     let now = top .loop in
     let ends = end .part-end .ensures in
-    let size = lent .feed-over-arg2 .given .0 .1 in
-    let answer = fed .feed-over .ensures .0 in (
+    let size = lent .feed-by-arg2 .given .0 .1 in
+    let answer = fed .feed-by .ensures .0 in (
       ends .1,
-      part-sound sheet (now .t) piece (now .i) _ _ _ (now .inv .1) (ends .0) (ends .1) (ends .2) size answer,
-      part-state sheet (now .t) piece (now .i) _ _ _ (now .inv .1) (ends .0) (ends .1) (ends .2) size answer ∙ now .inv .2,
+      part-sound engine bytes (now .t) piece (now .i) _ _ _ (now .inv .1) (ends .0) (ends .1) (ends .2) size answer,
+      part-state engine bytes (now .t) piece (now .i) _ _ _ (now .inv .1) (ends .0) (ends .1) (ends .2) size answer ∙ now .inv .2,
     )
 
 returns-2 : tie.Need-returns-2 Inv-loop μ-loop
 returns-2 c =
     let top = c .before in
     let start = top .before .before .before in
-    λ z. parts-done (lineOver (start .args .sheet .now)) _ _ _ _ (top .loop .inv .2) (c .loop-test .left)
+    λ z. parts-done (lineBy (start .args .engine) (start .args .bytes .now)) _ _ _ _ (top .loop .inv .2) (c .loop-test .left)
 
 pub label-parts-spec : {M : Type 1} → statement M
 label-parts-spec =
@@ -83,10 +84,10 @@ label-parts-spec =
     μ-loop
     loop-holds
     part-end-requires
-    sub-feed-over
-    part-feed-over-start
-    part-feed-over-end
-    feed-over-requires
+    sub-feed-by
+    part-feed-by-start
+    part-feed-by-end
+    feed-by-requires
     front-requires
     print-requires
     returns

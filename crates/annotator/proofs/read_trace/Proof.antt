@@ -6,13 +6,10 @@ use mathlib.Core.Path.{subst}
 use Rattle.console.specs.Console.{Fewer}
 
 abbrev Inv-loop : tie.InvT-loop
-Inv-loop start sheet piece₀ lines₀ number t₀ left₀ piece lines t left = Unit {0}
+Inv-loop start engine bytes piece₀ lines₀ t₀ left₀ piece lines t left = Unit {0}
 
 abbrev μ-loop : tie.MeasureT-loop
-μ-loop start sheet piece₀ lines₀ number t₀ left₀ piece lines t left = left
-
-check-requires : tie.Need-check-requires Inv-loop μ-loop
-check-requires c κs = search needs
+μ-loop start engine bytes piece₀ lines₀ t₀ left₀ piece lines t left = left
 
 start-requires : tie.Need-start-requires Inv-loop μ-loop
 start-requires c κs = search needs
@@ -31,8 +28,8 @@ front-requires c κs = search needs
 
 label-requires : tie.Need-label-requires Inv-loop μ-loop
 label-requires c κs =
-    let check = c .before .before .before .before .before .before .before .before .before .before .before in
-    check .check .ensures
+    let start = c .before .before .before .before .before .before .before .before .before .before .before .before in
+    start .pre
 
 returns : tie.Need-returns Inv-loop μ-loop
 returns c = search needs
@@ -67,7 +64,6 @@ read-trace-spec =
     (tie.spec
     Inv-loop
     μ-loop
-    check-requires
     start-requires
     loop-holds
     read-piece-requires

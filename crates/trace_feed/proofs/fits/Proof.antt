@@ -14,7 +14,7 @@ returns : tie.Need-returns
 returns c =
     let count = c .before in
     let start = count .before .before .before in
-    sym (le-leb _ _ (few-fit _ _ _ _ _ (omega (arith, start .good .0 .1 .1 .1 .0)) (count .count-lines .ensures) (c .if1 .taken)))
+    sym (le-leb _ _ (few-fit _ _ _ _ _ _ (omega (arith, start .good .0 .1 .1 .1 .0)) (count .count-lines .ensures) (c .if1 .taken)))
 
 measured-requires : tie.Need-measured-requires
 measured-requires c κs = search needs

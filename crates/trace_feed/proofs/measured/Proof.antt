@@ -9,19 +9,19 @@ use native.Mathlib.Omega.{arith}
 use borrow.Author.Needs.{needs}
 use Rattle.trace.specs.Trace.{tracing, linesOf}
 use Rattle.trace.specs.TraceLaws.{turn, length-head}
-use Rattle.trace_line.specs.Line.{lineOver}
+use Rattle.trace_line.specs.Engine.{lineBy}
 use mathlib.Core.Bool.{true, false}
 use lib.Dec.{leb}
 use Rattle.trace_feed.specs.LoopLaws.{Measuring, measuring-start, measuring-more, measured-short, measured-all}
 use Rattle.trace.specs.declared.Trace.{Trace}
 
 abbrev Inv-loop : tie.InvT-loop
-Inv-loop number sheet piece room stage₀ n₀ kept₀ head₀ total₀ i₀ stage n kept head total i =
+Inv-loop engine bytes piece room stage₀ n₀ kept₀ head₀ total₀ i₀ stage n kept head total i =
     (length head ≡ 16)
-    × Measuring (lineOver sheet) piece room (tracing stage₀ n₀ kept₀ head₀) (tracing stage n kept head) total i
+    × Measuring (lineBy engine bytes) piece room (tracing stage₀ n₀ kept₀ head₀) (tracing stage n kept head) total i
 
 abbrev μ-loop : tie.MeasureT-loop
-μ-loop number sheet piece room stage₀ n₀ kept₀ head₀ total₀ i₀ stage n kept head total i = length piece - i
+μ-loop engine bytes piece room stage₀ n₀ kept₀ head₀ total₀ i₀ stage n kept head total i = length piece - i
 
 head-of-requires : tie.Need-head-of-requires Inv-loop μ-loop
 head-of-requires c κs = search needs
@@ -80,10 +80,10 @@ returns c =
     let start = head .before .before .before in
     let now = top .loop in
     let moved =
-    turn (lineOver (start .args .sheet .now)) (tracing (now .stage) (now .n) (now .kept) (now .head)) (start .args .piece .now) (now .i)
-    (test .loop-test .taken) _ (event .event-of .ensures) _ (emit .emitted .ensures) _ _ _ _ _ refl
+    turn (lineBy (start .args .engine) (start .args .bytes .now)) (tracing (now .stage) (now .n) (now .kept) (now .head))
+    (start .args .piece .now) (now .i) (test .loop-test .taken) _ (event .event-of .ensures) _ (emit .emitted .ensures) _ _ _ _ _ refl
     (number .number-after .ensures) (keep .keep .ensures .0) (keep .keep .ensures .1) (front .front .ensures) in
-    let line = lineOver (start .args .sheet .now) in
+    let line = lineBy (start .args .engine) (start .args .bytes .now) in
     let piece = start .args .piece .now in
     subst (λ (t : Trace). false ≡ leb (length (linesOf line t piece)) (start .args .room)) (head .head-of .ensures .0)
     (measured-short _ _ _ _ (now .inv .1) (test .loop-test .taken) moved (size .size-of .ensures) (c .if1 .taken))
@@ -116,8 +116,8 @@ loop-again c =
     let start = top .before .before .before .before in
     let now = top .loop in
     let moved =
-    turn (lineOver (start .args .sheet .now)) (tracing (now .stage) (now .n) (now .kept) (now .head)) (start .args .piece .now) (now .i)
-    (test .loop-test .taken) _ (event .event-of .ensures) _ (emit .emitted .ensures) _ _ _ _ _ (c .stage-after .ensures)
+    turn (lineBy (start .args .engine) (start .args .bytes .now)) (tracing (now .stage) (now .n) (now .kept) (now .head))
+    (start .args .piece .now) (now .i) (test .loop-test .taken) _ (event .event-of .ensures) _ (emit .emitted .ensures) _ _ _ _ _ (c .stage-after .ensures)
     (number .number-after .ensures) (keep .keep .ensures .0) (keep .keep .ensures .1) (front .front .ensures) in (
       ap length (keep .keep .ensures .1) ∙ length-head (event .event-of .result) (top .loop .kept) (top .loop .head) ∙ top .loop .inv .0,
       measuring-more _ _ _ _ (now .inv .1) (test .loop-test .taken) moved (size .size-of .ensures) (fits .if1 .left),
@@ -128,7 +128,7 @@ returns-2 c =
     let top = c .before in
     let head = top .before in
     let start = head .before .before .before in
-    let line = lineOver (start .args .sheet .now) in
+    let line = lineBy (start .args .engine) (start .args .bytes .now) in
     let piece = start .args .piece .now in
     subst (λ (t : Trace). true ≡ leb (length (linesOf line t piece)) (start .args .room)) (head .head-of .ensures .0)
     (measured-all _ _ _ _ (top .loop .inv .1) (c .loop-test .left))

@@ -9,17 +9,17 @@ use native.Mathlib.Omega.{arith}
 use borrow.Author.Needs.{needs}
 use Rattle.trace.specs.Trace.{tracing, linesOf}
 use Rattle.trace.specs.TraceLaws.{turn, length-head}
-use Rattle.trace_line.specs.Line.{lineOver}
+use Rattle.trace_line.specs.Engine.{lineBy}
 use Rattle.trace_feed.specs.LoopLaws.{Putting, putting-start, putting-more, Done, putting-done}
 use Rattle.trace.specs.declared.Trace.{Trace}
 
 abbrev Inv-loop : tie.InvT-loop
-Inv-loop number sheet piece out₀ stage₀ n₀ kept₀ head₀ at₀ i₀ out stage n kept head at i =
+Inv-loop engine bytes piece out₀ stage₀ n₀ kept₀ head₀ at₀ i₀ out stage n kept head at i =
     (length head ≡ 16)
-    × Putting (lineOver sheet) piece out₀ (tracing stage₀ n₀ kept₀ head₀) out (tracing stage n kept head) at i
+    × Putting (lineBy engine bytes) piece out₀ (tracing stage₀ n₀ kept₀ head₀) out (tracing stage n kept head) at i
 
 abbrev μ-loop : tie.MeasureT-loop
-μ-loop number sheet piece out₀ stage₀ n₀ kept₀ head₀ at₀ i₀ out stage n kept head at i = length piece - i
+μ-loop engine bytes piece out₀ stage₀ n₀ kept₀ head₀ at₀ i₀ out stage n kept head at i = length piece - i
 
 head-of-requires : tie.Need-head-of-requires Inv-loop μ-loop
 head-of-requires c κs = search needs
@@ -27,7 +27,7 @@ head-of-requires c κs = search needs
 loop-holds : tie.Need-loop-holds Inv-loop μ-loop
 loop-holds c =
     let start = c .before .before .before .before in
-    let line = lineOver (start .args .sheet .now) in
+    let line = lineBy (start .args .engine) (start .args .bytes .now) in
     let piece = start .args .piece .now in
     let fits =
     subst (λ (t : Trace). length (linesOf line t piece) ≤ length (start .args .out .now)) (sym (c .head-of .ensures .0))
@@ -94,8 +94,8 @@ loop-again c =
     let start = top .before .before .before .before .before in
     let now = top .loop in
     let moved =
-    turn (lineOver (start .args .sheet .now)) (tracing (now .stage) (now .n) (now .kept) (now .head)) (start .args .piece .now) (now .i)
-    (test .loop-test .taken) _ (event .event-of .ensures) _ (emit .emitted .ensures) _ _ _ _ _ (c .stage-after .ensures)
+    turn (lineBy (start .args .engine) (start .args .bytes .now)) (tracing (now .stage) (now .n) (now .kept) (now .head))
+    (start .args .piece .now) (now .i) (test .loop-test .taken) _ (event .event-of .ensures) _ (emit .emitted .ensures) _ _ _ _ _ (c .stage-after .ensures)
     (number .number-after .ensures) (keep .keep .ensures .0) (keep .keep .ensures .1) (front .front .ensures) in (
       ap length (keep .keep .ensures .1) ∙ length-head (event .event-of .result) (top .loop .kept) (top .loop .head) ∙ top .loop .inv .0,
       putting-more _ _ _ _ (now .inv .1) (test .loop-test .taken) moved (put .put-emitted .ensures),
@@ -109,7 +109,7 @@ returns c =
     let top = c .before in
     let head = top .before in
     let start = head .before .before .before .before in
-    let line = lineOver (start .args .sheet .now) in
+    let line = lineBy (start .args .engine) (start .args .bytes .now) in
     let end = top .loop in
     let state = tracing (end .stage) (end .n) (end .kept) (end .head) in
     let done =

@@ -16,7 +16,8 @@ returns c =
     let put = c .before in
     let line = put .before in
     let start = line .before .before .before in
-    let le = emitted-le (start .args .sheet .now) (start .args .emits) (start .args .n) (start .args .header .now) (omega arith) in
+    let header = start .args .header .now in
+    let le = emitted-le (start .args .engine) (start .args .bytes .now) (start .args .emits) (start .args .n) header (omega arith) in
     omega (arith, put .put-emitted .ensures .place, le)
 
 pub size-of-spec : {M : Type 1} → statement M

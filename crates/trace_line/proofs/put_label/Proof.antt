@@ -24,8 +24,8 @@ kind-read-requires c κs = search needs
 put-kind-requires : tie.Need-put-kind-requires
 put-kind-requires c κs = search needs
 
-route-over-requires : tie.Need-route-over-requires
-route-over-requires c κs =
+route-by-requires : tie.Need-route-by-requires
+route-by-requires c κs =
     let kind = c .before .before .before in
     let text = kind .before .before .before .before .before in
     let read = text .before .before .before .before .before .before in
@@ -61,8 +61,10 @@ returns c =
     let packet = text .before .before .before .before in
     let read = packet .before .before in
     let start = read .before .before .before .before in
-    let label = label-accepted (start .args .sheet .now) (start .args .header .now) _ (read .read .ensures) _ (packet .p .given .1) in
-    rw (label, ← name .kind-read .ensures, ← route .route-over .ensures)
+    let header = start .args .header .now in
+    let label =
+    label-accepted (start .args .engine) (start .args .bytes .now) header _ (read .read .ensures) _ (packet .p .given .1) in
+    rw (label, ← name .kind-read .ensures, ← route .route-by .ensures)
     (put-append (text .put-text .ensures) (put-append (kind .put-kind .ensures) (owner .put-owner .ensures)))
 
 same-length-2 : tie.Need-same-length-2
@@ -75,7 +77,8 @@ returns-2 c =
     let number = named .before .before .before .before in
     let read = number .before .before in
     let start = read .before .before .before .before in
-    rw (label-refused (start .args .sheet .now) (start .args .header .now) _ (read .read .ensures) _ (number .n .given .1))
+    let header = start .args .header .now in
+    rw (label-refused (start .args .engine) (start .args .bytes .now) header _ (read .read .ensures) _ (number .n .given .1))
     (named .put-named .ensures)
 
 pub put-label-spec : {M : Type 1} → statement M
@@ -88,7 +91,7 @@ put-label-spec =
     put-text-requires
     kind-read-requires
     put-kind-requires
-    route-over-requires
+    route-by-requires
     put-owner-requires
     enum-known-n
     slice-aggregate-put-named

@@ -4,7 +4,7 @@ use Rattle.trace_line.proofs.put_line.Statement.{statement}
 use Rattle.trace_line.proofs.put_line.Tie as tie
 use Rattle.text.specs.Text.{ascii}
 use Rattle.text.specs.TextLaws.{put-append}
-use Rattle.trace_line.specs.Line.{lineOver}
+use Rattle.trace_line.specs.Line.{lineWith}
 
 put-decimal-requires : tie.Need-put-decimal-requires
 put-decimal-requires c κs = search needs
@@ -22,7 +22,7 @@ same-length : tie.Need-same-length
 same-length c = search needs
 
 returns : tie.Need-returns
-unfolding lineOver ascii
+unfolding lineWith ascii
 returns c =
     let end = c .before .before in
     let label = end .before .before .before .before .before in

@@ -1,7 +1,7 @@
--- `trace_feed::feed_over` meets its contract: a piece whose lines do not fit changes nothing. Assumes nothing.
+-- `trace_feed::feed_by` meets its contract: a piece whose lines do not fit changes nothing. Assumes nothing.
 use borrow.Author.Needs.{needs}
-use Rattle.trace_feed.proofs.feed_over.Statement.{statement}
-use Rattle.trace_feed.proofs.feed_over.Tie as tie
+use Rattle.trace_feed.proofs.feed_by.Statement.{statement}
+use Rattle.trace_feed.proofs.feed_by.Tie as tie
 use Rattle.trace_feed.specs.LoopLaws.{fits-elim, not-taken}
 
 fits-requires : tie.Need-fits-requires
@@ -24,6 +24,6 @@ same-length c = search needs
 returns-2 : tie.Need-returns-2
 returns-2 c = search needs
 
-pub feed-over-spec : {M : Type 1} → statement M
-feed-over-spec =
+pub feed-by-spec : {M : Type 1} → statement M
+feed-by-spec =
     tie.close (tie.spec fits-requires returns put-lines-requires same-length returns-2)
