@@ -95,8 +95,8 @@ loop-again c =
     let now = top .loop in
     let moved =
     turn (lineBy (start .args .engine) (start .args .bytes .now)) (tracing (now .stage) (now .n) (now .kept) (now .head))
-    (start .args .piece .now) (now .i) (test .loop-test .taken) _ (event .event-of .ensures) _ (emit .emitted .ensures) _ _ _ _ _ (c .stage-after .ensures)
-    (number .number-after .ensures) (keep .keep .ensures .0) (keep .keep .ensures .1) (front .front .ensures) in (
+    (start .args .piece .now) (now .i) (test .loop-test .taken) _ (event .event-of .ensures) _ (emit .emitted .ensures) _ _ _ _ _
+    (c .stage-after .ensures) (number .number-after .ensures) (keep .keep .ensures .0) (keep .keep .ensures .1) (front .front .ensures) in (
       ap length (keep .keep .ensures .1) ∙ length-head (event .event-of .result) (top .loop .kept) (top .loop .head) ∙ top .loop .inv .0,
       putting-more _ _ _ _ (now .inv .1) (test .loop-test .taken) moved (put .put-emitted .ensures),
     )
