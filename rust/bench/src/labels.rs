@@ -44,6 +44,10 @@ fn row(functions: usize, depth: usize) {
     let engines: Vec<Engine<'_>> = vec![
         ("yardstick", Box::new(|headers| summed(headers, |header, answer| index.label(header, answer).into()))),
         ("yardstick, by a call", Box::new(|headers| summed(headers, |header, answer| called(&index, header, answer)))),
+        (
+            "proved",
+            Box::new(|headers| summed(headers, |header, answer| cartsundial::calls::find(header, &bytes, answer))),
+        ),
         ("plain", Box::new(|headers| summed(headers, |header, answer| plain_find(header, &bytes, answer)))),
     ];
     // What the router answers, on both sides, is what the yardstick does.

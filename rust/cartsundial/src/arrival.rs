@@ -57,20 +57,26 @@ impl Arrival {
 /// Routes the header from the host over the sheet. A header that is refused is refused before the sheet is read. Only a
 /// message can go to every function, or end at the port.
 pub fn route(header: &[u8], sheet: &[u8]) -> Result<Arrival, Refusal> {
+    asked(sheet, |answer| calls::route(header, sheet, answer))
+}
+
+/// The arrival over this sheet that a call answers with.
+#[inline]
+pub(crate) fn asked(sheet: &[u8], call: impl Fn(&mut [u64]) -> u32) -> Result<Arrival, Refusal> {
     let mut numbers = [0; ROUTE];
-    match calls::route(header, sheet, &mut numbers) {
+    match call(&mut numbers) {
         0 => Ok(arrival(sheet, &numbers)),
         // Only a broadcast's answer is longer than this.
-        SHORT => route_to_every(header, sheet),
+        SHORT => to_every(sheet, call),
         number => Err(Refusal::of_call(number)),
     }
 }
 
-/// Routes a broadcast, with room for the records of all functions.
+/// A broadcast, with room for the records of all functions.
 #[cold]
-fn route_to_every(header: &[u8], sheet: &[u8]) -> Result<Arrival, Refusal> {
+fn to_every(sheet: &[u8], call: impl Fn(&mut [u64]) -> u32) -> Result<Arrival, Refusal> {
     let mut numbers = [0; ANY_ROUTE];
-    match calls::route(header, sheet, &mut numbers) {
+    match call(&mut numbers) {
         0 => Ok(arrival(sheet, numbers.first_chunk().expect("more than a route's numbers"))),
         number => Err(Refusal::of_call(number)),
     }

@@ -1,4 +1,4 @@
-//! The library's eleven calls as it has them: slices in, numbers out.
+//! The library's thirteen calls as it has them: slices in, numbers out.
 //!
 //! Each returns 0 or document 01's number. A refused call changes nothing that it was lent. An answer slice that is too
 //! short is 11, tried last; numbers past the answer's own are left as they were.
@@ -10,11 +10,11 @@
 /// code and bytes 8 to 15 where a request has its enables and address. A field that the kind does not have is 0.
 pub const PACKET: usize = 20;
 
-/// How many numbers the answer to [`route`] has: record, bridges, and the packet as it arrives. Only of a broadcast are
+/// How many numbers the answer to [`route`] and [`find`] has: record, bridges, and the packet as it arrives. Only of a broadcast are
 /// there more.
 pub const ROUTE: usize = 2 + PACKET;
 
-/// How many numbers are always enough for [`route`]: a broadcast's answer ends with the record of every function.
+/// How many numbers are always enough for [`route`], and for [`find`] in an index that was built: a broadcast's answer ends with the record of every function.
 pub const ANY_ROUTE: usize = ROUTE + 512;
 
 /// How many numbers the state of a trace has, in [`annotate`] and [`annotate_end`]. All zero is a trace of which nothing
@@ -59,6 +59,22 @@ mod c {
             header_len: usize,
             sheet: *const u8,
             sheet_len: usize,
+            answer: *mut u64,
+            answer_len: usize,
+        ) -> u32;
+        pub fn cartsundial_index(
+            host: *const u8,
+            host_len: usize,
+            sheet: *const u8,
+            sheet_len: usize,
+            index: *mut u8,
+            index_len: usize,
+        ) -> u32;
+        pub fn cartsundial_find(
+            header: *const u8,
+            header_len: usize,
+            index: *const u8,
+            index_len: usize,
             answer: *mut u64,
             answer_len: usize,
         ) -> u32;
@@ -166,6 +182,30 @@ pub fn route(header: &[u8], sheet: &[u8], answer: &mut [u64]) -> u32 {
             header.len(),
             sheet.as_ptr(),
             sheet.len(),
+            answer.as_mut_ptr(),
+            answer.len(),
+        )
+    }
+}
+
+/// Builds the index of a sheet for the bytes of a host record at the start of `index`: 1,024 bytes, and 256 a function.
+///
+/// The audit's number comes first, then 11 for a shorter slice.
+pub fn index(host: &[u8], sheet: &[u8], index: &mut [u8]) -> u32 {
+    unsafe {
+        c::cartsundial_index(host.as_ptr(), host.len(), sheet.as_ptr(), sheet.len(), index.as_mut_ptr(), index.len())
+    }
+}
+
+/// Routes a header by an index: what [`route`] answers over the sheet that it was built from. On other bytes the call ends
+/// too, with an answer or a number; a broadcast can then be for up to 65,535 functions.
+pub fn find(header: &[u8], index: &[u8], answer: &mut [u64]) -> u32 {
+    unsafe {
+        c::cartsundial_find(
+            header.as_ptr(),
+            header.len(),
+            index.as_ptr(),
+            index.len(),
             answer.as_mut_ptr(),
             answer.len(),
         )

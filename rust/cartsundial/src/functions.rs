@@ -36,6 +36,12 @@ pub fn functions(sheet: &[u8]) -> Result<impl ExactSizeIterator<Item = Function<
     }))
 }
 
+/// How many functions a sheet of this length can have.
+#[cfg(feature = "std")]
+pub(crate) fn most_in(sheet: &[u8]) -> usize {
+    sheet.len() / RECORD
+}
+
 /// The ID of a record of a sheet that passes its checks, as the answer to a call over it tells.
 pub(crate) fn id_at(sheet: &[u8], record: u16) -> Id {
     id_in(&sheet[1 + RECORD * (usize::from(record) - 1)..])

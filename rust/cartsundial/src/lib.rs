@@ -24,10 +24,12 @@
 //! | is a sheet that other firmware left in order, for a host | [`audit`] |
 //! | its functions one by one, or from a record to its ID | [`functions()`], [`id_of`] |
 //! | where a packet goes: a function, every function, the port | [`route`] |
+//! | the same for many headers over one sheet | [`Index`] |
 //! | a line for each header of a trace: in pieces, of a whole one | [`Annotator`], [`lines()`] |
 //! | the same calls with numbers in place of types | [`calls`] |
 //!
-//! With the feature `std`, which is off unless asked for, `Labeller` is an annotator that implements `std::io::Write`.
+//! With the feature `std`, which is off unless asked for, `Labeller` is an annotator that implements `std::io::Write`, and
+//! `Index::new` builds an index in a vector.
 //!
 //! ```
 //! use cartsundial::{plan, route, Refusal, FULL_SHEET};
@@ -59,6 +61,7 @@ mod fields;
 mod functions;
 mod host;
 mod id;
+mod index;
 mod kind;
 mod label;
 #[cfg(feature = "std")]
@@ -74,6 +77,7 @@ pub use fields::{Body, Enables, Fields};
 pub use functions::{functions, Function};
 pub use host::{audit, HostRecord};
 pub use id::Id;
+pub use index::{index_length, Index, FULL_INDEX};
 pub use kind::{CompletionKind, ConfigurationKind, Form, IoKind, Kind, MemoryKind, MessageKind, Routing};
 pub use label::{Label, Owner};
 #[cfg(feature = "std")]

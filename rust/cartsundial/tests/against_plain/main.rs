@@ -10,6 +10,7 @@ mod audits;
 mod boards;
 mod chosen;
 mod headers;
+mod indexes;
 mod lent;
 mod routes;
 mod sheets;
@@ -31,7 +32,7 @@ fn main() -> ExitCode {
     let rounds = setting("CARTSUNDIAL_ROUNDS", 1);
     println!("against plain: seed {seed}, rounds {rounds}");
     let mut tally = Tally::default();
-    let parts: [(&str, Part); 7] = [
+    let parts: [(&str, Part); 8] = [
         ("chosen", chosen::compare),
         ("headers", headers::compare),
         ("boards", boards::compare),
@@ -39,6 +40,7 @@ fn main() -> ExitCode {
         ("routes", routes::compare),
         ("traces", traces::compare),
         ("audits", audits::compare),
+        ("indexes", indexes::compare),
     ];
     for (number, (name, compare)) in (0..).zip(parts) {
         let before = tally.total();

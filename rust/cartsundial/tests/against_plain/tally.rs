@@ -16,11 +16,13 @@ pub enum Call {
     Id,
     Command,
     Route,
+    Index,
+    Find,
     Annotate,
     End,
 }
 
-const CALLS: [Call; 11] = [
+const CALLS: [Call; 13] = [
     Call::Read,
     Call::Write,
     Call::Plan,
@@ -30,6 +32,8 @@ const CALLS: [Call; 11] = [
     Call::Id,
     Call::Command,
     Call::Route,
+    Call::Index,
+    Call::Find,
     Call::Annotate,
     Call::End,
 ];
@@ -50,6 +54,8 @@ impl Call {
             Call::Id => &[0, 11, 20, 21, 22, 24, 25, 27, 28, 29, 40],
             Call::Command => &[0, 10, 20, 21, 22, 24, 25, 27, 28, 29, 40],
             Call::Route => &[0, 1, 2, 3, 4, 5, 6, 7, 8, 9, 11, 20, 21, 22, 24, 25, 27, 28, 29, 40, 41, 42, 43],
+            Call::Index => &[0, 11, 20, 21, 22, 24, 25, 26, 27, 28, 29, 50, 51, 52],
+            Call::Find => &[0, 1, 2, 3, 4, 5, 6, 7, 8, 9, 11, 40, 42, 43],
             Call::Annotate | Call::End => &[0, 10, 11],
         }
     }
