@@ -11,6 +11,7 @@ mod audit;
 mod bar;
 mod board;
 mod index;
+mod label;
 mod packet;
 mod plan;
 mod pool;
@@ -20,6 +21,7 @@ mod trace;
 
 pub use audit::{audit, program as audit_program};
 pub use index::{build, find};
+pub use label::program as label_program;
 pub use packet::{read, to_numbers, write, write_numbers, Form, Kind, Packet};
 pub use plan::plan;
 pub use route::{route, Arrival};

@@ -35,24 +35,27 @@ pub fn annotate(sheet: &[u8], trace: &[u8]) -> String {
 
 /// What the program `annotate` prints for its whole standard input: a sheet after its two-byte length, then a trace.
 pub fn program(input: &[u8]) -> Vec<u8> {
-    let lines = match input.split_first_chunk() {
-        None => refused(20),
-        Some((&length, rest)) => {
-            let length = usize::from(u16::from_be_bytes(length));
-            match rest.split_at_checked(length) {
-                // At once, whatever follows.
-                _ if length > FULL_SHEET => refused(22),
-                None => refused(20),
-                Some((sheet, trace)) => annotate(sheet, trace),
-            }
-        }
+    let lines = match sheet_and_trace(input) {
+        Ok((sheet, trace)) => annotate(sheet, trace),
+        Err(number) => refused(number),
     };
     lines.into_bytes()
 }
 
+/// A sheet after its two-byte length, and what follows it.
+pub(crate) fn sheet_and_trace(input: &[u8]) -> Result<(&[u8], &[u8]), u8> {
+    let (&length, rest) = input.split_first_chunk().ok_or(20)?;
+    let length = usize::from(u16::from_be_bytes(length));
+    // At once, whatever follows.
+    if length > FULL_SHEET {
+        return Err(22);
+    }
+    rest.split_at_checked(length).ok_or(20)
+}
+
 const CUT: &str = "cut\n";
 
-fn refused(number: u8) -> String {
+pub(crate) fn refused(number: u8) -> String {
     format!("refused {number}\n")
 }
 

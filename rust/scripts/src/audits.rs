@@ -31,7 +31,7 @@ fn of(records: &[Record]) -> Vec<u8> {
 }
 
 /// P10's bridge with one bus number more, and its function.
-fn bridge_and_end() -> [Record; 2] {
+pub fn bridge_and_end() -> [Record; 2] {
     [
         Record::bridge(0x0000, 1, 2).low(0xF900, 0xF900).high(0x4001, 0x43F1, 2, 2).io(0x40, 0x40),
         Record::end(0x0100).bar(0, memory(12), 0xF900_0000).wide(1, 12, 26, 0x2_4000_0000).bar(3, io(8), 0x4001),
@@ -56,13 +56,17 @@ fn full() -> Vec<Record> {
     records
 }
 
+/// 255 bridges, and below the last one a function.
+pub fn in_a_row() -> Vec<Record> {
+    let bridge = |bus: u8| Record::bridge(u16::from(bus) << 8, bus + 1, 255).low(0xF900, 0xF900).io(0x40, 0x40);
+    let mut records: Vec<Record> = (0..255).map(bridge).collect();
+    records.push(Record::end(0xFF00).bar(0, memory(20), 0xF900_0000).bar(1, io(12), 0x4001));
+    records
+}
+
 fn accepted() -> Vec<Run> {
     let tree = board::document_001();
     let bare = [Record::bridge(0x0000, 1, 3), Record::bridge(0x0100, 2, 2), Record::end(0x0200)];
-    let mut in_a_row: Vec<Record> = (0..255)
-        .map(|bus: u8| Record::bridge(u16::from(bus) << 8, bus + 1, 255).low(0xF900, 0xF900).io(0x40, 0x40))
-        .collect();
-    in_a_row.push(Record::end(0xFF00).bar(0, memory(20), 0xF900_0000).bar(1, io(12), 0x4001));
     let spellings = [
         Record::bridge(0x0000, 1, 1).low(0xF910, 0xF900).high(0x4011, 0x4001, 2, 2).io(0x50, 0x40),
         Record::bridge(0x0008, 2, 2).low(0x0010, 0x0000).high(0x0001, 0xFFF1, 1, 0).io(0x10, 0x00),
@@ -74,7 +78,7 @@ fn accepted() -> Vec<Run> {
         ("no-functions", of(&[])),
         ("pools-closed", input(&Board::closed(), &sheet(&bare))),
         ("full-sheet", of(&full())),
-        ("bridges-in-a-row", of(&in_a_row)),
+        ("bridges-in-a-row", of(&in_a_row())),
         ("windows-closed", of(&spellings)),
         ("disabled", disabled),
     ]

@@ -1,10 +1,12 @@
 //! Chosen cases as scripts, one request to a line (`plain`'s program `answers` says which), and as runs of the programs
-//! `plan`, `annotate` and `audit`: the same bytes at every run. The answers to the lines of `test_headers`, which are chosen by hand.
+//! `plan`, `annotate`, `audit` and `label`: the same bytes at every run. The answers to the lines of `test_headers`, which
+//! are chosen by hand.
 
 #![forbid(unsafe_code)]
 
 mod audits;
 mod headers;
+mod labels;
 mod messages;
 mod planning;
 mod plans;
@@ -15,6 +17,7 @@ mod traces;
 
 pub use audits::{runs as audits, CAPTURES};
 pub use headers::answers as headers;
+pub use labels::runs as labels;
 pub use planning::script as boards;
 pub use plans::{program as plan_program, runs as plans};
 pub use routing::script as routes;

@@ -20,12 +20,12 @@ pub fn planned(board: &Board) -> Vec<u8> {
     room
 }
 
-fn p10() -> Vec<u8> {
+pub fn p10() -> Vec<u8> {
     planned(&board::p10())
 }
 
 /// Over P10's sheet: owner 2, no owner, a refused header, every function, and the port.
-fn examples() -> Vec<Vec<u8>> {
+pub fn examples() -> Vec<Vec<u8>> {
     vec![
         request(MRD, 0xF900_0FFC),
         request(IOWR, 0x4100),
@@ -48,7 +48,7 @@ fn headers() -> Vec<Run> {
 }
 
 /// Every kind. Configuration requests of type 1 arrive as type 0, and are named as they were read.
-fn kinds() -> [Vec<u8>; 15] {
+pub fn kinds() -> [Vec<u8>; 15] {
     [
         request(MRD, 0xF900_0000),
         changed(request(MRD, 0xF900_0000), &[(0, 0x01)]),
@@ -76,7 +76,7 @@ fn ten_bit_tags() -> Vec<Vec<u8>> {
 }
 
 /// In the order of their numbers, 1 to 9.
-fn refused_headers() -> [Vec<u8>; 9] {
+pub fn refused_headers() -> [Vec<u8>; 9] {
     let read = request(MRD, 0xF900_0000);
     [
         read[..11].to_vec(),
@@ -92,7 +92,7 @@ fn refused_headers() -> [Vec<u8>; 9] {
 }
 
 /// 40, 41, 42 and 43, each in more than one way; then one that is delivered.
-fn refused_routes() -> [Vec<u8>; 10] {
+pub fn refused_routes() -> [Vec<u8>; 10] {
     [
         request(MRD, 0xF8FF_FFFC),
         request(IORD, 0x1000),
@@ -108,7 +108,17 @@ fn refused_routes() -> [Vec<u8>; 10] {
 }
 
 fn records() -> Vec<Run> {
-    // Headers of three dwords and of four in records from no bytes up to the longest.
+    // Numbers of one digit to four. The lines are longer than their records: 84 KB from 16.
+    let header = request(MRD, 0xF900_0000);
+    let many: Vec<Vec<u8>> = (1..=5000).map(|number| if number % 10 == 0 { header.clone() } else { vec![] }).collect();
+    vec![
+        ("record-lengths", input(&p10(), &trace::of(&lengths()))),
+        ("record-numbers", input(&p10(), &trace::of(&many))),
+    ]
+}
+
+/// Headers of three dwords and of four in records from no bytes up to the longest.
+pub fn lengths() -> Vec<Vec<u8>> {
     let (three, four) = (request(MRD, 0xF900_0000), request(MWR, 0x2_4000_0000));
     let mut lengths = Vec::new();
     for length in [0, 1, 11, 12, 13, 15, 16, 17, 40, 255, 256, 300] {
@@ -118,9 +128,7 @@ fn records() -> Vec<Run> {
         }
     }
     lengths.push([&four[..], &[0xFF; 65_519]].concat());
-    // Numbers of one digit to four. The lines are longer than their records: 84 KB from 16.
-    let many: Vec<Vec<u8>> = (1..=5000).map(|number| if number % 10 == 0 { three.clone() } else { vec![] }).collect();
-    vec![("record-lengths", input(&p10(), &trace::of(&lengths))), ("record-numbers", input(&p10(), &trace::of(&many)))]
+    lengths
 }
 
 fn sheets() -> Vec<Run> {
@@ -149,14 +157,18 @@ fn sheets() -> Vec<Run> {
     ]
 }
 
-/// Each function of source document 001's tree by its ID, then all of them.
 fn tree_001() -> Vec<u8> {
     let tree = planned(&board::document_001());
-    let ids = tree[1..].chunks_exact(92).map(|record| u16::from_be_bytes([record[2], record[3]]));
+    input(&tree, &trace::of(&each_function(&tree)))
+}
+
+/// Each function of a sheet with root bus 0 by its ID, then all of them.
+pub fn each_function(sheet: &[u8]) -> Vec<Vec<u8>> {
+    let ids = sheet[1..].chunks_exact(92).map(|record| u16::from_be_bytes([record[2], record[3]]));
     let mut headers: Vec<Vec<u8>> =
         ids.map(|id| configuration(if id < 0x0100 { CFGRD0 } else { CFGRD1 }, id, 0)).collect();
     headers.push(message(MSG, 0b011, 0x19, 0));
-    input(&tree, &trace::of(&headers))
+    headers
 }
 
 fn ends() -> Vec<Run> {

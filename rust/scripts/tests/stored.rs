@@ -1,6 +1,6 @@
-//! tests/plan has the runs of `plans`, tests/annotate those of `traces` and tests/audit those of `audits`, with what plain
-//! prints for them, and no other file; tests/audit has the sheets that real firmware left as well. The stored lines of
-//! `test_headers` have plain's answers.
+//! tests/plan has the runs of `plans`, tests/annotate those of `traces`, tests/audit those of `audits` and tests/label those
+//! of `labels`, with what plain prints for them, and no other file; tests/audit has the sheets that real firmware left as
+//! well. The stored lines of `test_headers` have plain's answers.
 
 use std::collections::BTreeMap;
 use std::fs;
@@ -58,13 +58,36 @@ fn runs_of_audit() {
     agree(&files, &runs, "cargo run --bin audits tests/audit");
 }
 
+#[test]
+fn runs_of_label() {
+    let runs = stored(scripts::labels(), "in", plain::label_program);
+    agree(&files("label"), &runs, "cargo run --bin labels tests/label");
+}
+
+/// The line of a run whose name says a number.
+fn refusal(name: &str) -> Option<String> {
+    let number: u8 = name.split_once("refused-")?.1.split('-').next()?.parse().ok()?;
+    Some(format!("refused {number}\n"))
+}
+
 /// A run whose name says a number is refused with it, any other is accepted.
 #[test]
 fn names_of_audits() {
     for (name, input) in scripts::audits() {
-        let number = name.split_once("refused-").map(|(_, rest)| rest.split('-').next().unwrap());
-        let expected = number.map_or("accepted\n".to_string(), |number| format!("refused {number}\n"));
+        let expected = refusal(name).unwrap_or("accepted\n".to_string());
         assert_eq!(String::from_utf8(plain::audit_program(&input)).unwrap(), expected, "{name}");
+    }
+}
+
+/// A run whose name says a number is refused with it, any other is labelled.
+#[test]
+fn names_of_labels() {
+    for (name, input) in scripts::labels() {
+        let printed = String::from_utf8(plain::label_program(&input)).unwrap();
+        match refusal(name) {
+            Some(line) => assert_eq!(printed, line, "{name}"),
+            None => assert!(!printed.starts_with("refused"), "{name}"),
+        }
     }
 }
 
