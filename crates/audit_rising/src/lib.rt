@@ -21,8 +21,10 @@ const BUSES: usize = 256;
 
 const POOLS: usize = 768;
 
-// Fewer records are sooner compared by pairs than a table is made.
+// The records of fewer are sooner compared by pairs than a table is made.
 const FEW: usize = 4;
+
+const FEW_BRIDGES: usize = 16;
 
 // Where low memory ends and high memory starts.
 const EDGE: u64 = 4294967296;
@@ -47,7 +49,7 @@ pub fn buses_rise(sheet: &[u8]) -> bool
     requires { ⌜ Framed 1 (now sheet) ⌝ }
     ensures { λ r. ⌜ (r ≡ true → anyPair busesShared (entriesOf (now (sheet .entry))) ≡ false) ⌝ }
 {
-    if sheet::count(sheet) < FEW {
+    if sheet::count(sheet) < FEW_BRIDGES {
         return false;
     }
     let mut table = [0u64; BUSES];
