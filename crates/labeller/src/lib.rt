@@ -15,8 +15,8 @@ use trace_line::Engine;
 
 // The index of a full sheet, 1,024 bytes and 256 a function: 132,096 for 512 functions, which E4's 64 KiB cannot hold, so this program
 // stands beside the annotator. Its memory is fixed too: the index, a full sheet of 47,105 bytes, a piece and its lines as the annotator has
-// them (6,048), the host record, 8,192 bytes in which the sheet's check marks IDs, 512 for a table of buses, 4,096 in which `io` goes on
-// after a short write, and a few hundred for ranges and lines under way: less than 200,000 bytes.
+// them (6,048), the host record, 8,192 bytes in which the sheet's check marks IDs, 9,216 for the tables by bus of audit and build, 4,096 in
+// which `io` goes on after a short write, and under 1,000 for ranges and lines under way: less than 208,000 bytes.
 pub const INDEX: usize = 1024 + 256 * records::MOST_FUNCTIONS;
 
 const HOST_SIZE: usize = 30;
