@@ -1,5 +1,5 @@
-// 52: on each bus all BARs and open windows of one space are disjoint, enabled or not. Where they rise, one pass tells so. Else each
-// record's ranges are compared among themselves, then with those of every later record on its bus.
+// 52: on each bus all BARs and open windows of one space are disjoint, enabled or not. One pass tells so of ranges that rise, another of
+// most others. Where neither does, each record's ranges are compared among themselves, then with those of every later record on its bus.
 ghost use mathlib.Core.Path.{_≡_};
 ghost use mathlib.Core.Bool.{false};
 ghost use Prim.Native.Nat.{_+_, _-_, _*_, _≤_, _<_};
@@ -24,6 +24,9 @@ pub fn overlaps(sheet: &[u8]) -> bool
     ensures { λ r. ⌜ r ≡ overlapsOf (entriesOf (now (sheet .entry))) ⌝ }
 {
     if audit_rising::ranges_rise(sheet) {
+        return false;
+    }
+    if audit_spans::ranges_apart(sheet) {
         return false;
     }
     overlaps_by_pairs(sheet)

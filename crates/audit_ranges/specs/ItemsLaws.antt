@@ -91,7 +91,7 @@ module _ (xs : List ℕ) (n : ℕ) (x : Item) (fits : 3 * n + 3 ≤ length xs) w
       ∙ getD-set-other one (3 * n + 1) j (x .first) 0 (λ e. omega arith)
       ∙ getD-set-other xs (3 * n) j (x .pool) 0 (λ e. omega arith)
 
-  stored-is : itemAt (stored xs n x) n ≡ x
+  pub stored-is : itemAt (stored xs n x) n ≡ x
   stored-is = λ i. record { pool = pool-is i; first = first-is i; last = last-is i }
     where
       pool-is : getD (stored xs n x) (3 * n) 0 ≡ x .pool

@@ -1,5 +1,5 @@
 -- One pass over a framed sheet's records that takes what each has, in the words of the code. Assumes nothing.
-use mathlib.Core.Path.{_≡_, refl, sym, ap, subst, _∙_}
+use mathlib.Core.Path.{_≡_, refl, sym, subst, _∙_}
 use mathlib.Core.Bool.{Bool, true, false, not, _&&_, _||_}
 use mathlib.Core.List.{List, [], _∷_, _++_, map, flatMap}
 use Prim.Native.Nat.{ℕ, suc, _+_, _-_, _*_, _%_, _≤_, _<_}
@@ -30,20 +30,57 @@ buses-are : (p : List ℕ) → isBridge (headerOf p) ≡ true → busesOf (entry
 unfolding entryOf
 buses-are p e = rw e
 
--- n records in all, and those from k on are left
-module _ (spots : Entry → List Spot) (s : List ℕ) (f : Framed 1 s) (n k : ℕ) (count : n ≡ length (entriesOf s)) where
-  pub records-past : n ≤ k → (t : List ℕ) → Rising t (flatMap spots (entriesFrom s (recordAt k)))
-  unfolding flatMap
-  records-past h t =
-      subst (λ (es : List Entry). Rising t (flatMap spots es))
-      (sym (entries-past s (recordAt k) (omega (arith, count, count-entries s f)))) tt
+-- P says of the state of a pass that it may go on with these
+module _ {S : Type 0} (P : S → List Spot → Type 0) where
+  -- these take one state to another
+  abbrev pub Leaves : S → List Spot → S → Type 0
+  Leaves t xs u = (ys : List Spot) → P u ys → P t (xs ++ ys)
 
-  pub records-turn : k < n → (p : List ℕ) → p ≡ partAt s k → (t u : List ℕ) → Takes t (spots (entryOf p)) u
-      → Rising u (flatMap spots (entriesFrom s (recordAt (k + 1)))) → Rising t (flatMap spots (entriesFrom s (recordAt k)))
-  unfolding flatMap
-  records-turn h p is t u takes left =
-      subst (λ (es : List Entry). Rising t (flatMap spots es)) (sym (entries-index s f k (omega (arith, count))))
-      (subst (λ (q : List ℕ). Rising t (spots (entryOf q) ++ flatMap spots (entriesFrom s (recordAt (k + 1))))) is (takes _ left))
+  -- n records in all, and those from k on are left
+  module _ (spots : Entry → List Spot) (s : List ℕ) (f : Framed 1 s) (n k : ℕ) (count : n ≡ length (entriesOf s)) (t : S) where
+    pub records-past : n ≤ k → P t [] → P t (flatMap spots (entriesFrom s (recordAt k)))
+    unfolding flatMap
+    records-past h r =
+        subst (λ (es : List Entry). P t (flatMap spots es))
+        (sym (entries-past s (recordAt k) (omega (arith, count, count-entries s f)))) r
+
+    pub records-turn : k < n → (p : List ℕ) → p ≡ partAt s k → (u : S) → Leaves t (spots (entryOf p)) u
+        → P u (flatMap spots (entriesFrom s (recordAt (k + 1)))) → P t (flatMap spots (entriesFrom s (recordAt k)))
+    unfolding flatMap
+    records-turn h p is u takes left =
+        subst (λ (es : List Entry). P t (flatMap spots es)) (sym (entries-index s f k (omega (arith, count))))
+        (subst (λ (q : List ℕ). P t (spots (entryOf q) ++ flatMap spots (entriesFrom s (recordAt (k + 1))))) is
+        (takes (flatMap spots (entriesFrom s (recordAt (k + 1)))) left))
+
+  -- n ranges in all, and those from i on are left
+  module _ (spotted : Range → Spot) (xs : List ℕ) (n i : ℕ) (t : S) where
+    pub ranges-past : n ≤ i → Leaves t (map spotted (rangesFrom xs i (n - i))) t
+    ranges-past h ys r = subst (λ (rs : List Range). P t (map spotted rs ++ ys)) (sym (items-none xs n i h)) r
+
+    pub ranges-all : (v : S) → Leaves t (map spotted (rangesFrom xs 0 (n - 0))) v → Leaves t (map spotted (rangesIn n xs)) v
+    ranges-all v takes = subst (λ (rs : List Range). Leaves t (map spotted rs) v) (items-all xs n) takes
+
+    pub ranges-turn : i < n → (x : Item) → x ≡ itemAt xs i → (u v : S) → Leaves t (spotted (rangeOf x) ∷ []) u
+        → Leaves u (map spotted (rangesFrom xs (i + 1) (n - (i + 1)))) v → Leaves t (map spotted (rangesFrom xs i (n - i))) v
+    ranges-turn h x is u v takes left ys r =
+        subst (λ (rs : List Range). P t (map spotted rs ++ ys)) (sym (items-more xs n i h))
+        (subst (λ (y : Item). P t (spotted (rangeOf y) ∷ map spotted (rangesFrom xs (i + 1) (n - (i + 1))) ++ ys)) is
+        (takes (map spotted (rangesFrom xs (i + 1) (n - (i + 1))) ++ ys) (left ys r)))
+
+  -- a function's own ranges, decoded
+  pub takes-own : (p : List ℕ) (b : ℕ) (rs : List Range) → b ≡ busOf p → rs ≡ rangesOf (entryOf p) → (t u : S)
+      → Leaves t (map (spotOf b) rs) u → Leaves t (spotsOf (entryOf p)) u
+  takes-own p b rs e f t u takes =
+      subst (λ (c : ℕ). Leaves t (map (spotOf c) (rangesOf (entryOf p))) u) (e ∙ bus-of-entry p)
+      (subst (λ (ss : List Range). Leaves t (map (spotOf b) ss) u) f takes)
+
+  -- one range, by its key
+  pub takes-range : (b : ℕ) (a : Item) (k : ℕ) → k ≡ keyOf b (rangeOf a) → sided (rangeOf a) ≡ true → (t u : S)
+      → Leaves t (spot k (a .first) (a .last) true ∷ []) u → Leaves t (spotOf b (rangeOf a) ∷ []) u
+  takes-range b a k e told t u takes = subst (λ (x : Spot). Leaves t (x ∷ []) u) same takes
+    where
+      same : spot k (a .first) (a .last) true ≡ spotOf b (rangeOf a)
+      same = λ i. record { key = e i; start = a .first; stop = suc (a .last); told = sym told i }
 
 -- where the pass comes to its end, what there is rises
 module _ (s : List ℕ) (t : List ℕ) where
@@ -52,21 +89,6 @@ module _ (s : List ℕ) (t : List ℕ) where
 
   pub buses-told : Rising t (flatMap busesOf (entriesOf s)) → anyPair busesShared (entriesOf s) ≡ false
   buses-told r = shared-none (entriesOf s) (rising-clear t (flatMap busesOf (entriesOf s)) r)
-
--- n ranges in all, and those from i on are left
-module _ (spotted : Range → Spot) (xs : List ℕ) (n i : ℕ) where
-  pub ranges-past : n ≤ i → (t : List ℕ) → Takes t (map spotted (rangesFrom xs i (n - i))) t
-  ranges-past h t ys r = rw (items-none xs n i h) r
-
-  pub ranges-all : (t v : List ℕ) → Takes t (map spotted (rangesFrom xs 0 (n - 0))) v → Takes t (map spotted (rangesIn n xs)) v
-  ranges-all t v takes = subst (λ (rs : List Range). Takes t (map spotted rs) v) (items-all xs n) takes
-
-  pub ranges-turn : i < n → (x : Item) → x ≡ itemAt xs i → (t u v : List ℕ) → Takes t (spotted (rangeOf x) ∷ []) u
-      → Takes u (map spotted (rangesFrom xs (i + 1) (n - (i + 1)))) v → Takes t (map spotted (rangesFrom xs i (n - i))) v
-  ranges-turn h x is t u v takes left ys r =
-      rw (items-more xs n i h)
-      (subst (λ (y : Item). Rising t (spotted (rangeOf y) ∷ map spotted (rangesFrom xs (i + 1) (n - (i + 1))) ++ ys)) is
-      (takes (map spotted (rangesFrom xs (i + 1) (n - (i + 1))) ++ ys) (left ys r)))
 
 -- ## One range, and one bridge
 
@@ -77,20 +99,6 @@ sided-of-item a = rw (number-of-pool (a .pool))
 
 pub key-of-item : (b : ℕ) (a : Item) → a .pool % 4 % 3 * 256 + b ≡ keyOf b (rangeOf a)
 key-of-item b a = rw (number-of-pool (a .pool))
-
-pub takes-range : (b : ℕ) (a : Item) (k : ℕ) → k ≡ keyOf b (rangeOf a) → sided (rangeOf a) ≡ true → (t u : List ℕ)
-    → Takes t (spot k (a .first) (a .last) true ∷ []) u → Takes t (spotOf b (rangeOf a) ∷ []) u
-takes-range b a k e told t u takes = subst (λ (x : Spot). Takes t (x ∷ []) u) same takes
-  where
-    same : spot k (a .first) (a .last) true ≡ spotOf b (rangeOf a)
-    same = λ i. record { key = e i; start = a .first; stop = suc (a .last); told = sym told i }
-
--- a function's own, decoded
-pub takes-own : (p : List ℕ) (b : ℕ) (rs : List Range) → b ≡ busOf p → rs ≡ rangesOf (entryOf p) → (t u : List ℕ)
-    → Takes t (map (spotOf b) rs) u → Takes t (spotsOf (entryOf p)) u
-takes-own p b rs e f t u takes =
-    subst (λ (c : ℕ). Takes t (map (spotOf c) (rangesOf (entryOf p))) u) (e ∙ bus-of-entry p)
-    (subst (λ (ss : List Range). Takes t (map (spotOf b) ss) u) f takes)
 
 module _ (p : List ℕ) (bridge : Bool) (is : bridge ≡ isBridge (headerOf p)) (t : List ℕ) where
   pub takes-none : bridge ≡ false → Takes t (busesOf (entryOf p)) t

@@ -1,5 +1,6 @@
 -- Ranges under keys that rise: each starts where those before it under its key stop, or later. Assumes nothing.
 use mathlib.Core.Path.{_≡_}
+use mathlib.Core.Logic.{_⊎_}
 use mathlib.Core.Bool.{Bool, true}
 use mathlib.Core.List.{List, [], _∷_, _++_}
 use Prim.Native.Nat.{ℕ, suc, _≤_, _<_}
@@ -31,7 +32,11 @@ Rising table (x ∷ xs) = Fits table x × Rising (set table (x .key) (x .stop)) 
 abbrev pub Takes : List ℕ → List Spot → List ℕ → Type 0
 Takes table xs left = (ys : List Spot) → Rising left ys → Rising table (xs ++ ys)
 
--- ## Two of them, in their order
+-- ## Two of them
+
+-- one starts where the other stops, or later
+abbrev pub Beside : Spot → Spot → Type 0
+Beside x y = x .key ≡ y .key → (x .stop ≤ y .start) ⊎ (y .stop ≤ x .start)
 
 abbrev pub Clear : Spot → Spot → Type 0
-Clear x y = (x .told ≡ true) × (y .told ≡ true) × (x .key ≡ y .key → x .stop ≤ y .start)
+Clear x y = (x .told ≡ true) × (y .told ≡ true) × Beside x y

@@ -1,7 +1,8 @@
 -- Each two ranges that rise are clear of each other. Assumes nothing.
-use mathlib.Core.Path.{_≡_, refl, sym, _∙_}
+use mathlib.Core.Path.{_≡_, refl}
+use mathlib.Core.Logic.{inl}
 use mathlib.Core.Bool.{Bool, true, false, _||_}
-use mathlib.Core.List.{List, [], _∷_, _++_}
+use mathlib.Core.List.{List, [], _∷_}
 use Prim.Native.Nat.{ℕ, _+_, _≤_, _<_}
 use native.Mathlib.Omega.{arith}
 use native.Mathlib.Numerals.{add-one}
@@ -41,7 +42,7 @@ rising-clear t (x ∷ xs) r =
     let taken : x .stop ≤ getD (set t (x .key) (x .stop)) (x .key) 0 =
     omega (arith, getD-set-same t (x .key) (x .stop) 0 (f .in-table)) in (
       all-imp _ (Clear x) xs (rising-above (set t (x .key) (x .stop)) xs (r .1) (x .key) (x .stop) taken)
-          (λ y p. (f .is-told, p .0, p .1)),
+          (λ y p. (f .is-told, p .0, λ e. inl (p .1 e))),
       rising-clear (set t (x .key) (x .stop)) xs (r .1),
     )
 

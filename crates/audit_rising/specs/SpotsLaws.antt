@@ -1,8 +1,9 @@
 -- Where all of them rise, no two ranges of one bus and one space overlap, and no two bridges of one bus share a bus. Assumes nothing.
-use mathlib.Core.Path.{_≡_, refl, sym, ap, _∙_}
+use mathlib.Core.Path.{_≡_, refl, sym, ap}
+use mathlib.Core.Logic.{_⊎_, inl, inr}
 use mathlib.Core.Bool.{Bool, true, false, _&&_, and-eq-true-iff, false≢true}
 use mathlib.Core.List.{List, [], _∷_, _++_, map, flatMap, List·Memᴰ·head, Memᴰ·map}
-use Prim.Native.Nat.{ℕ, suc, _+_, _*_, _%_, _≤_, _<_}
+use Prim.Native.Nat.{ℕ, suc, _+_, _*_, _%_, _≤_}
 use native.Mathlib.Omega.{arith}
 use lib.Dec.{eqb, leb, ltb}
 use borrow.Author.Tests.{eqb-true, leb-true, le-ltb, lt-leb}
@@ -15,7 +16,7 @@ use Rattle.audit_rule.specs.Ranges.{rangesOf, poolNumber, spaceNumber, overlap}
 use Rattle.audit_rule.specs.Audit.{anyPair, anyOverlap, overlapOnBus, busesShared, overlaps}
 use Rattle.audit_rule.specs.PairLaws.{none-of-pairwise}
 use Rattle.audit_rising.specs.Rising.{Spot, spot, Clear}
-use Rattle.audit_rising.specs.Spots.{sided, keyOf, spotOf, spotsOf, busesOf}
+use Rattle.audit_rising.specs.Spots.{sided, spotOf, spotsOf, busesOf}
 
 -- ## Two ranges
 
@@ -31,24 +32,28 @@ module _ (a b c d : ℕ) where
   above : d ≤ a → (ltb a d && ltb c b) ≡ false
   above h = rw (le-ltb a d h)
 
+  either : (b ≤ c) ⊎ (d ≤ a) → (ltb a d && ltb c b) ≡ false
+  either (inl h) = below h
+  either (inr h) = above h
+
   apart : (p q : Pool) → sided (record { pool = p; start = a; stop = b }) ≡ true → sided (record { pool = q; start = c; stop = d }) ≡ true
-      → (poolNumber p ≡ poolNumber q → b ≤ c) → (eqb (spaceNumber p) (spaceNumber q) && (ltb a d && ltb c b)) ≡ false
-  apart buses buses x y h = below (h refl)
+      → (poolNumber p ≡ poolNumber q → (b ≤ c) ⊎ (d ≤ a)) → (eqb (spaceNumber p) (spaceNumber q) && (ltb a d && ltb c b)) ≡ false
+  apart buses buses x y h = either (h refl)
   apart buses low x y h = refl
   apart buses high x y h = refl
   apart buses io x y h = refl
   apart low buses x y h = refl
-  apart low low x y h = below (h refl)
+  apart low low x y h = either (h refl)
   apart low high x y h = below (omega (arith, leb-true b 4294967296 (and-eq-true-iff _ _ .0 x .0), leb-true 4294967296 c y))
   apart low io x y h = refl
   apart high buses x y h = refl
   apart high low x y h = above (omega (arith, leb-true 4294967296 a x, leb-true d 4294967296 (and-eq-true-iff _ _ .0 y .0)))
-  apart high high x y h = below (h refl)
+  apart high high x y h = either (h refl)
   apart high io x y h = refl
   apart io buses x y h = refl
   apart io low x y h = refl
   apart io high x y h = refl
-  apart io io x y h = below (h refl)
+  apart io io x y h = either (h refl)
 
 clear-apart : (b : ℕ) (r s : Range) → Clear (spotOf b r) (spotOf b s) → overlap r s ≡ false
 clear-apart b r s c =
@@ -109,7 +114,12 @@ buses-apart : (e f : Entry) → Clear (busSpot e) (busSpot f) → (b : Bool) →
     → (b && (leb (e .secondary) (f .subordinate) && leb (f .secondary) (e .subordinate))) ≡ false
 buses-apart e f c false q = refl
 buses-apart e f c true q =
-    rw (lt-leb (f .secondary) (e .subordinate) (c .2 (eqb-true (bus e) (bus f) q))) (and-none (leb (e .secondary) (f .subordinate)))
+    go (c .2 (eqb-true (bus e) (bus f) q))
+  where
+    go : (suc (e .subordinate) ≤ f .secondary) ⊎ (suc (f .subordinate) ≤ e .secondary)
+        → (leb (e .secondary) (f .subordinate) && leb (f .secondary) (e .subordinate)) ≡ false
+    go (inl h) = rw (lt-leb (f .secondary) (e .subordinate) h) (and-none (leb (e .secondary) (f .subordinate)))
+    go (inr h) = rw (lt-leb (e .secondary) (f .subordinate) h)
 
 -- a function with all that is behind it
 module _ (e : Entry) (es : List Entry) where

@@ -21,10 +21,8 @@ const BUSES: usize = 256;
 
 const POOLS: usize = 768;
 
-// The records of fewer are sooner compared by pairs than a table is made.
-const FEW: usize = 4;
-
-const FEW_BRIDGES: usize = 16;
+// Fewer records are sooner told otherwise than a table is made.
+const FEW: usize = 16;
 
 // Where low memory ends and high memory starts.
 const EDGE: u64 = 4294967296;
@@ -49,7 +47,7 @@ pub fn buses_rise(sheet: &[u8]) -> bool
     requires { ⌜ Framed 1 (now sheet) ⌝ }
     ensures { λ r. ⌜ (r ≡ true → anyPair busesShared (entriesOf (now (sheet .entry))) ≡ false) ⌝ }
 {
-    if sheet::count(sheet) < FEW_BRIDGES {
+    if sheet::count(sheet) < FEW {
         return false;
     }
     let mut table = [0u64; BUSES];
@@ -111,15 +109,16 @@ fn take_range(table: &mut [u64], bus: u8, a: Item) -> bool
     take(table, key_of(bus, a), a.first, a.last)
 }
 
-// Low memory and high memory are one space: each on its side, they are apart.
-fn is_sided(a: Item) -> bool
+// Low and high memory are one space: each on its side, they are apart.
+pub fn is_sided(a: Item) -> bool
     ensures { λ r. ⌜ r ≡ sided (rangeOf a) ⌝ }
 {
     let pool = a.pool % 4;
     ((pool != 1) | (a.last < EDGE)) & ((pool != 2) | (EDGE <= a.first))
 }
 
-fn key_of(bus: u8, a: Item) -> usize
+// A key for each bus and pool.
+pub fn key_of(bus: u8, a: Item) -> usize
     ensures { λ r. ⌜ (r ≡ keyOf bus (rangeOf a)) × (r < 768) ⌝ }
 {
     (a.pool % 4 % 3) as usize * BUSES + bus as usize

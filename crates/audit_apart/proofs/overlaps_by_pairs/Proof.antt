@@ -1,5 +1,5 @@
--- `audit_apart::overlaps_by_pairs`: the loop over the records. Invariant: there is an overlap from record k on just where there is one. Measure: the
--- records left. Assumes nothing.
+-- `audit_apart::overlaps_by_pairs`: the loop over the records. Invariant: there is an overlap from record k on just where there is one.
+-- Measure: the records left. Assumes nothing.
 use mathlib.Core.Path.{_≡_, refl, sym, _∙_}
 use Prim.Native.Nat.{_-_}
 use native.Mathlib.Omega.{arith}

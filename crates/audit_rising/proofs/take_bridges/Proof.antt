@@ -1,5 +1,5 @@
--- `audit_rising::take_bridges`: the loop over the records. Invariant: where what is left rises from here, all rises from the start. Measure: the
--- records left. Assumes nothing.
+-- `audit_rising::take_bridges`: the loop over the records. Invariant: where what is left rises from here, all rises from the start.
+-- Measure: the records left. Assumes nothing.
 use mathlib.Core.Path.{_≡_, ap, _∙_}
 use mathlib.Core.Bool.{false≢true}
 use mathlib.Core.List.{flatMap}
@@ -68,8 +68,8 @@ loop-again c =
     let counted = turn .before in (
       omega arith,
       λ h. turn .loop .inv .1
-          (records-turn busesOf _ (counted .before .before .before .pre .0) _ _ (counted .count .ensures) (more .loop-test .taken) _
-          (parted .part .ensures) _ _ (taken .take-buses .ensures (not-false _ (c .if1 .left))) h),
+          (records-turn Rising busesOf _ (counted .before .before .before .pre .0) _ _ (counted .count .ensures) _
+          (more .loop-test .taken) _ (parted .part .ensures) _ (taken .take-buses .ensures (not-false _ (c .if1 .left))) h),
     )
 
 same-length-2 : tie.Need-same-length-2 Inv-loop μ-loop
@@ -80,7 +80,8 @@ returns-2 c =
     let turn = c .before in
     let counted = turn .before in
     λ e. buses-told _ _
-    (turn .loop .inv .1 (records-past busesOf _ (counted .before .before .before .pre .0) _ _ (counted .count .ensures) (c .loop-test .left) _))
+    (turn .loop .inv .1 (records-past Rising busesOf _ (counted .before .before .before .pre .0) _ _ (counted .count .ensures) _
+    (c .loop-test .left) tt))
 
 pub take-bridges-spec : {M : Type 1} → statement M
 take-bridges-spec =

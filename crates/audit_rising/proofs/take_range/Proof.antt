@@ -3,6 +3,7 @@ use mathlib.Core.Path.{sym, _∙_}
 use mathlib.Core.Bool.{false≢true}
 use borrow.Author.Needs.{needs}
 use borrow.Author.Tests.{not-false}
+use Rattle.audit_rising.specs.Rising.{Rising}
 use Rattle.audit_rising.specs.PassLaws.{takes-range}
 use Rattle.audit_rising.proofs.take_range.Statement.{statement}
 use Rattle.audit_rising.proofs.take_range.Tie as tie
@@ -28,7 +29,7 @@ returns-2 c =
     let keyed = taken .before in
     let tested = keyed .before .before in
     let told = sym (tested .before .is-sided .ensures) ∙ not-false _ (tested .if1 .left) in
-    λ e. takes-range _ _ _ (keyed .key-of .ensures .0) told _ _ (taken .take .ensures e)
+    λ e. takes-range Rising _ _ _ (keyed .key-of .ensures .0) told _ _ (taken .take .ensures e)
 
 pub take-range-spec : {M : Type 1} → statement M
 take-range-spec =

@@ -1,5 +1,5 @@
--- `audit_rising::take_ranges`: the loop over a function's ranges. Invariant: where those from i on are taken from here, all are taken from the
--- start. Measure: those that are left. Assumes nothing.
+-- `audit_rising::take_ranges`: the loop over a function's ranges. Invariant: where those from i on are taken from here, all are taken from
+-- the start. Measure: those that are left. Assumes nothing.
 use mathlib.Core.Path.{_≡_}
 use mathlib.Core.Bool.{false≢true}
 use mathlib.Core.List.{List, map}
@@ -9,7 +9,7 @@ use lib.ListN.{length}
 use borrow.Author.Needs.{needs}
 use borrow.Author.Tests.{not-false}
 use Rattle.audit_ranges.specs.Items.{rangesFrom, rangesIn}
-use Rattle.audit_rising.specs.Rising.{Takes}
+use Rattle.audit_rising.specs.Rising.{Rising, Takes}
 use Rattle.audit_rising.specs.Spots.{spotOf}
 use Rattle.audit_rising.specs.PassLaws.{ranges-all, ranges-past, ranges-turn}
 use Rattle.audit_rising.proofs.take_ranges.Statement.{statement}
@@ -24,7 +24,7 @@ abbrev μ-loop : tie.MeasureT-loop
 μ-loop table₀ bus own n i₀ table i = n - i
 
 loop-holds : tie.Need-loop-holds Inv-loop μ-loop
-loop-holds c = let start = c .before .before in (start .pre .0, λ v h. ranges-all (spotOf (start .args .bus)) _ _ 0 _ v h)
+loop-holds c = let start = c .before .before in (start .pre .0, λ v h. ranges-all Rising (spotOf (start .args .bus)) _ _ 0 _ v h)
 
 item-at-requires : tie.Need-item-at-requires Inv-loop μ-loop
 item-at-requires c κs = omega arith
@@ -51,7 +51,8 @@ loop-again c =
     let turn = found .before .before .before in
     let a = turn .before .before .before .args in (
       omega arith,
-      λ v h. turn .loop .inv .1 v (ranges-turn (spotOf (a .bus)) _ _ _ (found .before .before .loop-test .taken) _ (found .item-at .ensures) _ _ v
+      λ v h. turn .loop .inv .1 v
+          (ranges-turn Rising (spotOf (a .bus)) _ _ _ _ (found .before .before .loop-test .taken) _ (found .item-at .ensures) _ v
           (taken .take-range .ensures (not-false _ (c .if1 .left))) h),
     )
 
@@ -61,7 +62,7 @@ same-length-2 c = search needs
 returns-2 : tie.Need-returns-2 Inv-loop μ-loop
 returns-2 c =
     let turn = c .before in
-    λ e. turn .loop .inv .1 _ (ranges-past (spotOf (turn .before .before .before .args .bus)) _ _ _ (c .loop-test .left) _)
+    λ e. turn .loop .inv .1 _ (ranges-past Rising (spotOf (turn .before .before .before .args .bus)) _ _ _ _ (c .loop-test .left))
 
 pub take-ranges-spec : {M : Type 1} → statement M
 take-ranges-spec =

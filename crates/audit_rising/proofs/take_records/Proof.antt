@@ -1,5 +1,5 @@
--- `audit_rising::take_records`: the loop over the records. Invariant: where what is left rises from here, all rises from the start. Measure: the
--- records left. Assumes nothing.
+-- `audit_rising::take_records`: the loop over the records. Invariant: where what is left rises from here, all rises from the start.
+-- Measure: the records left. Assumes nothing.
 use mathlib.Core.Path.{_≡_, refl, sym}
 use mathlib.Core.Bool.{false≢true}
 use mathlib.Core.List.{flatMap}
@@ -76,8 +76,8 @@ loop-again c =
       omega arith,
       omega arith,
       λ h. turn .loop .inv .2
-          (records-turn spotsOf _ (counted .before .before .before .pre .0 .framed) _ _ (counted .count .ensures) (more .loop-test .taken) _
-          (parted .part .ensures) _ _ (taken .take-record .ensures (not-false _ (c .if1 .left))) h),
+          (records-turn Rising spotsOf _ (counted .before .before .before .pre .0 .framed) _ _ (counted .count .ensures) _
+          (more .loop-test .taken) _ (parted .part .ensures) _ (taken .take-record .ensures (not-false _ (c .if1 .left))) h),
     )
 
 same-length-2 : tie.Need-same-length-2 Inv-loop μ-loop
@@ -88,7 +88,8 @@ returns-2 c =
     let turn = c .before in
     let counted = turn .before in
     λ e. ranges-told _ _
-    (turn .loop .inv .2 (records-past spotsOf _ (counted .before .before .before .pre .0 .framed) _ _ (counted .count .ensures) (c .loop-test .left) _))
+    (turn .loop .inv .2 (records-past Rising spotsOf _ (counted .before .before .before .pre .0 .framed) _ _ (counted .count .ensures) _
+    (c .loop-test .left) tt))
 
 pub take-records-spec : {M : Type 1} → statement M
 take-records-spec =
