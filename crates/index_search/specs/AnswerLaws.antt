@@ -2,7 +2,7 @@
 use mathlib.Core.Path.{_≡_, refl, sym, ap, _∙_}
 use mathlib.Core.Bool.{Bool, true, false, cond, not, _&&_}
 use mathlib.Core.List.{List, _++_}
-use Prim.Native.Nat.{ℕ, _+_, _-_, _/_, _<_, _≤_}
+use Prim.Native.Nat.{ℕ, _+_, _-_, _/_, _%_, _^_, _<_, _≤_}
 use native.Mathlib.Nat.{zero-add}
 use native.Mathlib.Omega.{arith}
 use lib.ListN.{length, drop}
@@ -35,7 +35,7 @@ use Rattle.index_slots.specs.Slots.{indexSize, keyAt, wordAt}
 use Rattle.index_slots.specs.Cleared.{noKey}
 use Rattle.index_table.specs.Table.{segmentOf}
 use Rattle.index_table.specs.Search.{foundAt}
-use Rattle.index_search.specs.Search.{functionsIn, rootIn, answerOver, outcomeOver, outcomeIn}
+use Rattle.index_search.specs.Search.{functionsIn, rootIn, answerOver, outcomeBy, outcomeOver, outcomeIn}
 use Rattle.index_search.specs.Search.{searchPacket, fromReading, searchOf, listedAfter}
 
 -- ## An index's number of functions
@@ -96,6 +96,40 @@ pub key-of-id : (aim : Aim) (id : ℕ) → aim ≡ Id id
     → (ltb id 65536 ≡ inReach aim) × (inReach aim ≡ true → (idBase + id ≡ keyOf aim) × (idBase + id < noKey))
 key-of-id aim id e = (sym (ap inReach e), λ h. (sym (ap keyOf e), omega (arith, ltb-true id 65536 (sym (ap inReach e) ∙ h))))
 
+-- ## The word found for a key
+
+-- the low four bytes of a word say what the word does
+module _ (w : ℕ) where
+  abbrev low : ℕ
+  low = w % 4294967296
+
+  record-low : recordIn low ≡ recordIn w
+  record-low = omega arith
+
+  bridges-low : bridgesIn low ≡ bridgesIn w
+  bridges-low = omega arith
+
+  size-low : sizeIn low ≡ sizeIn w
+  size-low = ap (λ (k : ℕ). 2 ^ k) (omega arith)
+
+module _ (ix : List ℕ) (n key w i start : ℕ) (among : w ≡ segmentOf key) (found : i ≡ foundAt ix n w key) (key-is : start ≡ keyAt ix n i)
+    (word : ℕ) (word-is : word ≡ wordAt ix n i) (over : Bool) (tested : over ≡ isOver start (low word) key) where
+  slot-says : (t : Bool) → over ≡ t → cond t (delivered (recordIn word) (bridgesIn word)) (refused noOwner) ≡ answerOver ix n key
+  unfolding answerOver
+  slot-says t e = rw (← among, ← found, ← key-is, ← word-is, ← record-low word, ← size-low word, ← tested, e)
+
+  pub word-not-over : over ≡ false → outcomeBy 0 ≡ answerOver ix n key
+  word-not-over e = slot-says false e
+
+  -- a slot that holds a key has a record
+  has-record : (t rest : Bool) → not t && rest ≡ true → t ≡ false
+  has-record true rest h = sym h
+  has-record false rest h = refl
+
+  pub word-over : over ≡ true → outcomeBy (low word) ≡ answerOver ix n key
+  word-over e =
+      rw (has-record (eqb (recordIn (low word)) 0) _ (sym tested ∙ e), record-low word, bridges-low word) (slot-says true e)
+
 -- ## What a packet is looked for by
 
 module _ (p : Packet) (ix : List ℕ) (n : ℕ) (aim : Aim) (r : Bool) (e : r ≡ inReach aim) where
@@ -103,22 +137,20 @@ module _ (p : Packet) (ix : List ℕ) (n : ℕ) (aim : Aim) (r : Bool) (e : r �
   unfolding outcomeOver
   aimed-out-of-reach f = rw (← e, f)
 
-  -- the slot at the position found for its key
-  module _ (f : r ≡ true) (key w i start word : ℕ) (keyed : key ≡ keyOf aim) (among : w ≡ segmentOf key)
-      (found : i ≡ foundAt ix n w key) (key-is : start ≡ keyAt ix n i) (word-is : word ≡ wordAt ix n i)
-      (over : Bool) (tested : over ≡ isOver start word key) where
-    slot-is : (t : Bool) → over ≡ t → outcomeOver ix n aim ≡ cond t (delivered (recordIn word) (bridgesIn word)) (refused noOwner)
-    unfolding outcomeOver answerOver
-    slot-is t g = rw (← e, f, ← keyed, ← among, ← found, ← key-is, ← word-is, ← tested, g)
+  -- the word found for its key
+  module _ (f : r ≡ true) (key word : ℕ) (keyed : key ≡ keyOf aim) (found : outcomeBy word ≡ answerOver ix n key) where
+    by-word : outcomeOver ix n aim ≡ outcomeBy word
+    unfolding outcomeOver
+    by-word = rw (← e, f, ← keyed) (sym found)
 
-    pub aimed-not-over : over ≡ false → Refused 40 ≡ answer p (outcomeOver ix n aim)
-    aimed-not-over g = ap (answer p) (sym (slot-is false g))
+    pub aimed-at-nobody : recordIn word ≡ 0 → Refused 40 ≡ answer p (outcomeOver ix n aim)
+    aimed-at-nobody z = rw (by-word, eq-eqb (recordIn word) 0 z)
 
-    pub aimed-over : over ≡ true → (q : Packet) → q ≡ arrived p
+    pub aimed-at-owner : ¬ (recordIn word ≡ 0) → (q : Packet) → q ≡ arrived p
         → Delivered (record { owner = recordIn word; bridges = bridgesIn word; packet = q }) ≡ answer p (outcomeOver ix n aim)
-    aimed-over g q h =
+    aimed-at-owner some q h =
         ap (λ (x : Packet). Delivered (record { owner = recordIn word; bridges = bridgesIn word; packet = x })) h
-        ∙ ap (answer p) (sym (slot-is true g))
+        ∙ sym (rw (by-word, ne-eqb (recordIn word) 0 some))
 
 -- ## A packet
 

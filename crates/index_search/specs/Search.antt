@@ -5,20 +5,20 @@ use Prim.Native.Nat.{ℕ}
 use mathlib.Core.Bool.{cond}
 use mathlib.Core.List.{List, _++_}
 use lib.ListN.{length, getD, drop}
-use lib.Dec.{ltb}
+use lib.Dec.{eqb, ltb}
 use Rattle.endian.specs.Endian.{le}
 use Rattle.packet.specs.declared.Packet.{Packet}
 use Rattle.tlp.specs.declared.Reading.{Reading}
 use Rattle.tlp.specs.declared.Reading.the-variants.{Accepted, Refused as NotRead}
 use Rattle.tlp.specs.Reading.{readOf}
-use Rattle.walk.specs.Walk.{Outcome, refused, noOwner}
+use Rattle.walk.specs.Walk.{Outcome, delivered, refused, noOwner}
 use Rattle.claims.specs.declared.Aim.{Aim}
 use Rattle.route_list.specs.Counted.{counted}
 use Rattle.route.specs.declared.Routing.{Routing}
 use Rattle.route.specs.declared.Routing.the-variants.{Delivered, Broadcast, Port, Refused}
 use Rattle.route.specs.Route.{routeOver}
 use Rattle.index_rule.specs.Owners.{keyOf, inReach}
-use Rattle.index_rule.specs.Search.{answerAt}
+use Rattle.index_rule.specs.Search.{recordIn, bridgesIn, answerAt}
 use Rattle.index_slots.specs.Slots.{indexSize, keyAt, wordAt}
 use Rattle.index_table.specs.Table.{segmentOf}
 use Rattle.index_table.specs.Search.{foundAt}
@@ -37,6 +37,10 @@ rootIn ix = getD ix 2 0
 -- what the slot at the position found says of a key
 unfoldable pub answerOver : List ℕ → ℕ → ℕ → Outcome
 answerOver ix n key = let p = foundAt ix n (segmentOf key) key in answerAt (keyAt ix n p) (wordAt ix n p) key
+
+-- what a slot's word says: without a record it is nobody's
+abbrev pub outcomeBy : ℕ → Outcome
+outcomeBy word = cond (eqb (recordIn word) 0) (refused noOwner) (delivered (recordIn word) (bridgesIn word))
 
 -- an address that no owner can have is not looked for
 unfoldable pub outcomeOver : List ℕ → ℕ → Aim → Outcome

@@ -10,7 +10,8 @@ ghost use Rattle.index_rule.specs.Owners.{inReach, keyOf};
 ghost use Rattle.index_rule.specs.Search.{isOver};
 ghost use Rattle.index_slots.specs.Slots.{indexSize};
 ghost use Rattle.index_slots.specs.Cleared.{noKey};
-ghost use Rattle.index_search.specs.Search.{functionsIn, outcomeOver, searchPacket, searchOf, listedAfter};
+ghost use Rattle.index_table.specs.Table.{segmentOf};
+ghost use Rattle.index_search.specs.Search.{functionsIn, outcomeBy, answerOver, outcomeOver, searchPacket, searchOf, listedAfter};
 use claims::Aim;
 use packet::Packet;
 use pools::Space;
@@ -73,7 +74,7 @@ pub fn search_packet(p: Packet, index: &[u8]) -> Routing
 // ---- the index
 
 // How many functions the index is of; none, if it is shorter than it says.
-fn functions_in(index: &[u8]) -> usize
+pub fn functions_in(index: &[u8]) -> usize
     ensures { λ r. ⌜ (r ≡ functionsIn (now (index .entry))) × (r < 65536) ⌝ }
 {
     if index.len() < 1024 {
@@ -86,6 +87,21 @@ fn functions_in(index: &[u8]) -> usize
     n
 }
 
+// The word of the slot that holds a key of segment w, or 0 where none does: of its eight bytes the four that say something. The one place
+// from which the table is searched, so that its code is compiled into this.
+pub fn word_over(index: &[u8], n: usize, w: usize, key: u64) -> u64
+    requires { ⌜ (indexSize n ≤ length (now index)) × (w ≡ segmentOf key) × (key < noKey) ⌝ }
+    ensures { λ r. ⌜ outcomeBy r ≡ answerOver (now (index .entry)) n key ⌝ }
+{
+    let i = index_table::find(index, n, w, key);
+    let start = index_slots::key_at(index, n, i);
+    let word = index_slots::word_at(index, n, i) % 4294967296;
+    if !is_over(start, word, key) {
+        return 0;
+    }
+    word
+}
+
 // A packet that is looked for by an address or an ID: the slot found by its key decides.
 fn search_aimed(p: Packet, index: &[u8], n: usize, aim: Aim) -> Routing
     requires { ⌜ indexSize n ≤ length (now index) ⌝ }
@@ -95,11 +111,8 @@ fn search_aimed(p: Packet, index: &[u8], n: usize, aim: Aim) -> Routing
         return Routing::Refused(40);
     }
     let key = key_of(aim);
-    let w = index_table::segment_of(key);
-    let i = index_table::find(index, n, w, key);
-    let start = index_slots::key_at(index, n, i);
-    let word = index_slots::word_at(index, n, i);
-    if !is_over(start, word, key) {
+    let word = word_over(index, n, index_table::segment_of(key), key);
+    if (word >> 16) % 65536 == 0 {
         return Routing::Refused(40);
     }
     Routing::Delivered(Delivery {

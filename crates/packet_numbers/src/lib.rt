@@ -409,7 +409,7 @@ fn put_head(out: &mut [u64], at: usize, kind: u8, h: Head)
     );
 }
 
-fn put_request(
+pub fn put_request(
     out: &mut [u64],
     at: usize,
     kind: u8,
@@ -428,7 +428,7 @@ fn put_request(
     put_target(out, at + 10, e, address, target, register);
 }
 
-fn put_completion(out: &mut [u64], at: usize, kind: u8, h: Head, o: Outcome)
+pub fn put_completion(out: &mut [u64], at: usize, kind: u8, h: Head, o: Outcome)
     requires { ⌜ at + 20 ≤ length (now out) ⌝ }
     ensures { λ _. ⌜ now (out .exit) ≡ sets (now (out .entry)) at (headNumbers kind h ++ (absent ++ outcomeNumbers o)) ⌝ }
 {

@@ -1,16 +1,22 @@
--- `index_search::search_aimed`: out of reach, or what the slot found says. Assumes nothing.
-use native.Mathlib.Omega.{arith}
+use borrow.Author.Needs.{needs}
 use borrow.Author.Tests.{not-true, not-false}
 use mathlib.Core.Path.{sym, _∙_}
-use borrow.Author.Needs.{needs}
-use Rattle.index_table.specs.SegmentLaws.{segment-lt}
-use Rattle.index_search.specs.AnswerLaws.{aimed-out-of-reach, aimed-not-over, aimed-over}
+use Rattle.index_search.specs.AnswerLaws.{aimed-out-of-reach, aimed-at-nobody, aimed-at-owner}
 use Rattle.index_search.proofs.search_aimed.Statement.{statement}
 use Rattle.index_search.proofs.search_aimed.Tie as tie
+use Rattle.index_search.proofs.search_aimed.Reads as reads
+use Rattle.index_search.proofs.search_aimed.Lts as lts
+use Rattle.index_search.proofs.in_reach.Reads as in-reach-reads
+use Rattle.index_search.proofs.key_of.Reads as key-of-reads
+use Rattle.index_search.proofs.word_over.Reads as word-over-reads
+use Rattle.index_table.proofs.segment_of.Reads as segment-of-reads
+use Rattle.route_arrival.proofs.arrived.Reads as arrived-reads
 
+-- src/lib.rt:110:9
 in-reach-requires : tie.Need-in-reach-requires
 in-reach-requires c κs = search needs
 
+-- src/lib.rt:111:9
 returns : tie.Need-returns
 returns c =
     let tested = c .before in
@@ -18,64 +24,52 @@ returns c =
     aimed-out-of-reach (entry .args .p) _ _ (entry .args .aim) _ (tested .in-reach .ensures)
     (not-true (tested .in-reach .result) (c .if1 .taken))
 
+-- src/lib.rt:113:9
 key-of-requires : tie.Need-key-of-requires
 key-of-requires c κs = sym (c .before .in-reach .ensures) ∙ not-false (c .before .in-reach .result) (c .if1 .left)
 
+-- src/lib.rt:114:36
 segment-of-requires : tie.Need-segment-of-requires
 segment-of-requires c κs = search needs
 
-find-requires : tie.Need-find-requires
-find-requires c κs =
-    let small = segment-lt (c .before .key-of .result) in
-    (c .before .before .before .before .before .pre, omega (arith, small, c .segment-of .ensures), c .before .key-of .ensures .1)
+-- src/lib.rt:114:9
+word-over-requires : tie.Need-word-over-requires
+word-over-requires c κs = search needs
 
-key-at-requires : tie.Need-key-at-requires
-key-at-requires c κs = search needs
-
-word-at-requires : tie.Need-word-at-requires
-word-at-requires c κs = search needs
-
-is-over-requires : tie.Need-is-over-requires
-is-over-requires c κs = search needs
-
+-- src/lib.rt:116:9
 returns-2 : tie.Need-returns-2
 returns-2 c =
-    let tested = c .before in
-    let worded = tested .before in
-    let keyed = worded .before in
-    let found = keyed .before in
-    let among = found .before in
-    let key = among .before in
+    let word = c .before in
+    let key = word .before .before in
     let reached = key .before in
     let entry = reached .before .before .before in
-    aimed-not-over (entry .args .p) _ _ (entry .args .aim) _ (reached .before .in-reach .ensures)
-    (not-false (reached .before .in-reach .result) (reached .if1 .left)) _ _ _ _ _ (key .key-of .ensures .0) (among .segment-of .ensures)
-    (found .find .ensures .0) (keyed .key-at .ensures) (worded .word-at .ensures) _ (tested .is-over .ensures)
-    (not-true (tested .is-over .result) (c .if2 .taken))
+    aimed-at-nobody (entry .args .p) _ _ (entry .args .aim) _ (reached .before .in-reach .ensures)
+    (not-false (reached .before .in-reach .result) (reached .if1 .left)) _ _ (key .key-of .ensures .0) (word .word-over .ensures)
+    (c .if2 .taken)
 
-cast-t14 : tie.Need-cast-t14
-cast-t14 c = search needs
+-- src/lib.rt:119:16
+cast-t12 : tie.Need-cast-t12
+cast-t12 c = search needs
 
-cast-t17 : tie.Need-cast-t17
-cast-t17 c = search needs
+-- src/lib.rt:120:18
+cast-t15 : tie.Need-cast-t15
+cast-t15 c = search needs
 
+-- src/lib.rt:121:17
 arrived-requires : tie.Need-arrived-requires
 arrived-requires c κs = search needs
 
+-- src/lib.rt:106:1
 returns-3 : tie.Need-returns-3
 returns-3 c =
-    let tested = c .before .before in
-    let worded = tested .before in
-    let keyed = worded .before in
-    let found = keyed .before in
-    let among = found .before in
-    let key = among .before in
+    let some = c .before in
+    let word = some .before in
+    let key = word .before .before in
     let reached = key .before in
     let entry = reached .before .before .before in
-    aimed-over (entry .args .p) _ _ (entry .args .aim) _ (reached .before .in-reach .ensures)
-    (not-false (reached .before .in-reach .result) (reached .if1 .left)) _ _ _ _ _ (key .key-of .ensures .0) (among .segment-of .ensures)
-    (found .find .ensures .0) (keyed .key-at .ensures) (worded .word-at .ensures) _ (tested .is-over .ensures)
-    (not-false (tested .is-over .result) (c .before .if2 .left)) _ (c .arrived .ensures)
+    aimed-at-owner (entry .args .p) _ _ (entry .args .aim) _ (reached .before .in-reach .ensures)
+    (not-false (reached .before .in-reach .result) (reached .if1 .left)) _ _ (key .key-of .ensures .0) (word .word-over .ensures)
+    (some .if2 .left) _ (c .arrived .ensures)
 
 pub search-aimed-spec : {M : Type 1} → statement M
 search-aimed-spec =
@@ -85,12 +79,9 @@ search-aimed-spec =
     returns
     key-of-requires
     segment-of-requires
-    find-requires
-    key-at-requires
-    word-at-requires
-    is-over-requires
+    word-over-requires
     returns-2
-    cast-t14
-    cast-t17
+    cast-t12
+    cast-t15
     arrived-requires
     returns-3)
