@@ -1,7 +1,7 @@
 //! Labels: a million headers over a full sheet, each whole answer summed, by the yardstick and by those that are held
 //! against it. Build with `--profile lto`.
 
-use crate::measure::median;
+use crate::measure::{compare, median};
 use crate::subjects::planned;
 use inputs::labels;
 use std::hint::black_box;
@@ -31,16 +31,61 @@ pub fn print() {
     println!();
     println!("| sheet | engine | least ns | median ns | to the yardstick's least | to its median |");
     println!("|---|---|---:|---:|---:|---:|");
-    SHEETS.iter().for_each(|&(functions, depth)| row(functions, depth));
+    let subjects: Vec<Subject> = SHEETS.iter().map(|&(functions, depth)| Subject::planned(functions, depth)).collect();
+    let skewed = Subject::skewed();
+    subjects.iter().for_each(row);
+    row(&skewed);
+    println!();
+    println!("An index built, microseconds a call.");
+    println!();
+    println!("| sheet | plain | proved | proved/plain |");
+    println!("|---|---:|---:|---:|");
+    subjects.iter().for_each(build);
+    build(&skewed);
 }
 
-fn row(functions: usize, depth: usize) {
-    let board = labels::board(functions, depth);
-    let sheet = planned(&board.bytes());
-    let headers = labels::headers(&sheet, HEADERS);
-    let index = Index::build(&sheet);
-    let mut bytes = vec![0; 1024 + 256 * functions];
-    assert_eq!(plain::build(&board.host(), &sheet, &mut bytes), 0);
+/// A sheet, and the host record that it is accepted for.
+struct Subject {
+    name: String,
+    host: Vec<u8>,
+    sheet: Vec<u8>,
+}
+
+impl Subject {
+    fn planned(functions: usize, depth: usize) -> Subject {
+        let board = labels::board(functions, depth);
+        let name = format!("{functions} functions, depth {depth}");
+        Subject { name, host: board.host().to_vec(), sheet: planned(&board.bytes()) }
+    }
+
+    fn skewed() -> Subject {
+        let (host, sheet) = labels::skewed();
+        Subject { name: "512 functions, skewed".into(), host: host.to_vec(), sheet }
+    }
+
+    /// Room for its index.
+    fn room(&self) -> Vec<u8> {
+        vec![0; 1024 + 256 * (self.sheet.len() / 92)]
+    }
+}
+
+fn build(subject: &Subject) {
+    let Subject { name, host, sheet } = subject;
+    let (mut plains, mut proveds) = (subject.room(), subject.room());
+    let times = compare(
+        || plain::build(black_box(host), sheet, &mut plains),
+        || cartsundial::calls::index(black_box(host), sheet, &mut proveds),
+    );
+    let (plain, proved) = (times.plain / 1000.0, times.proved / 1000.0);
+    println!("| {name} | {plain:.1} | {proved:.1} | {:.2} |", proved / plain);
+}
+
+fn row(subject: &Subject) {
+    let Subject { name, host, sheet } = subject;
+    let headers = labels::headers(sheet, HEADERS);
+    let index = Index::build(sheet);
+    let mut bytes = subject.room();
+    assert_eq!(cartsundial::calls::index(host, sheet, &mut bytes), 0);
     let engines: Vec<Engine<'_>> = vec![
         ("yardstick", Box::new(|headers| summed(headers, |header, answer| index.label(header, answer).into()))),
         ("yardstick, by a call", Box::new(|headers| summed(headers, |header, answer| called(&index, header, answer)))),
@@ -52,7 +97,7 @@ fn row(functions: usize, depth: usize) {
     ];
     // What the router answers, on both sides, is what the yardstick does.
     let first = &headers[..ROUTED];
-    let routed = summed(first, |header, answer| cartsundial::calls::route(header, &sheet, answer));
+    let routed = summed(first, |header, answer| cartsundial::calls::route(header, sheet, answer));
     engines.iter().for_each(|(name, engine)| assert_eq!(engine(first), routed, "{name}"));
 
     let sums: Vec<u64> = engines.iter().map(|(_, engine)| engine(&headers)).collect();
@@ -67,12 +112,9 @@ fn row(functions: usize, depth: usize) {
     }
     let figures: Vec<(f64, f64)> =
         rounds.into_iter().map(|times| (times.iter().copied().fold(f64::MAX, f64::min), median(times))).collect();
-    for ((name, _), (least, median)) in engines.iter().zip(&figures) {
+    for ((engine, _), (least, median)) in engines.iter().zip(&figures) {
         let ratios = (least / figures[0].0, median / figures[0].1);
-        println!(
-            "| {functions} functions, depth {depth} | {name} | {least:.1} | {median:.1} | {:.2} | {:.2} |",
-            ratios.0, ratios.1
-        );
+        println!("| {name} | {engine} | {least:.1} | {median:.1} | {:.2} | {:.2} |", ratios.0, ratios.1);
     }
 }
 
