@@ -267,7 +267,8 @@ module _ (list : ℕ → List ℕ) where
     numbered-over : NumberedRouting list (routeOver functions bus outcome p)
     numbered-over =
         let headed = headedOver functions outcome (headingOf p) p in
-        let typed = either (NumberedRouting list) (typeWrong bus p) (NotDelivered 42) headed (omega arith) (numbered-heading (headingOf p)) in
+        let onward = numbered-heading (headingOf p) in
+        let typed = either (NumberedRouting list) (typeWrong bus p) (NotDelivered 42) headed (omega arith) onward in
         either (NumberedRouting list) (eqb functions 0) (NotDelivered 40) (typedOver functions bus outcome p) (omega arith) typed
 
 numbered-from-sheet : (p : Packet) (s : List ℕ) → NumberedRouting (λ n. listOf s) (fromSheet p s)

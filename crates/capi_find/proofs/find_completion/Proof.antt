@@ -1,3 +1,4 @@
+-- `capi_find::find_completion` meets its contract: where nothing refuses the header, the word found decides. Assumes nothing.
 use borrow.Author.Needs.{needs}
 use Prim.Native.Nat.{_+_}
 use native.Mathlib.Omega.{arith}
@@ -12,89 +13,66 @@ use Rattle.capi_find.specs.KindsLaws.{accepted-completion, numbers-compl
 use Rattle.capi_find.specs.FoundLaws.{no-owner, owned}
 use Rattle.capi_find.proofs.find_completion.Statement.{statement}
 use Rattle.capi_find.proofs.find_completion.Tie as tie
-use Rattle.capi_find.proofs.find_completion.Reads as reads
-use Rattle.capi_find.proofs.find_completion.Lts as lts
-use Rattle.capi_find.proofs.completion_kind.Reads as completion-kind-reads
-use Rattle.capi_find.proofs.find_any.Reads as find-any-reads
-use Rattle.capi_find.proofs.give_completion.Reads as give-completion-reads
-use Rattle.capi_find.proofs.word_for.Reads as word-for-reads
-use Rattle.packet.proofs.completion_rules.Reads as completion-rules-reads
-use Rattle.pairs.proofs.kind_number.Reads as kind-number-reads
-use Rattle.tlp_fields.proofs.completion_head_at.Reads as completion-head-at-reads
-use Rattle.tlp_fields.proofs.outcome_at.Reads as outcome-at-reads
-use Rattle.tlp_fields.proofs.unnamed.Reads as unnamed-reads
-use Rattle.tlp_fields.proofs.unnamed_lower.Reads as unnamed-lower-reads
 
--- src/lib.rt:172:29
 shared-slice-read-completion-kind : tie.Need-shared-slice-read-completion-kind
 shared-slice-read-completion-kind c = search needs
 
--- src/lib.rt:172:9
 completion-kind-requires : tie.Need-completion-kind-requires
 completion-kind-requires c κs = search needs
 
--- src/lib.rt:173:9
 completion-head-at-requires : tie.Need-completion-head-at-requires
 completion-head-at-requires c κs = search needs
 
--- src/lib.rt:174:9
 outcome-at-requires : tie.Need-outcome-at-requires
 outcome-at-requires c κs = search needs
 
--- src/lib.rt:175:8
 unnamed-requires : tie.Need-unnamed-requires
 unnamed-requires c κs = search needs
 
--- src/lib.rt:175:45
 unnamed-lower-requires : tie.Need-unnamed-lower-requires
 unnamed-lower-requires c κs = search needs
 
--- src/lib.rt:176:9
 find-any-requires : tie.Need-find-any-requires
 find-any-requires c κs = search needs
 
--- src/lib.rt:176:9
 same-length : tie.Need-same-length
 same-length c = search needs
 
--- src/lib.rt:176:9
 returns : tie.Need-returns
 returns c = search needs
 
--- src/lib.rt:178:8
 completion-rules-requires : tie.Need-completion-rules-requires
 completion-rules-requires c κs = search needs
 
--- src/lib.rt:179:9
 find-any-requires-2 : tie.Need-find-any-requires-2
 find-any-requires-2 c κs = search needs
 
--- src/lib.rt:179:9
 same-length-2 : tie.Need-same-length-2
 same-length-2 c = search needs
 
--- src/lib.rt:179:9
 returns-2 : tie.Need-returns-2
 returns-2 c = search needs
 
--- src/lib.rt:181:43
 cast-word-for : tie.Need-cast-word-for
 cast-word-for c = search needs
 
--- src/lib.rt:181:32
 add-word-for : tie.Need-add-word-for
 add-word-for c = search needs
 
--- src/lib.rt:181:9
 word-for-requires : tie.Need-word-for-requires
 word-for-requires c κs =
-    let id = c .before .before .before .before .before .before .before .completion-head-at .result .requester in
+    let middle = c .before .before .before in
+    let id = middle .before .before .before .before .completion-head-at .result .requester in
     (sym (segment-id (4503599627436032 + id) (omega arith)), omega arith)
 
 -- no check refuses the header
 accepted : (c : tie.Else2)
-    → readOf (c .before .before .before .before .before .before .before .before .before .before .before .before .args .header .now)
-    ≡ Accepted (Completion (c .before .before .before .before .before .before .before .completion-kind .result) (c .before .before .before .before .before .before .completion-head-at .result) (c .before .before .before .before .before .outcome-at .result))
+    → let outcome = c .before .before .before .before .before in
+    let head = outcome .before in
+    let kind = head .before in
+    let start = kind .before .before .before .before .before in
+    readOf (start .args .header .now)
+    ≡ Accepted (Completion (kind .completion-kind .result) (head .completion-head-at .result) (outcome .outcome-at .result))
 accepted c =
     let ruled = c .before in
     let named = ruled .before in
@@ -109,36 +87,35 @@ accepted c =
     (sym (ap₂ _||_ (strayed .unnamed .ensures) (lower .unnamed-lower .ensures)) ∙ named .if1 .left)
     (sym (ruled .completion-rules .ensures) ∙ c .if2 .left)
 
--- src/lib.rt:183:9
 returns-3 : tie.Need-returns-3
 returns-3 c =
-    let start = c .before .before .before .before .before .before .before .before .before .before .before .before .before .before .before in
+    let middle = c .before .before .before .before .before .before .before in
+    let start = middle .before .before .before .before .before .before .before .before in
     let word = c .before in
+    let id = word .before .before .before .before .before .before .before .before .completion-head-at .result .requester in
     let e =
-    no-owner _ (start .args .index .now) _ _ (accepted (word .before .before)) refl refl (lt-ltb (c .before .before .before .before .before .before .before .before .before .completion-head-at .result .requester) 65536 (omega arith))
+    no-owner _ (start .args .index .now) _ _ (accepted (word .before .before)) refl refl (lt-ltb id 65536 (omega arith))
     _ (word .word-for .ensures) (c .if3 .taken) in
     (rw e, rw e)
 
--- src/lib.rt:185:27
 kind-number-requires : tie.Need-kind-number-requires
 kind-number-requires c κs = search needs
 
--- src/lib.rt:185:5
 give-completion-requires : tie.Need-give-completion-requires
 give-completion-requires c κs = search needs
 
--- src/lib.rt:167:1
 same-length-3 : tie.Need-same-length-3
 same-length-3 c = search needs
 
--- src/lib.rt:167:1
 returns-4 : tie.Need-returns-4
 returns-4 c =
-    let start = c .before .before .before .before .before .before .before .before .before .before .before .before .before .before .before .before .before .before .before .before in
+    let middle = c .before .before .before .before .before .before .before .before .before .before in
+    let start = middle .before .before .before .before .before .before .before .before .before .before in
     let some = c .before .before .before .before .before in
     let word = some .before in
+    let id = word .before .before .before .before .before .before .before .before .completion-head-at .result .requester in
     let e =
-    owned _ (start .args .index .now) _ _ (accepted (word .before .before)) refl refl (lt-ltb (c .before .before .before .before .before .before .before .before .before .before .before .before .before .before .completion-head-at .result .requester) 65536 (omega arith))
+    owned _ (start .args .index .now) _ _ (accepted (word .before .before)) refl refl (lt-ltb id 65536 (omega arith))
     _ (word .word-for .ensures) (some .if3 .left)
     _ (numbers-completion _ _ _ _ (c .before .before .before .before .kind-number .ensures)) in
     rw e (c .before .before .give-completion .ensures)

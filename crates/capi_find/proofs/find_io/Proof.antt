@@ -1,3 +1,4 @@
+-- `capi_find::find_io` meets its contract: where nothing refuses the header, the word found decides. Assumes nothing.
 use borrow.Author.Needs.{needs}
 use Prim.Native.Nat.{_+_}
 use native.Mathlib.Omega.{arith}
@@ -11,76 +12,55 @@ use Rattle.capi_find.specs.KindsLaws.{accepted-io, numbers-io}
 use Rattle.capi_find.specs.FoundLaws.{out-of-reach, no-owner, owned}
 use Rattle.capi_find.proofs.find_io.Statement.{statement}
 use Rattle.capi_find.proofs.find_io.Tie as tie
-use Rattle.capi_find.proofs.find_io.Reads as reads
-use Rattle.capi_find.proofs.find_io.Lts as lts
-use Rattle.capi_find.proofs.find_any.Reads as find-any-reads
-use Rattle.capi_find.proofs.give_request.Reads as give-request-reads
-use Rattle.capi_find.proofs.io_kind.Reads as io-kind-reads
-use Rattle.capi_find.proofs.word_for.Reads as word-for-reads
-use Rattle.packet.proofs.io_rules.Reads as io-rules-reads
-use Rattle.pairs.proofs.kind_number.Reads as kind-number-reads
-use Rattle.tlp_fields.proofs.address_at.Reads as address-at-reads
-use Rattle.tlp_fields.proofs.enables_at.Reads as enables-at-reads
-use Rattle.tlp_fields.proofs.request_head_at.Reads as request-head-at-reads
-use Rattle.tlp_fields.proofs.unnamed.Reads as unnamed-reads
 
--- src/lib.rt:117:21
 shared-slice-read-io-kind : tie.Need-shared-slice-read-io-kind
 shared-slice-read-io-kind c = search needs
 
--- src/lib.rt:117:9
 io-kind-requires : tie.Need-io-kind-requires
 io-kind-requires c κs = search needs
 
--- src/lib.rt:118:9
 request-head-at-requires : tie.Need-request-head-at-requires
 request-head-at-requires c κs = search needs
 
--- src/lib.rt:119:9
 enables-at-requires : tie.Need-enables-at-requires
 enables-at-requires c κs = search needs
 
--- src/lib.rt:120:9
 address-at-requires : tie.Need-address-at-requires
 address-at-requires c κs = search needs
 
--- src/lib.rt:121:8
 unnamed-requires : tie.Need-unnamed-requires
 unnamed-requires c κs = search needs
 
--- src/lib.rt:122:9
 find-any-requires : tie.Need-find-any-requires
 find-any-requires c κs = search needs
 
--- src/lib.rt:122:9
 same-length : tie.Need-same-length
 same-length c = search needs
 
--- src/lib.rt:122:9
 returns : tie.Need-returns
 returns c = search needs
 
--- src/lib.rt:124:8
 io-rules-requires : tie.Need-io-rules-requires
 io-rules-requires c κs = search needs
 
--- src/lib.rt:125:9
 find-any-requires-2 : tie.Need-find-any-requires-2
 find-any-requires-2 c κs = search needs
 
--- src/lib.rt:125:9
 same-length-2 : tie.Need-same-length-2
 same-length-2 c = search needs
 
--- src/lib.rt:125:9
 returns-2 : tie.Need-returns-2
 returns-2 c = search needs
 
 -- no check refuses the header
 accepted : (c : tie.Else2)
-    → readOf (c .before .before .before .before .before .before .before .before .before .before .before .before .args .header .now)
-    ≡ Accepted
-    (Io (c .before .before .before .before .before .before .before .io-kind .result) (c .before .before .before .before .before .before .request-head-at .result) (c .before .before .before .before .before .enables-at .result) (c .before .before .before .before .address-at .result))
+    → let address = c .before .before .before .before in
+    let enables = address .before in
+    let head = enables .before in
+    let kind = head .before in
+    let start = kind .before .before .before .before .before in
+    readOf (start .args .header .now)
+    ≡ Accepted (Io (kind .io-kind .result) (head .request-head-at .result) (enables .enables-at .result) (address .address-at .result))
 accepted c =
     let ruled = c .before in
     let named = ruled .before in
@@ -94,44 +74,38 @@ accepted c =
     _ (enables .enables-at .ensures) _ (address .address-at .ensures) (sym (strayed .unnamed .ensures) ∙ named .if1 .left)
     (sym (ruled .io-rules .ensures (kind .io-kind .result)) ∙ c .if2 .left)
 
--- src/lib.rt:128:9
 returns-3 : tie.Need-returns-3
 returns-3 c =
-    let start = c .before .before .before .before .before .before .before .before .before .before .before .before .before in
+    let middle = c .before .before .before .before .before .before in
+    let start = middle .before .before .before .before .before .before .before in
     let e = out-of-reach _ (start .args .index .now) _ _ (accepted (c .before)) refl refl (le-ltb _ _ (c .if3 .taken)) in
     (rw e, rw e)
 
--- src/lib.rt:130:32
 add-word-for : tie.Need-add-word-for
 add-word-for c = search needs
 
--- src/lib.rt:130:9
 word-for-requires : tie.Need-word-for-requires
 word-for-requires c κs =
     let a = c .before .before .before .before .before .address-at .result in
     (sym (segment-io (4503599627370496 + a) (omega arith) (omega (arith, c .if3 .left))), omega (arith, c .if3 .left))
 
--- src/lib.rt:132:9
 returns-4 : tie.Need-returns-4
 returns-4 c =
     let word = c .before in
     let near = word .before in
-    let e = no-owner _ _ _ _ (accepted (near .before)) refl refl (lt-ltb _ _ (near .if3 .left)) _ (word .word-for .ensures) (c .if4 .taken) in
+    let e = no-owner _ _ _ _ (accepted (near .before)) refl refl (lt-ltb _ _ (near .if3 .left))
+    _ (word .word-for .ensures) (c .if4 .taken) in
     (rw e, rw e)
 
--- src/lib.rt:134:24
 kind-number-requires : tie.Need-kind-number-requires
 kind-number-requires c κs = search needs
 
--- src/lib.rt:134:5
 give-request-requires : tie.Need-give-request-requires
 give-request-requires c κs = search needs
 
--- src/lib.rt:112:1
 same-length-3 : tie.Need-same-length-3
 same-length-3 c = search needs
 
--- src/lib.rt:112:1
 returns-5 : tie.Need-returns-5
 returns-5 c =
     let some = c .before .before .before .before .before in

@@ -1,3 +1,4 @@
+-- `capi_find::find_memory` meets its contract: where nothing refuses the header, the word found decides. Assumes nothing.
 use borrow.Author.Needs.{needs}
 use mathlib.Core.Path.{_≡_, refl, sym, _∙_}
 use borrow.Author.Tests.{lt-ltb, le-ltb}
@@ -8,108 +9,77 @@ use Rattle.capi_find.specs.KindsLaws.{accepted-memory, numbers-memory}
 use Rattle.capi_find.specs.FoundLaws.{out-of-reach, no-owner, owned}
 use Rattle.capi_find.proofs.find_memory.Statement.{statement}
 use Rattle.capi_find.proofs.find_memory.Tie as tie
-use Rattle.capi_find.proofs.find_memory.Reads as reads
-use Rattle.capi_find.proofs.find_memory.Lts as lts
-use Rattle.capi_find.proofs.find_any.Reads as find-any-reads
-use Rattle.capi_find.proofs.give_request.Reads as give-request-reads
-use Rattle.capi_find.proofs.memory_form.Reads as memory-form-reads
-use Rattle.capi_find.proofs.memory_kind.Reads as memory-kind-reads
-use Rattle.capi_find.proofs.word_for.Reads as word-for-reads
-use Rattle.packet.proofs.is_write.Reads as is-write-reads
-use Rattle.packet.proofs.memory_rules.Reads as memory-rules-reads
-use Rattle.pairs.proofs.kind_number.Reads as kind-number-reads
-use Rattle.tlp_fields.proofs.address_at.Reads as address-at-reads
-use Rattle.tlp_fields.proofs.enables_at.Reads as enables-at-reads
-use Rattle.tlp_fields.proofs.request_head_at.Reads as request-head-at-reads
-use Rattle.tlp_fields.proofs.unnamed.Reads as unnamed-reads
 
--- src/lib.rt:74:13
 shared-slice-read-b : tie.Need-shared-slice-read-b
 shared-slice-read-b c = search needs
 
--- src/lib.rt:75:9
 memory-kind-requires : tie.Need-memory-kind-requires
 memory-kind-requires c κs = search needs
 
--- src/lib.rt:76:9
 memory-form-requires : tie.Need-memory-form-requires
 memory-form-requires c κs = search needs
 
--- src/lib.rt:77:28
 cast-if1 : tie.Need-cast-if1
 cast-if1 c = search needs
 
--- src/lib.rt:77:23
 mul-if1 : tie.Need-mul-if1
 mul-if1 c = search needs
 
--- src/lib.rt:78:9
 find-any-requires : tie.Need-find-any-requires
 find-any-requires c κs = search needs
 
--- src/lib.rt:78:9
 same-length : tie.Need-same-length
 same-length c = search needs
 
--- src/lib.rt:78:9
 returns : tie.Need-returns
 returns c = search needs
 
--- src/lib.rt:80:9
 request-head-at-requires : tie.Need-request-head-at-requires
 request-head-at-requires c κs = search needs
 
--- src/lib.rt:81:9
 enables-at-requires : tie.Need-enables-at-requires
 enables-at-requires c κs = search needs
 
--- src/lib.rt:82:9
 address-at-requires : tie.Need-address-at-requires
 address-at-requires c κs = search needs
 
--- src/lib.rt:83:28
 is-write-requires : tie.Need-is-write-requires
 is-write-requires c κs = search needs
 
--- src/lib.rt:83:8
 unnamed-requires : tie.Need-unnamed-requires
 unnamed-requires c κs = search needs
 
--- src/lib.rt:84:9
 find-any-requires-2 : tie.Need-find-any-requires-2
 find-any-requires-2 c κs = search needs
 
--- src/lib.rt:84:9
 same-length-2 : tie.Need-same-length-2
 same-length-2 c = search needs
 
--- src/lib.rt:84:9
 returns-2 : tie.Need-returns-2
 returns-2 c = search needs
 
--- src/lib.rt:86:8
 memory-rules-requires : tie.Need-memory-rules-requires
 memory-rules-requires c κs = search needs
 
--- src/lib.rt:87:9
 find-any-requires-3 : tie.Need-find-any-requires-3
 find-any-requires-3 c κs = search needs
 
--- src/lib.rt:87:9
 same-length-3 : tie.Need-same-length-3
 same-length-3 c = search needs
 
--- src/lib.rt:87:9
 returns-3 : tie.Need-returns-3
 returns-3 c = search needs
 
 -- no check refuses the header
 accepted : (c : tie.Else3)
-    → readOf (c .before .before .before .before .before .before .before .before .before .before .before .before .before .before .before .args .header .now)
+    → let address = c .before .before .before .before .before in
+    let enables = address .before in
+    let head = enables .before in
+    let kind = head .before .before .before in
+    let start = kind .before .before .before .before .before in
+    readOf (start .args .header .now)
     ≡ Accepted
-    (Memory (c .before .before .before .before .before .before .before .before .before .before .memory-kind .result)
-    (c .before .before .before .before .before .before .before .request-head-at .result)
-    (c .before .before .before .before .before .before .enables-at .result) (c .before .before .before .before .before .address-at .result))
+    (Memory (kind .memory-kind .result) (head .request-head-at .result) (enables .enables-at .result) (address .address-at .result))
 accepted c =
     let ruled = c .before in
     let named = ruled .before in
@@ -127,41 +97,36 @@ accepted c =
     _ (posted .is-write .ensures) (sym (strayed .unnamed .ensures) ∙ named .if2 .left)
     (sym (ruled .memory-rules .ensures (kind .memory-kind .result)) ∙ c .if3 .left)
 
--- src/lib.rt:90:9
 returns-4 : tie.Need-returns-4
 returns-4 c =
-    let start = c .before .before .before .before .before .before .before .before .before .before .before .before .before .before .before .before in
+    let middle = c .before .before .before .before .before .before .before .before in
+    let start = middle .before .before .before .before .before .before .before .before in
     let e = out-of-reach _ (start .args .index .now) _ _ (accepted (c .before)) refl refl (le-ltb _ _ (c .if4 .taken)) in
     (rw e, rw e)
 
 segment-of-requires : tie.Need-segment-of-requires
 segment-of-requires c κs = search needs
 
--- src/lib.rt:92:9
 word-for-requires : tie.Need-word-for-requires
 word-for-requires c κs = search needs
 
--- src/lib.rt:94:9
 returns-5 : tie.Need-returns-5
 returns-5 c =
     let word = c .before in
     let near = word .before .before in
-    let e = no-owner _ _ _ _ (accepted (near .before)) refl refl (lt-ltb _ _ (near .if4 .left)) _ (word .word-for .ensures) (c .if5 .taken) in
+    let e = no-owner _ _ _ _ (accepted (near .before)) refl refl (lt-ltb _ _ (near .if4 .left))
+    _ (word .word-for .ensures) (c .if5 .taken) in
     (rw e, rw e)
 
--- src/lib.rt:96:24
 kind-number-requires : tie.Need-kind-number-requires
 kind-number-requires c κs = search needs
 
--- src/lib.rt:96:5
 give-request-requires : tie.Need-give-request-requires
 give-request-requires c κs = search needs
 
--- src/lib.rt:69:1
 same-length-4 : tie.Need-same-length-4
 same-length-4 c = search needs
 
--- src/lib.rt:69:1
 returns-6 : tie.Need-returns-6
 returns-6 c =
     let some = c .before .before .before .before .before in

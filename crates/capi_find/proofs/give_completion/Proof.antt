@@ -1,3 +1,4 @@
+-- `capi_find::give_completion` meets its contract: 22 numbers where the slice has room for them, and nothing else. Assumes nothing.
 use borrow.Author.Needs.{needs}
 use native.Mathlib.Omega.{arith}
 use Prim.Native.Nat.{ℕ}
@@ -10,36 +11,27 @@ use Rattle.capi_answers.specs.AnswersLaws.{answered-short, answered-filled}
 use Rattle.index_rule.specs.Search.{recordIn, bridgesIn}
 use Rattle.capi_find.proofs.give_completion.Statement.{statement}
 use Rattle.capi_find.proofs.give_completion.Tie as tie
-use Rattle.capi_find.proofs.give_completion.Reads as reads
-use Rattle.capi_find.proofs.give_completion.Lts as lts
-use Rattle.packet_numbers.proofs.put_completion.Reads as put-completion-reads
 
 abbrev numbers : ℕ → ℕ → Head → Outcome → List ℕ
 numbers word kind h o = recordIn word ∷ bridgesIn word ∷ (headNumbers kind h ++ (absent ++ outcomeNumbers o))
 
--- src/lib.rt:340:20
 add-if1 : tie.Need-add-if1
 add-if1 c = search needs
 
--- src/lib.rt:341:9
 returns : tie.Need-returns
 returns c =
     let s = c .before .before .args in
     answered-short (numbers (s .word) (s .kind) (s .h) (s .o)) (s .out .now) (omega arith)
 
--- src/lib.rt:343:5
 slice-write-out : tie.Need-slice-write-out
 slice-write-out c = search needs
 
--- src/lib.rt:344:5
 slice-write-out-2 : tie.Need-slice-write-out-2
 slice-write-out-2 c = simp length-set (omega arith)
 
--- src/lib.rt:345:5
 put-completion-requires : tie.Need-put-completion-requires
 put-completion-requires c κs = search needs
 
--- src/lib.rt:330:1
 same-length : tie.Need-same-length
 same-length c =
     let s = c .before .before .before .before .before .before .args in
@@ -51,7 +43,6 @@ same-length c =
       length-set out 0 (recordIn (s .word)),
     )
 
--- src/lib.rt:330:1
 returns-2 : tie.Need-returns-2
 returns-2 c =
     let s = c .before .before .before .before .before .before .args in

@@ -1,3 +1,4 @@
+-- `index_search::word_over` meets its contract: what the slot found says, by the low half of its word. Assumes nothing.
 use borrow.Author.Needs.{needs}
 use native.Mathlib.Omega.{arith}
 use borrow.Author.Tests.{not-true, not-false}
@@ -5,33 +6,22 @@ use Rattle.index_table.specs.SegmentLaws.{segment-lt}
 use Rattle.index_search.specs.AnswerLaws.{word-not-over, word-over}
 use Rattle.index_search.proofs.word_over.Statement.{statement}
 use Rattle.index_search.proofs.word_over.Tie as tie
-use Rattle.index_search.proofs.word_over.Reads as reads
-use Rattle.index_search.proofs.word_over.Lts as lts
-use Rattle.index_search.proofs.is_over.Reads as is-over-reads
-use Rattle.index_slots.proofs.key_at.Reads as key-at-reads
-use Rattle.index_slots.proofs.word_at.Reads as word-at-reads
-use Rattle.index_table.proofs.find.Reads as find-reads
 
--- src/lib.rt:96:9
 find-requires : tie.Need-find-requires
 find-requires c κs =
     let entry = c .before in
     let small = segment-lt (entry .args .key) in
     (entry .pre .0, omega (arith, small, entry .pre .1), entry .pre .2)
 
--- src/lib.rt:97:9
 key-at-requires : tie.Need-key-at-requires
 key-at-requires c κs = search needs
 
--- src/lib.rt:98:16
 word-at-requires : tie.Need-word-at-requires
 word-at-requires c κs = search needs
 
--- src/lib.rt:99:9
 is-over-requires : tie.Need-is-over-requires
 is-over-requires c κs = search needs
 
--- src/lib.rt:100:9
 returns : tie.Need-returns
 returns c =
     let tested = c .before in
@@ -42,7 +32,6 @@ returns c =
     word-not-over _ _ _ _ _ _ (entry .pre .1) (found .find .ensures .0) (keyed .key-at .ensures) _ (worded .word-at .ensures)
     _ (tested .is-over .ensures) (not-true (tested .is-over .result) (c .if1 .taken))
 
--- src/lib.rt:92:1
 returns-2 : tie.Need-returns-2
 returns-2 c =
     let tested = c .before in
