@@ -54,7 +54,8 @@ fed-start room l =
     record { room-before = room; size = l; put = record { stored = refl; place = omega arith }; staged = refl; noted = refl }
 
 -- a piece adds to the sheet what the host record does not take
-sheet-append : (n : ℕ) (s piece : List ℕ) → n ≡ min (length s) kept → drop hostLength (s ++ piece) ≡ sheetOf s ++ drop (hostLength - n) piece
+sheet-append : (n : ℕ) (s piece : List ℕ) → n ≡ min (length s) kept
+    → drop hostLength (s ++ piece) ≡ sheetOf s ++ drop (hostLength - n) piece
 sheet-append n s piece e = go (ltb (length s) hostLength) refl
   where
     go : (b : Bool) → ltb (length s) hostLength ≡ b → drop hostLength (s ++ piece) ≡ sheetOf s ++ drop (hostLength - n) piece

@@ -1,5 +1,5 @@
--- What the program `audit` prints: "accepted", or "refused" and the number, of an input that is the bytes of a host record and then a sheet,
--- to the end. An input of fewer bytes than a host record has is a host record not of 30 bytes. Assumes nothing.
+-- What the program `audit` prints: "accepted", or "refused" and the number, of an input that is the bytes of a host record and then a
+-- sheet, to the end. An input of fewer bytes than a host record has is a host record not of 30 bytes. Assumes nothing.
 use Prim.Native.Nat.{ℕ}
 use mathlib.Core.Bool.{cond}
 use mathlib.Core.List.{List}

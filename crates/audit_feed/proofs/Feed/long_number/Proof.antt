@@ -20,7 +20,9 @@ frame-number-requires c κs = search needs
 
 returns-2 : tie.Need-returns-2
 unfolding longNumber
-returns-2 c = rw (← c .before .before .before .host-of .ensures, sym (c .before .before .host-wrong .ensures) ∙ c .before .if1 .left) (c .frame-number .ensures)
+returns-2 c =
+    rw (← c .before .before .before .host-of .ensures, sym (c .before .before .host-wrong .ensures) ∙ c .before .if1 .left)
+    (c .frame-number .ensures)
 
 pub long-number-spec : {M : Type 1} → statement M
 long-number-spec =

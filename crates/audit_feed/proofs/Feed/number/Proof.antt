@@ -22,7 +22,9 @@ long-number-requires c κs =
 
 returns : tie.Need-returns
 unfolding numberOf
-returns c = rw (sym (c .before .before .before .before .is-long .ensures) ∙ c .before .before .before .if1 .taken, ← c .before .front .ensures) (c .long-number .ensures)
+returns c =
+    rw (sym (c .before .before .before .before .is-long .ensures) ∙ c .before .before .before .if1 .taken, ← c .before .front .ensures)
+    (c .long-number .ensures)
 
 front-requires-2 : tie.Need-front-requires-2
 front-requires-2 c κs = search needs
@@ -32,7 +34,9 @@ audit-requires c κs = search needs
 
 returns-2 : tie.Need-returns-2
 unfolding numberOf
-returns-2 c = rw (sym (c .before .before .before .before .is-long .ensures) ∙ c .before .before .before .if1 .left, ← c .before .front2 .ensures) (c .audit .ensures)
+returns-2 c =
+    rw (sym (c .before .before .before .before .is-long .ensures) ∙ c .before .before .before .if1 .left, ← c .before .front2 .ensures)
+    (c .audit .ensures)
 
 pub number-spec : {M : Type 1} → statement M
 number-spec =
