@@ -1,5 +1,6 @@
 // Numbers in bytes: 2, 4 and 8 bytes of a slice read as a number, and a number stored as that many, in both orders.
-// A wider number is two narrower ones, but for the 8 bytes that a search reads key by key. The definitions and their laws stand in specs/Endian and specs/EndianLaws.
+// A wider number is two narrower ones, but for the 8 bytes that a search reads key by key. The definitions and their laws stand in
+// specs/Endian and specs/EndianLaws.
 ghost use mathlib.Core.Path.{_≡_};
 ghost use Prim.Native.Nat.{_+_, _<_, _≤_};
 ghost use lib.ListN.{length};
