@@ -2,7 +2,7 @@
 use mathlib.Core.Path.{_≡_, refl, sym, ap, _∙_}
 use mathlib.Core.Bool.{Bool, true, false, cond}
 use mathlib.Core.List.{List}
-use Prim.Native.Nat.{ℕ, _+_, _-_, _≤_, _<_}
+use Prim.Native.Nat.{ℕ, _+_, _-_, _/_, _≤_, _<_}
 use native.Mathlib.Omega.{arith}
 use lib.ListN.{length, take, drop, length-take, take-append-drop}
 use lib.Seq.{drop-drop}
@@ -13,7 +13,7 @@ use Rattle.trace.specs.declared.Fed.{Fed}
 use Rattle.trace.specs.Trace.{stateOf, linesOf}
 use Rattle.trace.specs.TraceLaws.{state-append, state-past}
 use Rattle.trace.specs.Feed.{takenFed, refusedFed, fedOf}
-use Rattle.trace.specs.FeedLaws.{Sound, lines-le, count-le-length, state-sound}
+use Rattle.trace.specs.FeedLaws.{longestLine, Sound, lines-le, count-le-length, state-sound}
 use Rattle.trace_line.specs.declared.Engine.{Engine}
 use Rattle.trace_line.specs.Engine.{lineBy}
 use Rattle.trace_line.specs.LineLaws.{line-le}
@@ -30,9 +30,9 @@ taken-of-zero line t piece room fed e z =
     go true z = refl
     go false z = absurd (omega (arith, z))
 
--- i and end are places in the piece, with at most 112 bytes between them; 4,480 bytes hold as many lines
+-- i and end are places in the piece, with no more bytes between them than lines fit
 module _ (engine : Engine) (bytes : List ℕ) (t : Trace) (piece : List ℕ) (i end room : ℕ) (fed : Fed) (sound : Sound (t .number))
-    (on : i < end) (inside : end ≤ length piece) (few : end ≤ i + 112) (size : room ≡ 4480)
+    (on : i < end) (inside : end ≤ length piece) (few : end ≤ i + room / longestLine)
     (e : fed ≡ fedOf (lineBy engine bytes) t (take (end - i) (drop i piece)) room) where
   part-fits : length (linesOf (lineBy engine bytes) t (take (end - i) (drop i piece))) ≤ room
   part-fits =

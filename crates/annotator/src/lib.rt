@@ -6,6 +6,7 @@ ghost use mathlib.Core.Bool.{true};
 ghost use Prim.Native.Nat.{_+_, _≤_, _<_};
 ghost use lib.ListN.{length};
 ghost use Rattle.trace.specs.Trace.{stateOf};
+ghost use Rattle.trace.specs.FeedLaws.{longestLine};
 ghost use Rattle.trace_line.specs.Engine.{Knows};
 ghost use Rattle.annotator.specs.Program.{openingOf};
 use console::Piece;
@@ -105,15 +106,9 @@ fn read_over(start: u64, sheet: &[u8], piece: &mut [u8; PIECE], lines: &mut [u8;
     read_trace(start, engine, sheet, piece, lines);
 }
 
-// The trace to its end, by an engine.
-pub fn read_trace(
-    start: u64,
-    engine: Engine,
-    bytes: &[u8],
-    piece: &mut [u8; PIECE],
-    lines: &mut [u8; LINES],
-)
-    requires { ⌜ Knows engine (now bytes) ⌝ }
+// The trace to its end, by an engine, in pieces of any size, with room for any line.
+pub fn read_trace(start: u64, engine: Engine, bytes: &[u8], piece: &mut [u8], lines: &mut [u8])
+    requires { ⌜ Knows engine (now bytes) × (longestLine ≤ length (now lines)) ⌝ }
 {
     let mut t = Trace::start();
     let mut left = start;
@@ -138,14 +133,14 @@ pub fn read_trace(
     }
 }
 
-fn finish(t: Trace, lines: &mut [u8; LINES]) {
+fn finish(t: Trace, lines: &mut [u8]) {
     let finished = trace::finish(t, lines);
     console::print(text::front(lines, finished.written));
 }
 
 // A piece whose lines do not fit at once is taken in parts, each of no more bytes than lines fit.
-fn label(t: Trace, engine: Engine, bytes: &[u8], piece: &[u8], lines: &mut [u8; LINES]) -> Labelled
-    requires { ⌜ Knows engine (now bytes) ⌝ }
+fn label(t: Trace, engine: Engine, bytes: &[u8], piece: &[u8], lines: &mut [u8]) -> Labelled
+    requires { ⌜ Knows engine (now bytes) × (longestLine ≤ length (now lines)) ⌝ }
     ensures { λ r. ⌜ (r .written ≡ true → r .state ≡ stateOf t (now (piece .entry))) ⌝ }
 {
     let fed = trace_feed::feed_by(t, engine, bytes, piece, lines);
@@ -162,15 +157,16 @@ fn label_parts(
     engine: Engine,
     bytes: &[u8],
     piece: &[u8],
-    lines: &mut [u8; LINES],
+    lines: &mut [u8],
 ) -> Labelled
-    requires { ⌜ Knows engine (now bytes) ⌝ }
+    requires { ⌜ Knows engine (now bytes) × (longestLine ≤ length (now lines)) ⌝ }
     ensures { λ r. ⌜ (r .written ≡ true → r .state ≡ stateOf start (now (piece .entry))) ⌝ }
 {
+    let most = lines.len() / trace::LONGEST;
     let mut t = start;
     let mut i = 0;
     while i < piece.len() {
-        let end = part_end(i, piece.len());
+        let end = part_end(i, piece.len(), most);
         let fed = trace_feed::feed_by(t, engine, bytes, &piece[i..end], lines);
         t = fed.state;
         if !console::print(text::front(lines, fed.written)) {
@@ -187,15 +183,15 @@ fn label_parts(
     }
 }
 
-// Where the part from a place on ends.
-fn part_end(from: usize, size: usize) -> usize
-    requires { ⌜ from < size ⌝ }
-    ensures { λ r. ⌜ (from < r) × (r ≤ size) × (r ≤ from + 112) ⌝ }
+// Where the part of so many bytes from a place on ends.
+fn part_end(from: usize, size: usize, most: usize) -> usize
+    requires { ⌜ (from < size) × (0 < most) ⌝ }
+    ensures { λ r. ⌜ (from < r) × (r ≤ size) × (r ≤ from + most) ⌝ }
 {
-    if size - from < MOST_LINES {
+    if size - from < most {
         return size;
     }
-    from + MOST_LINES
+    from + most
 }
 
 // Reads until the room is full.

@@ -3,7 +3,7 @@
 fn main() {
     let mut sheet = [0u8; sheet::FULL];
     let mut index = [0u8; labeller::INDEX];
-    let mut piece = [0u8; annotator::PIECE];
-    let mut lines = [0u8; annotator::LINES];
+    let mut piece = [0u8; labeller::PIECE];
+    let mut lines = [0u8; labeller::LINES];
     labeller::label(&mut sheet, &mut index, &mut piece, &mut lines);
 }

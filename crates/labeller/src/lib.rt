@@ -8,16 +8,19 @@ ghost use Rattle.board_record.specs.Host.{hostLength};
 ghost use Rattle.labeller.specs.Program.{refusal};
 ghost use Rattle.labeller.specs.Indexed.{Indexed};
 use annotator::Filling;
-use annotator::LINES;
-use annotator::PIECE;
 use annotator::SheetRead;
 use trace_line::Engine;
 
 // The index of a full sheet, 1,024 bytes and 256 a function: 132,096 for 512 functions, which E4's 64 KiB cannot hold, so this program
-// stands beside the annotator. Its memory is fixed too: the index, a full sheet of 47,105 bytes, a piece and its lines as the annotator has
-// them (6,048), the host record, 8,192 bytes in which the sheet's check marks IDs, 9,216 for the tables by bus of audit and build, 4,096 in
-// which `io` goes on after a short write, and under 1,000 for ranges and lines under way: less than 208,000 bytes.
+// stands beside the annotator. Its memory is fixed too: the index, a full sheet of 47,105 bytes, a piece of 16,384 and its lines (327,720),
+// the host record, 8,192 bytes in which the sheet's check marks IDs, 9,216 for the tables by bus of audit and build, 4,096 in which `io`
+// goes on after a short write, and under 1,000 for ranges and lines under way: less than 546,000 bytes.
 pub const INDEX: usize = 1024 + 256 * records::MOST_FUNCTIONS;
+
+// A record takes two bytes at least, so the lines of any piece fit: none is counted before it is labelled.
+pub const PIECE: usize = 16384;
+
+pub const LINES: usize = (PIECE / 2 + 1) * trace::LONGEST;
 
 const HOST_SIZE: usize = 30;
 

@@ -130,7 +130,7 @@ stage-part n s h =
 drop-length : (a b n : ℕ) (s : List ℕ) → drop (2 + n) (a ∷ b ∷ s) ≡ drop n s
 drop-length a b n s = let e : 2 + n ≡ suc (suc n) = omega arith in rw e
 
-stage-record : (s : List ℕ) (n : ℕ) → nextOf s ≡ Record n → stageOf Between s ≡ stageOf Between (drop (2 + n) s)
+pub stage-record : (s : List ℕ) (n : ℕ) → nextOf s ≡ Record n → stageOf Between s ≡ stageOf Between (drop (2 + n) s)
 stage-record =
     record-elim (λ (s : List ℕ) (n : ℕ). stageOf Between s ≡ stageOf Between (drop (2 + n) s))
     (λ a b s h. stage-length a b s ∙ stage-part (a * 256 + b) s h ∙ ap (stageOf Between) (sym (drop-length a b (a * 256 + b) s)))
@@ -177,7 +177,7 @@ module _ {A : Type 0} (hear : A → Event → A) (half : (a : A) (b : ℕ) → h
       ∙ ap₂ (λ (g : Stage) (c : A). heardOf hear g c (drop n s)) (stage-inside n (take n s) (omega arith) ∙ ap insideOf z)
       (p ∙ ap (λ (k : ℕ). heardBytes hear k (hear a (Begins k)) (take n s)) (sym l))
 
-  heard-record : (s : List ℕ) (n : ℕ) → nextOf s ≡ Record n → (a : A)
+  pub heard-record : (s : List ℕ) (n : ℕ) → nextOf s ≡ Record n → (a : A)
       → heardOf hear Between a s ≡ heardOf hear Between (heardPart hear a (take n (drop 2 s))) (drop (2 + n) s)
   heard-record =
       record-elim

@@ -1,15 +1,16 @@
 -- Texts put one after the other, and how the digits of a number go on. Assumes nothing.
 use mathlib.Core.Path.{_≡_, refl, sym, ap, _∙_}
-use Prim.Native.Nat.{ℕ, zero, suc, _+_, _-_, _/_, _%_, _≤_, _<_, min}
-use native.Mathlib.Nat.{min-eq-left, min-eq-right}
+use Prim.Native.Nat.{ℕ, zero, suc, _+_, _-_, _*_, _/_, _%_, _≤_, _<_, min}
+use native.Mathlib.Nat.{min-eq-left, min-eq-right, add-zero, div-div-eq-div-mul}
+use native.Mathlib.Numerals.{add-one}
 use native.Mathlib.Omega.{arith}
 use mathlib.Core.Bool.{Bool, true, false, cond}
 use mathlib.Core.List.{List, [], _∷_, _++_}
-use lib.ListN.{length, length-append}
+use lib.ListN.{length, getD, take, set, length-append, length-take}
 use lib.Dec.{ltb, leb}
-use lib.Seq.{sets, set-out, length-sets}
+use lib.Seq.{sets, set-out, length-sets, take-suc}
 use borrow.Author.Tests.{lt-ltb, le-ltb, ltb-false, leb-true, leb-false}
-use Rattle.endian.specs.SetsLaws.{sets-sets}
+use Rattle.endian.specs.SetsLaws.{sets-sets, sets-comm}
 use Rattle.text.specs.Text.{Put, digit, hexadecimal, decimalOver, decimal}
 
 -- stores past the end change nothing
@@ -18,7 +19,7 @@ sets-out o i [] h = refl
 sets-out o i (v ∷ vs) h = rw (set-out o i v h) (sets-out o (suc i) vs (omega arith))
 
 -- stores from the end on are stores from any place past it
-sets-min : (o : List ℕ) (i : ℕ) (vs : List ℕ) → sets o (min i (length o)) vs ≡ sets o i vs
+pub sets-min : (o : List ℕ) (i : ℕ) (vs : List ℕ) → sets o (min i (length o)) vs ≡ sets o i vs
 sets-min o i vs = go (leb i (length o)) refl
   where
     go : (b : Bool) → leb i (length o) ≡ b → sets o (min i (length o)) vs ≡ sets o i vs
@@ -40,6 +41,16 @@ put-append {o} {o₁} {o₂} {vs} {ws} {at} {r₁} {r₂} p q =
       stored = q .stored ∙ ap (λ (k : ℕ). sets o₁ k ws) e ∙ sets-min o₁ (at + length vs) ws ∙ rw (p .stored) (sets-sets o at vs ws);
       place = simp length-append (omega arith);
     }
+
+-- a text copied byte by byte: one more
+pub copied-more : (o text : List ℕ) (start i : ℕ) → i < length text
+    → set (sets o start (take i text)) (start + i) (getD text i 0) ≡ sets o start (take (i + 1) text)
+copied-more o text start i h =
+    let b = getD text i 0 ∷ [] in
+    let l : start + i ≡ start + length (take i text) = omega (arith, length-take i text) in
+    ap (λ (k : ℕ). sets (sets o start (take i text)) k b) l
+    ∙ sets-sets o start (take i text) b
+    ∙ ap (sets o start) (sym (ap (λ (k : ℕ). take k text) (add-one i) ∙ take-suc text i 0 h))
 
 -- the last hexadecimal digit, and those in front of it
 pub hexadecimal-more : (width n : ℕ) → (width ≡ 0 → ⊥) → hexadecimal width n ≡ hexadecimal (width - 1) (n / 16) ++ (digit (n % 16) ∷ [])
@@ -69,3 +80,65 @@ unfolding decimal decimalOver
 decimal-more n h =
     ap (λ (b : Bool). cond b (digit n ∷ []) (decimalOver n (n / 10) ++ (digit (n % 10) ∷ []))) (le-ltb n 10 h)
     ∙ ap (λ (r : List ℕ). r ++ (digit (n % 10) ∷ [])) (enough n (suc (n / 10)) (n / 10) (omega arith) (omega arith))
+
+-- ## How many digits
+
+one-more : (n : ℕ) → 10 ≤ n → length (decimal n) ≡ length (decimal (n / 10)) + 1
+one-more n h = ap length (decimal-more n h) ∙ length-append (decimal (n / 10)) (digit (n % 10) ∷ [])
+
+-- 10 to the power d
+unfoldable pub tens : ℕ → ℕ
+tens zero = 1
+tens (suc d) = 10 * tens d
+
+tens-positive : (d : ℕ) → 0 < tens d
+unfolding tens
+tens-positive zero = omega arith
+tens-positive (suc d) = omega (arith, tens-positive d)
+
+pub one-digit : (n : ℕ) → n < 10 → 1 ≡ length (decimal n)
+one-digit n h = sym (ap length (decimal-one n h))
+
+-- a number from 10 to the power d on, and below ten times that
+pub digits-between : (d n : ℕ) → tens d ≤ n → n < tens (suc d) → suc d ≡ length (decimal n)
+unfolding tens
+digits-between zero n low high = one-digit n (omega arith)
+digits-between (suc d) n low high =
+    omega (arith, one-more n (omega (arith, tens-positive d)), digits-between d (n / 10) (omega arith) (omega arith))
+
+-- k digits more
+digits-more : (k n : ℕ) → tens k ≤ n → length (decimal n) ≡ length (decimal (n / tens k)) + k
+unfolding tens
+digits-more zero n h = let e : n ≡ n / 1 = omega arith in ap (λ (m : ℕ). length (decimal m)) e ∙ sym (add-zero _)
+digits-more (suc k) n h =
+    let t = tens-positive k in
+    let e : n / 10 / tens k ≡ n / (10 * tens k) = div-div-eq-div-mul n 10 (tens k) in
+    omega (
+      arith,
+      one-more n (omega arith),
+      digits-more k (n / 10) (omega arith),
+      ap (λ (m : ℕ). length (decimal m)) e,
+    )
+
+pub eight-more : (n : ℕ) → 100000000 ≤ n → length (decimal n) ≡ length (decimal (n / 100000000)) + 8
+unfolding tens
+eight-more n h = digits-more 8 n h
+
+-- ## Digits stored from the last on
+
+module _ (o : List ℕ) (start left : ℕ) (more : 10 ≤ left) where
+  -- the last digit stands where those in front of it end
+  pub last-place : start + length (decimal left) ≡ start + length (decimal (left / 10)) + 1
+  last-place = omega (arith, one-more left more)
+
+  pub last-stored : sets (set o (start + length (decimal (left / 10))) (digit (left % 10))) start (decimal (left / 10))
+      ≡ sets o start (decimal left)
+  last-stored =
+      let front = decimal (left / 10) in
+      sym
+      (ap (sets o start) (decimal-more left more)
+      ∙ sym (sets-sets o start front (digit (left % 10) ∷ []))
+      ∙ sets-comm o start front (start + length front) (digit (left % 10) ∷ []) (omega arith))
+
+pub first-stored : (o : List ℕ) (start left : ℕ) → left < 10 → set o start (digit left) ≡ sets o start (decimal left)
+first-stored o start left h = ap (sets o start) (sym (decimal-one left h))

@@ -2,24 +2,29 @@
 use mathlib.Core.Path.{_≡_, refl, ap, ap₂, _∙_}
 use mathlib.Core.Bool.{Bool, true, false, cond}
 use mathlib.Core.List.{List, [], _∷_, _++_, flatten}
-use Prim.Native.Nat.{ℕ, _+_, _*_, _≤_, _<_}
+use Prim.Native.Nat.{ℕ, suc, _+_, _-_, _*_, _≤_, _<_}
 use native.Mathlib.Nat.{zero-add}
 use native.Mathlib.Omega.{arith}
-use lib.ListN.{length, length-append, take, drop}
-use lib.Seq.{sets, sets-eq, take-length}
-use lib.Dec.{leb}
+use lib.ListN.{length, length-append, take, drop, drop-of-length-le}
+use lib.Seq.{sets, sets-eq, take-length, drop-drop}
+use lib.Dec.{leb, eqb}
 use borrow.Author.Tests.{le-leb, lt-leb}
+use Rattle.records.specs.declared.Next.the-variants.{Record}
 use Rattle.records.specs.declared.frame.Stage.{Stage}
+use Rattle.records.specs.declared.frame.Stage.the-variants.{Start, Other, Between, Length, Inside}
 use Rattle.records.specs.declared.frame.Event.{Event}
-use Rattle.records.specs.Frame.{eventOf, stageAfter, heardOf}
+use Rattle.records.specs.declared.frame.Event.the-variants.{Version, Foreign, Byte}
+use Rattle.records.specs.Frame.{versionOf, eventOf, insideOf, stageAfter, heardOf, heardBytes, heardPart}
+use Rattle.records.specs.FrameLaws.{heard-record}
 use Rattle.trace.specs.declared.Trace.{Trace}
 use Rattle.text.specs.Text.{ascii}
 use Rattle.trace.specs.declared.Emits.{Emits}
 use Rattle.trace.specs.declared.Emits.the-variants.{Nothing, Refusal, Line}
-use Rattle.trace.specs.Annotated.{numberAfter, versionLine, annotated}
-use Rattle.trace.specs.Trace.{fresh, Account, accountOf, emittedBy, numberBy, heardBy, stateOf, headerOf, Told, textOf, toldBy}
-use Rattle.trace.specs.Trace.{linesOf, countOn, countBy, lineCount, endLine}
-use Rattle.trace.specs.TraceLaws.{heard-related, stateAll, linesAll, pieces-told}
+use Rattle.trace.specs.Annotated.{frontLength, numberAfter, versionLine, annotated}
+use Rattle.trace.specs.Trace.{noBytes, fresh, Account, accountOf}
+use Rattle.trace.specs.Trace.{emittedBy, numberBy, heardBy, stateOf, headerBy, Told, textOf, toldBy}
+use Rattle.trace.specs.Trace.{lineAt, linesOf, nextIn, countOn, countBy, lineCount, endLine}
+use Rattle.trace.specs.TraceLaws.{line-suc, heard-related, stateAll, linesAll, pieces-told}
 use Rattle.trace.specs.Feed.{textPut, takenFed, refusedFed, fedOf}
 
 -- ## A text at the front of a room
@@ -34,6 +39,12 @@ module _ (text out : List ℕ) where
   pub short-front : length out < length text → out ≡ textPut text out
   unfolding textPut
   short-front h = rw (lt-leb (length text) (length out) h)
+
+-- zeros over all that was kept
+pub let-go : (h h′ : List ℕ) → length h ≡ frontLength → h′ ≡ sets h 0 noBytes → h′ ≡ noBytes
+let-go h h′ l e =
+    let past : length h ≤ 16 = omega arith in
+    e ∙ sets-eq noBytes h 0 (omega arith) ∙ ap (λ (r : List ℕ). noBytes ++ r) (drop-of-length-le h past)
 
 -- ## Lines of at most 40 bytes
 
@@ -79,7 +90,7 @@ module _ (line : ℕ → List ℕ → List ℕ) (short : (n : ℕ) (header : Lis
       heard-related (toldBy line) countBy Within
       (λ x n e w.
       let sound = sound-by (emittedBy e) (x .account .number) (w .1) in
-      (on-within (x .lines) n (x .account .number) (headerOf (heardBy (x .account) e)) (emittedBy e) (w .0) sound, sound))
+      (on-within (x .lines) n (x .account .number) (headerBy e (x .account)) (emittedBy e) (w .0) sound, sound))
       (t .stage) (record { account = accountOf t; lines = [] }) 0 piece (omega arith, s)
       .0
 
@@ -98,6 +109,80 @@ count-from g n (b ∷ piece) =
 pub count-le-length : (g : Stage) (piece : List ℕ) → lineCount g piece ≤ length piece
 unfolding lineCount
 count-le-length g piece = omega (arith, count-from g 0 piece)
+
+-- a record takes two bytes at least: where the bytes so far are owed a line, one byte may bring it
+abbrev owed : Stage → ℕ
+owed Start = 1
+owed Other = 0
+owed Between = 0
+owed (Length high) = 1
+owed (Inside left) = 1
+
+record-owed : (left n : ℕ) → 2 * countOn (lineAt left) n + owed (insideOf left) ≤ 2 * n + 2
+unfolding lineAt insideOf
+record-owed left n = go (eqb left 0)
+  where
+    go : (b : Bool) → 2 * countOn (cond b Line Nothing) n + owed (cond b Between (Inside left)) ≤ 2 * n + 2
+    go true = omega arith
+    go false = omega arith
+
+byte-owed : (g : Stage) (b n : ℕ) → 2 * countBy n (eventOf g b) + owed (stageAfter (eventOf g b)) ≤ 2 * n + 1 + owed g
+unfolding versionOf
+byte-owed Start b n = go (eqb b 1)
+  where
+    go : (t : Bool) → 2 * countBy n (cond t Version Foreign) + owed (stageAfter (cond t Version Foreign)) ≤ 2 * n + 1 + 1
+    go true = omega arith
+    go false = omega arith
+byte-owed Other b n = omega arith
+byte-owed Between b n = omega arith
+byte-owed (Length high) b n = omega (arith, record-owed (high * 256 + b) n)
+byte-owed (Inside left) b n = omega (arith, record-owed (left - 1) n)
+
+half-from : (g : Stage) (n : ℕ) (piece : List ℕ) → 2 * heardOf countBy g n piece ≤ 2 * n + length piece + owed g
+unfolding heardOf
+half-from g n [] = omega arith
+half-from g n (b ∷ piece) =
+    let e = eventOf g b in omega (arith, half-from (stageAfter e) (countBy n e) piece, byte-owed g b n)
+
+owed-le : (g : Stage) → owed g ≤ 1
+owed-le Start = omega arith
+owed-le Other = omega arith
+owed-le Between = omega arith
+owed-le (Length high) = omega arith
+owed-le (Inside left) = omega arith
+
+-- nor more than half of them, and one for a record that began before
+pub count-le-half : (g : Stage) (piece : List ℕ) → 2 * lineCount g piece ≤ length piece + 1
+unfolding lineCount
+count-le-half g piece = omega (arith, half-from g 0 piece, owed-le g)
+
+-- a record that is whole is one line
+bytes-counted : (b n : ℕ) (q : List ℕ) → heardBytes countBy (suc (length q)) n (b ∷ q) ≡ n + 1
+unfolding heardBytes lineAt
+bytes-counted b n [] = refl
+bytes-counted b n (c ∷ q) =
+    let e : suc (suc (length q)) - 1 ≡ suc (length q) = omega arith in
+    ap (λ (m : ℕ). heardBytes countBy m (countBy n (Byte b m)) (c ∷ q)) e
+    ∙ ap (λ (m : Emits). heardBytes countBy (suc (length q)) (countOn m n) (c ∷ q)) (line-suc (length q))
+    ∙ bytes-counted c n q
+
+part-counted : (n : ℕ) (p : List ℕ) → heardPart countBy n p ≡ n + 1
+unfolding heardPart heardBytes lineAt
+part-counted n [] = refl
+part-counted n (b ∷ q) =
+    ap (λ (m : Emits). heardBytes countBy (suc (length q)) (countOn m n) (b ∷ q)) (line-suc (length q)) ∙ bytes-counted b n q
+
+pub count-whole : (g : Stage) (n : ℕ) (p : List ℕ) (i size : ℕ) → nextIn g (drop i p) ≡ Record size
+    → heardOf countBy g n (drop i p) ≡ heardOf countBy g (n + 1) (drop (i + 2 + size) p)
+count-whole Start n p i size is = absurd (let z : _≡_ {A = ℕ} 0 1 = cc in omega arith)
+count-whole Other n p i size is = absurd (let z : _≡_ {A = ℕ} 0 1 = cc in omega arith)
+count-whole Between n p i size is =
+    let e : i + (2 + size) ≡ i + 2 + size = omega arith in
+    heard-record countBy (λ a b. refl) (drop i p) size is n
+    ∙ ap₂ (heardOf countBy Between) (part-counted n (take size (drop 2 (drop i p))))
+    (drop-drop (2 + size) i p ∙ ap (λ (j : ℕ). drop j p) e)
+count-whole (Length high) n p i size is = absurd (let z : _≡_ {A = ℕ} 0 1 = cc in omega arith)
+count-whole (Inside left) n p i size is = absurd (let z : _≡_ {A = ℕ} 0 1 = cc in omega arith)
 
 -- a state's number stays one of 64 bits
 pub state-sound : (t : Trace) (piece : List ℕ) → Sound (t .number) → Sound (stateOf t piece .number)

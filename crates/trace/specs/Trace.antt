@@ -6,11 +6,14 @@ use mathlib.Core.List.{List, [], _++_}
 use lib.ListN.{length, take, set, replicate}
 use lib.Dec.{eqb}
 use Rattle.records.specs.declared.frame.Stage.{Stage}
-use Rattle.records.specs.declared.frame.Stage.the-variants.{Start}
+use Rattle.records.specs.declared.frame.Stage.the-variants.{Start, Other, Between, Length, Inside}
 use Rattle.records.specs.declared.frame.Event.{Event}
 use Rattle.records.specs.declared.frame.Event.the-variants.{Version, Foreign, Passed, Half, Begins, Byte}
 use Rattle.records.specs.declared.frame.Ending.{Ending}
 use Rattle.records.specs.declared.frame.Ending.the-variants.{Empty, Unread, Whole, Cut}
+use Rattle.records.specs.declared.Next.{Next}
+use Rattle.records.specs.declared.Next.the-variants.{Broken}
+use Rattle.records.specs.Records.{nextOf}
 use Rattle.records.specs.Frame.{stageOf, heardOf, endingOf}
 use Rattle.trace.specs.declared.Emits.{Emits}
 use Rattle.trace.specs.declared.Emits.the-variants.{Nothing, Refusal, Line}
@@ -22,8 +25,16 @@ use Rattle.trace.specs.Annotated.{frontLength, numberAfter, emptyLine, v
 abbrev pub tracing : Stage → ℕ → ℕ → List ℕ → Trace
 tracing stage number kept head = record { stage = stage; number = number; kept = kept; head = head }
 
+-- no bytes kept, where no record is under way
+abbrev pub noBytes : List ℕ
+noBytes = replicate frontLength 0
+
 abbrev pub fresh : Trace
-fresh = tracing Start 0 0 (replicate frontLength 0)
+fresh = tracing Start 0 0 noBytes
+
+-- after record n
+abbrev pub between : ℕ → Trace
+between n = tracing Between n 0 noBytes
 
 -- what is kept beside the stage
 pub record Account : Type 0 where
@@ -72,12 +83,23 @@ headBy (Half high) kept head = head
 headBy (Begins size) kept head = head
 headBy (Byte byte left) kept head = set head kept byte
 
+-- with a record's line its bytes are let go
+abbrev pub keptAfter : Emits → ℕ → ℕ
+keptAfter Nothing kept = kept
+keptAfter Refusal kept = kept
+keptAfter Line kept = 0
+
+abbrev pub headAfter : Emits → List ℕ → List ℕ
+headAfter Nothing head = head
+headAfter Refusal head = head
+headAfter Line head = noBytes
+
 abbrev pub heardBy : Account → Event → Account
 heardBy a e =
     record {
       number = numberBy (emittedBy e) (a .number);
-      kept = keptBy e (a .kept) (length (a .head));
-      head = headBy e (a .kept) (a .head);
+      kept = keptAfter (emittedBy e) (keptBy e (a .kept) (length (a .head)));
+      head = headAfter (emittedBy e) (headBy e (a .kept) (a .head));
     }
 
 -- after a piece
@@ -86,8 +108,9 @@ stateOf t piece = traceAt (stageOf (t .stage) piece) (heardOf heardBy (t .stage)
 
 -- ## The lines
 
-abbrev pub headerOf : Account → List ℕ
-headerOf a = take (a .kept) (a .head)
+-- what is kept with an event, before a line lets it go
+abbrev pub headerBy : Event → Account → List ℕ
+headerBy e a = take (keptBy e (a .kept) (length (a .head))) (headBy e (a .kept) (a .head))
 
 -- an account, and the lines that were given on the way to it
 pub record Told : Type 0 where
@@ -100,16 +123,24 @@ module _ (line : ℕ → List ℕ → List ℕ) where
   textOf Refusal number header = versionLine
   textOf Line number header = line number header
 
-  -- the account is that after the event
+  -- the account is that before the event
   abbrev pub textBy : Event → Account → List ℕ
-  textBy e a = textOf (emittedBy e) (a .number) (headerOf a)
+  textBy e a = textOf (emittedBy e) (numberBy (emittedBy e) (a .number)) (headerBy e a)
 
   abbrev pub toldBy : Told → Event → Told
-  toldBy t e = record { account = heardBy (t .account) e; lines = t .lines ++ textBy e (heardBy (t .account) e) }
+  toldBy t e = record { account = heardBy (t .account) e; lines = t .lines ++ textBy e (t .account) }
 
   -- of a piece
   unfoldable pub linesOf : Trace → List ℕ → List ℕ
   linesOf t piece = heardOf toldBy (t .stage) (record { account = accountOf t; lines = [] }) piece .lines
+
+-- the record that starts here, if one is whole here
+abbrev pub nextIn : Stage → List ℕ → Next
+nextIn Start s = Broken
+nextIn Other s = Broken
+nextIn Between s = nextOf s
+nextIn (Length high) s = Broken
+nextIn (Inside left) s = Broken
 
 -- how many lines a piece gives, by the frame alone
 abbrev pub countOn : Emits → ℕ → ℕ

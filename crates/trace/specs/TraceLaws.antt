@@ -7,24 +7,27 @@ use Prim.Native.Nat.{ℕ, suc, _+_, _-_, _≤_, _<_, min}
 use native.Mathlib.Omega.{arith}
 use native.Mathlib.Numerals.{add-one}
 use lib.ListN.{length, getD, take, drop, set, replicate, length-set, length-take, drop-of-length-le}
-use lib.Seq.{drop-cons, take-suc-set, set-out, take-all, take-append-le}
+use lib.Seq.{drop-cons, drop-drop, take-suc-set, set-out, take-all, take-append-le}
 use lib.Dec.{eqb, ltb}
 use borrow.Author.Tests.{ltb-true, ltb-false, ne-eqb}
 use Rattle.records.specs.declared.frame.Stage.{Stage}
-use Rattle.records.specs.declared.frame.Stage.the-variants.{Other, Between}
+use Rattle.records.specs.declared.Next.the-variants.{Record}
+use Rattle.records.specs.declared.frame.Stage.the-variants.{Start, Other, Between, Length, Inside}
 use Rattle.records.specs.declared.frame.Event.{Event}
 use Rattle.records.specs.declared.frame.Event.the-variants.{Version, Foreign, Passed, Half, Begins, Byte}
 use Rattle.records.specs.declared.frame.Ending.{Ending}
 use Rattle.records.specs.declared.frame.Ending.the-variants.{Unread, Whole, Cut}
-use Rattle.records.specs.Records.{partsOf}
+use Rattle.records.specs.Records.{nextOf, partsOf}
+use Rattle.records.specs.RecordsLaws.{fits-at}
 use Rattle.records.specs.Frame.{versionOf, eventOf, stageAfter, stageOf, heardOf, heardBytes, heardPart, endOf}
-use Rattle.records.specs.FrameLaws.{stage-append, heard-append, heard-other, look-parts, ending-agree}
+use Rattle.records.specs.FrameLaws.{stage-append, heard-append, heard-other, stage-record, heard-record, look-parts, ending-agree}
 use Rattle.trace.specs.declared.Emits.{Emits}
-use Rattle.trace.specs.declared.Emits.the-variants.{Nothing}
+use Rattle.trace.specs.declared.Emits.the-variants.{Nothing, Refusal, Line}
 use Rattle.trace.specs.declared.Trace.{Trace}
 use Rattle.trace.specs.Annotated.{frontLength, frontOf, numberAfter, versionLine, cutLine, recordLines, framedLines, annotated}
-use Rattle.trace.specs.Trace.{tracing, fresh, Account, accountOf, traceAt, lineAt, emittedBy, numberBy, keptBy, headBy, heardBy}
-use Rattle.trace.specs.Trace.{stateOf, Told, textOf, textBy, toldBy, linesOf, endText, endLine}
+use Rattle.trace.specs.Trace.{tracing, noBytes, fresh, between}
+use Rattle.trace.specs.Trace.{Account, accountOf, traceAt, lineAt, emittedBy, numberBy, keptBy, headBy}
+use Rattle.trace.specs.Trace.{keptAfter, headAfter, heardBy, nextIn, stateOf, Told, textOf, textBy, toldBy, linesOf, endText, endLine}
 
 -- ## Two accounts of the same bytes
 
@@ -63,7 +66,7 @@ module _ (line : ℕ → List ℕ → List ℕ) where
   onto-told : (x : List ℕ) (t : Told) (e : Event) → onto x (hear t e) ≡ hear (onto x t) e
   onto-told x t e =
       ap (λ (l : List ℕ). record { account = heardBy (t .account) e; lines = l })
-      (sym (append-assoc x (t .lines) (textBy line e (heardBy (t .account) e))))
+      (sym (append-assoc x (t .lines) (textBy line e (t .account))))
 
   told-account : (g : Stage) (t : Told) (s : List ℕ) → heardOf hear g t s .account ≡ heardOf heardBy g (t .account) s
   told-account g t s = heard-map hear heardBy (λ (x : Told). x .account) (λ x e. refl) g t s
@@ -107,7 +110,7 @@ front-more h k b q l le = go (ltb k 16) refl
         ∙ sym (take-append-le 16 h (b ∷ q) (omega arith))
         ∙ ap (λ (x : List ℕ). frontOf (x ++ (b ∷ q))) (sym (ap (λ (n : ℕ). take n h) same ∙ whole))
 
-line-suc : (n : ℕ) → lineAt (suc n) ≡ Nothing
+pub line-suc : (n : ℕ) → lineAt (suc n) ≡ Nothing
 unfolding lineAt
 line-suc n = rw (ne-eqb (suc n) 0 (λ e. omega arith))
 
@@ -120,9 +123,9 @@ telling number kept head lines = record { account = accounting number kept head;
 module _ (line : ℕ → List ℕ → List ℕ) where
   -- an event that gives no line
   quiet : (e : Emits) → e ≡ Nothing → (n k : ℕ) (h x : List ℕ)
-      → telling (numberBy e n) k h (x ++ textOf line e (numberBy e n) (take k h)) ≡ telling n k h x
+      → telling (numberBy e n) (keptAfter e k) (headAfter e h) (x ++ textOf line e (numberBy e n) (take k h)) ≡ telling n k h x
   quiet e z n k h x =
-      ap (λ (f : Emits). telling (numberBy f n) k h (x ++ textOf line f (numberBy f n) (take k h))) z
+      ap (λ (f : Emits). telling (numberBy f n) (keptAfter f k) (headAfter f h) (x ++ textOf line f (numberBy f n) (take k h))) z
       ∙ ap (telling n k h) (append-nil x)
 
   begins-quiet : (m n k : ℕ) (h x : List ℕ) → toldBy line (telling n k h x) (Begins (suc m)) ≡ telling n 0 h x
@@ -132,53 +135,32 @@ module _ (line : ℕ → List ℕ → List ℕ) where
       → toldBy line (telling n k h x) (Byte b (suc m)) ≡ telling n (min (k + 1) (length h)) (set h k b) x
   byte-quiet b m n k h x = quiet (lineAt (suc m)) (line-suc m) n (min (k + 1) (length h)) (set h k b) x
 
-  -- a record's line, and its number
-  record Lined (t : Told) (header : List ℕ) (r : Told) : Type 0 where
-    lined : r .lines ≡ t .lines ++ line (numberAfter (t .account .number)) (frontOf header)
-    numbered : r .account .number ≡ numberAfter (t .account .number)
-    placed : length (r .account .head) ≡ frontLength
+  -- after record n, a record's number and line, with no bytes kept
+  abbrev lined : ℕ → List ℕ → List ℕ → Told
+  lined n x header = telling (numberAfter n) 0 noBytes (x ++ line (numberAfter n) header)
 
   bytes-lined : (b n k : ℕ) (h x q : List ℕ) → length h ≡ frontLength → k ≤ frontLength
-      → Lined (telling n k h x) (take k h ++ (b ∷ q)) (heardBytes (toldBy line) (suc (length q)) (telling n k h x) (b ∷ q))
+      → heardBytes (toldBy line) (suc (length q)) (telling n k h x) (b ∷ q) ≡ lined n x (frontOf (take k h ++ (b ∷ q)))
   unfolding heardBytes lineAt
   bytes-lined b n k h x [] l le =
-      record {
-        lined =
-            ap (λ (y : List ℕ). x ++ line (numberAfter n) y)
-            (sym (take-all 16 (take (min (k + 1) (length h)) (set h k b)) (omega (arith, length-take (min (k + 1) (length h)) (set h k b))))
-            ∙ ap frontOf (sym (append-nil (take (min (k + 1) (length h)) (set h k b))))
-            ∙ front-more h k b [] l le);
-        numbered = refl;
-        placed = length-set h k b ∙ l;
-      }
+      ap (lined n x)
+      (sym (take-all 16 (take (min (k + 1) (length h)) (set h k b)) (omega (arith, length-take (min (k + 1) (length h)) (set h k b))))
+      ∙ ap frontOf (sym (append-nil (take (min (k + 1) (length h)) (set h k b))))
+      ∙ front-more h k b [] l le)
   bytes-lined b n k h x (c ∷ q) l le =
       let e : suc (suc (length q)) - 1 ≡ suc (length q) = omega arith in
-      let k′ = min (k + 1) (length h) in
-      let h′ = set h k b in
-      let turn =
       ap (λ (m : ℕ). heardBytes (toldBy line) m (toldBy line (telling n k h x) (Byte b m)) (c ∷ q)) e
-      ∙ ap (λ (t : Told). heardBytes (toldBy line) (suc (length q)) t (c ∷ q)) (byte-quiet b (length q) n k h x) in
-      let on = bytes-lined c n k′ h′ x q (length-set h k b ∙ l) (omega arith) in
-      record {
-        lined =
-            ap (λ (t : Told). t .lines) turn
-            ∙ on .lined
-            ∙ ap (λ (y : List ℕ). x ++ line (numberAfter n) y) (front-more h k b (c ∷ q) l le);
-        numbered = ap (λ (t : Told). t .account .number) turn ∙ on .numbered;
-        placed = ap (λ (t : Told). length (t .account .head)) turn ∙ on .placed;
-      }
+      ∙ ap (λ (t : Told). heardBytes (toldBy line) (suc (length q)) t (c ∷ q)) (byte-quiet b (length q) n k h x)
+      ∙ bytes-lined c n (min (k + 1) (length h)) (set h k b) x q (length-set h k b ∙ l) (omega arith)
+      ∙ ap (lined n x) (front-more h k b (c ∷ q) l le)
 
-  part-lined : (n k : ℕ) (h x p : List ℕ) → length h ≡ frontLength → Lined (telling n k h x) p (heardPart (toldBy line) (telling n k h x) p)
+  part-lined : (n k : ℕ) (h x p : List ℕ) → length h ≡ frontLength
+      → heardPart (toldBy line) (telling n k h x) p ≡ lined n x (frontOf p)
   unfolding heardPart heardBytes lineAt
-  part-lined n k h x [] l = record { lined = refl; numbered = refl; placed = l }
+  part-lined n k h x [] l = refl
   part-lined n k h x (b ∷ q) l =
-      let turn = ap (λ (t : Told). heardBytes (toldBy line) (suc (length q)) t (b ∷ q)) (begins-quiet (length q) n k h x) in
-      let on = bytes-lined b n 0 h x q l (omega arith) in
-      record {
-        lined = ap (λ (t : Told). t .lines) turn ∙ on .lined;
-        numbered = ap (λ (t : Told). t .account .number) turn ∙ on .numbered;
-        placed = ap (λ (t : Told). length (t .account .head)) turn ∙ on .placed;
-      }
+      ap (λ (t : Told). heardBytes (toldBy line) (suc (length q)) t (b ∷ q)) (begins-quiet (length q) n k h x)
+      ∙ bytes-lined b n 0 h x q l (omega arith)
 
   -- ## The whole trace
 
@@ -188,10 +170,8 @@ module _ (line : ℕ → List ℕ → List ℕ) where
   parts-lined t [] l = sym (append-nil (t .lines))
   parts-lined t (p ∷ ps) l =
       let n = t .account .number in
-      let w = part-lined n (t .account .kept) (t .account .head) (t .lines) p l in
-      let on = parts-lined (heardPart (toldBy line) t p) ps (w .placed) in
-      on
-      ∙ ap₂ (λ (x : List ℕ) (m : ℕ). x ++ recordLines line m ps) (w .lined) (w .numbered)
+      ap (λ (r : Told). foldl (heardPart (toldBy line)) r ps .lines) (part-lined n (t .account .kept) (t .account .head) (t .lines) p l)
+      ∙ parts-lined (lined n (t .lines) (frontOf p)) ps refl
       ∙ append-assoc (t .lines) (line (numberAfter n) (frontOf p)) (recordLines line (numberAfter n) ps)
 
   half-quiet : (t : Told) (b : ℕ) → toldBy line t (Half b) ≡ t
@@ -262,7 +242,7 @@ module _ (line : ℕ → List ℕ → List ℕ) where
   pieces-told pieces =
       ap₂ (λ (x : List ℕ) (t : Trace). x ++ endLine t) (lines-all fresh pieces) (state-all fresh pieces) ∙ told-fresh line (flatten pieces)
 
--- ## A loop over a piece: one byte more, and none left
+-- ## A loop over a piece: one byte more, a whole record more, and none left
 
 pub length-head : (e : Event) (kept : ℕ) (head : List ℕ) → length (headBy e kept head) ≡ length head
 length-head Version kept head = refl
@@ -272,11 +252,20 @@ length-head (Half high) kept head = refl
 length-head (Begins size) kept head = refl
 length-head (Byte byte left) kept head = length-set head kept byte
 
+pub length-settled : (m : Emits) (head : List ℕ) → length head ≡ frontLength → length (headAfter m head) ≡ frontLength
+length-settled Nothing head l = l
+length-settled Refusal head l = l
+length-settled Line head l = refl
+
+-- the front of the record at a place
+abbrev pub headerAt : List ℕ → ℕ → ℕ → List ℕ
+headerAt p i size = frontOf (take size (drop (i + 2) p))
+
 module _ (line : ℕ → List ℕ → List ℕ) where
-  -- one byte, which gives this, and the state after it
-  pub record Turn (t : Trace) (p : List ℕ) (i : ℕ) (text : List ℕ) (t′ : Trace) : Type 0 where
-    pub lines : linesOf line t (drop i p) ≡ text ++ linesOf line t′ (drop (i + 1) p)
-    pub state : stateOf t (drop i p) ≡ stateOf t′ (drop (i + 1) p)
+  -- what stands between two places gives this text, and the state after it
+  pub record Turn (t : Trace) (p : List ℕ) (i : ℕ) (text : List ℕ) (t′ : Trace) (j : ℕ) : Type 0 where
+    pub lines : linesOf line t (drop i p) ≡ text ++ linesOf line t′ (drop j p)
+    pub state : stateOf t (drop i p) ≡ stateOf t′ (drop j p)
 
   module _ (t : Trace) (p : List ℕ) (i : ℕ) where
     abbrev event : Event
@@ -285,26 +274,73 @@ module _ (line : ℕ → List ℕ → List ℕ) where
     abbrev after : Account
     after = heardBy (accountOf t) event
 
-    turn-by-byte : i < length p → Turn t p i (textBy line event after) (traceAt (stageAfter event) after)
+    turn-by-byte : i < length p → Turn t p i (textBy line event (accountOf t)) (traceAt (stageAfter event) after) (i + 1)
     unfolding linesOf stateOf stageOf heardOf
     turn-by-byte h =
         let e : drop i p ≡ getD p i 0 ∷ drop (i + 1) p = rw (add-one i) (drop-cons p i 0 h) in
         record {
-          lines = rw e (told-lines line (stageAfter event) after (textBy line event after) (drop (i + 1) p));
+          lines = rw e (told-lines line (stageAfter event) after (textBy line event (accountOf t)) (drop (i + 1) p));
           state = rw e;
         }
 
     -- in the words of the code
     pub turn : i < length p → (e : Event) → e ≡ event → (m : Emits) → m ≡ emittedBy e → (g : Stage) (n k : ℕ) (h header : List ℕ)
         → g ≡ stageAfter e → n ≡ numberBy m (t .number) → k ≡ keptBy e (t .kept) (length (t .head)) → h ≡ headBy e (t .kept) (t .head)
-        → header ≡ take k h → Turn t p i (textOf line m n header) (tracing g n k h)
-    turn l e e-is m m-is g n k h header g-is n-is k-is h-is header-is =
+        → header ≡ take k h → (k′ : ℕ) (h′ : List ℕ) → k′ ≡ keptAfter m k → h′ ≡ headAfter m h
+        → Turn t p i (textOf line m n header) (tracing g n k′ h′) (i + 1)
+    turn l e e-is m m-is g n k h header g-is n-is k-is h-is header-is k′ h′ k′-is h′-is =
         let moved : m ≡ emittedBy event = m-is ∙ ap emittedBy e-is in
         let staged : g ≡ stageAfter event = g-is ∙ ap stageAfter e-is in
         let numbered : n ≡ after .number = n-is ∙ ap (λ (x : Emits). numberBy x (t .number)) moved in
-        let kept : k ≡ after .kept = k-is ∙ ap (λ (x : Event). keptBy x (t .kept) (length (t .head))) e-is in
-        let headed : h ≡ after .head = h-is ∙ ap (λ (x : Event). headBy x (t .kept) (t .head)) e-is in
-        rw (header-is, moved, staged, numbered, kept, headed) (turn-by-byte l)
+        let kept : k ≡ keptBy event (t .kept) (length (t .head)) = k-is ∙ ap (λ (x : Event). keptBy x (t .kept) (length (t .head))) e-is in
+        let headed : h ≡ headBy event (t .kept) (t .head) = h-is ∙ ap (λ (x : Event). headBy x (t .kept) (t .head)) e-is in
+        rw (header-is, k′-is, h′-is, moved, staged, numbered, kept, headed) (turn-by-byte l)
+
+  -- a record that is whole: its line at once, whatever was kept
+  module _ (n k : ℕ) (h p : List ℕ) (i size : ℕ) (places : length h ≡ frontLength) (is : nextOf (drop i p) ≡ Record size) where
+    abbrev header : List ℕ
+    header = headerAt p i size
+
+    record-heard : heardOf (toldBy line) Between (telling n k h []) (drop i p)
+        ≡ heardOf (toldBy line) Between (lined line n [] header) (drop (i + 2 + size) p)
+    record-heard =
+        let e : i + (2 + size) ≡ i + 2 + size = omega arith in
+        heard-record (toldBy line) (half-quiet line) (drop i p) size is (telling n k h [])
+        ∙ ap₂ (heardOf (toldBy line) Between)
+        (part-lined line n k h [] (take size (drop 2 (drop i p))) places
+        ∙ ap (λ (s : List ℕ). lined line n [] (frontOf (take size s))) (drop-drop 2 i p))
+        (drop-drop (2 + size) i p ∙ ap (λ (j : ℕ). drop j p) e)
+
+    turn-record : Turn (tracing Between n k h) p i (line (numberAfter n) header) (between (numberAfter n)) (i + 2 + size)
+    unfolding linesOf stateOf
+    turn-record =
+        let e : i + (2 + size) ≡ i + 2 + size = omega arith in
+        record {
+          lines =
+              ap (λ (t : Told). t .lines) record-heard
+              ∙ told-lines line Between (accounting (numberAfter n) 0 noBytes) (line (numberAfter n) header) (drop (i + 2 + size) p);
+          state =
+              ap₂ traceAt
+              (stage-record (drop i p) size is ∙ ap (stageOf Between) (drop-drop (2 + size) i p ∙ ap (λ (j : ℕ). drop j p) e))
+              (sym (told-account line Between (telling n k h []) (drop i p))
+              ∙ ap (λ (t : Told). t .account) record-heard
+              ∙ told-account line Between (lined line n [] header) (drop (i + 2 + size) p));
+        }
+
+  turn-next : (g : Stage) (n k : ℕ) (h p : List ℕ) (i size : ℕ) → length h ≡ frontLength → nextIn g (drop i p) ≡ Record size
+      → Turn (tracing g n k h) p i (line (numberAfter n) (headerAt p i size)) (tracing g (numberAfter n) 0 noBytes) (i + 2 + size)
+  turn-next Start n k h p i size l is = absurd (let z : _≡_ {A = ℕ} 0 1 = cc in omega arith)
+  turn-next Other n k h p i size l is = absurd (let z : _≡_ {A = ℕ} 0 1 = cc in omega arith)
+  turn-next Between n k h p i size l is = turn-record n k h p i size l is
+  turn-next (Length high) n k h p i size l is = absurd (let z : _≡_ {A = ℕ} 0 1 = cc in omega arith)
+  turn-next (Inside left) n k h p i size l is = absurd (let z : _≡_ {A = ℕ} 0 1 = cc in omega arith)
+
+  -- in the words of the code
+  pub turn-whole : (t : Trace) (p : List ℕ) (i size : ℕ) → length (t .head) ≡ frontLength → nextIn (t .stage) (drop i p) ≡ Record size
+      → (n : ℕ) (header part : List ℕ) → n ≡ numberAfter (t .number) → part ≡ take size (drop (i + 2) p) → header ≡ frontOf part
+      → Turn t p i (line n header) (tracing (t .stage) n 0 noBytes) (i + 2 + size)
+  turn-whole t p i size l is n header part n-is part-is header-is =
+      rw (header-is, part-is, n-is) (turn-next (t .stage) (t .number) (t .kept) (t .head) p i size l is)
 
   module _ (t : Trace) (p : List ℕ) (i : ℕ) where
     pub lines-past : length p ≤ i → linesOf line t (drop i p) ≡ []
@@ -314,3 +350,10 @@ module _ (line : ℕ → List ℕ → List ℕ) where
     pub state-past : length p ≤ i → stateOf t (drop i p) ≡ t
     unfolding stateOf stageOf heardOf
     state-past h = rw (drop-of-length-le p h)
+
+pub whole-fits : (g : Stage) (p : List ℕ) (i size : ℕ) → nextIn g (drop i p) ≡ Record size → i + 2 + size ≤ length p
+whole-fits Start p i size is = absurd (let z : _≡_ {A = ℕ} 0 1 = cc in omega arith)
+whole-fits Other p i size is = absurd (let z : _≡_ {A = ℕ} 0 1 = cc in omega arith)
+whole-fits Between p i size is = fits-at p i size is
+whole-fits (Length high) p i size is = absurd (let z : _≡_ {A = ℕ} 0 1 = cc in omega arith)
+whole-fits (Inside left) p i size is = absurd (let z : _≡_ {A = ℕ} 0 1 = cc in omega arith)

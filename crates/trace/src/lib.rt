@@ -3,10 +3,12 @@
 // decided here.
 ghost use mathlib.Core.Path.{_≡_};
 ghost use Prim.Native.Nat.{_<_};
-ghost use lib.ListN.{length};
+ghost use lib.ListN.{length, drop};
 ghost use Rattle.trace.specs.Annotated.{frontLength};
-ghost use Rattle.trace.specs.Trace.{tracing, fresh, lineAt, emittedBy, numberBy, keptBy, headBy, countOn, lineCount};
+ghost use Rattle.trace.specs.Trace.{tracing, fresh, lineAt, emittedBy, numberBy, keptBy, headBy, keptAfter, headAfter, nextIn};
+ghost use Rattle.trace.specs.Trace.{countOn, lineCount};
 ghost use Rattle.trace.specs.Feed.{textPut, endedOf, finishedOf, finishedPut};
+use records::Next;
 use records::frame;
 use records::frame::Ending;
 use records::frame::Event;
@@ -117,6 +119,35 @@ pub fn keep(head: &mut [u8], kept: usize, event: Event) -> usize
     }
 }
 
+// With a record's line its bytes are let go: the answer is how many are kept.
+pub fn settle(head: &mut [u8], kept: usize, emits: Emits) -> usize
+    requires { ⌜ length (now head) ≡ frontLength ⌝ }
+    ensures { λ r. ⌜ (r ≡ keptAfter emits kept) × (now (head .exit) ≡ headAfter emits (now (head .entry))) ⌝ }
+{
+    match emits {
+        Emits::Nothing => kept,
+        Emits::Refusal => kept,
+        Emits::Line => {
+            let none = [0u8; FRONT];
+            text::put_text(head, 0, &none);
+            0
+        }
+    }
+}
+
+// The record that starts at a place of a piece, if it is whole there.
+pub fn next_in(stage: Stage, piece: &[u8], at: usize) -> Next
+    ensures { λ r. ⌜ r ≡ nextIn stage (drop at (now (piece .entry))) ⌝ }
+{
+    match stage {
+        Stage::Start => Next::Broken,
+        Stage::Other => Next::Broken,
+        Stage::Between => records::next_at(piece, at),
+        Stage::Length(_) => Next::Broken,
+        Stage::Inside(_) => Next::Broken,
+    }
+}
+
 // How many lines a piece gives: told by the frame alone, so before any of them is made.
 pub fn count_lines(start: Stage, piece: &[u8]) -> usize
     ensures { λ r. ⌜ r ≡ lineCount start (now (piece .entry)) ⌝ }
@@ -125,6 +156,11 @@ pub fn count_lines(start: Stage, piece: &[u8]) -> usize
     let mut count = 0;
     let mut i = 0;
     while i < piece.len() {
+        if let Next::Record(size) = next_in(stage, piece, i) {
+            count += 1;
+            i = i + 2 + size;
+            continue;
+        }
         let event = frame::event_of(stage, piece[i]);
         count = counted(count, emitted(event));
         stage = frame::stage_after(event);

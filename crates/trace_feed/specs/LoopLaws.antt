@@ -18,7 +18,7 @@ use Rattle.trace.specs.declared.Emits.{Emits}
 use Rattle.trace.specs.Trace.{stateOf, textOf, linesOf, lineCount}
 use Rattle.trace.specs.Feed.{fedOf, fedPut}
 use Rattle.trace.specs.TraceLaws.{Turn, lines-past, state-past}
-use Rattle.trace.specs.FeedLaws.{Sound, text-le, lines-le, put-front, short-front}
+use Rattle.trace.specs.FeedLaws.{Sound, text-le, lines-le, count-le-half, put-front, short-front}
 use Rattle.trace_line.specs.declared.Engine.{Engine}
 use Rattle.trace_line.specs.Engine.{lineBy}
 use Rattle.trace_line.specs.LineLaws.{line-le}
@@ -31,6 +31,12 @@ pub few-fit : (engine : Engine) (bytes : List ℕ) (t : Trace) (piece : List ℕ
     → count ≤ room / 40 → length (linesOf (lineBy engine bytes) t piece) ≤ room
 few-fit engine bytes t piece room count sound is few =
     omega (arith, lines-le (lineBy engine bytes) (line-le engine bytes) t piece sound)
+
+-- and so do those of a piece that is short enough
+pub half-fit : (engine : Engine) (bytes : List ℕ) (t : Trace) (piece : List ℕ) (room : ℕ) → Sound (t .number)
+    → length piece / 2 < room / 40 → length (linesOf (lineBy engine bytes) t piece) ≤ room
+half-fit engine bytes t piece room sound short =
+    omega (arith, lines-le (lineBy engine bytes) (line-le engine bytes) t piece sound, count-le-half (t .stage) piece)
 
 pub emitted-le : (engine : Engine) (bytes : List ℕ) (m : Emits) (n : ℕ) (header : List ℕ) → Sound n
     → length (textOf (lineBy engine bytes) m n header) ≤ 40
@@ -65,14 +71,15 @@ module _ (line : ℕ → List ℕ → List ℕ) (p out₀ : List ℕ) (t₀ : Tr
   pub putting-start : length (linesOf line t₀ p) ≤ length out₀ → Putting out₀ t₀ 0 0
   putting-start fits = record { inside = omega arith; same-room = refl; fits = fits; place = zero-add _; lines = refl; state = refl }
 
-  pub putting-more : {out : List ℕ} {t : Trace} {at i : ℕ} → Putting out t at i → i < length p
-      → {text out′ : List ℕ} {t′ : Trace} {at′ : ℕ} → Turn line t p i text t′ → Put out at text out′ at′ → Putting out′ t′ at′ (i + 1)
-  putting-more {out} {t} {at} {i} so-far h {text} {out′} {t′} {at′} turn put =
-      let rest = linesOf line t′ (drop (i + 1) p) in
+  pub putting-more : {out : List ℕ} {t : Trace} {at i : ℕ} → Putting out t at i
+      → {text out′ : List ℕ} {t′ : Trace} {at′ j : ℕ} → Turn line t p i text t′ j → j ≤ length p → Put out at text out′ at′
+      → Putting out′ t′ at′ j
+  putting-more {out} {t} {at} {i} so-far {text} {out′} {t′} {at′} {j} turn h put =
+      let rest = linesOf line t′ (drop j p) in
       let l = ap length (turn .lines) ∙ length-append text rest in
       let next : at′ ≡ at + length text = omega (arith, put .place, l, so-far .same-room, so-far .fits, so-far .place) in
       record {
-        inside = omega arith;
+        inside = h;
         same-room = put-length put ∙ so-far .same-room;
         fits = so-far .fits;
         place = omega (arith, l, next, so-far .place);
@@ -110,7 +117,8 @@ module _ (line : ℕ → List ℕ → List ℕ) (p : List ℕ) (room : ℕ) (t�
   pub measuring-start : Measuring t₀ 0 0
   measuring-start = record { inside = omega arith; fits = omega arith; size = zero-add _ }
 
-  module _ {t t′ : Trace} {text : List ℕ} {sum i size : ℕ} (so-far : Measuring t sum i) (h : i < length p) (turn : Turn line t p i text t′)
+  module _ {t t′ : Trace} {text : List ℕ} {sum i size : ℕ} (so-far : Measuring t sum i) (h : i < length p)
+      (turn : Turn line t p i text t′ (i + 1))
       (is : size ≡ length text) where
     measured-turn : length (linesOf line t (drop i p)) ≡ size + length (linesOf line t′ (drop (i + 1) p))
     measured-turn = ap length (turn .lines) ∙ length-append text (linesOf line t′ (drop (i + 1) p)) ∙ rw is

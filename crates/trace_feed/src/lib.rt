@@ -9,6 +9,7 @@ ghost use Rattle.trace.specs.Trace.{textOf, linesOf};
 ghost use Rattle.trace.specs.Feed.{fedOf, fedPut};
 ghost use Rattle.trace_line.specs.Line.{lineOver};
 ghost use Rattle.trace_line.specs.Engine.{Knows, lineBy};
+use records::Next;
 use records::frame;
 use trace::Emits;
 use trace::Fed;
@@ -43,11 +44,15 @@ pub fn feed_by(t: Trace, engine: Engine, bytes: &[u8], piece: &[u8], out: &mut [
     put_lines(t, engine, bytes, piece, out)
 }
 
-// Whether the piece's lines fit so many bytes. Their count tells it of an ordinary trace, so that no record is routed twice.
+// Whether the piece's lines fit so many bytes. A record takes two bytes at least, so the piece's length may tell it; else the lines'
+// count tells it of an ordinary trace, so that no record is routed twice.
 fn fits(t: Trace, engine: Engine, bytes: &[u8], piece: &[u8], room: usize) -> bool
     requires { ⌜ Knows engine (now bytes) ⌝ }
     ensures { λ r. ⌜ r ≡ leb (length (linesOf (lineBy engine (now (bytes .entry))) t (now (piece .entry)))) room ⌝ }
 {
+    if piece.len() / 2 < room / trace::LONGEST {
+        return true;
+    }
     let stage = t.stage;
     if trace::count_lines(stage, piece) <= room / trace::LONGEST {
         return true;
@@ -76,13 +81,14 @@ fn measured(t: Trace, engine: Engine, bytes: &[u8], piece: &[u8], room: usize) -
             return false;
         }
         total += size;
+        kept = trace::settle(&mut head, kept, emits);
         stage = frame::stage_after(event);
         i += 1;
     }
     true
 }
 
-// The piece's lines, which fit.
+// The piece's lines, which fit: a record that is whole in the piece at once, one that is cut byte by byte.
 fn put_lines(t: Trace, engine: Engine, bytes: &[u8], piece: &[u8], out: &mut [u8]) -> Fed
     requires { ⌜
         Knows engine (now bytes)
@@ -100,11 +106,21 @@ fn put_lines(t: Trace, engine: Engine, bytes: &[u8], piece: &[u8], out: &mut [u8
     let mut at = 0;
     let mut i = 0;
     while i < piece.len() {
+        if let Next::Record(size) = trace::next_in(stage, piece, i) {
+            n = trace::number_after(n, Emits::Line);
+            let header = text::front(records::part_at(piece, i, size), trace::FRONT);
+            at = trace_line::put_line(out, at, n, header, engine, bytes);
+            kept = 0;
+            head = [0u8; trace::FRONT];
+            i = i + 2 + size;
+            continue;
+        }
         let event = frame::event_of(stage, piece[i]);
         let emits = trace::emitted(event);
         n = trace::number_after(n, emits);
         kept = trace::keep(&mut head, kept, event);
         at = put_emitted(out, at, emits, n, text::front(&head, kept), engine, bytes);
+        kept = trace::settle(&mut head, kept, emits);
         stage = frame::stage_after(event);
         i += 1;
     }

@@ -3,3 +3,5 @@ pub mod Line
 pub mod Engine
 pub mod Bounds
 pub mod LineLaws
+pub mod Label
+pub mod LabelLaws

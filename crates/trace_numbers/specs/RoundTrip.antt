@@ -6,7 +6,7 @@ use native.Mathlib.Omega.{arith}
 use mathlib.Core.Path.{_≡_, refl, sym, ap, ap₂, _∙_}
 use mathlib.Core.Bool.{Bool, true, false, cond, or-false}
 use mathlib.Core.List.{List, [], _∷_, _++_}
-use lib.ListN.{length, getD, take, drop, replicate, length-drop, length-set, take-append-drop}
+use lib.ListN.{length, getD, take, drop, set, replicate, length-drop, length-set, take-append-drop}
 use lib.Seq.{take-all}
 use lib.Dec.{ltb, leb, eqb}
 use borrow.Author.Tests.{leb-true, le-ltb, lt-ltb, le-leb, eqb-false}
@@ -20,7 +20,9 @@ use Rattle.records.specs.declared.frame.Event.the-variants.{Version, Foreign, P
 use Rattle.records.specs.Frame.{versionOf, eventOf, insideOf, stageAfter, stageOf, heardOf}
 use Rattle.trace.specs.declared.Trace.{Trace}
 use Rattle.trace.specs.Annotated.{frontLength}
-use Rattle.trace.specs.Trace.{fresh, Account, accountOf, heardBy, stateOf}
+use Rattle.trace.specs.declared.Emits.{Emits}
+use Rattle.trace.specs.declared.Emits.the-variants.{Nothing, Refusal, Line}
+use Rattle.trace.specs.Trace.{fresh, lineAt, keptAfter, headAfter, Account, accountOf, heardBy, stateOf}
 use Rattle.trace_numbers.specs.Numbers.{stageNumber, stageValue, numbersOf}
 use Rattle.trace_numbers.specs.Parsing.{size, isStage, stages, stageAt, headAt, stateAt, isState, Accepted, Refused, traceOf}
 use Rattle.trace_numbers.specs.NumbersLaws.{true-of-and, stage-elim, stage-of-state, kept-of-state, length-headAt, passed}
@@ -212,18 +214,22 @@ record AccountFits (a : Account) : Type 0 where
   places : length (a .head) ≡ frontLength
   bytes : Bytes (a .head)
 
+settled-fits : (m : Emits) (n kept : ℕ) (head : List ℕ) → kept ≤ frontLength → length head ≡ frontLength → Bytes head
+    → AccountFits (record { number = n; kept = keptAfter m kept; head = headAfter m head })
+settled-fits Nothing n kept head most places bytes = record { most = most; places = places; bytes = bytes }
+settled-fits Refusal n kept head most places bytes = record { most = most; places = places; bytes = bytes }
+settled-fits Line n kept head most places bytes = record { most = omega arith; places = refl; bytes = bytes-zeros frontLength }
+
 account-fits : (a : Account) (e : Event) → EventFits e → AccountFits a → AccountFits (heardBy a e)
 account-fits a Version h f = record { most = f .most; places = f .places; bytes = f .bytes }
 account-fits a Foreign h f = record { most = f .most; places = f .places; bytes = f .bytes }
 account-fits a Passed h f = record { most = f .most; places = f .places; bytes = f .bytes }
 account-fits a (Half high) h f = record { most = f .most; places = f .places; bytes = f .bytes }
-account-fits a (Begins size) h f = record { most = omega arith; places = f .places; bytes = f .bytes }
+account-fits a (Begins size) h f = settled-fits (lineAt size) _ 0 (a .head) (omega arith) (f .places) (f .bytes)
 account-fits a (Byte byte left) h f =
-    record {
-      most = omega (arith, f .places);
-      places = length-set (a .head) (a .kept) byte ∙ f .places;
-      bytes = bytes-set (a .head) (a .kept) byte (f .bytes) (h .0);
-    }
+    settled-fits (lineAt left) _ _ (set (a .head) (a .kept) byte) (omega (arith, f .places))
+    (length-set (a .head) (a .kept) byte ∙ f .places)
+    (bytes-set (a .head) (a .kept) byte (f .bytes) (h .0))
 
 heard-fits : (g : Stage) (a : Account) (s : List ℕ) → Staged g → AccountFits a → Bytes s
     → Staged (stageOf g s) × AccountFits (heardOf heardBy g a s)

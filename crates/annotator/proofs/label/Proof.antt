@@ -13,14 +13,20 @@ front-requires c κs = search needs
 print-requires : tie.Need-print-requires
 print-requires c κs = search needs
 
+same-length : tie.Need-same-length
+same-length c = search needs
+
 returns : tie.Need-returns
 returns c =
-    let test = c .before .before .before .before .before in
-    let fed = test .before .before in
+    let test = c .before .before .before .before in
+    let fed = test .before .before .before .before in
     λ z. taken-of-zero _ _ _ _ _ (fed .feed-by .ensures .0) (test .if1 .taken)
 
 label-parts-requires : tie.Need-label-parts-requires
 label-parts-requires c κs = search needs
+
+same-length-2 : tie.Need-same-length-2
+same-length-2 c = search needs
 
 returns-2 : tie.Need-returns-2
 returns-2 c = search needs
@@ -32,6 +38,8 @@ label-spec =
     feed-by-requires
     front-requires
     print-requires
+    same-length
     returns
     label-parts-requires
+    same-length-2
     returns-2)

@@ -1,9 +1,10 @@
 -- `annotator::label_parts` meets its contract: no part is refused. The invariant: from the state so far, the rest of the piece comes to
--- what the whole piece comes to; the measure is the bytes left. Assumes nothing.
+-- what the whole piece comes to, and the room stays as long as it was; the measure is the bytes left. Assumes nothing.
 use Rattle.annotator.proofs.label_parts.Statement.{statement}
 use Rattle.annotator.proofs.label_parts.Tie as tie
-use Prim.Native.Nat.{_-_, _≤_}
+use Prim.Native.Nat.{_+_, _-_, _/_, _≤_}
 use mathlib.Core.Path.{_≡_, refl, sym, _∙_}
+use mathlib.Core.Bool.{true≢false}
 use lib.ListN.{length, drop}
 use native.Mathlib.Omega.{arith}
 use borrow.Author.Needs.{needs}
@@ -11,20 +12,22 @@ use Rattle.trace.specs.Trace.{stateOf}
 use Rattle.trace.specs.FeedLaws.{Sound}
 use Rattle.trace_line.specs.Engine.{lineBy}
 use Rattle.annotator.specs.PartsLaws.{part-sound, part-state, parts-done}
-use mathlib.Core.Bool.{true≢false}
 
 abbrev Inv-loop : tie.InvT-loop
-Inv-loop engine bytes piece lines₀ t₀ i₀ lines t i =
-    (i ≤ length piece) × Sound (t .number) × (stateOf t (drop i piece) ≡ stateOf t₀ piece)
+Inv-loop engine bytes piece lines₀ most t₀ i₀ lines t i =
+    (i ≤ length piece)
+    × Sound (t .number)
+    × (stateOf t (drop i piece) ≡ stateOf t₀ piece)
+    × (length lines ≡ length lines₀)
 
 abbrev μ-loop : tie.MeasureT-loop
-μ-loop engine bytes piece lines₀ t₀ i₀ lines t i = length piece - i
+μ-loop engine bytes piece lines₀ most t₀ i₀ lines t i = length piece - i
 
 loop-holds : tie.Need-loop-holds Inv-loop μ-loop
-loop-holds c = let start = c .before .before in (omega arith, omega (arith, start .good .0 .1 .1 .1 .0), refl)
+loop-holds c = let start = c .before .before .before in (omega arith, omega (arith, start .good .0 .1 .1 .1 .0), refl, refl)
 
 part-end-requires : tie.Need-part-end-requires Inv-loop μ-loop
-part-end-requires c κs = c .loop-test .taken
+part-end-requires c κs = (c .loop-test .taken, omega (arith, c .before .before .before .before .before .pre .1))
 
 sub-feed-by : tie.Need-sub-feed-by Inv-loop μ-loop
 sub-feed-by c = search needs
@@ -36,13 +39,16 @@ part-feed-by-end : tie.Need-part-feed-by-end Inv-loop μ-loop
 part-feed-by-end c = search needs
 
 feed-by-requires : tie.Need-feed-by-requires Inv-loop μ-loop
-feed-by-requires c κs = let start = c .before .before .before .before .before .before .before in start .pre
+feed-by-requires c κs = c .before .before .before .before .before .before .before .before .pre .0
 
 front-requires : tie.Need-front-requires Inv-loop μ-loop
 front-requires c κs = search needs
 
 print-requires : tie.Need-print-requires Inv-loop μ-loop
 print-requires c κs = search needs
+
+same-length : tie.Need-same-length Inv-loop μ-loop
+same-length c = search needs
 
 returns : tie.Need-returns Inv-loop μ-loop
 returns c = λ z. absurd (true≢false (sym z))
@@ -52,28 +58,31 @@ loop-less c = search needs
 
 loop-again : tie.Need-loop-again Inv-loop μ-loop
 loop-again c =
-    let fed = c .before .before .before .before .before .before in
-    let lent = fed .before in
-    let end = lent .before .before in
+    let fed = c .before .before .before .before .before .before .before in
+    let end = fed .before .before .before in
     let test = end .before in
     let top = test .before in
-    let start = top .before .before .before in
+    let start = top .before .before .before .before in
     let engine = start .args .engine in
     let bytes = start .args .bytes .now in
     let piece = start .args .piece .now in
     let now = top .loop in
     let ends = end .part-end .ensures in
-    let size = lent .feed-by-arg2 .given .0 .1 in
+    let few : end .part-end .result ≤ now .i + length (now .lines) / 40 = omega (arith, ends .2, now .inv .3) in
     let answer = fed .feed-by .ensures .0 in (
       ends .1,
-      part-sound engine bytes (now .t) piece (now .i) _ _ _ (now .inv .1) (ends .0) (ends .1) (ends .2) size answer,
-      part-state engine bytes (now .t) piece (now .i) _ _ _ (now .inv .1) (ends .0) (ends .1) (ends .2) size answer ∙ now .inv .2,
+      part-sound engine bytes (now .t) piece (now .i) _ (length (now .lines)) _ (now .inv .1) (ends .0) (ends .1) few answer,
+      part-state engine bytes (now .t) piece (now .i) _ (length (now .lines)) _ (now .inv .1) (ends .0) (ends .1) few answer ∙ now .inv .2,
+      omega (arith, now .inv .3, fed .feed-by .kept .1 .1 .1 .1 .0),
     )
+
+same-length-2 : tie.Need-same-length-2 Inv-loop μ-loop
+same-length-2 c = c .before .loop .inv .3
 
 returns-2 : tie.Need-returns-2 Inv-loop μ-loop
 returns-2 c =
     let top = c .before in
-    let start = top .before .before .before in
+    let start = top .before .before .before .before in
     λ z. parts-done (lineBy (start .args .engine) (start .args .bytes .now)) _ _ _ _ (top .loop .inv .2) (c .loop-test .left)
 
 pub label-parts-spec : {M : Type 1} → statement M
@@ -90,7 +99,9 @@ label-parts-spec =
     feed-by-requires
     front-requires
     print-requires
+    same-length
     returns
     loop-less
     loop-again
+    same-length-2
     returns-2)

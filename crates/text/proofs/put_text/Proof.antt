@@ -1,64 +1,52 @@
--- `text::put_text` meets its contract. The loop's invariant: the part of the text that was passed is put. The measure is what is left of
--- the text. Assumes nothing.
+-- `text::put_text` meets its contract: a text that fits is copied from the place where it goes. Assumes nothing.
 use borrow.Author.Needs.{needs}
-use Prim.Native.Nat.{_≤_, _-_}
-use native.Mathlib.Numerals.{add-one}
-use native.Mathlib.Omega.{arith}
-use lib.ListN.{length, take}
-use lib.Seq.{take-suc, take-all}
-use Rattle.text.specs.Text.{Put}
-use Rattle.text.specs.TextLaws.{put-append, put-length}
 use Rattle.text.proofs.put_text.Statement.{statement}
 use Rattle.text.proofs.put_text.Tie as tie
+use native.Mathlib.Omega.{arith}
+use Rattle.text.specs.TextLaws.{put-append}
 
-abbrev Inv-loop : tie.InvT-loop
-Inv-loop out₀ at text next₀ i₀ out next i = (i ≤ length text) × Put out₀ at (take i text) out next
-
-abbrev μ-loop : tie.MeasureT-loop
-μ-loop out₀ at text next₀ i₀ out next i = length text - i
-
-place-requires : tie.Need-place-requires Inv-loop μ-loop
+place-requires : tie.Need-place-requires
 place-requires c κs = search needs
 
-loop-holds : tie.Need-loop-holds Inv-loop μ-loop
-loop-holds c = (omega arith, c .place .ensures)
+sub-if1 : tie.Need-sub-if1
+sub-if1 c = search needs
 
-shared-slice-read-put-byte : tie.Need-shared-slice-read-put-byte Inv-loop μ-loop
-shared-slice-read-put-byte c = omega arith
+put-part-requires : tie.Need-put-part-requires
+put-part-requires c κs = search needs
 
-put-byte-requires : tie.Need-put-byte-requires Inv-loop μ-loop
-put-byte-requires c κs = search needs
+same-length : tie.Need-same-length
+same-length c = search needs
 
-add-i : tie.Need-add-i Inv-loop μ-loop
-add-i c = omega arith
+returns : tie.Need-returns
+returns c = search needs
 
-loop-less : tie.Need-loop-less Inv-loop μ-loop
-loop-less c = omega arith
+copy-in-requires : tie.Need-copy-in-requires
+copy-in-requires c κs = search needs
 
-loop-again : tie.Need-loop-again Inv-loop μ-loop
-loop-again c =
-    let turn = c .before .before .before .before .before .before in
-    let more = take-suc (turn .before .before .before .before .before .args .text .now) (turn .loop .i) 0 (omega arith) in
-    (omega arith, rw (add-one, more) (put-append (turn .loop .inv .1) (c .before .before .put-byte .ensures)))
+add-result : tie.Need-add-result
+add-result c = search needs
 
-same-length : tie.Need-same-length Inv-loop μ-loop
-same-length c = put-length (c .before .loop .inv .1)
+same-length-2 : tie.Need-same-length-2
+same-length-2 c = search needs
 
-returns : tie.Need-returns Inv-loop μ-loop
-returns c = rw (take-all _ _ (c .loop-test .left)) at (c .before .loop .inv .1)
+returns-2 : tie.Need-returns-2
+returns-2 c =
+    let copy = c .before .before in
+    let test = copy .before .before in
+    let start = test .before in
+    put-append (start .place .ensures)
+    (record { stored = copy .copy-in .ensures; place = omega (arith, start .place .ensures .place, test .if1 .left) })
 
 pub put-text-spec : {M : Type 1} → statement M
 put-text-spec =
     tie.close
     (tie.spec
-    Inv-loop
-    μ-loop
     place-requires
-    loop-holds
-    shared-slice-read-put-byte
-    put-byte-requires
-    add-i
-    loop-less
-    loop-again
+    sub-if1
+    put-part-requires
     same-length
-    returns)
+    returns
+    copy-in-requires
+    add-result
+    same-length-2
+    returns-2)

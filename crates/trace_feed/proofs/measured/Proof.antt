@@ -8,7 +8,7 @@ use lib.ListN.{length}
 use native.Mathlib.Omega.{arith}
 use borrow.Author.Needs.{needs}
 use Rattle.trace.specs.Trace.{tracing, linesOf}
-use Rattle.trace.specs.TraceLaws.{turn, length-head}
+use Rattle.trace.specs.TraceLaws.{turn, length-head, length-settled}
 use Rattle.trace_line.specs.Engine.{lineBy}
 use mathlib.Core.Bool.{true, false}
 use lib.Dec.{leb}
@@ -82,7 +82,7 @@ returns c =
     let moved =
     turn (lineBy (start .args .engine) (start .args .bytes .now)) (tracing (now .stage) (now .n) (now .kept) (now .head))
     (start .args .piece .now) (now .i) (test .loop-test .taken) _ (event .event-of .ensures) _ (emit .emitted .ensures) _ _ _ _ _ refl
-    (number .number-after .ensures) (keep .keep .ensures .0) (keep .keep .ensures .1) (front .front .ensures) in
+    (number .number-after .ensures) (keep .keep .ensures .0) (keep .keep .ensures .1) (front .front .ensures) _ _ refl refl in
     let line = lineBy (start .args .engine) (start .args .bytes .now) in
     let piece = start .args .piece .now in
     subst (λ (t : Trace). false ≡ leb (length (linesOf line t piece)) (start .args .room)) (head .head-of .ensures .0)
@@ -93,18 +93,40 @@ add-total c =
     let top = c .before .before .before .before .before .before .before .before .before .before .before .before in
     omega (arith, top .loop .inv .1 .fits)
 
+slice-aggregate-settle : tie.Need-slice-aggregate-settle Inv-loop μ-loop
+slice-aggregate-settle c =
+    let keep = c .before .before .before .before .before .before in
+    let event = keep .before .before .before .before in
+    let top = event .before .before .before in
+    sym (ap length (keep .keep .ensures .1) ∙ length-head (event .event-of .result) (top .loop .kept) (top .loop .head) ∙ top .loop .inv .0)
+
+settle-requires : tie.Need-settle-requires Inv-loop μ-loop
+settle-requires c κs =
+    let keep = c .before .before .before .before .before .before in
+    let event = keep .before .before .before .before in
+    let top = event .before .before .before in
+    ap length (keep .keep .ensures .1) ∙ length-head (event .event-of .result) (top .loop .kept) (top .loop .head) ∙ top .loop .inv .0
+
 stage-after-requires : tie.Need-stage-after-requires Inv-loop μ-loop
 stage-after-requires c κs = search needs
 
 add-i : tie.Need-add-i Inv-loop μ-loop
-add-i c = omega arith
+add-i c =
+    let keep = c .before .before .before .before .before .before .before .before .before in
+    let test = keep .before .before .before .before .before .before in
+    let start = test .before .before .before .before .before in
+    omega (arith, test .loop-test .taken, start .good .1 .1 .1 .0)
 
 loop-less : tie.Need-loop-less Inv-loop μ-loop
-loop-less c = omega arith
+loop-less c =
+    let keep = c .before .before .before .before .before .before .before .before .before in
+    let test = keep .before .before .before .before .before .before in
+    omega (arith, test .loop-test .taken)
 
 loop-again : tie.Need-loop-again Inv-loop μ-loop
 loop-again c =
-    let fits = c .before in
+    let settle = c .before .before in
+    let fits = settle .before .before in
     let size = fits .before in
     let front = size .before in
     let keep = front .before .before .before in
@@ -115,11 +137,13 @@ loop-again c =
     let top = test .before in
     let start = top .before .before .before .before in
     let now = top .loop in
+    let kept = ap length (keep .keep .ensures .1) ∙ length-head (event .event-of .result) (now .kept) (now .head) ∙ now .inv .0 in
     let moved =
     turn (lineBy (start .args .engine) (start .args .bytes .now)) (tracing (now .stage) (now .n) (now .kept) (now .head))
     (start .args .piece .now) (now .i) (test .loop-test .taken) _ (event .event-of .ensures) _ (emit .emitted .ensures) _ _ _ _ _
-    (c .stage-after .ensures) (number .number-after .ensures) (keep .keep .ensures .0) (keep .keep .ensures .1) (front .front .ensures) in (
-      ap length (keep .keep .ensures .1) ∙ length-head (event .event-of .result) (top .loop .kept) (top .loop .head) ∙ top .loop .inv .0,
+    (c .stage-after .ensures) (number .number-after .ensures) (keep .keep .ensures .0) (keep .keep .ensures .1) (front .front .ensures)
+    _ _ (settle .settle .ensures .0) (settle .settle .ensures .1) in (
+      ap length (settle .settle .ensures .1) ∙ length-settled (emit .emitted .result) _ kept,
       measuring-more _ _ _ _ (now .inv .1) (test .loop-test .taken) moved (size .size-of .ensures) (fits .if1 .left),
     )
 
@@ -153,6 +177,8 @@ measured-spec =
     sub-if1
     returns
     add-total
+    slice-aggregate-settle
+    settle-requires
     stage-after-requires
     add-i
     loop-less

@@ -5,12 +5,19 @@ use Rattle.trace_line.proofs.put_line.Tie as tie
 use Rattle.text.specs.Text.{ascii}
 use Rattle.text.specs.TextLaws.{put-append}
 use Rattle.trace_line.specs.Line.{lineWith}
+use Rattle.trace_line.specs.LabelLaws.{label-put}
+
+label-of-requires : tie.Need-label-of-requires
+label-of-requires c κs = search needs
 
 put-decimal-requires : tie.Need-put-decimal-requires
 put-decimal-requires c κs = search needs
 
-put-label-requires : tie.Need-put-label-requires
-put-label-requires c κs = c .before .before .before .before .before .before .before .before .pre
+put-name-requires : tie.Need-put-name-requires
+put-name-requires c κs = search needs
+
+put-way-requires : tie.Need-put-way-requires
+put-way-requires c κs = search needs
 
 slice-aggregate-put-text : tie.Need-slice-aggregate-put-text
 slice-aggregate-put-text c = search needs
@@ -25,16 +32,22 @@ returns : tie.Need-returns
 unfolding lineWith ascii
 returns c =
     let end = c .before .before in
-    let label = end .before .before .before .before .before in
-    let number = label .before .before .before .before in
-    put-append (number .put-decimal .ensures) (put-append (label .put-label .ensures) (end .put-text .ensures))
+    let way = end .before .before .before .before .before in
+    let name = way .before .before .before .before in
+    let number = name .before .before .before .before in
+    let label = number .before .before in
+    put-append (number .put-decimal .ensures)
+    (put-append (label-put (label .label-of .result) (label .label-of .ensures) (name .put-name .ensures) (way .put-way .ensures))
+    (end .put-text .ensures))
 
 pub put-line-spec : {M : Type 1} → statement M
 put-line-spec =
     tie.close
     (tie.spec
+    label-of-requires
     put-decimal-requires
-    put-label-requires
+    put-name-requires
+    put-way-requires
     slice-aggregate-put-text
     put-text-requires
     same-length

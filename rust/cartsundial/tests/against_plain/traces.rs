@@ -190,8 +190,10 @@ fn after(state: State, bytes: &[u8]) -> State {
                 value - 1
             }
         };
-        (stage, value) = if left == 0 { (BETWEEN, 0) } else { (INSIDE, left) };
-        number = number.wrapping_add((left == 0).into());
+        (stage, value) = (INSIDE, left);
+        if left == 0 {
+            (stage, number, kept, front) = (BETWEEN, number.wrapping_add(1), 0, 0);
+        }
     }
     [stage, value, number, kept, (front >> 64) as u64, front as u64]
 }
