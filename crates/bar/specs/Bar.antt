@@ -41,8 +41,8 @@ withoutType pool v = v / 2 ^ typeBits pool * 2 ^ typeBits pool
 
 -- the least size bit
 abbrev pub leastBit : Pool → ℕ
-leastBit Low = 4
-leastBit High = 4
+leastBit Low = 7
+leastBit High = 7
 leastBit Io = 2
 
 -- the bits of an address: I/O ones go up through bit 15, memory ones to the top

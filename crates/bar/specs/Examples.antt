@@ -28,8 +28,11 @@ rows =
     ∷ (0x00008001 ∷ 0xFFFF8001 ∷ 0xFFFFFFFD ∷ [] says Bar Io false (2 ^ 15) ∷ Bar Io false (2 ^ 15) ∷ Bar Io false 4 ∷ [])
     ∷ (0xFFFF0001 ∷ 0x0001FF01 ∷ 0xFFFFFF03 ∷ [] says Bad ∷ Bad ∷ Bad ∷ [])
     -- memory of 32 bits is low, prefetchable or not
-    ∷ (0xFFFFFFF0 ∷ 0x80000000 ∷ 0xFFF00008 ∷ 0xFFF00002 ∷ [] says Bar Low false 16 ∷ Bar Low false (2 ^ 31) ∷ Bar Low false (2 ^ 20)
+    ∷ (0xFFFFFF80 ∷ 0x80000000 ∷ 0xFFF00008 ∷ 0xFFF00002 ∷ [] says Bar Low false 128 ∷ Bar Low false (2 ^ 31) ∷ Bar Low false (2 ^ 20)
     ∷ Bad ∷ [])
+    -- no memory BAR is smaller than 128 bytes, of 32 bits or of 64
+    ∷ (0xFFFFFFC0 ∷ 0xFFFFFFF0 ∷ 0xFFFFFF8C ∷ 0xFFFFFFFF ∷ 0xFFFFFFCC ∷ 0xFFFFFFFF ∷ [] says Bad ∷ Bad ∷ Bar High true 128 ∷ Upper ∷ Bad
+    ∷ Upper ∷ [])
     -- 64-bit BARs: judged on the joined bits, low unless prefetchable, none left
     ∷ (0x0000000C ∷ 0xFFFFFFFF ∷ 0xFFF0000C ∷ 0x00000000 ∷ [] says Bar High true (2 ^ 32) ∷ Upper ∷ Bad ∷ Upper ∷ [])
     ∷ (0x00000004 ∷ 0x80000000 ∷ [] says Bar Low true (2 ^ 63) ∷ Upper ∷ [])

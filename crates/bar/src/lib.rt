@@ -116,7 +116,7 @@ fn narrow_slot(r: u32) -> Slot
     sized(
         Pool::Low,
         false,
-        size_of(4294967295, 16, (r / 16 * 16) as u64),
+        size_of(4294967295, 128, (r / 16 * 16) as u64),
     )
 }
 
@@ -131,7 +131,7 @@ fn joined(low: u32, upper: u32) -> u64
 fn wide_slot(r: u32, upper: u32) -> Slot
     ensures { λ s. ⌜ s ≡ wideSlot r upper ⌝ }
 {
-    let size = size_of(18446744073709551615, 16, joined(r, upper) / 16 * 16);
+    let size = size_of(18446744073709551615, 128, joined(r, upper) / 16 * 16);
     if r / 8 % 2 == 1 {
         sized(Pool::High, true, size)
     } else {

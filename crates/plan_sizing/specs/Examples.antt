@@ -43,15 +43,15 @@ rows =
       sized = 2 ∷ 4178575360 ∷ 1048576 ∷ 9730785280 ∷ 67108864 ∷ 20480 ∷ 4096 ∷ 0 ∷ [];
       stored = 2 ∷ 4096 ∷ 4096 ∷ 67108864 ∷ 67108864 ∷ 256 ∷ 256 ∷ 0 ∷ 0 ∷ 0 ∷ 0 ∷ 0 ∷ 0 ∷ 0 ∷ 0 ∷ 0 ∷ [];
     }
-    -- a bridge with a BAR of 1 MiB of its own, and behind it 2 MiB: the BAR, a gap of 1 MiB, the window; then a function of 16 bytes
+    -- a bridge with a BAR of 1 MiB of its own, and behind it 2 MiB: the BAR, a gap of 1 MiB, the window; then a function of 128 bytes
     ∷ record {
       parents = 0 ∷ 1 ∷ 0 ∷ [];
       headers = 129 ∷ 0 ∷ 0 ∷ [];
-      readbacks = 4293918720 ∷ 0 ∷ 0 ∷ 0 ∷ 0 ∷ 0 ∷ 4292870144 ∷ 0 ∷ 0 ∷ 0 ∷ 0 ∷ 0 ∷ 4294967280 ∷ 0 ∷ 0 ∷ 0 ∷ 0 ∷ 0 ∷ [];
+      readbacks = 4293918720 ∷ 0 ∷ 0 ∷ 0 ∷ 0 ∷ 0 ∷ 4292870144 ∷ 0 ∷ 0 ∷ 0 ∷ 0 ∷ 0 ∷ 4294967168 ∷ 0 ∷ 0 ∷ 0 ∷ 0 ∷ 0 ∷ [];
       low = 0;
       high = 4294967296;
       io = 0;
-      sized = 3 ∷ 4194320 ∷ 2097152 ∷ 4294967296 ∷ 0 ∷ 0 ∷ 0 ∷ 0 ∷ [];
+      sized = 3 ∷ 4194432 ∷ 2097152 ∷ 4294967296 ∷ 0 ∷ 0 ∷ 0 ∷ 0 ∷ [];
       stored = 2 ∷ 2097152 ∷ 2097152 ∷ 0 ∷ 0 ∷ 0 ∷ 0 ∷ 0 ∷ 0 ∷ 0 ∷ 0 ∷ 0 ∷ 0 ∷ 0 ∷ 0 ∷ 0 ∷ 0 ∷ 0 ∷ 0 ∷ 0 ∷ 0 ∷ 0 ∷ 0 ∷ 0 ∷ [];
     }
     -- two BARs of 2^63 behind a bridge: the end is kept as 2^62, the alignment whole

@@ -50,7 +50,7 @@ returns-4 c =
     let is-io = c .before .before .before .before .is-io in
     let if1 = c .before .before .before .before .before .if1 in
     simp (ne-eqb _ _ (if1 .left), sym (is-io .ensures) ∙ c .before .before .before .if2 .left, eq-eqb _ _ (c .before .before .if3 .left))
-    (rw (← c .before .size-of .ensures 32 4 refl refl) (c .sized .ensures))
+    (rw (← c .before .size-of .ensures 32 7 refl refl) (c .sized .ensures))
 
 pub narrow-slot-spec : {M : Type 1} → statement M
 narrow-slot-spec =

@@ -28,7 +28,7 @@ returns c =
     let args = c .before .before .before .before .args in
     let a = args in
     let j : the-joined .result ≡ joined (a .r) (a .upper) = the-joined .ensures .0 in
-    let z = rw j at (c .before .before .size-of .ensures 64 4 refl refl) in
+    let z = rw j at (c .before .before .size-of .ensures 64 7 refl refl) in
     simp (eq-eqb _ _ (c .before .if1 .taken)) (rw (← z) (c .sized .ensures))
 
 returns-2 : tie.Need-returns-2
@@ -38,7 +38,7 @@ returns-2 c =
     let args = c .before .before .before .before .args in
     let a = args in
     let j : the-joined .result ≡ joined (a .r) (a .upper) = the-joined .ensures .0 in
-    let z = rw j at (c .before .before .size-of .ensures 64 4 refl refl) in
+    let z = rw j at (c .before .before .size-of .ensures 64 7 refl refl) in
     simp (ne-eqb _ _ (c .before .if1 .left)) (rw (← z) (c .sized2 .ensures))
 
 pub wide-slot-spec : {M : Type 1} → statement M
