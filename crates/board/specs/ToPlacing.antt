@@ -32,6 +32,8 @@ toFunction f =
       parent = f .parent;
       bridge = isBridge f;
       bars = barsFrom 0 (slots (take (slotCount f) (f .readbacks)));
+      spareLow = 0;
+      spareBuses = 0;
     }
 
 abbrev pub toPlacing : List Function → List PlacingFunction

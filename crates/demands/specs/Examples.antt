@@ -20,7 +20,7 @@ use Rattle.plan_rule.specs.Align.{alignUp}
 use Rattle.plan_rule.specs.Layout.{layoutEnd, largestAlign}
 use Rattle.plan_rule.specs.Pieces.{barPieces, windowPieces, ownPieces, pieces}
 use Rattle.plan_rule.specs.Placing.{place, placed}
-use Rattle.plan_rule.specs.Numbering.{bridges, busNumber, greatestBelow, subordinateOf}
+use Rattle.plan_rule.specs.Numbering.{bridges, oversFrom, over, lastBelow, busNumber, subordinateOf}
 use Rattle.plan_rule.specs.Refusals.{outOfPool, refusalOf}
 use Rattle.bar.specs.Bar.{sizeFrom, sized, ioSlot, narrowSlot, wideSlot, slotHere, slots, anyBad}
 use Rattle.bar.specs.Bars.{barsFrom}
@@ -171,7 +171,7 @@ unfolding examples ascii words windowText bridgeText endText lineOf countText pl
     wideSlot slotHere slots anyBad hostOf functionsOf refusalOf outOfPool place placed pieces ownPieces windowPieces barPieces layoutEnd
     largestAlign keep alignUp bridges barsFrom sheetAfter sheetBytes flatMap recordBytes partBytes configBytes commonBytes bodyBytes
     bridgeBytes endBytes dwordBytes planOf plannedFrom valuesFrom windowFor barStart closed opened busNumber subordinateOf
-    greatestBelow le
+    oversFrom over lastBelow le
     leBytes routeOf fromSheet routePacket from42 walkFrom walkOver tallyOn join itemsOf items enabledIn sheetNumber from21 from20 from22
     from24 from27 from28 from25 from29 isFramed allSized entriesFrom commandsOf breaks anyBreaks allZero readBacksWrong hasId
     idTwice entryOf

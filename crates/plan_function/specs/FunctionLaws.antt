@@ -27,14 +27,14 @@ use Rattle.plan_rule.specs.RecordLaws.{false-of-not}
 use Rattle.plan_rule.specs.Layout.{Part, bar, window, Piece, Placed, isWindow, isOn, select, isPlacedOn, selectPlaced, startAt, endAt}
 use Rattle.plan_rule.specs.Layout.{layout, layoutEnd}
 use Rattle.plan_rule.specs.LayoutLaws.{layout-end-append}
-use Rattle.plan_rule.specs.Pieces.{windowPiece, windowOver, barPiece, barPieces, windowPieces, ownPieces}
-use Rattle.plan_rule.specs.PieceLaws.{Own, BarsSized, own-pieces, Shaped, has-align, window-of-is, own-one}
+use Rattle.plan_rule.specs.Pieces.{windowPiece, windowOver, barPiece, barPieces, contentOf, windowPieces, ownPieces}
+use Rattle.plan_rule.specs.PieceLaws.{Own, BarsSized, own-pieces, Shaped, has-align, content-shaped, window-of-is, own-one}
 use Rattle.plan_rule.specs.Placing.{Cursors, isWindowOf, place, cursorsAfter}
 use Rattle.plan_rule.specs.PlacingLaws.{after, Unopened, all-place, place-select, cursors-select, opened-at}
 use Rattle.plan_rule.specs.declared.Extent.{Extent}
-use Rattle.plan_rule.specs.Sizing.{nothing, extend}
+use Rattle.plan_rule.specs.Sizing.{nothing, extend, withSpare}
 use Rattle.plan_rule.specs.Sizing as sizing
-use Rattle.plan_rule.specs.ExtentLaws.{window-over-extent, select-windows}
+use Rattle.plan_rule.specs.ExtentLaws.{window-over-extent, extend-content, select-windows}
 use Rattle.plan_function.specs.Registers.{barsFrom, isPart, isWindowIn, barStart, windowFor, valuesFrom}
 use Rattle.plan_function.specs.Function.{Ends, afterBar, barStarts, afterBars, valuesAt, isEmpty, windowStart, windowStop}
 use Rattle.plan_function.specs.Function.{afterFunction, belowFunction}
@@ -83,12 +83,12 @@ not-bar : (t : Part) (j : ℕ) → isWindow t ≡ true → isPart t j ≡ false
 not-bar (bar n) j e = absurd (false≢true e)
 not-bar window j e = refl
 
-pub windows-only : (k b : ℕ) (rest : List Piece) (t : Bool) → All (λ p. isWindow (p .part) ≡ true) (cond t (windowPieces k b rest) [])
+pub windows-only : (k b n : ℕ) (rest : List Piece) (t : Bool) → All (λ p. isWindow (p .part) ≡ true) (cond t (windowPieces k b n rest) [])
 unfolding windowPieces
-windows-only k b rest false = tt
-windows-only k b rest true =
-    all-append _ (windowOver k b low (select k low rest)) _ (over low (select k low rest))
-    (all-append _ (windowOver k b high (select k high rest)) _ (over high (select k high rest)) (over io (select k io rest)))
+windows-only k b n rest false = tt
+windows-only k b n rest true =
+    all-append _ (windowOver k b low (contentOf k n low rest)) _ (over low (contentOf k n low rest))
+    (all-append _ (windowOver k b high (contentOf k n high rest)) _ (over high (contentOf k n high rest)) (over io (contentOf k n io rest)))
   where
     over : (q : Pool) (content : List Piece) → All (λ p. isWindow (p .part) ≡ true) (windowOver k b q content)
     over q [] = tt
@@ -226,9 +226,9 @@ module _ (k : ℕ) (f : Function) (ss : List Slot) (rest : List Piece) (c : Curs
   abbrev b : ℕ
   b = f .parent
 
-  -- what its bus comes to
+  -- what its bus comes to, with its spare room
   abbrev inner : Pool → Extent
-  inner q = extend nothing (select k q rest)
+  inner q = withSpare q (f .spareLow) (extend nothing (select k q rest))
 
   owns : All (Own k f rest) own
   owns = own-pieces k f rest sized
@@ -240,13 +240,16 @@ module _ (k : ℕ) (f : Function) (ss : List Slot) (rest : List Piece) (c : Curs
   select-own : (q : Pool) → select b q own ≡ select b q (barPieces k b (barsFrom 0 ss)) ++ windowsIn q
   unfolding ownPieces
   select-own q =
-      keep-append (isOn b q) (barPieces k b (f .bars)) (cond (f .bridge) (windowPieces k b rest) [])
+      keep-append (isOn b q) (barPieces k b (f .bars)) (cond (f .bridge) (windowPieces k (f .parent) (f .spareLow) rest) [])
       ∙ ap₂ (λ (x y : List Piece). x ++ y) (ap (λ (l : List placing.Bar). select b q (barPieces k b l)) bars) (go (f .bridge))
     where
-      go : (t : Bool) → select b q (cond t (windowPieces k b rest) []) ≡ cond t (sizing.windowFor k b q (inner q)) []
+      go : (t : Bool) → select b q (cond t (windowPieces k (f .parent) (f .spareLow) rest) [])
+          ≡ cond t (sizing.windowFor k b q (inner q)) []
       go true =
-          select-windows k b q rest
-          ∙ window-over-extent k b q (select k q rest) (all-imp _ _ (select k q rest) (all-keep (isOn k q) Shaped rest shaped) has-align)
+          select-windows k (f .parent) (f .spareLow) q rest
+          ∙ window-over-extent k b q (contentOf k (f .spareLow) q rest)
+          (all-imp _ _ (contentOf k (f .spareLow) q rest) (content-shaped k (f .spareLow) q rest shaped) has-align)
+          ∙ ap (sizing.windowFor k b q) (extend-content k (f .spareLow) q rest)
       go false = keep-none (isOn b q) [] tt
 
   unopened : (n : ℕ) (q : Pool) → (n ≡ k → ⊥) → Unopened n q own
@@ -267,7 +270,8 @@ module _ (k : ℕ) (f : Function) (ss : List Slot) (rest : List Piece) (c : Curs
   unfolding ownPieces
   own-starts xs h j =
       let n : 0 + j ≡ j = omega arith in
-      rw n at (starts-left k b (cond (f .bridge) (windowPieces k b rest) []) (windows-only k b rest (f .bridge)) xs 0 ss c
+      rw n at (starts-left k b (cond (f .bridge) (windowPieces k (f .parent) (f .spareLow) rest) [])
+      (windows-only k (f .parent) (f .spareLow) rest (f .bridge)) xs 0 ss c
       (λ m l. rw (← bars) (h m)) j)
 
   -- the search for a bridge's window in pool q

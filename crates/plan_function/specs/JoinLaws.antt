@@ -21,7 +21,7 @@ use Rattle.plan_rule.specs.Placing.{Cursors, placed}
 use Rattle.plan_rule.specs.Placed.{in-pool}
 use Rattle.plan_rule.specs.Refusals.{Kept}
 use Rattle.plan_rule.specs.declared.Extent.{Extent}
-use Rattle.plan_rule.specs.Sizing.{busLaid, laidFrom}
+use Rattle.plan_rule.specs.Sizing.{busLaid, laidFrom, spared}
 use Rattle.plan_rule.specs.Cap.{cap, cap-small}
 use Rattle.plan_function.specs.Registers.{barsFrom, isPart, isWindowIn, barStart, windowFor, valuesFrom}
 use Rattle.plan_function.specs.Function.{Ends, barStarts, afterBars, valuesAt, isEmpty, windowStart, windowStop, windowAt, windowOf}
@@ -67,9 +67,9 @@ window-for-whole cut (x ∷ xs) h g k q =
 abbrev pub busBefore : Host → List Function → ℕ → Function → Ends
 busBefore h fs i f = cursorsAt h fs i (f .parent)
 
--- what its own bus comes to
-abbrev pub insideOf : List Function → ℕ → Pool → Extent
-insideOf fs i = busLaid fs (suc i) (laidFrom (suc i)) .extent
+-- what its own bus comes to, with its spare room
+abbrev pub insideOf : List Function → ℕ → Function → Pool → Extent
+insideOf fs i f = spared (f .spareLow) (busLaid fs (suc i) (laidFrom (suc i))) .extent
 
 module _ (h : Host) (fs : List Function) (lawful : Lawful fs) (i : ℕ) (f : Function) (at : IsAt fs i f) (ss : List Slot)
     (bars : f .bars ≡ barsFrom 0 ss) where
@@ -77,7 +77,7 @@ module _ (h : Host) (fs : List Function) (lawful : Lawful fs) (i : ℕ) (f : Fun
   before = busBefore h fs i f
 
   abbrev inner : Pool → Extent
-  inner = insideOf fs i
+  inner = insideOf fs i f
 
   sized-here : Sized (f ∷ drop (suc i) fs)
   sized-here = subst Sized at (all-drop BarsSized i fs (lawful .sized))
@@ -96,7 +96,7 @@ module _ (h : Host) (fs : List Function) (lawful : Lawful fs) (i : ℕ) (f : Fun
     unfolding ownPieces
     values-cut rs =
         values-left (suc i) (f .parent) (placed h fs)
-        (cond (f .bridge) (windowPieces (suc i) (f .parent) (pieces (suc (suc i)) (drop (suc i) fs))) [])
+        (cond (f .bridge) (windowPieces (suc i) (f .parent) (f .spareLow) (pieces (suc (suc i)) (drop (suc i) fs))) [])
         cut
         (bar-start-whole cut (whole .none) (placed h fs) (whole .starts) (suc i))
         0

@@ -22,12 +22,12 @@ use Rattle.plan_rule.specs.Records.{Host, Function, Lawful, Sized}
 use Rattle.plan_rule.specs.RecordLaws.{IsAt}
 use Rattle.plan_rule.specs.Layout.{isOn, select, largestAlign}
 use Rattle.plan_rule.specs.LayoutLaws.{largest-align-power}
-use Rattle.plan_rule.specs.Pieces.{pieces}
-use Rattle.plan_rule.specs.PieceLaws.{BarsSized, Shaped, pieces-shaped}
+use Rattle.plan_rule.specs.Pieces.{contentOf, pieces}
+use Rattle.plan_rule.specs.PieceLaws.{BarsSized, Shaped, content-shaped, pieces-shaped}
 use Rattle.plan_rule.specs.Placing.{placed}
 use Rattle.plan_rule.specs.declared.Extent.{Extent}
 use Rattle.plan_rule.specs.Sizing.{nothing, busLaid}
-use Rattle.plan_rule.specs.ExtentLaws.{extend-align}
+use Rattle.plan_rule.specs.ExtentLaws.{extend-align, extend-content}
 use Rattle.plan_rule.specs.Cap.{cap, capped}
 use Rattle.plan_function.specs.Registers.{barsFrom, windowFor, valuesFrom}
 use Rattle.plan_function.specs.Function.{Ends, barStarts, afterBars, valuesAt, isEmpty, windowAt, afterWindow, belowWindow}
@@ -98,9 +98,9 @@ module _ (h : Host) (fs : List Function) (lawful : Lawful fs) (i : ℕ) (f : Fun
           ∙ ap cap (sym (⊎-elim below (cursor-other h fs lawful i f at xs bars b q ne) (eq-or-ne b (suc i))))
 
   -- a bridge, with what its bus comes to, cut at 2^62
-  module _ (bridge : f .bridge ≡ true) (x : Pool → Extent) (sized : (q : Pool) → x q ≡ capped (insideOf fs i q)) where
+  module _ (bridge : f .bridge ≡ true) (x : Pool → Extent) (sized : (q : Pool) → x q ≡ capped (insideOf fs i f q)) where
     abbrev inside : Pool → Extent
-    inside = insideOf fs i
+    inside = insideOf fs i f
 
     -- c are the cursors after its BARs
     module _ (c : Ends) (after : (q : Pool) → c q ≡ cap (afterBars (a (f .parent)) xs q)) where
@@ -145,11 +145,15 @@ module _ (h : Host) (fs : List Function) (lawful : Lawful fs) (i : ℕ) (f : Fun
     pub align-power : (q : Pool) → PowerOfTwo (max (granule q) (x q .align))
     unfolding busLaid
     align-power q =
-        let content = select (suc i) q (pieces (suc (suc i)) (drop (suc i) fs)) in
-        let e : x q .align ≡ largestAlign content = ap (λ (y : Extent). y .align) (sized q) ∙ extend-align nothing content ∙ omega arith in
+        let rest = pieces (suc (suc i)) (drop (suc i) fs) in
+        let content = contentOf (suc i) (f .spareLow) q rest in
+        let e : x q .align ≡ largestAlign content =
+        ap (λ (y : Extent). y .align) (sized q ∙ ap capped (sym (extend-content (suc i) (f .spareLow) q rest)))
+        ∙ extend-align nothing content
+        ∙ omega arith in
         rw e
         (largest-align-power (granule q) content (granule-power q)
-        (all-imp _ _ content (all-keep (isOn (suc i) q) Shaped _ shaped) (λ p s. s .align-power)))
+        (all-imp _ _ content (content-shaped (suc i) (f .spareLow) q rest shaped) (λ p s. s .align-power)))
       where
         shaped : All Shaped (pieces (suc (suc i)) (drop (suc i) fs))
         shaped = pieces-shaped (suc (suc i)) (drop (suc i) fs) (subst Sized at (all-drop BarsSized i fs (lawful .sized)) .1)

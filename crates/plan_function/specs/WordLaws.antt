@@ -120,7 +120,7 @@ module _ (h : Host) (fs : List Function) (lawful : Lawful fs) (room : Room h fs)
   unfolding ownPieces
   words-join rs =
       words-left (h .last) (room .fits) (suc i) (f .parent) (placed h fs)
-      (cond (f .bridge) (windowPieces (suc i) (f .parent) (pieces (suc (suc i)) (drop (suc i) fs))) [])
+      (cond (f .bridge) (windowPieces (suc i) (f .parent) (f .spareLow) (pieces (suc (suc i)) (drop (suc i) fs))) [])
       0
       ss
       rs

@@ -12,7 +12,8 @@ use Rattle.plan_rule.specs.Align.{alignUp}
 use Rattle.plan_rule.specs.Layout.{layoutEnd, largestAlign}
 use Rattle.plan_rule.specs.Pieces.{barPieces, windowPieces, ownPieces, pieces}
 use Rattle.plan_rule.specs.Placing.{place, placed}
-use Rattle.plan_rule.specs.Numbering.{bridges, busNumber, greatestBelow, subordinateOf, numberedFrom}
+use Rattle.plan_rule.specs.Numbering.{bridges, oversFrom, over, busNumber, lastBelow, subordinateOf, numberedFrom}
+use Rattle.lists.specs.Lists.{front}
 use Rattle.plan_rule.specs.Refusals.{outOfPool, refusalOf}
 use Rattle.plan_rule.specs.Examples.{p10, p10-functions}
 use Rattle.plan_rule.specs.Above.{aboveWithin, aboveByParents}
@@ -57,9 +58,9 @@ rows =
     ∷ []
 
 pub examples : All Holds rows
-unfolding keep any alignUp layoutEnd largestAlign barPieces windowPieces ownPieces pieces place placed bridges busNumber greatestBelow
-    subordinateOf numberedFrom outOfPool refusalOf flatMap itemsOf items join tallyOn walkOver walkFrom planRegisters aboveWithin
-    aboveByParents
+unfolding keep any alignUp layoutEnd largestAlign barPieces windowPieces ownPieces pieces place placed bridges oversFrom over lastBelow
+    front busNumber subordinateOf numberedFrom outOfPool refusalOf flatMap itemsOf items join tallyOn walkOver walkFrom planRegisters
+    aboveWithin aboveByParents
 examples = (refl, (refl, (refl, (refl, (refl, (refl, (refl, (refl, (refl, (refl, (refl, tt)))))))))))
 
 pub p10-board : Board p10 p10-functions

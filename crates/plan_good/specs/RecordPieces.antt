@@ -18,7 +18,7 @@ use Rattle.plan_rule.specs.Records.{Bar, Host, Function, Lawful, Sized}
 use Rattle.plan_rule.specs.RecordLaws.{IsAt}
 use Rattle.plan_rule.specs.Layout.{bar, window, Piece, Placed, isWindow}
 use Rattle.plan_rule.specs.Layout.{select}
-use Rattle.plan_rule.specs.Pieces.{barPiece, barPieces, windowOver, windowPieces, ownPieces, pieces}
+use Rattle.plan_rule.specs.Pieces.{barPiece, barPieces, windowOver, contentOf, windowPieces, ownPieces, pieces}
 use Rattle.plan_rule.specs.PieceLaws.{own-pieces, pieces-owner}
 use Rattle.plan_rule.specs.Placing.{Cursors, place, placed, fromBases}
 use Rattle.walk.specs.Ranges.{Range}
@@ -112,34 +112,34 @@ module _ (sp : Space) (k b : ℕ) where
       go true e = e
       go false e = e
 
-  are-windows : (rest : List Piece) (t : Bool) → All (λ p. p .part ≡ window) (cond t (windowPieces k b rest) [])
+  are-windows : (n : ℕ) (rest : List Piece) (t : Bool) → All (λ p. p .part ≡ window) (cond t (windowPieces k b n rest) [])
   unfolding windowPieces
-  are-windows rest false = tt
-  are-windows rest true =
-      all-append _ (over low) _ (window-over low (select k low rest))
-      (all-append _ (over high) _ (window-over high (select k high rest)) (window-over io (select k io rest)))
+  are-windows n rest false = tt
+  are-windows n rest true =
+      all-append _ (over low) _ (window-over low (contentOf k n low rest))
+      (all-append _ (over high) _ (window-over high (contentOf k n high rest)) (window-over io (contentOf k n io rest)))
     where
       over : Pool → List Piece
-      over q = windowOver k b q (select k q rest)
+      over q = windowOver k b q (contentOf k n q rest)
 
       window-over : (q : Pool) (content : List Piece) → All (λ p. p .part ≡ window) (windowOver k b q content)
       window-over q [] = tt
       window-over q (c ∷ cs) = (refl, tt)
 
-  module _ (rest : List Piece) (t : Bool) where
+  module _ (n : ℕ) (rest : List Piece) (t : Bool) where
     abbrev ws : List Piece
-    ws = cond t (windowPieces k b rest) []
+    ws = cond t (windowPieces k b n rest) []
 
-    windows-no-bar : keep (isBar sp) (cond t (windowPieces k b rest) []) ≡ []
+    windows-no-bar : keep (isBar sp) (cond t (windowPieces k b n rest) []) ≡ []
     windows-no-bar =
         keep-none (isBar sp) ws
-        (all-imp _ (λ (p : Piece). isBar sp p ≡ false) ws (are-windows rest t)
+        (all-imp _ (λ (p : Piece). isBar sp p ≡ false) ws (are-windows n rest t)
         (λ p (e : p .part ≡ window). rw e (and-false (inSpace sp (p .pool)))))
 
-    windows-keep : keep (isWindowIn sp) (cond t (windowPieces k b rest) [])
-        ≡ keep (λ p. inSpace sp (p .pool)) (cond t (windowPieces k b rest) [])
+    windows-keep : keep (isWindowIn sp) (cond t (windowPieces k b n rest) [])
+        ≡ keep (λ p. inSpace sp (p .pool)) (cond t (windowPieces k b n rest) [])
     windows-keep =
-        keep-agree (isWindowIn sp) _ ws (λ p m. rw (all-elim _ ws (are-windows rest t) m) (and-true (inSpace sp (p .pool))))
+        keep-agree (isWindowIn sp) _ ws (λ p m. rw (all-elim _ ws (are-windows n rest t) m) (and-true (inSpace sp (p .pool))))
 
 -- The range of a BAR whose slot j is placed at `start j`
 abbrev pub barRange : (ℕ → ℕ) → Bar → Range
@@ -159,12 +159,13 @@ module _ (sp : Space) (h : Host) (fs : List Function) (lawful : Lawful fs) (i : 
       ∙ keep-and (isOwn (suc i)) (isBar sp) (pieces 1 fs)
       ∙ ap (keep (isBar sp)) (own-of-pieces i 1 (suc i) fs f (lawful .sized) (omega arith) at)
       ∙ keep-append (isBar sp) (barPieces (suc i) (f .parent) (f .bars)) _
-      ∙ ap₂ _++_ (bars-keep sp (suc i) (f .parent) (f .bars)) (windows-no-bar sp (suc i) (f .parent) rest (f .bridge))
+      ∙ ap₂ _++_ (bars-keep sp (suc i) (f .parent) (f .bars)) (windows-no-bar sp (suc i) (f .parent) (f .spareLow) rest (f .bridge))
       ∙ append-nil _
 
   -- Its placed windows in the space are those that it puts there, low before high; only a bridge has any
   pub windows-of-record : map (λ (x : Placed). x .piece) (keep (isWindowOf sp (suc i)) (placed h fs))
-      ≡ keep (λ p. inSpace sp (p .pool)) (cond (f .bridge) (windowPieces (suc i) (f .parent) (pieces (suc (suc i)) (drop (suc i) fs))) [])
+      ≡ keep (λ p. inSpace sp (p .pool)) (cond (f .bridge) (windowPieces (suc i) (f .parent) (f .spareLow)
+      (pieces (suc (suc i)) (drop (suc i) fs))) [])
   unfolding placed ownPieces rest
   windows-of-record =
       map-keep (λ p. isOwn (suc i) p && isWindowIn sp p) (λ (x : Placed). x .piece) (placed h fs)
@@ -172,7 +173,7 @@ module _ (sp : Space) (h : Host) (fs : List Function) (lawful : Lawful fs) (i : 
       ∙ keep-and (isOwn (suc i)) (isWindowIn sp) (pieces 1 fs)
       ∙ ap (keep (isWindowIn sp)) (own-of-pieces i 1 (suc i) fs f (lawful .sized) (omega arith) at)
       ∙ keep-append (isWindowIn sp) (barPieces (suc i) (f .parent) (f .bars)) _
-      ∙ ap₂ _++_ (bars-no-window sp (suc i) (f .parent) (f .bars)) (windows-keep sp (suc i) (f .parent) rest (f .bridge))
+      ∙ ap₂ _++_ (bars-no-window sp (suc i) (f .parent) (f .bars)) (windows-keep sp (suc i) (f .parent) (f .spareLow) rest (f .bridge))
 
   -- So, where BAR j of the record starts at `start j`, its registers are its BARs of the space from there on, in slot order
   pub bars-at : (start : ℕ → ℕ) →

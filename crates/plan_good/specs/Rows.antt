@@ -54,7 +54,7 @@ module _ (first : ℕ) (fs : List Function) (lawful : Lawful fs) where
             secondary-is = refl;
             subordinate-is = refl;
             parent-rises = h .0;
-            bridge-rises = bridge-rises first fs i f gs e;
+            bridge-rises = bridge-rises first fs lawful i f gs e;
           }
 
   pub rows : All (Row first fs) (numbered first fs)

@@ -5,7 +5,7 @@ use mathlib.Core.Path.{_≡_, refl, sym, ap, _∙_}
 use mathlib.Core.Logic.{⊎-elim}
 use mathlib.Core.Bool.{Bool, true, false, cond, _&&_}
 use mathlib.Core.List.{List, [], _∷_}
-use Prim.Native.Nat.{ℕ, suc, _+_, _≤_, _<_, min, max}
+use Prim.Native.Nat.{ℕ, suc, _+_, _≤_, _<_, min, max, _*_}
 use native.Mathlib.Omega.{arith}
 use lib.Dec.{eqb, ltb}
 use lib.ListN.{drop}
@@ -16,7 +16,7 @@ use Rattle.lists.specs.ListLaws.{all-imp, all-drop}
 use Rattle.lists.specs.KeepLaws.{all-keep}
 use Rattle.plan_rule.specs.Align.{alignUp, PowerOfTwo}
 use Rattle.plan_rule.specs.AlignLaws.{le-align-up, pos-of-power}
-use Rattle.plan_rule.specs.Pools.{Pool, granule, samePool}
+use Rattle.plan_rule.specs.Pools.{Pool, low, high, io, granule, samePool}
 use Rattle.plan_rule.specs.PoolLaws.{granule-power}
 use Rattle.plan_rule.specs.Records.{Host, Bar, Function, Sized, Lawful}
 use Rattle.plan_rule.specs.Pieces.{pieces}
@@ -24,8 +24,8 @@ use Rattle.plan_rule.specs.PieceLaws.{BarsSized, Shaped, has-align, piec
 use Rattle.plan_rule.specs.Layout.{Piece, isOn, select}
 use Rattle.plan_rule.specs.LayoutLaws.{HasAlign}
 use Rattle.plan_rule.specs.declared.Extent.{Extent}
-use Rattle.plan_rule.specs.Sizing.{grow, extend, withBars, withWindow, Laid, laidFrom, busLaid, barsLaid, windowLaid, functionLaid}
-use Rattle.plan_rule.specs.Sizing.{rootLaid, endsPast}
+use Rattle.plan_rule.specs.Sizing.{grow, extend, withBars, withWindow, spareGrown, withSpare, spared, Laid, laidFrom, busLaid}
+use Rattle.plan_rule.specs.Sizing.{barsLaid, windowLaid, functionLaid, rootLaid, endsPast}
 use Rattle.plan_rule.specs.SizingLaws.{laid-ext, Ready, bus-laid-child, function-laid-bridge, out-of-pool-laid}
 use Rattle.plan_rule.specs.RecordLaws.{IsAt}
 use Rattle.plan_rule.specs.Refusals.{outOfPool}
@@ -119,6 +119,19 @@ cap-with-window q e inner = go (eqb (inner .align) 0)
     go true = capped-capped e
     go false = ap (λ (n : ℕ). record { end = n; align = max (e .align) a }) ends
 
+-- The spare room on a capped bus
+pub cap-spare : (q : Pool) (n : ℕ) (e : Extent) → capped (withSpare q n (capped e)) ≡ capped (withSpare q n e)
+cap-spare low n e = go (eqb n 0)
+  where
+    go : (t : Bool) → capped (spareGrown t (capped e) n) ≡ capped (spareGrown t e n)
+    go true = capped-capped e
+    go false = cap-grow-whole e (n * granule low) (granule low) (pos-of-power (granule-power low))
+cap-spare high n e = capped-capped e
+cap-spare io n e = capped-capped e
+
+pub cap-spared : (n : ℕ) (l : Laid) → cappedLaid (spared n (cappedLaid l)) ≡ cappedLaid (spared n l)
+cap-spared n l = laid-ext _ _ refl (λ q. cap-spare q n (l .extent q))
+
 -- For all pools at once
 pub cap-bars-laid : (f : Function) (l : Laid) → BarsSized f → cappedLaid (barsLaid f (cappedLaid l)) ≡ cappedLaid (barsLaid f l)
 cap-bars-laid f l h = laid-ext _ _ refl (λ q. cap-with-bars q (l .extent q) (f .bars) h)
@@ -144,7 +157,7 @@ unfolding functionLaid
 cap-function-laid fs f l h = go (f .bridge)
   where
     inner : Laid
-    inner = busLaid fs (suc (l .next)) (laidFrom (suc (l .next)))
+    inner = spared (f .spareLow) (busLaid fs (suc (l .next)) (laidFrom (suc (l .next))))
 
     go : (t : Bool)
         → cappedLaid (cond t (windowLaid (barsLaid f (cappedLaid l)) inner) (barsLaid f (cappedLaid l)))
@@ -182,8 +195,8 @@ bus-laid-turn fs lawful b l m f r e p g =
 
 -- A bridge from its capped BARs and its capped bus
 pub function-laid-turn : (fs : List Function) (f : Function) (l bars inner : Laid) → f .bridge ≡ true → bars ≡ cappedLaid (barsLaid f l)
-    → inner ≡ cappedLaid (busLaid fs (suc (l .next)) (laidFrom (suc (l .next)))) → cappedLaid (windowLaid bars inner)
+    → inner ≡ cappedLaid (spared (f .spareLow) (busLaid fs (suc (l .next)) (laidFrom (suc (l .next))))) → cappedLaid (windowLaid bars inner)
     ≡ cappedLaid (functionLaid fs f l)
 function-laid-turn fs f l bars inner b e g =
-    rw (e, g) (cap-window-laid (barsLaid f l) (busLaid fs (suc (l .next)) (laidFrom (suc (l .next)))))
+    rw (e, g) (cap-window-laid (barsLaid f l) (spared (f .spareLow) (busLaid fs (suc (l .next)) (laidFrom (suc (l .next))))))
     ∙ ap cappedLaid (sym (function-laid-bridge fs f l b))

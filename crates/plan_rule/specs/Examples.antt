@@ -11,7 +11,7 @@ use Rattle.plan_rule.specs.Records.{Host, Function, Bar, DepthFirst, onl
 use Rattle.plan_rule.specs.Layout.{Placed, endOf, layoutEnd, largestAlign}
 use Rattle.plan_rule.specs.Pieces.{barPieces, windowPieces, ownPieces, pieces}
 use Rattle.plan_rule.specs.Placing.{place, placed}
-use Rattle.plan_rule.specs.Numbering.{bridges, busNumber, greatestBelow, subordinateOf, Numbered, numberedFrom, numbered}
+use Rattle.plan_rule.specs.Numbering.{bridges, oversFrom, over, busNumber, lastBelow, subordinateOf, Numbered, numberedFrom, numbered}
 use Rattle.plan_rule.specs.Sizing.{Laid, laidFrom, extend, busLaid}
 use Rattle.plan_rule.specs.Refusals.{outOfPool, refusalOf}
 
@@ -48,10 +48,10 @@ pooled l h i high = h
 pooled l h i io = i
 
 abbrev pub bridgeBelow : ℕ → Function
-bridgeBelow p = record { parent = p; bridge = true; bars = [] }
+bridgeBelow p = record { parent = p; bridge = true; bars = []; spareLow = 0; spareBuses = 0 }
 
 abbrev pub endBelow : ℕ → List Bar → Function
-endBelow p bars = record { parent = p; bridge = false; bars = bars }
+endBelow p bars = record { parent = p; bridge = false; bars = bars; spareLow = 0; spareBuses = 0 }
 
 abbrev pub at : ℕ → Pool → ℕ → Bar
 at slot pool size = record { slot = slot; pool = pool; size = size }
@@ -79,7 +79,8 @@ mib = endBelow 0 (at 0 low 0x100000 ∷ [])
 -- A bridge's own BAR stays on the bus above. Below it 2 MiB and 1 MiB: the window starts on 2 MiB and is rounded to 3 MiB, not 4
 abbrev pub one-bridge : List Function
 one-bridge =
-    record { parent = 0; bridge = true; bars = at 0 low 0x1000 ∷ [] } ∷ endBelow 1 (at 0 low 0x200000 ∷ at 1 low 0x100000 ∷ []) ∷ []
+    record { parent = 0; bridge = true; bars = at 0 low 0x1000 ∷ []; spareLow = 0; spareBuses = 0 }
+    ∷ endBelow 1 (at 0 low 0x200000 ∷ at 1 low 0x100000 ∷ []) ∷ []
 
 abbrev pub from-one-mib : Host
 from-one-mib = record { firstBus = 0; lastBus = 255; base = pooled 0x100000 1 1; last = pooled 0x4fffff 0 0 }
@@ -148,8 +149,8 @@ rows =
 
 pub examples : All Holds rows
 unfolding
-    keep front any alignUp layoutEnd largestAlign barPieces windowPieces ownPieces pieces place placed bridges busNumber greatestBelow
-    subordinateOf numberedFrom ranges outOfPool refusalOf extend busLaid
+    keep front any alignUp layoutEnd largestAlign barPieces windowPieces ownPieces pieces place placed bridges oversFrom over lastBelow
+    busNumber subordinateOf numberedFrom ranges outOfPool refusalOf extend busLaid
 examples = (
   refl,
   (

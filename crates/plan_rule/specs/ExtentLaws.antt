@@ -19,12 +19,12 @@ use Rattle.plan_rule.specs.PoolLaws.{is-on-of-ne}
 use Rattle.plan_rule.specs.Records.{Bar, Function, Sized, run}
 use Rattle.plan_rule.specs.Layout.{Piece, isOn, select, layoutEnd, largestAlign}
 use Rattle.plan_rule.specs.LayoutLaws.{HasAlign, le-largest-align}
-use Rattle.plan_rule.specs.Pieces.{windowSize, windowAlign, windowPiece, windowOver, barPiece, barPieces, windowPieces, ownPieces}
-use Rattle.plan_rule.specs.Pieces.{pieces}
-use Rattle.plan_rule.specs.PieceLaws.{BarsSized, own-pieces, Shaped, has-align}
+use Rattle.plan_rule.specs.Pieces.{windowSize, windowAlign, windowPiece, windowOver, spareIf, sparePieces, contentOf, barPiece}
+use Rattle.plan_rule.specs.Pieces.{barPieces, windowPieces, ownPieces, pieces}
+use Rattle.plan_rule.specs.PieceLaws.{BarsSized, own-pieces, Shaped, has-align, content-shaped}
 use Rattle.plan_rule.specs.declared.Extent.{Extent}
 use Rattle.plan_rule.specs.Sizing.{nothing, grow, extend, withBars, withWindow}
-use Rattle.plan_rule.specs.Sizing.{windowFor}
+use Rattle.plan_rule.specs.Sizing.{windowFor, spareGrown, withSpare}
 
 -- What an extent says
 pub extend-end : (e : Extent) (ps : List Piece) → extend e ps .end ≡ layoutEnd (e .end) ps
@@ -95,17 +95,34 @@ module _ (k b : ℕ) (q : Pool) where
           settle true = refl
           settle false = refl
 
-pub select-windows : (k b : ℕ) (q : Pool) (rest : List Piece) → select b q (windowPieces k b rest) ≡ windowOver k b q (select k q rest)
+-- The spare room, in the walk's words
+pub extend-spare : (k n : ℕ) (q : Pool) (e : Extent) → extend e (sparePieces k n q) ≡ withSpare q n e
+unfolding extend
+extend-spare k n low e = go (eqb n 0)
+  where
+    go : (t : Bool) → extend e (spareIf t k n) ≡ spareGrown t e n
+    go true = refl
+    go false = refl
+extend-spare k n high e = refl
+extend-spare k n io e = refl
+
+pub extend-content : (k n : ℕ) (q : Pool) (rest : List Piece)
+    → extend nothing (contentOf k n q rest) ≡ withSpare q n (extend nothing (select k q rest))
+extend-content k n q rest =
+    extend-append nothing (select k q rest) (sparePieces k n q) ∙ extend-spare k n q (extend nothing (select k q rest))
+
+pub select-windows : (k b n : ℕ) (q : Pool) (rest : List Piece)
+    → select b q (windowPieces k b n rest) ≡ windowOver k b q (contentOf k n q rest)
 unfolding windowPieces
-select-windows k b q rest =
+select-windows k b n q rest =
     keep-append (isOn b q) (w low) (w high ++ w io)
-    ∙ ap₂ (λ (x y : List Piece). x ++ y) (keep-window k b q low (select k low rest))
+    ∙ ap₂ (λ (x y : List Piece). x ++ y) (keep-window k b q low (contentOf k n low rest))
     (keep-append (isOn b q) (w high) (w io)
-    ∙ ap₂ (λ (x y : List Piece). x ++ y) (keep-window k b q high (select k high rest)) (keep-window k b q io (select k io rest)))
+    ∙ ap₂ (λ (x y : List Piece). x ++ y) (keep-window k b q high (contentOf k n high rest)) (keep-window k b q io (contentOf k n io rest)))
     ∙ pick q
   where
     w : Pool → List Piece
-    w r = windowOver k b r (select k r rest)
+    w r = windowOver k b r (contentOf k n r rest)
 
     pick : (r : Pool) → cond (samePool low r) (w low) [] ++ (cond (samePool high r) (w high) [] ++ cond (samePool io r) (w io) []) ≡ w r
     pick low = append-nil (w low)
@@ -115,12 +132,15 @@ select-windows k b q rest =
 -- What a record adds to its own bus
 pub extend-own : (k : ℕ) (f : Function) (rest : List Piece) → All Shaped rest → (q : Pool) (e : Extent)
     → extend e (select (f .parent) q (ownPieces k f rest))
-    ≡ cond (f .bridge) (withWindow q (withBars q e (f .bars)) (extend nothing (select k q rest))) (withBars q e (f .bars))
+    ≡ cond (f .bridge) (withWindow q (withBars q e (f .bars)) (withSpare q (f .spareLow) (extend nothing (select k q rest))))
+    (withBars q e (f .bars))
 unfolding ownPieces
 extend-own k f rest h q e =
-    ap (extend e) (keep-append (isOn b q) (barPieces k b (f .bars)) (cond (f .bridge) (windowPieces k b rest) []))
-    ∙ extend-append e (select b q (barPieces k b (f .bars))) (select b q (cond (f .bridge) (windowPieces k b rest) []))
-    ∙ ap (λ (x : Extent). extend x (select b q (cond (f .bridge) (windowPieces k b rest) []))) (extend-bars k b q e (f .bars))
+    ap (extend e) (keep-append (isOn b q) (barPieces k b (f .bars)) (cond (f .bridge) (windowPieces k (f .parent) (f .spareLow) rest) []))
+    ∙ extend-append e (select b q (barPieces k b (f .bars))) (select b q
+    (cond (f .bridge) (windowPieces k (f .parent) (f .spareLow) rest) []))
+    ∙ ap (λ (x : Extent). extend x (select b q (cond (f .bridge) (windowPieces k (f .parent) (f .spareLow) rest) [])))
+    (extend-bars k b q e (f .bars))
     ∙ go (f .bridge)
   where
     b : ℕ
@@ -129,12 +149,13 @@ extend-own k f rest h q e =
     a : Extent
     a = withBars q e (f .bars)
 
-    go : (t : Bool) → extend a (select b q (cond t (windowPieces k b rest) []))
-        ≡ cond t (withWindow q a (extend nothing (select k q rest))) a
+    go : (t : Bool) → extend a (select b q (cond t (windowPieces k (f .parent) (f .spareLow) rest) []))
+        ≡ cond t (withWindow q a (withSpare q (f .spareLow) (extend nothing (select k q rest)))) a
     go true =
-        ap (extend a) (select-windows k b q rest)
-        ∙ extend-window k b q a (select k q rest)
-        (all-imp _ _ (select k q rest) (all-keep (isOn k q) Shaped rest h) has-align)
+        ap (extend a) (select-windows k (f .parent) (f .spareLow) q rest)
+        ∙ extend-window k b q a (contentOf k (f .spareLow) q rest)
+        (all-imp _ _ (contentOf k (f .spareLow) q rest) (content-shaped k (f .spareLow) q rest h) has-align)
+        ∙ ap (withWindow q a) (extend-content k (f .spareLow) q rest)
     go false = ap (extend a) (keep-none (isOn b q) [] tt) ∙ extend-nil a
 
 -- A record of another bus is skipped

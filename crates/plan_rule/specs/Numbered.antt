@@ -1,27 +1,28 @@
 -- The bus numbers of a lawful board: each bridge's bus, secondary and subordinate rise in that order, its range lies in its parent's and
 -- apart from its siblings', and different parents have different bus numbers. Assumes nothing.
-use mathlib.Core.Path.{_≡_, refl, sym, ap, subst, _∙_}
+use mathlib.Core.Path.{_≡_, refl, sym, ap, ap₂, subst, _∙_}
 use mathlib.Core.Logic.{_⊎_, inl, inr, ⊎-elim}
-use mathlib.Core.Bool.{Bool, true, false, cond}
-use mathlib.Core.List.{List, [], _∷_}
-use Prim.Native.Nat.{ℕ, suc, _+_, _≤_, _<_, max}
+use mathlib.Core.Bool.{Bool, true, false, cond, true≢false}
+use mathlib.Core.List.{List, [], _∷_, cons≢nil, head-eq-of-cons-eq}
+use Prim.Native.Nat.{ℕ, zero, suc, _+_, _-_, _≤_, _<_}
 use native.Mathlib.Omega.{arith}
-use native.Mathlib.Nat.{add-zero}
 use lib.Dec.{eqb, leb}
-use lib.ListN.{drop}
-use borrow.Author.Tests.{eqb-true, eq-eqb, ne-eqb, leb-true, le-leb, lt-leb}
+use lib.ListN.{length, getD, take, drop}
+use borrow.Author.Tests.{eqb-true, eq-eqb, leb-true, leb-false}
 use Rattle.plan_rule.specs.Order.{le-or-lt, eq-or-ne, true-or-false}
 use Rattle.lists.specs.Lists.{All, Some, Pairwise, front}
 use Rattle.lists.specs.ListLaws.{all-imp, all-imp₂, all-and, drop-suc}
+use Rattle.lists.specs.KeepLaws.{front-yes, front-no}
 use Rattle.plan_rule.specs.Records.{Function, DepthFirst, parentsAfter, onlyHost, Lawful, run}
+use Rattle.plan_rule.specs.Preorder.{noFunction, parentOf}
 use Rattle.plan_rule.specs.Pieces.{pieces}
 use Rattle.plan_rule.specs.PieceLaws.{pieces-parent}
-use Rattle.plan_rule.specs.RecordLaws.{Bounded, bounded-start, bounded-step, parent-cases, IsAt, ordered-from}
+use Rattle.plan_rule.specs.RecordLaws.{Bounded, bounded-start, bounded-step, parent-cases, false-of-not, IsAt, ordered-from}
 use Rattle.plan_rule.specs.Sizing.{laidFrom, busLaid}
-use Rattle.plan_rule.specs.Numbering.{weight, bridges, busNumber, insert, greatestBelow, subordinateOf, Numbered, rowOf, numberedFrom}
-use Rattle.plan_rule.specs.Numbering.{numbered}
-use Rattle.plan_rule.specs.NumberingLaws.{bridges-take-suc, bridges-split, bridges-take-mono, bridges-take-run}
-use Rattle.plan_rule.specs.NumberingLaws.{top-le-greatest, greatest-le, greatest-mono, subset-insert, greatest-run}
+use Rattle.plan_rule.specs.Numbering.{weight, ownSpare, bridges, over, busNumber, lastBelow, subordinateOf, Numbered, rowOf}
+use Rattle.plan_rule.specs.Numbering.{numberedFrom, numbered}
+use Rattle.plan_rule.specs.NumberingLaws.{bridges-take-suc, bridges-split, bridges-take-mono, weight-own, weight-bridge, over-host}
+use Rattle.plan_rule.specs.NumberingLaws.{over-record}
 
 -- A bridge's numbers, none above `most`
 pub record Range (most : ℕ) (x : Numbered) : Type 0 where
@@ -38,7 +39,7 @@ pub record Under (x y : Numbered) : Type 0 where
 
 pub bus-number-host : (first : ℕ) (fs : List Function) → busNumber first fs 0 ≡ first
 unfolding busNumber bridges
-bus-number-host first fs = add-zero first
+bus-number-host first fs = omega arith
 
 -- The bus below record b has a number above that of every earlier record's
 abbrev pub Rises : ℕ → List Function → ℕ → Type 0
@@ -67,41 +68,169 @@ pub record WellNumbered (first : ℕ) (fs : List Function) : Type 0 where
   pub one-parent : All (λ x. All (λ y. x .bus ≡ y .bus → x .parent ≡ y .parent) (numbered first fs)) (numbered first fs)
 
 -- Suffixes: record i + 1 of the board is the first of `fs`
+at-index : (i : ℕ) (l : List Function) (f : Function) (fs : List Function) → drop i l ≡ f ∷ fs → getD l i noFunction ≡ f
+at-index zero [] f fs e = absurd (cons≢nil (sym e))
+at-index zero (g ∷ l) f fs e = head-eq-of-cons-eq e
+at-index (suc i) [] f fs e = absurd (cons≢nil (sym e))
+at-index (suc i) (g ∷ l) f fs e = at-index i l f fs e
+
+past-end : (i j : ℕ) (l : List Function) → drop i l ≡ [] → i ≤ j → drop j l ≡ []
+past-end zero zero [] e h = refl
+past-end zero (suc j) [] e h = refl
+past-end (suc i) zero [] e h = refl
+past-end (suc i) (suc j) [] e h = refl
+past-end zero j (x ∷ l) e h = absurd (cons≢nil e)
+past-end (suc i) zero (x ∷ l) e h = absurd (omega arith)
+past-end (suc i) (suc j) (x ∷ l) e h = past-end i j l e (omega arith)
+
 module _ (first : ℕ) (all : List Function) where
   abbrev B : ℕ → ℕ
   B = busNumber first all
 
+  abbrev T : ℕ → ℕ
+  T i = bridges (take i all)
+
+  abbrev A : ℕ → ℕ
+  A = over all
+
   abbrev rows : ℕ → List Function → List Numbered
   rows i fs = numberedFrom first all (suc i) fs
 
-  pub bus-number-suc : (i : ℕ) (f : Function) (fs : List Function) → drop i all ≡ f ∷ fs → B (suc i) ≡ B i + weight f
+  -- the last record of the run below b, where i records went before and fs are left
+  abbrev endOf : ℕ → ℕ → List Function → ℕ
+  endOf b i fs = i + length (run b fs)
+
+  bus-is : (k : ℕ) → B k ≡ first + (T k - A k)
   unfolding busNumber
-  bus-number-suc i f fs e = omega (arith, bridges-take-suc i all f fs e)
+  bus-is k = refl
 
-  pub bus-number-mono : (i j : ℕ) → i ≤ j → B i ≤ B j
-  unfolding busNumber
-  bus-number-mono i j h = omega (arith, bridges-take-mono i j all h)
+  subordinate-is : (i : ℕ) (f : Function) (fs : List Function) → drop i all ≡ f ∷ fs
+      → subordinateOf first all (suc i) ≡ first + (T (endOf (suc i) (suc i) fs) - A (f .parent))
+  unfolding subordinateOf lastBelow
+  subordinate-is i f fs e =
+      ap₂ (λ (l : List Function) (g : Function). first + (T (suc i + length (run (suc i) l)) - A (g .parent))) (drop-suc i all f fs e)
+      (at-index i all f fs e)
 
-  bridge-suc : (i : ℕ) (f : Function) (fs : List Function) → drop i all ≡ f ∷ fs → f .bridge ≡ true → B (suc i) ≡ suc (B i)
-  bridge-suc i f fs e b = bus-number-suc i f fs e ∙ rw b (omega arith)
+  -- Those that may be parents: their spares to come fit in what was taken, and grow along them
+  pub record Chain (ok : ℕ → Bool) (i : ℕ) : Type 0 where
+    pub earlier : (j : ℕ) → ok j ≡ true → j ≤ i
+    pub fits : (j : ℕ) → ok j ≡ true → A j ≤ T j
+    pub grows : (j m : ℕ) → ok j ≡ true → ok m ≡ true → j ≤ m → A j ≤ A m
+    pub last-fits : A i ≤ T i
+    pub under-last : (j : ℕ) → ok j ≡ true → A j ≤ A i
 
-  -- The number of a bridge's bus rises
-  pub bridge-rises : (i : ℕ) (f : Function) (fs : List Function) → drop i all ≡ f ∷ fs → f .bridge ≡ true → Rises first all (suc i)
-  bridge-rises i f fs e b a l = let m : a ≤ i = omega arith in omega (arith, bus-number-mono a i m, bridge-suc i f fs e b)
+  pub chain-start : Chain onlyHost 0
+  chain-start =
+      record {
+        earlier = λ j e. omega (arith, eqb-true j 0 e);
+        fits = λ j e. subst (λ (k : ℕ). A k ≤ T k) (sym (eqb-true j 0 e)) (omega (arith, over-host all));
+        grows = λ j m e g h. subst (λ (k : ℕ). A k ≤ A m) (sym (eqb-true j 0 e)) (omega (arith, over-host all));
+        last-fits = omega (arith, over-host all);
+        under-last = λ j e. subst (λ (k : ℕ). A k ≤ A 0) (sym (eqb-true j 0 e)) (omega arith);
+      }
 
-  -- So does that of every record's own bus
-  pub parents-rise : (ok : ℕ → Bool) (i : ℕ) (fs : List Function) → drop i all ≡ fs → DepthFirst ok (suc i) fs
-      → ((j : ℕ) → ok j ≡ true → Rises first all j) → All (λ f. Rises first all (f .parent)) fs
-  parents-rise ok i [] e d h = tt
-  parents-rise ok i (f ∷ fs) e d h =
-      (h (f .parent) (d .0), parents-rise (parentsAfter ok (suc i) f) (suc i) fs (drop-suc i all f fs e) (d .1) after)
+  module _ (ok : ℕ → Bool) (i : ℕ) (f : Function) (fs : List Function) (e : drop i all ≡ f ∷ fs) (up : ok (f .parent) ≡ true)
+      (c : Chain ok i) where
+    at-record : A (suc i) ≡ A (f .parent) + ownSpare f
+    at-record = over-record all i f fs e (c .earlier (f .parent) up)
+
+    parent-fits : A (f .parent) ≤ T i
+    parent-fits = omega (arith, c .fits (f .parent) up, bridges-take-mono (f .parent) i all (c .earlier (f .parent) up))
+
+    new-fits : A (suc i) ≤ T (suc i)
+    new-fits = omega (arith, parent-fits, at-record, bridges-take-suc i all f fs e, weight-own f)
+
+    chain-step : Chain (parentsAfter ok (suc i) f) (suc i)
+    chain-step = record { earlier = earlier′; fits = fits′; grows = grows′; last-fits = new-fits; under-last = under′ }
+      where
+        earlier′ : (j : ℕ) → parentsAfter ok (suc i) f j ≡ true → j ≤ suc i
+        earlier′ j g = ⊎-elim (λ t. omega (arith, t .0)) (λ t. omega (arith, c .earlier j (t .0))) (parent-cases ok (suc i) f j g)
+
+        fits′ : (j : ℕ) → parentsAfter ok (suc i) f j ≡ true → A j ≤ T j
+        fits′ j g = ⊎-elim (λ t. subst (λ (k : ℕ). A k ≤ T k) (sym (t .0)) new-fits) (λ t. c .fits j (t .0)) (parent-cases ok (suc i) f j g)
+
+        under′ : (j : ℕ) → parentsAfter ok (suc i) f j ≡ true → A j ≤ A (suc i)
+        under′ j g =
+            ⊎-elim (λ t. subst (λ (k : ℕ). A k ≤ A (suc i)) (sym (t .0)) (omega arith))
+            (λ t. omega (arith, c .grows j (f .parent) (t .0) up (t .1), at-record)) (parent-cases ok (suc i) f j g)
+
+        grows′ : (j m : ℕ) → parentsAfter ok (suc i) f j ≡ true → parentsAfter ok (suc i) f m ≡ true → j ≤ m → A j ≤ A m
+        grows′ j m g h l =
+            ⊎-elim (λ t. subst (λ (k : ℕ). A j ≤ A k) (sym (t .0)) (under′ j g))
+            (λ t. ⊎-elim (λ s. absurd (omega (arith, s .0, c .earlier m (t .0), l))) (λ s. c .grows j m (s .0) (t .0) l)
+            (parent-cases ok (suc i) f j g))
+            (parent-cases ok (suc i) f m h)
+
+    -- the next number comes after the spares of the bridges that end here
+    bus-step : f .bridge ≡ true → B (suc i) ≡ suc (first + (T i - A (f .parent)))
+    bus-step b = bus-is (suc i) ∙ omega (arith, parent-fits, at-record, bridges-take-suc i all f fs e, weight-bridge f b)
+
+    bus-mono : B i ≤ first + (T i - A (f .parent))
+    bus-mono = omega (arith, bus-is i, parent-fits, c .last-fits, c .under-last (f .parent) up)
+
+    bus-on : B i ≤ B (suc i)
+    bus-on = omega (arith, bus-is (suc i), bus-mono, at-record, bridges-take-suc i all f fs e, weight-own f, parent-fits)
+
+    bus-first : f .bridge ≡ true → B (f .parent) < B (suc i)
+    bus-first b =
+        omega (
+          arith,
+          bus-is (f .parent),
+          bus-step b,
+          bridges-take-mono (f .parent) i all (c .earlier (f .parent) up),
+          c .fits (f .parent) up,
+        )
+
+    not-empty : B (suc i) ≤ subordinateOf first all (suc i)
+    not-empty =
+        omega (
+          arith,
+          bus-is (suc i),
+          subordinate-is i f fs e,
+          new-fits,
+          at-record,
+          bridges-take-mono (suc i) (endOf (suc i) (suc i) fs) all
+              (omega arith),
+        )
+
+    in-host : subordinateOf first all (suc i) ≤ first + bridges all
+    in-host = omega (arith, subordinate-is i f fs e, bridges-split (endOf (suc i) (suc i) fs) all)
+
+  -- Up to here each record's number has a greater one after it
+  abbrev Rising : ℕ → Type 0
+  Rising i = (a b : ℕ) → a ≤ b → b ≤ i → B a ≤ B b
+
+  rising-step : (i : ℕ) → Rising i → B i ≤ B (suc i) → Rising (suc i)
+  rising-step i h s a b l m =
+      ⊎-elim
+      (λ (e : b ≡ suc i).
+      ⊎-elim (λ (g : a ≡ suc i). subst (λ (k : ℕ). B a ≤ B k) (g ∙ sym e) (omega arith))
+      (λ n. let le : a ≤ i = omega arith in subst (λ (k : ℕ). B a ≤ B k) (sym e) (omega (arith, h a i le (omega arith), s)))
+      (eq-or-ne a (suc i)))
+      (λ n. h a b l (omega arith))
+      (eq-or-ne b (suc i))
+
+  -- every bridge's number is above every earlier record's
+  bridges-rise : (ok : ℕ → Bool) (i : ℕ) (fs : List Function) → drop i all ≡ fs → DepthFirst ok (suc i) fs → Chain ok i → Rising i
+      → (j : ℕ) (g : Function) (gs : List Function) → drop j all ≡ g ∷ gs → i ≤ j → g .bridge ≡ true → Rises first all (suc j)
+  bridges-rise ok i [] e d c r j g gs q l b = absurd (cons≢nil (sym q ∙ past-end i j all e l))
+  bridges-rise ok i (f ∷ fs) e d c r j g gs q l b = go (eq-or-ne i j)
+      (bridges-rise (parentsAfter ok (suc i) f) (suc i) fs (drop-suc i all f fs e) (d .1) (chain-step ok i f fs e (d .0) c)
+      (rising-step i r (bus-on ok i f fs e (d .0) c)) j g gs q)
     where
-      after : (j : ℕ) → parentsAfter ok (suc i) f j ≡ true → Rises first all j
-      after j g =
-          ⊎-elim (λ t. subst (Rises first all) (sym (t .0)) (bridge-rises i f fs e (t .1))) (λ t. h j (t .0))
-          (parent-cases ok (suc i) f j g)
+      here : (x : ℕ) → x ≡ j → drop x all ≡ f ∷ fs → f ≡ g
+      here x same h = head-eq-of-cons-eq (sym h ∙ ap (λ (k : ℕ). drop k all) same ∙ q)
 
-  -- What holds of every parent holds of every row's
+      go : (i ≡ j) ⊎ (i ≡ j → ⊥) → (suc i ≤ j → g .bridge ≡ true → Rises first all (suc j)) → Rises first all (suc j)
+      go (inl same) later =
+          subst (λ (k : ℕ). Rises first all (suc k)) same
+          (λ a m. let le : a ≤ i = omega arith in
+          let bridge : f .bridge ≡ true = ap (λ (h : Function). h .bridge) (here i same e) ∙ b in
+          omega (arith, r a i le (omega arith), bus-step ok i f fs e (d .0) c bridge, bus-mono ok i f fs e (d .0) c))
+      go (inr n) later = later (omega arith) b
+
+  -- ## Row by row
+
   rows-parent : (P : ℕ → Type 0) (i : ℕ) (fs : List Function) → All (λ f. P (f .parent)) fs → All (λ x. P (x .parent)) (rows i fs)
   unfolding numberedFrom
   rows-parent P i [] h = tt
@@ -112,203 +241,206 @@ module _ (first : ℕ) (all : List Function) where
   rows-bus i [] = tt
   rows-bus i (f ∷ fs) = (refl, rows-bus (suc i) fs)
 
-  pub subordinate-run : (ok : ℕ → Bool) (i : ℕ) (f : Function) (fs : List Function) → drop i all ≡ f ∷ fs → DepthFirst ok (suc i) (f ∷ fs)
-      → Bounded ok (suc i) → f .bridge ≡ true → subordinateOf first all (suc i) ≡ B (suc i) + bridges (run (suc i) fs)
-  unfolding subordinateOf
-  subordinate-run ok i f fs e d l b =
-      rw (drop-suc i all f fs e)
-      (greatest-run (suc i) (parentsAfter ok (suc i) f) (λ j. eqb j (suc i)) (B (suc i)) (suc (suc i)) fs (d .1)
-      (bounded-step ok (suc i) f l)
-      agree
-      (λ j g. omega (arith, eqb-true j (suc i) g))
-      (omega arith))
-    where
-      agree : (j : ℕ) → parentsAfter ok (suc i) f j ≡ true → eqb j (suc i) ≡ leb (suc i) j
-      agree j g =
-          ⊎-elim
-          (λ t. eq-eqb j (suc i) (t .0) ∙ sym (le-leb (suc i) j (omega (arith, t .0))))
-          (λ t.
-          let was : j < suc i = l j (t .0) in
-          ne-eqb j (suc i) (λ (q : j ≡ suc i). omega arith) ∙ sym (lt-leb (suc i) j was))
-          (parent-cases ok (suc i) f j g)
-
-  range-of-rows : (ok : ℕ → Bool) (i : ℕ) (fs : List Function) → drop i all ≡ fs → DepthFirst ok (suc i) fs → Bounded ok (suc i)
+  range-of-rows : (ok : ℕ → Bool) (i : ℕ) (fs : List Function) → drop i all ≡ fs → DepthFirst ok (suc i) fs → Chain ok i
       → All (λ x. x .bridge ≡ true → Range (first + bridges all) x) (rows i fs)
-  unfolding numberedFrom subordinateOf busNumber
-  range-of-rows ok i [] e d l = tt
-  range-of-rows ok i (f ∷ fs) e d l =
-      (here, range-of-rows (parentsAfter ok (suc i) f) (suc i) fs (drop-suc i all f fs e) (d .1) (bounded-step ok (suc i) f l))
-    where
-      here : f .bridge ≡ true → Range (first + bridges all) (rowOf first all (suc i) f)
-      here b =
-          let p : f .parent ≤ i = omega (arith, l (f .parent) (d .0)) in
-          record {
-            bus-first = omega (arith, bus-number-mono (f .parent) i p, bridge-suc i f fs e b);
-            not-empty = top-le-greatest (λ j. eqb j (suc i)) (B (suc i)) (B (suc i)) (suc (suc i)) (drop (suc i) all);
-            in-host =
-                omega (
-                  arith,
-                  greatest-le (λ j. eqb j (suc i)) (B (suc i)) (B (suc i)) (suc (suc i)) (drop (suc i) all) (omega arith),
-                  bridges-split (suc i) all,
-                );
-          }
-
-  -- Later bridges have greater numbers
-  later-rows : (i : ℕ) (fs : List Function) → drop i all ≡ fs → All (λ y. y .bridge ≡ true → B i < y .secondary) (rows i fs)
   unfolding numberedFrom
-  later-rows i [] e = tt
-  later-rows i (f ∷ fs) e = (
-    λ b. omega (arith, bridge-suc i f fs e b),
-    all-imp _ _ (rows (suc i) fs) (later-rows (suc i) fs (drop-suc i all f fs e)) (λ y g b. omega (arith, g b, bus-number-suc i f fs e)),
+  range-of-rows ok i [] e d c = tt
+  range-of-rows ok i (f ∷ fs) e d c = (
+    λ b. record {
+      bus-first = bus-first ok i f fs e (d .0) c b;
+      not-empty = not-empty ok i f fs e (d .0) c;
+      in-host = in-host ok i f fs e (d .0) c;
+    },
+    range-of-rows (parentsAfter ok (suc i) f) (suc i) fs (drop-suc i all f fs e) (d .1) (chain-step ok i f fs e (d .0) c),
   )
 
-  rising-rows : (i : ℕ) (fs : List Function) → drop i all ≡ fs
+  later-rows : (ok : ℕ → Bool) (i : ℕ) (fs : List Function) → drop i all ≡ fs → DepthFirst ok (suc i) fs → Chain ok i
+      → All (λ y. y .bridge ≡ true → B i < y .secondary) (rows i fs)
+  unfolding numberedFrom
+  later-rows ok i [] e d c = tt
+  later-rows ok i (f ∷ fs) e d c = (
+    λ b. omega (arith, bus-step ok i f fs e (d .0) c b, bus-mono ok i f fs e (d .0) c),
+    all-imp _ _ (rows (suc i) fs)
+        (later-rows (parentsAfter ok (suc i) f) (suc i) fs (drop-suc i all f fs e) (d .1) (chain-step ok i f fs e (d .0) c))
+        (λ y g b. omega (arith, g b, bus-on ok i f fs e (d .0) c)),
+  )
+
+  rising-rows : (ok : ℕ → Bool) (i : ℕ) (fs : List Function) → drop i all ≡ fs → DepthFirst ok (suc i) fs → Chain ok i
       → Pairwise (λ x y. y .bridge ≡ true → x .secondary < y .secondary) (rows i fs)
   unfolding numberedFrom
-  rising-rows i [] e = tt
-  rising-rows i (f ∷ fs) e =
+  rising-rows ok i [] e d c = tt
+  rising-rows ok i (f ∷ fs) e d c =
       let n = drop-suc i all f fs e in
-      (later-rows (suc i) fs n, rising-rows (suc i) fs n)
+      let next = chain-step ok i f fs e (d .0) c in
+      (later-rows (parentsAfter ok (suc i) f) (suc i) fs n (d .1) next, rising-rows (parentsAfter ok (suc i) f) (suc i) fs n (d .1) next)
 
-  -- What hangs above bridge b has numbers past all those of the run below b
-  past-run : (b i : ℕ) (fs : List Function) → drop i all ≡ fs
-      → All (λ y. y .parent < b → y .bridge ≡ true → B i + bridges (run b fs) < y .secondary) (rows i fs)
-  unfolding numberedFrom bridges front
-  past-run b i [] e = tt
-  past-run b i (f ∷ fs) e = ⊎-elim (under (past-run b (suc i) fs (drop-suc i all f fs e))) past (true-or-false (leb b (f .parent)))
+  PastRun : ℕ → ℕ → Numbered → Type 0
+  PastRun b m y = y .parent < b → y .bridge ≡ true → first + (T m - A (y .parent)) < y .secondary
+
+  after-rows : (b m i : ℕ) (ok : ℕ → Bool) (fs : List Function) → drop i all ≡ fs → DepthFirst ok (suc i) fs → Chain ok i → m ≤ i
+      → All (PastRun b m) (rows i fs)
+  unfolding numberedFrom PastRun
+  after-rows b m i ok [] e d c l = tt
+  after-rows b m i ok (f ∷ fs) e d c l = (
+    λ p x. omega (arith, bus-step ok i f fs e (d .0) c x, bridges-take-mono m i all l),
+    after-rows b m (suc i) (parentsAfter ok (suc i) f) fs (drop-suc i all f fs e) (d .1) (chain-step ok i f fs e (d .0) c) (omega arith),
+  )
+
+  end-under : (b i : ℕ) (f : Function) (fs : List Function) → leb b (f .parent) ≡ true → endOf b i (f ∷ fs) ≡ endOf b (suc i) fs
+  end-under b i f fs g = omega (arith, ap (λ (l : List Function). length l) (front-yes (λ h. leb b (h .parent)) f fs g))
+
+  end-past : (b i : ℕ) (f : Function) (fs : List Function) → leb b (f .parent) ≡ false → endOf b i (f ∷ fs) ≡ i
+  end-past b i f fs g = omega (arith, ap (λ (l : List Function). length l) (front-no (λ h. leb b (h .parent)) f fs g))
+
+  past-run : (b : ℕ) (ok : ℕ → Bool) (i : ℕ) (fs : List Function) → drop i all ≡ fs → DepthFirst ok (suc i) fs → Chain ok i
+      → All (PastRun b (endOf b i fs)) (rows i fs)
+  unfolding numberedFrom PastRun
+  past-run b ok i [] e d c = tt
+  past-run b ok i (f ∷ fs) e d c = go (leb b (f .parent)) refl (past-run b (parentsAfter ok (suc i) f) (suc i) fs (drop-suc i all f fs e)
+      (d .1) (chain-step ok i f fs e (d .0) c))
     where
-      Goal : Type 0
-      Goal = All (λ y. y .parent < b → y .bridge ≡ true → B i + bridges (run b (f ∷ fs)) < y .secondary) (rows i (f ∷ fs))
+      go : (t : Bool) → leb b (f .parent) ≡ t → All (PastRun b (endOf b (suc i) fs)) (rows (suc i) fs)
+          → All (PastRun b (endOf b i (f ∷ fs))) (rows i (f ∷ fs))
+      go true g later = (
+        λ l. absurd (omega (arith, leb-true b (f .parent) g)),
+        subst (λ (k : ℕ). All (PastRun b k) (rows (suc i) fs)) (sym (end-under b i f fs g)) later,
+      )
+      go false g later =
+          subst (λ (k : ℕ). All (PastRun b k) (rows i (f ∷ fs))) (sym (end-past b i f fs g))
+          (after-rows b i i ok (f ∷ fs) e d c (omega arith))
 
-      under : All (λ y. y .parent < b → y .bridge ≡ true → B (suc i) + bridges (run b fs) < y .secondary) (rows (suc i) fs)
-          → leb b (f .parent) ≡ true → Goal
-      under h g =
-          rw g (
-            λ l. absurd (omega (arith, leb-true b (f .parent) g)),
-            all-imp _ _ (rows (suc i) fs) h (λ y k l c. omega (arith, k l c, bus-number-suc i f fs e)),
-          )
-
-      past : leb b (f .parent) ≡ false → Goal
-      past g =
-          rw g
-          (all-imp _ _ (rows i (f ∷ fs)) (later-rows i (f ∷ fs) e) (λ y h l c. omega (arith, h c)))
-
-  apart-rows : (ok : ℕ → Bool) (i : ℕ) (fs : List Function) → drop i all ≡ fs → DepthFirst ok (suc i) fs → Bounded ok (suc i)
+  apart-rows : (ok : ℕ → Bool) (i : ℕ) (fs : List Function) → drop i all ≡ fs → DepthFirst ok (suc i) fs → Chain ok i
       → Pairwise SiblingsApart (rows i fs)
-  unfolding numberedFrom
-  apart-rows ok i [] e d l = tt
-  apart-rows ok i (f ∷ fs) e d l =
-      let n = drop-suc i all f fs e in (
-        all-imp _ _ (rows (suc i) fs) (past-run (suc i) (suc i) fs n) (λ y h b c p.
-            let s = subordinate-run ok i f fs e d l b in
-            omega (arith, h (omega (arith, p, l (f .parent) (d .0))) c)),
-        apart-rows (parentsAfter ok (suc i) f) (suc i) fs n (d .1) (bounded-step ok (suc i) f l),
+  unfolding numberedFrom PastRun
+  apart-rows ok i [] e d c = tt
+  apart-rows ok i (f ∷ fs) e d c =
+      let n = drop-suc i all f fs e in
+      let next = chain-step ok i f fs e (d .0) c in (
+        all-imp _ _ (rows (suc i) fs) (past-run (suc i) (parentsAfter ok (suc i) f) (suc i) fs n (d .1) next)
+            (λ y h b x p. omega (arith, h (omega (arith, p, c .earlier (f .parent) (d .0))) x, ap A p, subordinate-is i f fs e)),
+        apart-rows (parentsAfter ok (suc i) f) (suc i) fs n (d .1) next,
       )
 
-  -- A bridge below p has its range within any set of numbers that takes p in
-  child-range : (p : ℕ) (inside : ℕ → Bool) (top i : ℕ) (fs : List Function) → drop i all ≡ fs → inside p ≡ true
-      → All (λ x. x .bridge ≡ true → x .parent ≡ p → x .subordinate ≤ greatestBelow inside top (B i) (suc i) fs) (rows i fs)
-  unfolding numberedFrom greatestBelow subordinateOf
-  child-range p inside top i [] e h = tt
-  child-range p inside top i (f ∷ fs) e h = (
-    here,
-    tail (inside (f .parent))
-        (child-range p (insert (suc i) inside) grown (suc i) fs n (subset-insert (suc i) inside inside (λ j g. g) p h))
-        (child-range p inside top (suc i) fs n h),
-  )
+  run-le : (b c : ℕ) → b ≤ c → (fs : List Function) → length (run c fs) ≤ length (run b fs)
+  unfolding front
+  run-le b c h [] = omega arith
+  run-le b c h (f ∷ fs) = go (leb c (f .parent)) refl (leb b (f .parent)) refl (run-le b c h fs)
     where
-      m : ℕ
-      m = B i + weight f
+      go : (s : Bool) → leb c (f .parent) ≡ s → (t : Bool) → leb b (f .parent) ≡ t → length (run c fs) ≤ length (run b fs)
+          → length (cond s (f ∷ run c fs) []) ≤ length (cond t (f ∷ run b fs) [])
+      go true e true g l = omega (arith, l)
+      go true e false g l = absurd (omega (arith, leb-true c (f .parent) e, leb-false b (f .parent) g))
+      go false e t g l = omega arith
 
-      grown : ℕ
-      grown = cond (f .bridge) (max top m) top
+  -- a child of b has its last number at most where b's run ends, less the spares of b and above
+  Ends : ℕ → ℕ → Numbered → Type 0
+  Ends b m x = x .parent ≡ b → x .subordinate ≤ first + (T m - A b)
 
-      n : drop (suc i) all ≡ fs
-      n = drop-suc i all f fs e
+  no-child : (b m : ℕ) (ok : ℕ → Bool) (i : ℕ) (fs : List Function) → DepthFirst ok (suc i) fs → ok b ≡ false → b ≤ i
+      → All (Ends b m) (rows i fs)
+  unfolding numberedFrom Ends
+  no-child b m ok i [] d e l = tt
+  no-child b m ok i (f ∷ fs) d e l =
+      (λ p. absurd (true≢false (sym (d .0) ∙ ap ok p ∙ e)), no-child b m (parentsAfter ok (suc i) f) (suc i) fs (d .1) still (omega arith))
+    where
+      still : parentsAfter ok (suc i) f b ≡ false
+      still = false-of-not _ (λ g. ⊎-elim (λ t. omega (arith, t .0, l)) (λ t. true≢false (sym (t .0) ∙ e)) (parent-cases ok (suc i) f b g))
 
-      is : B (suc i) ≡ m
-      is = bus-number-suc i f fs e
+  ends-by : (b : ℕ) (ok : ℕ → Bool) (i : ℕ) (fs : List Function) → drop i all ≡ fs → DepthFirst ok (suc i) fs → b ≤ i
+      → All (Ends b (endOf b i fs)) (rows i fs)
+  unfolding numberedFrom Ends
+  ends-by b ok i [] e d l = tt
+  ends-by b ok i (f ∷ fs) e d l = go (leb b (f .parent)) refl (ends-by b (parentsAfter ok (suc i) f) (suc i) fs (drop-suc i all f fs e)
+      (d .1) (omega arith))
+    where
+      closed : leb b (f .parent) ≡ false → parentsAfter ok (suc i) f b ≡ false
+      closed g =
+          false-of-not _ (λ h. ⊎-elim (λ t. omega (arith, t .0, l)) (λ t. omega (arith, t .1, leb-false b (f .parent) g))
+          (parent-cases ok (suc i) f b h))
 
-      Below : (ℕ → Bool) → ℕ → ℕ → Numbered → Type 0
-      Below s t c x = x .bridge ≡ true → x .parent ≡ p → x .subordinate ≤ greatestBelow s t c (suc (suc i)) fs
-
-      here : f .bridge ≡ true → f .parent ≡ p → subordinateOf first all (suc i) ≤ greatestBelow inside top (B i) (suc i) (f ∷ fs)
-      here b q =
-          rw (ap inside q ∙ h, n, is, b)
-          (greatest-mono (λ j. eqb j (suc i)) (insert (suc i) inside) (B i + 1) (max top (B i + 1)) (B i + 1) (suc (suc i)) fs
-          (λ j g. rw g)
-          (omega arith))
-
-      tail : (t : Bool) → All (Below (insert (suc i) inside) grown (B (suc i))) (rows (suc i) fs)
-          → All (Below inside top (B (suc i))) (rows (suc i) fs)
-          → All
-          (λ x.
-          x .bridge ≡ true → x .parent ≡ p
-          → x .subordinate ≤ cond t (greatestBelow (insert (suc i) inside) grown m (suc (suc i)) fs)
-          (greatestBelow inside top m (suc (suc i)) fs))
-          (rows (suc i) fs)
-      tail true u v = subst (λ (c : ℕ). All (Below (insert (suc i) inside) grown c) (rows (suc i) fs)) is u
-      tail false u v = subst (λ (c : ℕ). All (Below inside top c) (rows (suc i) fs)) is v
+      go : (t : Bool) → leb b (f .parent) ≡ t → All (Ends b (endOf b (suc i) fs)) (rows (suc i) fs)
+          → All (Ends b (endOf b i (f ∷ fs))) (rows i (f ∷ fs))
+      go true g later = (
+        λ p.
+            let within : endOf (suc i) (suc i) fs ≤ endOf b (suc i) fs = omega (arith, run-le b (suc i) (omega arith) fs) in
+            subst (λ (k : ℕ). subordinateOf first all (suc i) ≤ first + (T k - A b)) (sym (end-under b i f fs g))
+            (omega (arith, subordinate-is i f fs e, ap A p, bridges-take-mono (endOf (suc i) (suc i) fs) (endOf b (suc i) fs) all within)),
+        subst (λ (k : ℕ). All (Ends b k) (rows (suc i) fs)) (sym (end-under b i f fs g)) later,
+      )
+      go false g later = (
+        λ p. absurd (omega (arith, p, leb-false b (f .parent) g)),
+        no-child b (endOf b i (f ∷ fs)) (parentsAfter ok (suc i) f) (suc i) fs (d .1) (closed g) (omega arith),
+      )
 
   -- Every record hangs below an earlier record, or below a bridge of the list
-  nested-rows : (ok : ℕ → Bool) (i : ℕ) (fs : List Function) → drop i all ≡ fs → DepthFirst ok (suc i) fs → Bounded ok (suc i)
+  nested-rows : (ok : ℕ → Bool) (i : ℕ) (fs : List Function) → drop i all ≡ fs → DepthFirst ok (suc i) fs → Chain ok i
       → All (λ x. ((x .parent < suc i) × (ok (x .parent) ≡ true)) ⊎ Some (Under x) (rows i fs)) (rows i fs)
-  unfolding numberedFrom subordinateOf
-  nested-rows ok i [] e d l = tt
-  nested-rows ok i (f ∷ fs) e d l =
-      let later = nested-rows (parentsAfter ok (suc i) f) (suc i) fs n (d .1) (bounded-step ok (suc i) f l) in (
-        inl (l (f .parent) (d .0), d .0),
+  unfolding numberedFrom Ends
+  nested-rows ok i [] e d c = tt
+  nested-rows ok i (f ∷ fs) e d c =
+      let n = drop-suc i all f fs e in
+      let later = nested-rows (parentsAfter ok (suc i) f) (suc i) fs n (d .1) (chain-step ok i f fs e (d .0) c) in (
+        inl (omega (arith, c .earlier (f .parent) (d .0)), d .0),
         all-imp₂ _ _ _ (rows (suc i) fs) later
-            (all-and _ _ (rows (suc i) fs) (rows-bus (suc i) fs) children) each,
+            (all-and _ _ (rows (suc i) fs) (rows-bus (suc i) fs)
+            (ends-by (suc i) (parentsAfter ok (suc i) f) (suc i) fs n (d .1) (omega arith)))
+            each,
       )
     where
-      n : drop (suc i) all ≡ fs
-      n = drop-suc i all f fs e
-
-      Child : List Function → Numbered → Type 0
-      Child gs x = x .bridge ≡ true → x .parent ≡ suc i
-          → x .subordinate ≤ greatestBelow (λ j. eqb j (suc i)) (B (suc i)) (B (suc i)) (suc (suc i)) gs
-
-      children : All (Child (drop (suc i) all)) (rows (suc i) fs)
-      children =
-          let here : eqb (suc i) (suc i) ≡ true = eq-eqb (suc i) (suc i) refl in
-          subst (λ (gs : List Function). All (Child gs) (rows (suc i) fs)) (sym n)
-          (child-range (suc i) (λ j. eqb j (suc i)) (B (suc i)) (suc i) fs n here)
-
-      each : (x : Numbered) → ((x .parent < suc (suc i)) × (parentsAfter ok (suc i) f (x .parent) ≡ true))
-          ⊎ Some (Under x) (rows (suc i) fs)
-          → (x .bus ≡ B (x .parent)) × Child (drop (suc i) all) x → ((x .parent < suc i) × (ok (x .parent) ≡ true))
-          ⊎ Some (Under x) (rows i (f ∷ fs))
+      each : (x : Numbered) → ((x .parent < suc (suc i)) × (parentsAfter ok (suc i) f (x .parent) ≡ true)) ⊎ Some (Under x)
+          (rows (suc i) fs)
+          → (x .bus ≡ B (x .parent)) × Ends (suc i) (endOf (suc i) (suc i) fs) x
+          → ((x .parent < suc i) × (ok (x .parent) ≡ true)) ⊎ Some (Under x) (rows i (f ∷ fs))
       each x (inr s) k = inr (inr s)
       each x (inl (m, g)) k =
           ⊎-elim
-          (λ t. inr (inl (record { above = sym (t .0); bridge = t .1; bus-is = k .0 ∙ ap B (t .0); range-in = λ b. k .1 b (t .0) })))
-          (λ t. inl (l (x .parent) (t .0), t .0))
+          (λ t. inr (inl (record {
+            above = sym (t .0);
+            bridge = t .1;
+            bus-is = k .0 ∙ ap B (t .0);
+            range-in = λ b. omega (arith, k .1 (t .0), subordinate-is i f fs e, at-record ok i f fs e (d .0) c);
+          })))
+          (λ t. inl (omega (arith, c .earlier (x .parent) (t .0)), t .0))
           (parent-cases ok (suc i) f (x .parent) g)
 
-module _ (first : ℕ) (fs : List Function) (lawful : Lawful fs) where
-  -- The record above each record has a bus number of its own
-  pub every-parent-rises : All (λ f. Rises first fs (f .parent)) fs
-  every-parent-rises =
-      parents-rise first fs onlyHost 0 fs refl (lawful .ordered) (λ j e a l. absurd (omega (arith, eqb-true j 0 e)))
+  -- The number of every record's own bus rises
+  parents-rise : (ok : ℕ → Bool) (i : ℕ) (fs : List Function) → drop i all ≡ fs → DepthFirst ok (suc i) fs
+      → ((j : ℕ) (g : Function) (gs : List Function) → drop j all ≡ g ∷ gs → g .bridge ≡ true → Rises first all (suc j))
+      → ((j : ℕ) → ok j ≡ true → Rises first all j) → All (λ f. Rises first all (f .parent)) fs
+  parents-rise ok i [] e d up h = tt
+  parents-rise ok i (f ∷ fs) e d up h =
+      (h (f .parent) (d .0), parents-rise (parentsAfter ok (suc i) f) (suc i) fs (drop-suc i all f fs e) (d .1) up after)
+    where
+      after : (j : ℕ) → parentsAfter ok (suc i) f j ≡ true → Rises first all j
+      after j g =
+          ⊎-elim (λ t. subst (Rises first all) (sym (t .0)) (up i f fs e (t .1))) (λ t. h j (t .0)) (parent-cases ok (suc i) f j g)
 
-  -- A bridge's subordinate is the number of the last bridge of the run below it. The walk that sizes its bus ends at that run's end
+module _ (first : ℕ) (fs : List Function) (lawful : Lawful fs) where
+  -- The number of a bridge's bus rises
+  pub bridge-rises : (i : ℕ) (f : Function) (gs : List Function) → drop i fs ≡ f ∷ gs → f .bridge ≡ true → Rises first fs (suc i)
+  bridge-rises i f gs e b =
+      bridges-rise first fs onlyHost 0 fs refl (lawful .ordered) (chain-start first fs)
+      (λ a c l m. let za : a ≡ 0 = omega arith in let zc : c ≡ 0 = omega arith in rw (za, zc) (omega arith)) i f gs e (omega arith) b
+
+  pub every-parent-rises : All (λ f. Rises first fs (f .parent)) fs
+  every-parent-rises = parents-rise first fs onlyHost 0 fs refl (lawful .ordered) bridge-rises
+      (λ j e a l. absurd (omega (arith, eqb-true j 0 e)))
+
+  -- A bridge's subordinate, by where the walk that sizes its bus ends
   pub subordinate-laid : (i : ℕ) (f : Function) → IsAt fs i f → f .bridge ≡ true
-      → subordinateOf first fs (suc i) ≡ busNumber first fs (busLaid fs (suc i) (laidFrom (suc i)) .next)
-  unfolding busNumber busLaid
-  subordinate-laid i f e b =
-      let o = ordered-from fs (lawful .ordered) i in
-      subordinate-run first fs (o .allowed) i f (drop (suc i) fs) e (subst (DepthFirst (o .allowed) (suc i)) e (o .ordered)) (o .bounded) b
-      ∙ omega (arith, bridges-take-run (suc i) (suc i) fs)
+      → subordinateOf first fs (suc i) ≡ first + (bridges (take (busLaid fs (suc i) (laidFrom (suc i)) .next) fs) - over fs (f .parent))
+  unfolding busLaid
+  subordinate-laid i f e b = subordinate-is first fs i f (drop (suc i) fs) e
 
   pub well-numbered : WellNumbered first fs
   well-numbered =
       record {
-        ranged = range-of-rows first fs onlyHost 0 fs refl (lawful .ordered) bounded-start;
+        ranged = range-of-rows first fs onlyHost 0 fs refl (lawful .ordered) (chain-start first fs);
         nested =
-            all-imp₂ _ _ _ rows₀ (nested-rows first fs onlyHost 0 fs refl (lawful .ordered) bounded-start) (rows-bus first fs 0 fs) root;
-        apart = apart-rows first fs onlyHost 0 fs refl (lawful .ordered) bounded-start;
-        rising = rising-rows first fs 0 fs refl;
+            all-imp₂ _ _ _ rows₀ (nested-rows first fs onlyHost 0 fs refl (lawful .ordered) (chain-start first fs))
+            (rows-bus first fs 0 fs) root;
+        apart = apart-rows first fs onlyHost 0 fs refl (lawful .ordered) (chain-start first fs);
+        rising = rising-rows first fs onlyHost 0 fs refl (lawful .ordered) (chain-start first fs);
         one-parent =
             all-imp _ _ rows₀ own (λ x g.
             all-imp _ _ rows₀ own (λ y k e. rises-unique first fs (x .parent) (y .parent) (g .1) (k .1) (sym (g .0) ∙ e ∙ k .0)));

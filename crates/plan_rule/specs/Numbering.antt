@@ -1,45 +1,42 @@
 -- Bus numbers. The root bus is the first bus; bridges take the next numbers in record order as secondary; subordinate is the greatest
 -- number at or below the bridge. Assumes nothing.
-use mathlib.Core.Bool.{Bool, true, cond}
-use mathlib.Core.List.{List, [], _∷_}
-use Prim.Native.Nat.{ℕ, suc, _+_, max}
-use lib.Dec.{eqb}
-use lib.ListN.{take, drop}
-use Rattle.plan_rule.specs.Records.{Function}
+use mathlib.Core.Bool.{Bool, cond}
+use mathlib.Core.List.{List, [], _∷_, _++_}
+use Prim.Native.Nat.{ℕ, suc, _+_, _-_}
+use lib.ListN.{length, getD, take, drop}
+use Rattle.plan_rule.specs.Records.{Function, run}
+use Rattle.plan_rule.specs.Preorder.{parentOf}
 
--- A bridge takes one bus number. How many a list of records takes is how many bridges it has
+-- A bridge takes one bus number and, after all below it, its spares. `bridges` is how many numbers a list of records takes
 abbrev pub weight : Function → ℕ
-weight f = cond (f .bridge) 1 0
+weight f = cond (f .bridge) (suc (f .spareBuses)) 0
+
+abbrev pub ownSpare : Function → ℕ
+ownSpare f = cond (f .bridge) (f .spareBuses) 0
 
 unfoldable pub bridges : List Function → ℕ
 bridges [] = 0
 bridges (f ∷ fs) = weight f + bridges fs
 
+-- The spares of a record and of the bridges above it, which come later: one number for the host, then one for each record
+unfoldable pub oversFrom : List ℕ → List Function → List ℕ
+oversFrom acc [] = acc
+oversFrom acc (f ∷ fs) = oversFrom (acc ++ ((getD acc (f .parent) 0 + ownSpare f) ∷ [])) fs
+
+unfoldable pub over : List Function → ℕ → ℕ
+over fs k = getD (oversFrom (0 ∷ []) fs) k 0
+
 -- The number of the bus below record k: the first bus for the host, else the bridge's secondary
 unfoldable pub busNumber : ℕ → List Function → ℕ → ℕ
-busNumber first fs k = first + bridges (take k fs)
+busNumber first fs k = first + (bridges (take k fs) - over fs k)
 
--- A set of records, and k
-abbrev pub insert : ℕ → (ℕ → Bool) → ℕ → Bool
-insert k inside j =
-    let r = inside j in
-    cond (eqb j k) true r
+-- The last record below record k
+unfoldable pub lastBelow : List Function → ℕ → ℕ
+lastBelow fs k = k + length (run k (drop k fs))
 
--- The greatest of `top` and the numbers of those bridges of the list that hang below the records of `inside`. The first record has
--- number k, and n is the last bus number taken before it
-unfoldable pub greatestBelow : (ℕ → Bool) → ℕ → ℕ → ℕ → List Function → ℕ
-greatestBelow inside top n k [] = top
-greatestBelow inside top n k (f ∷ fs) =
-    let m = n + weight f in
-    let below = greatestBelow (insert k inside) (cond (f .bridge) (max top m) top) m (suc k) fs in
-    let beside = greatestBelow inside top m (suc k) fs in
-    cond (inside (f .parent)) below beside
-
--- The greatest bus number at or below record k, a bridge
+-- The greatest bus number at or below record k, a bridge, its own spares last
 unfoldable pub subordinateOf : ℕ → List Function → ℕ → ℕ
-subordinateOf first fs k =
-    let n = busNumber first fs k in
-    greatestBelow (λ j. eqb j k) n n (suc k) (drop k fs)
+subordinateOf first fs k = first + (bridges (take (lastBelow fs k) fs) - over fs (parentOf fs k))
 
 -- A record with its numbers. `secondary` and `subordinate` are a bridge's
 pub record Numbered : Type 0 where

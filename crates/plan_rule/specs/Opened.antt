@@ -8,7 +8,7 @@ use Prim.Native.Nat.{ℕ, suc, _≤_, _<_}
 use native.Mathlib.Omega.{arith}
 use Rattle.plan_rule.specs.Order.{le-or-lt}
 use Rattle.lists.specs.Lists.{All, keep}
-use Rattle.lists.specs.ListLaws.{all-imp, all-imp₂, all-forall, all-append}
+use Rattle.lists.specs.ListLaws.{all-imp, all-imp₂, all-forall, all-append, all-left}
 use Rattle.lists.specs.KeepLaws.{all-keep, all-of-keep, keep-none, keep-append}
 use Rattle.plan_rule.specs.AlignLaws.{pos-of-power, multiple-of-le, multiple-trans, le-align-up}
 use Rattle.plan_rule.specs.Pools.{Pool, granule}
@@ -16,9 +16,9 @@ use Rattle.plan_rule.specs.PoolLaws.{granule-power, is-on-of-ne}
 use Rattle.plan_rule.specs.Records.{Function, DepthFirst, parentsAfter, Sized}
 use Rattle.plan_rule.specs.Layout.{Piece, Placed, endOf, isWindow, isOn, select, isPlacedOn, selectPlaced, layout, layoutEnd}
 use Rattle.plan_rule.specs.LayoutLaws.{Within, Aligned, shift, Divides, layout-within, layout-from, layout-end-from}
-use Rattle.plan_rule.specs.LayoutLaws.{le-largest-align}
-use Rattle.plan_rule.specs.Pieces.{ownPieces, pieces}
-use Rattle.plan_rule.specs.PieceLaws.{SizedBy, Own, BarsSized, own-pieces, Shaped, has-align, pieces-owner}
+use Rattle.plan_rule.specs.LayoutLaws.{le-largest-align, le-layout-end, layout-end-append}
+use Rattle.plan_rule.specs.Pieces.{sparePieces, ownPieces, pieces}
+use Rattle.plan_rule.specs.PieceLaws.{SizedBy, spare-shaped, Own, BarsSized, own-pieces, Shaped, has-align, pieces-owner}
 use Rattle.plan_rule.specs.RecordLaws.{Bounded, bounded-step}
 use Rattle.plan_rule.specs.PieceLaws.{is-window-of, unopened-of-owner, own-one}
 use Rattle.plan_rule.specs.Placing.{Cursors, isWindowOf, place, cursorsAfter}
@@ -27,7 +27,9 @@ use Rattle.plan_rule.specs.PlacingLaws.{place-append, all-place, place-s
 -- The window w: its bus is laid out from its start, and it is sized by what is laid out there
 pub record Opened (ps : List Piece) (xs : List Placed) (w : Placed) : Type 0 where
   pub laid : selectPlaced (w .piece .owner) (w .piece .pool) xs ≡ layout (w .start) (select (w .piece .owner) (w .piece .pool) ps)
-  pub sized : SizedBy (select (w .piece .owner) (w .piece .pool) ps) (w .piece)
+  pub spare : List Piece
+  pub spare-shaped : All Shaped spare
+  pub sized : SizedBy (select (w .piece .owner) (w .piece .pool) ps ++ spare) (w .piece)
 
 abbrev IsOpened : List Piece → List Placed → Placed → Type 0
 IsOpened ps xs w = isWindow (w .piece .part) ≡ true → Opened ps xs w
@@ -69,6 +71,8 @@ module _ (k : ℕ) (f : Function) (rest : List Piece) (c : Cursors) (before : f 
       let s = skip-own o q (omega arith) in
       record {
         laid = skip-placed o q (omega arith) ∙ h e .laid ∙ ap (layout (w .start)) (sym s);
+        spare = h e .spare;
+        spare-shaped = h e .spare-shaped;
         sized = rw s (h e .sized);
       }
 
@@ -88,7 +92,10 @@ module _ (k : ℕ) (f : Function) (rest : List Piece) (c : Cursors) (before : f 
       ∙ rw (start, s) in
       record {
         laid = rw (o .owner-is) laid;
-        sized = subst (λ (n : ℕ). SizedBy (select n q (own ++ rest)) (w .piece)) (sym (o .owner-is)) (rw s (o .window-sized e));
+        spare = sparePieces k (f .spareLow) q;
+        spare-shaped = spare-shaped k (f .spareLow) q;
+        sized = subst (λ (n : ℕ). SizedBy (select n q (own ++ rest) ++ sparePieces k (f .spareLow) q) (w .piece)) (sym (o .owner-is))
+            (rw s (o .window-sized e));
       }
 
   own-starts : All Start ownPlaced
@@ -163,7 +170,19 @@ module _ (ps : List Piece) (xs : List Placed) (w : Placed) (shaped : All Shaped 
   content-shaped = all-keep (isOn (w .piece .owner) (w .piece .pool)) Shaped ps shaped
 
   divides : All (Divides (w .start)) contentOf
-  divides = content-divides contentOf w content-shaped (o .sized) t a
+  divides =
+      all-left (Divides (w .start)) contentOf (o .spare)
+      (content-divides (contentOf ++ o .spare) w (all-append Shaped contentOf (o .spare) content-shaped (o .spare-shaped)) (o .sized) t a)
+
+  -- the spare room comes after all that is there
+  content-le : layoutEnd 0 contentOf ≤ layoutEnd 0 (contentOf ++ o .spare)
+  content-le =
+      omega (
+        arith,
+        layout-end-append 0 contentOf (o .spare),
+        le-layout-end (layoutEnd 0 contentOf) (o .spare)
+            (all-imp _ _ (o .spare) (o .spare-shaped) has-align),
+      )
 
   -- Inside a window everything lies at the window's start plus its offset
   pub window-translates : selectPlaced (w .piece .owner) (w .piece .pool) xs ≡ map (shift (w .start)) (layout 0 contentOf)
@@ -181,7 +200,8 @@ module _ (ps : List Piece) (xs : List Placed) (w : Placed) (shaped : All Shaped 
             arith,
             layout-end-from (w .start) contentOf divides,
             o .sized .size-is,
-            le-align-up (granule (w .piece .pool)) (pos-of-power (granule-power (w .piece .pool))) (layoutEnd 0 contentOf),
+            le-align-up (granule (w .piece .pool)) (pos-of-power (granule-power (w .piece .pool))) (layoutEnd 0 (contentOf ++ o .spare)),
+            content-le,
           )
 
       inside : (x : Placed) → Within (w .start) (layoutEnd (w .start) contentOf) x → Within (w .start) (endOf w) x

@@ -3,10 +3,11 @@ use mathlib.Core.Path.{_≡_, refl, sym, ap, _∙_}
 use mathlib.Core.Logic.{_⊎_, inl, inr, ⊎-elim}
 use mathlib.Core.Bool.{Bool, true, false, cond, _&&_, true≢false, false≢true}
 use mathlib.Core.List.{List, [], _∷_, _++_, cons≢nil}
-use Prim.Native.Nat.{ℕ, suc, _≤_, _<_}
+use Prim.Native.Nat.{ℕ, zero, suc, _*_, _≤_, _<_}
+use native.Mathlib.Nat.{suc-mul, mod-self, mul-mod-left}
 use native.Mathlib.Omega.{arith}
 use lib.Dec.{eqb}
-use borrow.Author.Tests.{eqb-true, eq-eqb}
+use borrow.Author.Tests.{eqb-true, eqb-false, eq-eqb}
 use Rattle.plan_rule.specs.Order.{le-or-lt, true-or-false, both-of-and}
 use Rattle.lists.specs.Lists.{All, Some, Pairwise}
 use Rattle.lists.specs.ListLaws.{all-imp, all-imp₂, all-forall, all-of, all-append, some-left, some-right, pairwise-append}
@@ -19,8 +20,20 @@ use Rattle.plan_rule.specs.Records.{Bar, Function, DepthFirst, parentsAf
 use Rattle.plan_rule.specs.RecordLaws.{Bounded, bounded-step, parent-cases, not-parent, false-of-not}
 use Rattle.plan_rule.specs.Layout.{isWindow, Piece, isOn, select, endAt, layoutEnd, largestAlign}
 use Rattle.plan_rule.specs.LayoutLaws.{HasAlign, le-layout-end, largest-align-power}
-use Rattle.plan_rule.specs.Pieces.{windowSize, windowAlign, windowOver, barPiece, barPieces, windowPieces, ownPieces, pieces}
+use Rattle.plan_rule.specs.Pieces.{windowSize, windowAlign, windowOver, spareIf, sparePieces, contentOf, barPiece, barPieces}
+use Rattle.plan_rule.specs.Pieces.{windowPieces, ownPieces, pieces}
 use Rattle.plan_rule.specs.Placing.{isWindowOf}
+
+left-nil : {A : Type 0} (xs ys : List A) → xs ++ ys ≡ [] → xs ≡ []
+left-nil [] ys e = refl
+left-nil (x ∷ xs) ys e = absurd (cons≢nil e)
+
+spare-fits : (n g : ℕ) → (n ≡ 0 → ⊥) → g ≤ n * g
+spare-fits zero g h = absurd (h refl)
+spare-fits (suc n) g h = let e = suc-mul n g in omega (arith, e)
+
+multiple-times : (g n : ℕ) → Multiple g (n * g)
+multiple-times g n = mul-mod-left n g
 
 -- A window's size and alignment are told by its content, and there is some
 pub record SizedBy (content : List Piece) (p : Piece) : Type 0 where
@@ -34,7 +47,7 @@ pub record Own (k : ℕ) (f : Function) (rest : List Piece) (p : Piece) : Type 0
   pub bus-is : p .bus ≡ f .parent
   pub bar-align : isWindow (p .part) ≡ false → p .align ≡ p .size
   pub bar-power : isWindow (p .part) ≡ false → PowerOfTwo (p .size)
-  pub window-sized : isWindow (p .part) ≡ true → SizedBy (select k (p .pool) rest) p
+  pub window-sized : isWindow (p .part) ≡ true → SizedBy (contentOf k (f .spareLow) (p .pool) rest) p
 
 abbrev pub BarsSized : Function → Type 0
 BarsSized f = All (λ b. PowerOfTwo (b .size)) (f .bars)
@@ -54,7 +67,8 @@ module _ (k : ℕ) (f : Function) (rest : List Piece) where
     bars-own bs (h .1),
   )
 
-  window-own : (q : Pool) (content : List Piece) → content ≡ select k q rest → All (Own k f rest) (windowOver k (f .parent) q content)
+  window-own : (q : Pool) (content : List Piece) → content ≡ contentOf k (f .spareLow) q rest
+      → All (Own k f rest) (windowOver k (f .parent) q content)
   window-own q [] e = tt
   window-own q (c ∷ cs) e = (
     record {
@@ -77,13 +91,15 @@ module _ (k : ℕ) (f : Function) (rest : List Piece) where
   unfolding ownPieces windowPieces
   own-pieces h = all-append _ (barPieces k (f .parent) (f .bars)) _ (bars-own (f .bars) h) (go (f .bridge))
     where
-      windows : All (Own k f rest) (windowPieces k (f .parent) rest)
+      windows : All (Own k f rest) (windowPieces k (f .parent) (f .spareLow) rest)
       windows =
-          all-append _ (windowOver k (f .parent) low (select k low rest)) _ (window-own low (select k low rest) refl)
-          (all-append _ (windowOver k (f .parent) high (select k high rest)) _ (window-own high (select k high rest) refl)
-          (window-own io (select k io rest) refl))
+          all-append _ (windowOver k (f .parent) low (contentOf k (f .spareLow) low rest)) _
+          (window-own low (contentOf k (f .spareLow) low rest) refl)
+          (all-append _ (windowOver k (f .parent) high (contentOf k (f .spareLow) high rest)) _
+          (window-own high (contentOf k (f .spareLow) high rest) refl)
+          (window-own io (contentOf k (f .spareLow) io rest) refl))
 
-      go : (b : Bool) → All (Own k f rest) (cond b (windowPieces k (f .parent) rest) [])
+      go : (b : Bool) → All (Own k f rest) (cond b (windowPieces k (f .parent) (f .spareLow) rest) [])
       go true = windows
       go false = tt
 
@@ -154,11 +170,35 @@ shaped-window content p h w s =
           le-align-up (granule q) pos (layoutEnd 0 content),
         )
 
+-- The spare room has a piece's shape
+pub spare-shaped : (k n : ℕ) (q : Pool) → All Shaped (sparePieces k n q)
+spare-shaped k n low = go (eqb n 0) refl
+  where
+    go : (t : Bool) → eqb n 0 ≡ t → All Shaped (spareIf t k n)
+    go true e = tt
+    go false e = (
+      record {
+        align-power = granule-power low;
+        align-fits = spare-fits n (granule low) (eqb-false _ _ e);
+        bar-align = λ g. absurd (true≢false g);
+        window-align = λ _. mod-self (granule low);
+        window-size = λ _. multiple-times (granule low) n;
+      },
+      tt,
+    )
+spare-shaped k n high = tt
+spare-shaped k n io = tt
+
+pub content-shaped : (k n : ℕ) (q : Pool) (rest : List Piece) → All Shaped rest → All Shaped (contentOf k n q rest)
+content-shaped k n q rest h =
+    all-append Shaped (select k q rest) (sparePieces k n q) (all-keep (isOn k q) Shaped rest h) (spare-shaped k n q)
+
 pub shaped-of-own : (k : ℕ) (f : Function) (rest : List Piece) → All Shaped rest → (p : Piece) → Own k f rest p → Shaped p
 shaped-of-own k f rest h p o = ⊎-elim is-window is-bar (true-or-false (isWindow (p .part)))
   where
     is-window : isWindow (p .part) ≡ true → Shaped p
-    is-window e = shaped-window (select k (p .pool) rest) p (all-keep (isOn k (p .pool)) Shaped rest h) e (o .window-sized e)
+    is-window e = shaped-window (contentOf k (f .spareLow) (p .pool) rest) p (content-shaped k (f .spareLow) (p .pool) rest h) e
+        (o .window-sized e)
 
     is-bar : isWindow (p .part) ≡ false → Shaped p
     is-bar e =
@@ -263,14 +303,17 @@ window-there k f rest e q n = rw e (some-right (WindowOf k q) (barPieces k (f .p
     over q (c ∷ cs) m = inl (record { is-window = refl; owner-is = refl; pool-is = refl })
 
     w : Pool → List Piece
-    w q = windowOver k (f .parent) q (select k q rest)
+    w q = windowOver k (f .parent) q (contentOf k (f .spareLow) q rest)
+
+    some-content : (q : Pool) → (select k q rest ≡ [] → ⊥) → contentOf k (f .spareLow) q rest ≡ [] → ⊥
+    some-content q m g = m (left-nil (select k q rest) (sparePieces k (f .spareLow) q) g)
 
     go : (q : Pool) → (select k q rest ≡ [] → ⊥) → Some (WindowOf k q) (w low ++ (w high ++ w io))
-    go low m = some-left (WindowOf k low) (w low) (w high ++ w io) (over low (select k low rest) m)
+    go low m = some-left (WindowOf k low) (w low) (w high ++ w io) (over low (contentOf k (f .spareLow) low rest) (some-content low m))
     go high m = some-right (WindowOf k high) (w low) (w high ++ w io)
-        (some-left (WindowOf k high) (w high) (w io) (over high (select k high rest) m))
+        (some-left (WindowOf k high) (w high) (w io) (over high (contentOf k (f .spareLow) high rest) (some-content high m)))
     go io m = some-right (WindowOf k io) (w low) (w high ++ w io)
-        (some-right (WindowOf k io) (w high) (w io) (over io (select k io rest) m))
+        (some-right (WindowOf k io) (w high) (w io) (over io (contentOf k (f .spareLow) io rest) (some-content io m)))
 
 -- Every piece is on an earlier bus, or there is the window of its bus and pool
 pub window-above : (ok : ℕ → Bool) (k : ℕ) (fs : List Function) → DepthFirst ok k fs → Bounded ok k → Sized fs
@@ -349,7 +392,7 @@ module _ (b : ℕ) (q : Pool) where
   own-one k f rest = bars-one k (f .parent) (f .bars) _ (go (f .bridge))
     where
       w : Pool → List Piece
-      w r = windowOver k (f .parent) r (select k r rest)
+      w r = windowOver k (f .parent) r (contentOf k (f .spareLow) r rest)
 
       alone : (r : Pool) (content : List Piece) → Pairwise OneWindow (windowOver k (f .parent) r content)
       alone r [] = tt
@@ -361,17 +404,18 @@ module _ (b : ℕ) (q : Pool) where
 
       cross : (r s : Pool) → samePool r s ≡ false → All (λ p. All (OneWindow p) (w s)) (w r)
       cross r s n =
-          all-imp _ _ (w r) (of-pool r (select k r rest)) (λ p e.
-          all-imp _ _ (w s) (of-pool s (select k s rest)) (λ t g. one-of-pools p t (rw (e, g) n)))
+          all-imp _ _ (w r) (of-pool r (contentOf k (f .spareLow) r rest)) (λ p e.
+          all-imp _ _ (w s) (of-pool s (contentOf k (f .spareLow) s rest)) (λ t g. one-of-pools p t (rw (e, g) n)))
 
       others : All (λ p. All (OneWindow p) (w high ++ w io)) (w low)
       others = all-imp₂ _ _ _ (w low) (cross low high refl) (cross low io refl) (λ p a b. all-append _ (w high) (w io) a b)
 
       windows : Pairwise OneWindow (w low ++ (w high ++ w io))
       windows =
-          let two = pairwise-append OneWindow (w high) (w io) (alone high (select k high rest)) (alone io (select k io rest))
+          let two = pairwise-append OneWindow (w high) (w io) (alone high (contentOf k (f .spareLow) high rest))
+          (alone io (contentOf k (f .spareLow) io rest))
           (cross high io refl) in
-          pairwise-append OneWindow (w low) (w high ++ w io) (alone low (select k low rest)) two others
+          pairwise-append OneWindow (w low) (w high ++ w io) (alone low (contentOf k (f .spareLow) low rest)) two others
 
       go : (t : Bool) → Pairwise OneWindow (cond t (w low ++ (w high ++ w io)) [])
       go true = windows

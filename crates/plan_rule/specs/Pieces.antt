@@ -1,8 +1,9 @@
 -- What is to be placed: one flat list, in record and slot order, of every BAR and every open window. A window is sized from what lies on
 -- the bus below it, laid out from offset 0. Assumes nothing.
-use mathlib.Core.Bool.{cond}
+use mathlib.Core.Bool.{Bool, true, false, cond}
 use mathlib.Core.List.{List, [], _∷_, _++_}
-use Prim.Native.Nat.{ℕ, suc, max}
+use Prim.Native.Nat.{ℕ, suc, _*_, max}
+use lib.Dec.{eqb}
 use Rattle.plan_rule.specs.Align.{alignUp}
 use Rattle.plan_rule.specs.Pools.{Pool, low, high, io, granule}
 use Rattle.plan_rule.specs.Records.{Bar, Function}
@@ -31,14 +32,32 @@ abbrev pub windowOver : ℕ → ℕ → Pool → List Piece → List Piece
 windowOver k b q [] = []
 windowOver k b q (p ∷ ps) = windowPiece k b q (layoutEnd 0 (p ∷ ps)) (largestAlign (p ∷ ps)) ∷ []
 
-unfoldable pub windowPieces : ℕ → ℕ → List Piece → List Piece
-windowPieces k b rest =
-    windowOver k b low (select k low rest) ++ (windowOver k b high (select k high rest) ++ windowOver k b io (select k io rest))
+-- Room kept free at the end of a bridge's low window: one more item where its bus is sized, and placed nowhere
+abbrev pub sparePiece : ℕ → ℕ → Piece
+sparePiece k n = record { owner = k; part = window; bus = k; pool = low; size = n * granule low; align = granule low }
+
+abbrev pub spareIf : Bool → ℕ → ℕ → List Piece
+spareIf true k n = []
+spareIf false k n = sparePiece k n ∷ []
+
+abbrev pub sparePieces : ℕ → ℕ → Pool → List Piece
+sparePieces k n low = spareIf (eqb n 0) k n
+sparePieces k n high = []
+sparePieces k n io = []
+
+-- What the window of record k, with n MiB of spare room, is sized by
+abbrev pub contentOf : ℕ → ℕ → Pool → List Piece → List Piece
+contentOf k n q rest = select k q rest ++ sparePieces k n q
+
+unfoldable pub windowPieces : ℕ → ℕ → ℕ → List Piece → List Piece
+windowPieces k b n rest =
+    windowOver k b low (contentOf k n low rest)
+    ++ (windowOver k b high (contentOf k n high rest) ++ windowOver k b io (contentOf k n io rest))
 
 -- The pieces of record k: its BARs in slot order, then a bridge's windows over what the later records put on its bus
 unfoldable pub ownPieces : ℕ → Function → List Piece → List Piece
 ownPieces k f rest =
-    let w = windowPieces k (f .parent) rest in
+    let w = windowPieces k (f .parent) (f .spareLow) rest in
     barPieces k (f .parent) (f .bars) ++ cond (f .bridge) w []
 
 -- The pieces of all records of the list, the first of which has number k

@@ -16,7 +16,7 @@ use Rattle.plan_rule.specs.RecordLaws.{parent-cases, parent-new, parent-
 
 -- Past the end of the list
 abbrev pub noFunction : Function
-noFunction = record { parent = 0; bridge = false; bars = [] }
+noFunction = record { parent = 0; bridge = false; bars = []; spareLow = 0; spareBuses = 0 }
 
 -- The parent of record k; the host is its own
 abbrev pub parentOf : List Function → ℕ → ℕ

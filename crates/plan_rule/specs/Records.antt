@@ -25,6 +25,8 @@ pub record Function : Type 0 where
   pub parent : ℕ
   pub bridge : Bool
   pub bars : List Bar
+  pub spareLow : ℕ
+  pub spareBuses : ℕ
 
 -- The records that may be the parent of the next one: the host, the record before if it is a bridge, and the bridges above that one.
 -- After record k with parent p they are k itself, if it is a bridge, and those up to p that were so before

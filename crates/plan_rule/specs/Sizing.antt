@@ -1,13 +1,13 @@
 -- Sizing, as a walk over the records computes it: a bus from its functions, and a bridge from its bus. `busLaid` says in one go what a loop
 -- over the functions of one bus comes to, for all pools at once; `functionLaid` is one turn of that loop. A record has number i + 1 at
 -- index i. Assumes nothing.
-use mathlib.Core.Bool.{Bool, cond, _&&_}
+use mathlib.Core.Bool.{Bool, true, false, cond, _&&_}
 use mathlib.Core.List.{List, [], _∷_, _++_}
-use Prim.Native.Nat.{ℕ, suc, _+_, max}
+use Prim.Native.Nat.{ℕ, suc, _+_, _*_, max}
 use lib.Dec.{eqb, ltb}
 use lib.ListN.{length, drop}
 use Rattle.plan_rule.specs.Align.{alignUp}
-use Rattle.plan_rule.specs.Pools.{Pool, low, high, io, samePool}
+use Rattle.plan_rule.specs.Pools.{Pool, low, high, io, granule, samePool}
 use Rattle.plan_rule.specs.Records.{Host, Bar, Function, run}
 use Rattle.plan_rule.specs.Layout.{Piece, select}
 use Rattle.plan_rule.specs.declared.Extent.{Extent}
@@ -33,6 +33,16 @@ withBars q e (b ∷ bs) = withBars q (cond (samePool (b .pool) q) (grow e (b .si
 abbrev pub withWindow : Pool → Extent → Extent → Extent
 withWindow q e inner = cond (eqb (inner .align) 0) e (grow e (windowSize q (inner .end)) (windowAlign q (inner .align)))
 
+-- The spare room at a bus's end, in the low pool
+abbrev pub spareGrown : Bool → Extent → ℕ → Extent
+spareGrown true e n = e
+spareGrown false e n = grow e (n * granule low) (granule low)
+
+abbrev pub withSpare : Pool → ℕ → Extent → Extent
+withSpare low n e = spareGrown (eqb n 0) e n
+withSpare high n e = e
+withSpare io n e = e
+
 -- How far the walk has come, and what it has laid out in each pool
 pub record Laid : Type 0 where
   pub next : ℕ
@@ -55,10 +65,15 @@ barsLaid f l = record { next = suc (l .next); extent = λ q. withBars q (l .exte
 abbrev pub windowLaid : Laid → Laid → Laid
 windowLaid l inner = record { next = inner .next; extent = λ q. withWindow q (l .extent q) (inner .extent q) }
 
+-- A bus with n MiB of spare room
+abbrev pub spared : ℕ → Laid → Laid
+spared n l = record { next = l .next; extent = λ q. withSpare q n (l .extent q) }
+
 -- One function: its BARs, and a bridge's windows over its own bus
 unfoldable pub functionLaid : List Function → Function → Laid → Laid
 functionLaid fs f l =
-    cond (f .bridge) (windowLaid (barsLaid f l) (busLaid fs (suc (l .next)) (laidFrom (suc (l .next))))) (barsLaid f l)
+    cond (f .bridge) (windowLaid (barsLaid f l) (spared (f .spareLow) (busLaid fs (suc (l .next)) (laidFrom (suc (l .next))))))
+    (barsLaid f l)
 
 -- The walk over the root bus starts at the pools' bases
 abbrev pub rootLaid : Host → Laid

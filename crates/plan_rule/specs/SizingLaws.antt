@@ -18,13 +18,14 @@ use Rattle.lists.specs.KeepLaws.{all-keep, front-yes, front-no, length-front-le
 use Rattle.plan_rule.specs.Pools.{Pool, low, high, io}
 use Rattle.plan_rule.specs.Records.{Host, Function, DepthFirst, parentsAfter, onlyHost, Sized, Lawful, run}
 use Rattle.plan_rule.specs.Layout.{Piece, isOn, select, largestAlign}
-use Rattle.plan_rule.specs.Pieces.{windowOver, barPieces, windowPieces, ownPieces, pieces}
-use Rattle.plan_rule.specs.PieceLaws.{BarsSized, Shaped, has-align, pieces-shaped, select-closed}
+use Rattle.plan_rule.specs.Pieces.{windowOver, contentOf, barPieces, windowPieces, ownPieces, pieces}
+use Rattle.plan_rule.specs.PieceLaws.{BarsSized, Shaped, has-align, content-shaped, pieces-shaped, select-closed}
 use Rattle.plan_rule.specs.RecordLaws.{IsAt, Subset, parent-cases, parent-new, parent-kept, depth-first-mono, false-of-not}
-use Rattle.plan_rule.specs.Sizing.{nothing, extend, withBars, withWindow, Laid, laidFrom, busLaid, barsLaid, windowLaid, functionLaid}
+use Rattle.plan_rule.specs.Sizing.{nothing, extend, withBars, withWindow, withSpare, spared, Laid, laidFrom, busLaid, barsLaid}
+use Rattle.plan_rule.specs.Sizing.{windowLaid, functionLaid}
 use Rattle.plan_rule.specs.Sizing.{rootLaid, endsPast, windowFor, windowsFor}
-use Rattle.plan_rule.specs.ExtentLaws.{extend-end, extend-align, extend-nil, extend-append, window-over-extent, extend-own}
-use Rattle.plan_rule.specs.ExtentLaws.{select-skip, select-own}
+use Rattle.plan_rule.specs.ExtentLaws.{extend-end, extend-align, extend-nil, extend-append, window-over-extent, extend-content}
+use Rattle.plan_rule.specs.ExtentLaws.{extend-own, select-skip, select-own}
 use Rattle.plan_rule.specs.ExtentLaws.{select-past-run, length-run-run}
 use Rattle.plan_rule.specs.Refusals.{outOfPool}
 use Rattle.plan_rule.specs.RefusalLaws.{out-of-pool-end}
@@ -93,14 +94,14 @@ module _ (fs : List Function) (f : Function) (l : Laid) where
   function-laid-leaf e = rw e
 
   pub function-laid-bridge : f .bridge ≡ true
-      → functionLaid fs f l ≡ windowLaid (barsLaid f l) (busLaid fs (suc (l .next)) (laidFrom (suc (l .next))))
+      → functionLaid fs f l ≡ windowLaid (barsLaid f l) (spared (f .spareLow) (busLaid fs (suc (l .next)) (laidFrom (suc (l .next)))))
   unfolding functionLaid
   function-laid-bridge e = rw e
 
   function-extent : (q : Pool)
       → cond (f .bridge)
       (withWindow q (withBars q (l .extent q) (f .bars))
-      (extend nothing (select (suc (l .next)) q (pieces (suc (suc (l .next))) (drop (suc (l .next)) fs)))))
+      (withSpare q (f .spareLow) (extend nothing (select (suc (l .next)) q (pieces (suc (suc (l .next))) (drop (suc (l .next)) fs))))))
       (withBars q (l .extent q) (f .bars))
       ≡ functionLaid fs f l .extent q
   unfolding functionLaid busLaid
@@ -109,9 +110,10 @@ module _ (fs : List Function) (f : Function) (l : Laid) where
       go : (t : Bool)
           → cond t
           (withWindow q (withBars q (l .extent q) (f .bars))
-          (extend nothing (select (suc (l .next)) q (pieces (suc (suc (l .next))) (drop (suc (l .next)) fs)))))
+          (withSpare q (f .spareLow) (extend nothing (select (suc (l .next)) q (pieces (suc (suc (l .next))) (drop (suc (l .next)) fs))))))
           (withBars q (l .extent q) (f .bars))
-          ≡ cond t (windowLaid (barsLaid f l) (busLaid fs (suc (l .next)) (laidFrom (suc (l .next))))) (barsLaid f l) .extent q
+          ≡ cond t (windowLaid (barsLaid f l) (spared (f .spareLow) (busLaid fs (suc (l .next)) (laidFrom (suc (l .next))))))
+          (barsLaid f l) .extent q
       go true = refl
       go false = refl
 
@@ -319,7 +321,7 @@ module _ (fs : List Function) (lawful : Lawful fs) where
   pub own-pieces-laid : (i : ℕ) (f : Function) → IsAt fs i f
       → ownPieces (suc i) f (pieces (suc (suc i)) (drop (suc i) fs))
       ≡ barPieces (suc i) (f .parent) (f .bars) ++ cond (f .bridge)
-      (windowsFor (suc i) (f .parent) (busLaid fs (suc i) (laidFrom (suc i)))) []
+      (windowsFor (suc i) (f .parent) (spared (f .spareLow) (busLaid fs (suc i) (laidFrom (suc i))))) []
   unfolding ownPieces windowPieces busLaid
   own-pieces-laid i f e =
       ap (λ (w : List Piece). barPieces (suc i) (f .parent) (f .bars) ++ cond (f .bridge) w [])
@@ -328,12 +330,14 @@ module _ (fs : List Function) (lawful : Lawful fs) where
       rest : List Piece
       rest = pieces (suc (suc i)) (drop (suc i) fs)
 
-      each : (q : Pool) → windowOver (suc i) (f .parent) q (select (suc i) q rest)
-          ≡ windowFor (suc i) (f .parent) q (extend nothing (select (suc i) q rest))
+      each : (q : Pool)
+          → windowOver (suc i) (f .parent) q (contentOf (suc i) (f .spareLow) q rest)
+          ≡ windowFor (suc i) (f .parent) q (withSpare q (f .spareLow) (extend nothing (select (suc i) q rest)))
       each q =
-          window-over-extent (suc i) (f .parent) q (select (suc i) q rest)
-          (all-imp _ _ (select (suc i) q rest)
-          (all-keep (isOn (suc i) q) Shaped rest (pieces-shaped (suc (suc i)) (drop (suc i) fs) (sized-at i f e .1))) has-align)
+          window-over-extent (suc i) (f .parent) q (contentOf (suc i) (f .spareLow) q rest)
+          (all-imp _ _ (contentOf (suc i) (f .spareLow) q rest) (content-shaped (suc i) (f .spareLow) q rest
+          (pieces-shaped (suc (suc i)) (drop (suc i) fs) (sized-at i f e .1))) has-align)
+          ∙ ap (windowFor (suc i) (f .parent) q) (extend-content (suc i) (f .spareLow) q rest)
 
   -- A pool runs out exactly when the walk over the root bus, from the pools' bases, ends past it
   pub out-of-pool-laid : (h : Host) (q : Pool) → outOfPool h fs q ≡ endsPast (h .last q) (busLaid fs 0 (rootLaid h) .extent q)

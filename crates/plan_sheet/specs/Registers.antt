@@ -20,7 +20,7 @@ use Rattle.lists.specs.KeepLaws.{keep-append, keep-elim, keep-nil}
 use Rattle.plan_rule.specs.Pools.{low, high, io}
 use Rattle.plan_rule.specs.Records as placing
 use Rattle.plan_rule.specs.Layout.{Piece, Placed, endOf, select}
-use Rattle.plan_rule.specs.Pieces.{windowOver, windowPieces, pieces}
+use Rattle.plan_rule.specs.Pieces.{windowOver, contentOf, windowPieces, pieces}
 use Rattle.plan_rule.specs.Placing.{placed}
 use Rattle.plan_rule.specs.Numbering.{busNumber, rowOf, numberedFrom}
 use Rattle.plan_rule.specs.Refusals.{refusalOf}
@@ -58,28 +58,29 @@ devfn-at (suc i) (g ∷ fs) f gs e = devfn-at i fs f gs e
 
 -- ## The windows that a record puts in a space
 
-module _ (k b : ℕ) (rest : List Piece) where
+module _ (k b n : ℕ) (rest : List Piece) where
   abbrev over : Pool → List Piece
-  over q = windowOver k b q (select k q rest)
+  over q = windowOver k b q (contentOf k n q rest)
 
-  memory-windows : keep (λ p. inSpace memorySpace (p .pool)) (windowPieces k b rest) ≡ over low ++ over high
+  memory-windows : keep (λ p. inSpace memorySpace (p .pool)) (windowPieces k b n rest) ≡ over low ++ over high
   unfolding windowPieces
   memory-windows =
       let test : Piece → Bool = λ p. inSpace memorySpace (p .pool) in
       keep-append test (over low) (over high ++ over io)
-      ∙ ap₂ _++_ (over-kept k b memorySpace low (select k low rest) refl)
+      ∙ ap₂ _++_ (over-kept k b memorySpace low (contentOf k n low rest) refl)
       (keep-append test (over high) (over io)
-      ∙ ap₂ _++_ (over-kept k b memorySpace high (select k high rest) refl) (over-dropped k b memorySpace io (select k io rest) refl)
+      ∙ ap₂ _++_ (over-kept k b memorySpace high (contentOf k n high rest) refl)
+      (over-dropped k b memorySpace io (contentOf k n io rest) refl)
       ∙ append-nil (over high))
 
-  io-windows : keep (λ p. inSpace ioSpace (p .pool)) (windowPieces k b rest) ≡ over io
+  io-windows : keep (λ p. inSpace ioSpace (p .pool)) (windowPieces k b n rest) ≡ over io
   unfolding windowPieces
   io-windows =
       let test : Piece → Bool = λ p. inSpace ioSpace (p .pool) in
       keep-append test (over low) (over high ++ over io)
-      ∙ ap₂ _++_ (over-dropped k b ioSpace low (select k low rest) refl)
+      ∙ ap₂ _++_ (over-dropped k b ioSpace low (contentOf k n low rest) refl)
       (keep-append test (over high) (over io)
-      ∙ ap₂ _++_ (over-dropped k b ioSpace high (select k high rest) refl) (over-kept k b ioSpace io (select k io rest) refl))
+      ∙ ap₂ _++_ (over-dropped k b ioSpace high (contentOf k n high rest) refl) (over-kept k b ioSpace io (contentOf k n io rest) refl))
 
 none-of-map : (ws : List Placed) → map (λ (x : Placed). x .piece) ws ≡ [] → ws ≡ []
 none-of-map [] e = refl
@@ -135,7 +136,7 @@ module _ (h : Host) (fs : List Function) (fits : BoardFits h fs) (planned : refu
     windows-are : (sp : Space)
         → map (λ (x : Placed). x .piece) (keep (isWindowOf sp (suc i)) xs)
         ≡ keep (λ p. inSpace sp (p .pool))
-        (cond (isBridge f) (windowPieces (suc i) (f .parent) (pieces (suc (suc i)) (drop (suc i) ps))) [])
+        (cond (isBridge f) (windowPieces (suc i) (f .parent) (toFunction f .spareLow) (pieces (suc (suc i)) (drop (suc i) ps))) [])
     windows-are sp = windows-of-record sp (toHost h) ps (fits .board .lawful) i (toFunction f) (at-placing i fs f gs at)
 
     no-windows : (sp : Space) → isBridge f ≡ false → windowsOf sp xs (suc i) ≡ []
@@ -152,9 +153,10 @@ module _ (h : Host) (fs : List Function) (fits : BoardFits h fs) (planned : refu
         go : (t : Bool) → isBridge f ≡ t → sheetWindows memorySpace entry ≡ windowsOf memorySpace xs (suc i)
         go true e =
             rw (e, window-for-keep memorySpace (suc i) Low refl xs, window-for-keep memorySpace (suc i) High refl xs)
-            (ranges-of-two (suc i) (f .parent) (select (suc i) low rest) (select (suc i) high rest)
+            (ranges-of-two (suc i) (f .parent) (contentOf (suc i) (toFunction f .spareLow) low rest)
+            (contentOf (suc i) (toFunction f .spareLow) high rest)
             (keep (isWindowOf memorySpace (suc i)) xs)
-            ((rw e at (windows-are memorySpace)) ∙ memory-windows (suc i) (f .parent) rest) (edges memorySpace))
+            ((rw e at (windows-are memorySpace)) ∙ memory-windows (suc i) (f .parent) (toFunction f .spareLow) rest) (edges memorySpace))
         go false e = rw (e, range-of-closed Low, range-of-closed High) (sym (no-windows memorySpace e))
     windows-agree ioSpace = go (isBridge f) refl
       where
@@ -164,8 +166,8 @@ module _ (h : Host) (fs : List Function) (fits : BoardFits h fs) (planned : refu
         go : (t : Bool) → isBridge f ≡ t → sheetWindows ioSpace entry ≡ windowsOf ioSpace xs (suc i)
         go true e =
             rw (e, window-for-keep ioSpace (suc i) Io refl xs)
-            (ranges-of-one (suc i) (f .parent) (select (suc i) io rest) (keep (isWindowOf ioSpace (suc i)) xs)
-            ((rw e at (windows-are ioSpace)) ∙ io-windows (suc i) (f .parent) rest) (edges ioSpace))
+            (ranges-of-one (suc i) (f .parent) (contentOf (suc i) (toFunction f .spareLow) io rest) (keep (isWindowOf ioSpace (suc i)) xs)
+            ((rw e at (windows-are ioSpace)) ∙ io-windows (suc i) (f .parent) (toFunction f .spareLow) rest) (edges ioSpace))
         go false e = rw (e, range-of-closed Io) (sym (no-windows ioSpace e))
 
     -- one record's

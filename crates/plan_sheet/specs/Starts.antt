@@ -179,7 +179,7 @@ module _ (h : Host) (fs : List placing.Function) (lawful : Lawful fs) (i : ℕ) 
   own = keep (λ x. eqb (x .piece .owner) (suc i)) (placed h fs)
 
   windows : List Piece
-  windows = cond (f .bridge) (windowPieces (suc i) (f .parent) (pieces (suc (suc i)) (drop (suc i) fs))) []
+  windows = cond (f .bridge) (windowPieces (suc i) (f .parent) (f .spareLow) (pieces (suc (suc i)) (drop (suc i) fs))) []
 
   own-pieces : map (λ (x : Placed). x .piece) own ≡ barPieces (suc i) (f .parent) (barsFrom 0 ss) ++ windows
   unfolding own windows ownPieces
@@ -191,7 +191,7 @@ module _ (h : Host) (fs : List placing.Function) (lawful : Lawful fs) (i : ℕ) 
   unfolding own windows
   bar-start-is x j m o is =
       let mine : x ∈ own = keep-intro (λ y. eqb (y .piece .owner) (suc i)) (placed h fs) m (eq-eqb (x .piece .owner) (suc i) o) in
-      let only = windows-only (suc i) (f .parent) (pieces (suc (suc i)) (drop (suc i) fs)) (f .bridge) in
+      let only = windows-only (suc i) (f .parent) (f .spareLow) (pieces (suc (suc i)) (drop (suc i) fs)) (f .bridge) in
       sym (bar-start-own (suc i) j (placed h fs)
       ∙ first-start (suc i) (f .parent) (barsFrom 0 ss) windows own own-pieces only (bars-rise 0 ss) x j mine is)
 

@@ -10,7 +10,7 @@ use Rattle.plan_rule.specs.Align.{alignUp}
 use Rattle.plan_rule.specs.Layout.{layoutEnd, largestAlign}
 use Rattle.plan_rule.specs.Pieces.{barPieces, windowPieces, ownPieces, pieces}
 use Rattle.plan_rule.specs.Placing.{place, placed}
-use Rattle.plan_rule.specs.Numbering.{bridges, busNumber, greatestBelow, subordinateOf}
+use Rattle.plan_rule.specs.Numbering.{bridges, oversFrom, over, lastBelow, busNumber, subordinateOf}
 use Rattle.plan_rule.specs.Refusals.{outOfPool, refusalOf}
 use Rattle.bar.specs.Bar.{sizeFrom, sized, ioSlot, narrowSlot, wideSlot, slotHere, slots, anyBad}
 use Rattle.bar.specs.Bars.{barsFrom}
@@ -49,7 +49,7 @@ unfolding p10-text ascii words windowText bridgeText endText lineOf countText pl
     hostWrong be beBytes le nextOf partsOver partsOf anyPart any sizeFrom sized ioSlot narrowSlot wideSlot slotHere slots anyBad hostOf
     functionsOf refusalOf outOfPool place placed pieces ownPieces windowPieces barPieces layoutEnd largestAlign keep alignUp
     bridges barsFrom
-    planOf plannedFrom valuesFrom windowFor barStart closed opened busNumber subordinateOf greatestBelow sheetNumber from21 from20 from22
+    planOf plannedFrom valuesFrom windowFor barStart closed opened busNumber subordinateOf oversFrom over lastBelow sheetNumber from21 from20 from22
     from24 from27 from28 from25 from29 isFramed allSized entriesFrom breaks anyBreaks allZero readBacksWrong hasId idTwice entryOf dwords
     windowOf start stop isNibbled isBarValue valuesFit
 examples = record { p10-planned = refl; p10-short-room = refl; p10-sheet = refl; p8-sheet = refl; bad-sheet = refl }
