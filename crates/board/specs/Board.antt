@@ -11,7 +11,7 @@ use Rattle.records.specs.Records.{Parts, partsOf, anyPart}
 use Rattle.board_record.specs.declared.Host.{Host}
 use Rattle.board_record.specs.declared.Function.{Function}
 use Rattle.board_record.specs.Host.{hostLength, hostOfPart, hostWrong}
-use Rattle.board_record.specs.Function.{isShort, functionOfPart, headerWrong, readbacksWrong}
+use Rattle.board_record.specs.Function.{isShort, functionOfPart, wrongIn, readbacksWrong}
 use Rattle.board_order.specs.Order.{anyMisplaced}
 
 -- the most bytes of a lawful board: its version, its host and functions of 30 bytes, each after its own length
@@ -27,6 +27,10 @@ noHost (p ∷ ps) = not (eqb (length p) hostLength)
 unfoldable pub misframed : Parts → Bool
 misframed r = not (r .whole) || noHost (r .parts) || anyPart isShort (drop 1 (r .parts))
 
+-- 21: "version not 1", and since document 02's E10 not 2 either
+abbrev pub isVersion : ℕ → Bool
+isVersion v = eqb v 1 || eqb v 2
+
 -- ## The checks in order: 20 empty, 21, 20, 22, 24, 26, 23, 25
 
 unfoldable pub fromReadbacks : List Function → ℕ
@@ -38,17 +42,17 @@ fromOrder fs = let rest = fromReadbacks fs in cond (anyMisplaced 0 [] fs) 23 res
 unfoldable pub fromEdges : Host → List Function → ℕ
 fromEdges h fs = let rest = fromOrder fs in cond (hostWrong h) 26 rest
 
-unfoldable pub fromHeaders : Host → List (List ℕ) → ℕ
-fromHeaders h ps = let rest = fromEdges h (map functionOfPart ps) in cond (anyPart headerWrong ps) 24 rest
+unfoldable pub fromHeaders : ℕ → Host → List (List ℕ) → ℕ
+fromHeaders v h ps = let rest = fromEdges h (map functionOfPart ps) in cond (anyPart (wrongIn v) ps) 24 rest
 
-unfoldable pub fromCount : Host → List (List ℕ) → ℕ
-fromCount h ps = let rest = fromHeaders h ps in cond (ltb mostFunctions (length ps)) 22 rest
+unfoldable pub fromCount : ℕ → Host → List (List ℕ) → ℕ
+fromCount v h ps = let rest = fromHeaders v h ps in cond (ltb mostFunctions (length ps)) 22 rest
 
-unfoldable pub fromFrame : Parts → ℕ
-fromFrame r = let rest = fromCount (hostOfPart (getD (r .parts) 0 [])) (drop 1 (r .parts)) in cond (misframed r) 20 rest
+unfoldable pub fromFrame : ℕ → Parts → ℕ
+fromFrame v r = let rest = fromCount v (hostOfPart (getD (r .parts) 0 [])) (drop 1 (r .parts)) in cond (misframed r) 20 rest
 
 unfoldable pub fromVersion : List ℕ → ℕ
-fromVersion b = let rest = fromFrame (partsOf (drop 1 b)) in cond (eqb (getD b 0 0) 1) rest 21
+fromVersion b = let rest = fromFrame (getD b 0 0) (partsOf (drop 1 b)) in cond (isVersion (getD b 0 0)) rest 21
 
 unfoldable pub boardNumber : List ℕ → ℕ
 boardNumber b = let rest = fromVersion b in cond (eqb (length b) 0) 20 rest

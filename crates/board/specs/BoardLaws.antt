@@ -18,12 +18,13 @@ use Rattle.board_record.specs.declared.Function.{Function}
 use Rattle.board_record.specs.Host.{hostOfPart, hostWrong}
 use Rattle.board_record.specs.declared.Rule.{Rule}
 use Rattle.board_record.specs.declared.Rule.the-variants.{Length}
-use Rattle.board_record.specs.Function.{isShort, functionOfPart, headerWrong, readbacksWrong}
+use Rattle.board_record.specs.Function.{isShort, functionOfPart, wrongIn, headerWrong, readbacksWrong}
+use Rattle.board_record.specs.FunctionLaws.{right-of-version}
 use Rattle.board_record.specs.Rules.{breaks}
 use Rattle.board.specs.Pass.{anyBreaks}
 use Rattle.board_order.specs.Order.{anyMisplaced}
 use Rattle.board.specs.Board.{misframed, fromReadbacks, fromOrder, fromEdges, fromHeaders, fromCount, fromFrame, fromVersion}
-use Rattle.board.specs.Board.{boardNumber, hostOf, functionsOf}
+use Rattle.board.specs.Board.{isVersion, boardNumber, hostOf, functionsOf}
 
 pub any-map : {A : Type 0} (test : A → Bool) (f : List ℕ → A) (ps : List (List ℕ)) → any test (map f ps) ≡ anyPart (λ p. test (f p)) ps
 unfolding any anyPart
@@ -87,12 +88,12 @@ module _ (s : List ℕ) where
       → anyBreaks rule (partsOf (drop 33 s)) ≡ anyPart (breaks rule) (partsFrom s 33)
   breaks-of-framed rule h = ap (λ (w : Bool). not w || anyPart (breaks rule) (partsFrom s 33)) (whole-of-framed h)
 
-  pub framed : misframed (partsOf (drop 1 s)) ≡ false → fromFrame (partsOf (drop 1 s))
-      ≡ fromCount (hostOfPart (take 30 (drop 3 s))) (partsFrom s 33)
+  pub framed : (v : ℕ) → misframed (partsOf (drop 1 s)) ≡ false → fromFrame v (partsOf (drop 1 s))
+      ≡ fromCount v (hostOfPart (take 30 (drop 3 s))) (partsFrom s 33)
   unfolding fromFrame
-  framed h =
+  framed v h =
       let p = parts-record s 1 30 (host-of-framed h) in
-      rw h (ap (λ (r : Parts). fromCount (hostOfPart (getD (r .parts) 0 [])) (drop 1 (r .parts))) p)
+      rw h (ap (λ (r : Parts). fromCount v (hostOfPart (getD (r .parts) 0 [])) (drop 1 (r .parts))) p)
 
 -- ---- 22
 
@@ -108,18 +109,31 @@ module _ (s : List ℕ) (at : ℕ) where
 
 -- ---- the checks in order: what is left once one is passed
 
-pub past-version : (b : List ℕ) → (length b ≡ 0 → ⊥) → getD b 0 0 ≡ 1 → boardNumber b ≡ fromFrame (partsOf (drop 1 b))
+pub past-version : (b : List ℕ) → (length b ≡ 0 → ⊥) → isVersion (getD b 0 0) ≡ true
+    → boardNumber b ≡ fromFrame (getD b 0 0) (partsOf (drop 1 b))
 unfolding boardNumber fromVersion
-past-version b e v = rw (ne-eqb (length b) 0 e, eq-eqb (getD b 0 0) 1 v)
+past-version b e v = rw (ne-eqb (length b) 0 e, v)
 
-module _ (h : Host) (ps : List (List ℕ)) where
-  pub past-count : ltb mostFunctions (length ps) ≡ false → fromCount h ps ≡ fromHeaders h ps
+pub other-version : (b : List ℕ) → (length b ≡ 0 → ⊥) → isVersion (getD b 0 0) ≡ false → boardNumber b ≡ 21
+unfolding boardNumber fromVersion
+other-version b e v = rw (ne-eqb (length b) 0 e, v)
+
+module _ (v : ℕ) (h : Host) (ps : List (List ℕ)) where
+  pub past-count : ltb mostFunctions (length ps) ≡ false → fromCount v h ps ≡ fromHeaders v h ps
   unfolding fromCount
   past-count e = rw e
 
-  pub past-headers : anyPart headerWrong ps ≡ false → fromHeaders h ps ≡ fromEdges h (map functionOfPart ps)
+  pub past-headers : anyPart (wrongIn v) ps ≡ false → fromHeaders v h ps ≡ fromEdges h (map functionOfPart ps)
   unfolding fromHeaders
   past-headers e = rw e
+
+-- a board's records of its own version are records of some version
+pub right-parts : (v : ℕ) (ps : List (List ℕ)) → anyPart (wrongIn v) ps ≡ false → anyPart headerWrong ps ≡ false
+unfolding anyPart
+right-parts v [] e = refl
+right-parts v (p ∷ ps) e =
+    let both = false-of-or (wrongIn v p) (anyPart (wrongIn v) ps) e in
+    rw (right-of-version v p (both .0)) (right-parts v ps (both .1))
 
 module _ (fs : List Function) where
   pub past-edges : (h : Host) → hostWrong h ≡ false → fromEdges h fs ≡ fromOrder fs
@@ -133,12 +147,13 @@ module _ (fs : List Function) where
 -- ---- what a board that is accepted keeps
 
 pub record Accepted (b : List ℕ) : Type 0 where
-  pub version : getD b 0 0 ≡ 1
+  pub version : isVersion (getD b 0 0) ≡ true
   pub host-record : nextOf (drop 1 b) ≡ Record 30
   pub host-read : hostOf b ≡ hostOfPart (take 30 (drop 3 b))
   pub functions-read : functionsOf b ≡ map functionOfPart (partsFrom b 33)
   pub whole : partsOf (drop 33 b) .whole ≡ true
   pub few : length (partsFrom b 33) ≤ mostFunctions
+  pub of-version : anyPart (wrongIn (getD b 0 0)) (partsFrom b 33) ≡ false
   pub headers : anyPart headerWrong (partsFrom b 33) ≡ false
   pub edges : hostWrong (hostOf b) ≡ false
   pub order : anyMisplaced 0 [] (functionsOf b) ≡ false
@@ -149,32 +164,32 @@ passed : (t : Bool) (n k : ℕ) → cond t (suc n) k ≡ 0 → (t ≡ false) × 
 passed true n k e = absurd (omega arith)
 passed false n k e = (refl, e)
 
-version-of-zero : (b : List ℕ) → boardNumber b ≡ 0 → (getD b 0 0 ≡ 1) × (fromFrame (partsOf (drop 1 b)) ≡ 0)
+version-of-zero : (b : List ℕ) → boardNumber b ≡ 0 → (isVersion (getD b 0 0) ≡ true) × (fromFrame (getD b 0 0) (partsOf (drop 1 b)) ≡ 0)
 unfolding boardNumber fromVersion
 version-of-zero b e =
-    let rest = passed (eqb (length b) 0) 19 (cond (eqb (getD b 0 0) 1) (fromFrame (partsOf (drop 1 b))) 21) e .1 in
-    go (eqb (getD b 0 0) 1) refl rest
+    let rest = passed (eqb (length b) 0) 19 (cond (isVersion (getD b 0 0)) (fromFrame (getD b 0 0) (partsOf (drop 1 b))) 21) e .1 in
+    go (isVersion (getD b 0 0)) refl rest
   where
-    go : (t : Bool) → eqb (getD b 0 0) 1 ≡ t → cond t (fromFrame (partsOf (drop 1 b))) 21 ≡ 0
-        → (getD b 0 0 ≡ 1) × (fromFrame (partsOf (drop 1 b)) ≡ 0)
-    go true h e = (eqb-true (getD b 0 0) 1 h, e)
+    go : (t : Bool) → isVersion (getD b 0 0) ≡ t → cond t (fromFrame (getD b 0 0) (partsOf (drop 1 b))) 21 ≡ 0
+        → (isVersion (getD b 0 0) ≡ true) × (fromFrame (getD b 0 0) (partsOf (drop 1 b)) ≡ 0)
+    go true h e = (h, e)
     go false h e = absurd (omega arith)
 
-framed-of-zero : (r : Parts) → fromFrame r ≡ 0 → misframed r ≡ false
+framed-of-zero : (v : ℕ) (r : Parts) → fromFrame v r ≡ 0 → misframed r ≡ false
 unfolding fromFrame
-framed-of-zero r e = passed (misframed r) 19 (fromCount (hostOfPart (getD (r .parts) 0 [])) (drop 1 (r .parts))) e .0
+framed-of-zero v r e = passed (misframed r) 19 (fromCount v (hostOfPart (getD (r .parts) 0 [])) (drop 1 (r .parts))) e .0
 
-count-of-zero : (h : Host) (ps : List (List ℕ)) → fromCount h ps ≡ 0
+count-of-zero : (v : ℕ) (h : Host) (ps : List (List ℕ)) → fromCount v h ps ≡ 0
     → (ltb mostFunctions (length ps) ≡ false)
-    × (anyPart headerWrong ps ≡ false)
+    × (anyPart (wrongIn v) ps ≡ false)
     × (hostWrong h ≡ false)
     × (anyMisplaced 0 [] (map functionOfPart ps) ≡ false)
     × (any readbacksWrong (map functionOfPart ps) ≡ false)
 unfolding fromCount fromHeaders fromEdges fromOrder fromReadbacks
-count-of-zero h ps e =
+count-of-zero v h ps e =
     let fs = map functionOfPart ps in
-    let a = passed (ltb mostFunctions (length ps)) 21 (fromHeaders h ps) e in
-    let b = passed (anyPart headerWrong ps) 23 (fromEdges h fs) (a .1) in
+    let a = passed (ltb mostFunctions (length ps)) 21 (fromHeaders v h ps) e in
+    let b = passed (anyPart (wrongIn v) ps) 23 (fromEdges h fs) (a .1) in
     let c = passed (hostWrong h) 25 (fromOrder fs) (b .1) in
     let d = passed (anyMisplaced 0 [] fs) 22 (fromReadbacks fs) (c .1) in
     (a .0, b .0, c .0, d .0, passed (any readbacksWrong fs) 24 0 (d .1) .0)
@@ -183,10 +198,10 @@ pub accepted-of-zero : (b : List ℕ) → boardNumber b ≡ 0 → Accepted b
 unfolding hostOf functionsOf
 accepted-of-zero b e =
     let v = version-of-zero b e in
-    let f = framed-of-zero (partsOf (drop 1 b)) (v .1) in
+    let f = framed-of-zero (getD b 0 0) (partsOf (drop 1 b)) (v .1) in
     let h = host-of-framed b f in
     let p = parts-record b 1 30 h in
-    let c = count-of-zero (hostOfPart (take 30 (drop 3 b))) (partsFrom b 33) (sym (framed b f) ∙ v .1) in
+    let c = count-of-zero (getD b 0 0) (hostOfPart (take 30 (drop 3 b))) (partsFrom b 33) (sym (framed b (getD b 0 0) f) ∙ v .1) in
     let host = ap (λ (r : Parts). hostOfPart (getD (r .parts) 0 [])) p in
     let functions = ap (λ (r : Parts). map functionOfPart (drop 1 (r .parts))) p in
     record {
@@ -196,11 +211,12 @@ accepted-of-zero b e =
       functions-read = functions;
       whole = whole-of-framed b f;
       few = ltb-false mostFunctions (length (partsFrom b 33)) (c .0);
-      headers = c .1;
+      of-version = c .1;
+      headers = right-parts (getD b 0 0) (partsFrom b 33) (c .1);
       edges = ap hostWrong host ∙ c .2;
       order = ap (anyMisplaced 0 []) functions ∙ c .3;
       readbacks = ap (any readbacksWrong) functions ∙ c .4;
     }
 
 pub framed-of-accepted : (b : List ℕ) → boardNumber b ≡ 0 → misframed (partsOf (drop 1 b)) ≡ false
-framed-of-accepted b e = framed-of-zero (partsOf (drop 1 b)) (version-of-zero b e .1)
+framed-of-accepted b e = framed-of-zero (getD b 0 0) (partsOf (drop 1 b)) (version-of-zero b e .1)

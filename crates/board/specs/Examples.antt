@@ -7,7 +7,7 @@ use Rattle.records.specs.Records.{nextOf, partsOver, partsOf, anyPart}
 use Rattle.lists.specs.Lists.{any}
 use Rattle.bar.specs.Bar.{sizeFrom, sized, ioSlot, narrowSlot, wideSlot, slotHere, slots, anyBad}
 use Rattle.board_record.specs.Host.{hostOfPart, poolWrong, hostWrong}
-use Rattle.board_record.specs.Function.{functionOfPart, headerWrong, readbacksWrong}
+use Rattle.board_record.specs.Function.{functionOfPart, wrongIn, readbacksWrong}
 use Rattle.board_order.specs.Order.{above, parents, lastSibling, misplaced, anyMisplaced}
 use Rattle.board.specs.Board.{misframed, fromReadbacks, fromOrder, fromEdges, fromHeaders, fromCount, fromFrame, fromVersion}
 use Rattle.board.specs.Board.{boardNumber}
@@ -25,6 +25,11 @@ hostWith base last = 0 ∷ 30 ∷ 0 ∷ 255 ∷ beBytes 4 base ++ beBytes 4 last
 
 abbrev pub bridge : ℕ → ℕ → ℕ → List ℕ
 bridge parent devfn header = 0 ∷ 14 ∷ beBytes 2 parent ++ devfn ∷ header ∷ 0 ∷ 3 ∷ beBytes 8 0
+
+-- version 2's, with spare buses and MiB
+abbrev pub bridgeWith : ℕ → ℕ → ℕ → ℕ → ℕ → List ℕ
+bridgeWith parent devfn header buses room =
+    0 ∷ 17 ∷ beBytes 2 parent ++ devfn ∷ header ∷ 0 ∷ 3 ∷ beBytes 8 0 ++ buses ∷ beBytes 2 room
 
 abbrev pub end : ℕ → ℕ → ℕ → List ℕ
 end parent devfn header = 0 ∷ 30 ∷ beBytes 2 parent ++ devfn ∷ header ∷ 0 ∷ 3 ∷ beBytes 8 0 ++ beBytes 8 0 ++ beBytes 8 0
@@ -63,7 +68,14 @@ abbrev pub rows : List Row
 rows =
     record { board = []; number = 20 }
     ∷ record { board = 1 ∷ []; number = 20 }
-    ∷ record { board = 2 ∷ []; number = 21 }
+    ∷ record { board = 2 ∷ []; number = 20 }
+    ∷ record { board = 3 ∷ []; number = 21 }
+    -- version 2: a bridge has its spares, in 17 bytes; of 14 it is version 1's
+    ∷ record { board = 2 ∷ host; number = 0 }
+    ∷ record { board = 2 ∷ host ++ bridgeWith 0 0 1 5 7; number = 0 }
+    ∷ record { board = 1 ∷ host ++ bridgeWith 0 0 1 5 7; number = 24 }
+    ∷ record { board = 2 ∷ host ++ bridge 0 0 1; number = 24 }
+    ∷ record { board = 2 ∷ host ++ bridgeWith 0 0 1 0 0 ++ end 1 0 0; number = 0 }
     -- P8
     ∷ record { board = 1 ∷ host; number = 0 }
     -- a stray last byte
@@ -103,6 +115,6 @@ pub record Worked (rs : List Row) : Type 0 where
 
 pub examples : Worked rows
 unfolding be beBytes nextOf partsOver partsOf anyPart any sizeFrom sized ioSlot narrowSlot wideSlot slotHere slots anyBad hostOfPart
-    poolWrong hostWrong functionOfPart headerWrong readbacksWrong above parents lastSibling misplaced anyMisplaced misframed fromReadbacks
+    poolWrong hostWrong functionOfPart wrongIn readbacksWrong above parents lastSibling misplaced anyMisplaced misframed fromReadbacks
     fromOrder fromEdges fromHeaders fromCount fromFrame fromVersion boardNumber chain row
 examples = record { numbers = refl }

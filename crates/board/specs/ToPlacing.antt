@@ -9,7 +9,7 @@ use Rattle.plan_rule.specs.Records.{Host as PlacingHost, Function as PlacingFun
 use Rattle.board_record.specs.declared.Host.{Host}
 use Rattle.board_record.specs.declared.Span.{Span}
 use Rattle.board_record.specs.declared.Function.{Function}
-use Rattle.board_record.specs.Function.{isBridge, slotCount}
+use Rattle.board_record.specs.Function.{isBridge, slotCount, spareBuses, spareLow}
 unfoldable pub use Rattle.bar.specs.Bars.{barsFrom}
 
 abbrev pub poolSpan : Host → PlacingPool → Span
@@ -32,8 +32,8 @@ toFunction f =
       parent = f .parent;
       bridge = isBridge f;
       bars = barsFrom 0 (slots (take (slotCount f) (f .readbacks)));
-      spareLow = 0;
-      spareBuses = 0;
+      spareLow = spareLow f;
+      spareBuses = spareBuses f;
     }
 
 abbrev pub toPlacing : List Function → List PlacingFunction

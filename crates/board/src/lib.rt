@@ -7,7 +7,7 @@ ghost use Rattle.records.specs.Records.{partsOf, partsFrom, anyPart};
 ghost use Rattle.records.specs.Limits.{mostFunctions};
 ghost use Rattle.board_record.specs.Rules.{tooEarly};
 ghost use Rattle.board.specs.Pass.{anyBreaks};
-ghost use Rattle.board.specs.Board.{misframed as isMisframed, boardNumber};
+ghost use Rattle.board.specs.Board.{isVersion, misframed as isMisframed, boardNumber};
 use board_record::FUNCTIONS;
 use board_record::HOST;
 use board_record::Rule;
@@ -20,7 +20,8 @@ pub fn check(board: &[u8]) -> u8
     if board.len() == 0 {
         return 20;
     }
-    if board[0] != 1 {
+    let version = board[0];
+    if !is_version(version) {
         return 21;
     }
     if misframed(board) {
@@ -29,7 +30,7 @@ pub fn check(board: &[u8]) -> u8
     if too_many(board) {
         return 22;
     }
-    if any_breaks(Rule::Header, board) {
+    if any_breaks(Rule::Header(version), board) {
         return 24;
     }
     if board_record::host_wrong(board_record::host_of(records::part_at(board, HOST, 30))) {
@@ -42,6 +43,14 @@ pub fn check(board: &[u8]) -> u8
         return 25;
     }
     0
+}
+
+// ---- 21
+
+fn is_version(v: u8) -> bool
+    ensures { λ r. ⌜ r ≡ isVersion v ⌝ }
+{
+    (v == 1) | (v == 2)
 }
 
 // ---- 20: the host first, of 30 bytes, then functions of 6 or more, whose lengths end at the end

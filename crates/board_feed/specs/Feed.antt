@@ -7,13 +7,14 @@ use lib.ListN.{length, take}
 use lib.Dec.{ltb}
 use lib.Seq.{sets}
 use Rattle.records.specs.declared.frame.Stage.the-variants.{Start}
-use Rattle.records.specs.Frame.{stageOf, heardOf, endingOf}
+use Rattle.records.specs.Frame.{endingOf}
 use Rattle.plan_answer.specs.declared.Planning.{Planning}
 use Rattle.plan_answer.specs.declared.Planning.the-variants.{Refused}
 use Rattle.plan_answer.specs.Plan.{planning, sheetAfter}
 use Rattle.sheet_text.specs.Listing.{planningText}
 use Rattle.board_feed.specs.declared.Feed.{Feed}
-use Rattle.board_feed.specs.Tally.{mostBytes, fresh, heardBy, numberAt}
+use Rattle.board_feed.specs.Tally.{mostBytes, fresh, numberAt}
+use Rattle.board_feed.specs.Shown.{boardStage, boardHeard}
 
 abbrev pub kept : ℕ
 kept = mostBytes + 1
@@ -26,8 +27,8 @@ abbrev pub fedOf : Feed → List ℕ → Feed
 fedOf f piece =
     record {
       count = min (f .count + length piece) kept;
-      stage = stageOf (f .stage) piece;
-      tally = heardOf heardBy (f .stage) (f .tally) piece;
+      stage = boardStage (f .stage) piece;
+      tally = boardHeard (f .stage) (f .tally) piece;
     }
 
 abbrev pub keptAfter : Feed → List ℕ → List ℕ → List ℕ

@@ -16,7 +16,6 @@ use Rattle.records.specs.declared.frame.Stage.the-variants.{Start}
 use Rattle.records.specs.declared.frame.Ending.{Ending}
 use Rattle.records.specs.declared.frame.Ending.the-variants.{Empty, Unread, Whole, Cut}
 use Rattle.records.specs.Frame.{stageOf, heardOf, endingOf}
-use Rattle.records.specs.FrameLaws.{stage-append, heard-append}
 use Rattle.records.specs.Limits.{mostFunctions}
 use Rattle.board.specs.Board.{boardNumber}
 use Rattle.plan_answer.specs.declared.Planning.{Planning}
@@ -25,7 +24,9 @@ use Rattle.plan_answer.specs.Plan.{planning, sheetAs, sheetAfter}
 use Rattle.sheet_text.specs.BoardText.{boardText, planner-prints}
 use Rattle.board_feed.specs.declared.Feed.{Feed}
 use Rattle.board_feed.specs.declared.Tally.{Tally}
-use Rattle.board_feed.specs.Tally.{mostBytes, fresh, heardBy, wholeNumber, numberAt}
+use Rattle.board_feed.specs.Tally.{mostBytes, fresh, wholeNumber, numberAt}
+use Rattle.board_feed.specs.Shown.{boardStage, boardHeard}
+use Rattle.board_feed.specs.ShownLaws.{board-stage-append, board-heard-append}
 use Rattle.board_feed.specs.Feed.{kept, started, fedOf, keptAfter, isLong, frameNumber, planningOf, sheetOf, answerOf}
 use Rattle.board_feed.specs.LongBoards.{long-board-number}
 
@@ -33,7 +34,7 @@ use Rattle.board_feed.specs.LongBoards.{long-board-number}
 
 pub fed-is : (f : Feed) (room piece : List ℕ) (n : ℕ) (g : Stage) (t : Tally) → length room ≡ kept
     → n ≡ min (f .count + length piece) (length room)
-    → g ≡ stageOf (f .stage) piece → t ≡ heardOf heardBy (f .stage) (f .tally) piece
+    → g ≡ boardStage (f .stage) piece → t ≡ boardHeard (f .stage) (f .tally) piece
     → _≡_ {A = Feed} (record { count = n; stage = g; tally = t }) (fedOf f piece)
 fed-is f room piece n g t l e staged tallied = rw (staged, tallied, e, l)
 
@@ -44,8 +45,8 @@ pub record Fed (s : List ℕ) (f : Feed) (room : List ℕ) : Type 0 where
   pub room-before : List ℕ
   pub size : length room-before ≡ kept
   pub put : Put room-before 0 s room (f .count)
-  pub staged : f .stage ≡ stageOf Start s
-  pub tallied : f .tally ≡ heardOf heardBy Start fresh s
+  pub staged : f .stage ≡ boardStage Start s
+  pub tallied : f .tally ≡ boardHeard Start fresh s
 
 pub fed-start : (room : List ℕ) → length room ≡ kept → Fed [] started room
 unfolding stageOf heardOf
@@ -60,10 +61,10 @@ fed-more {s} {f} {room} before piece =
       room-before = before .room-before;
       size = before .size;
       put = put-append (before .put) (record { stored = refl; place = rw l });
-      staged = ap (λ (g : Stage). stageOf g piece) (before .staged) ∙ sym (stage-append Start s piece);
+      staged = ap (λ (g : Stage). boardStage g piece) (before .staged) ∙ sym (board-stage-append Start s piece);
       tallied =
-          ap₂ (λ (g : Stage) (t : Tally). heardOf heardBy g t piece) (before .staged) (before .tallied)
-          ∙ sym (heard-append heardBy Start fresh s piece);
+          ap₂ (λ (g : Stage) (t : Tally). boardHeard g t piece) (before .staged) (before .tallied)
+          ∙ sym (board-heard-append Start fresh s piece);
     }
 
 -- ## A long input is refused

@@ -1,6 +1,6 @@
 -- An input longer than any lawful board: fed in pieces, wherever the cuts fall, it comes to document 01's number. Assumes nothing.
 use Prim.Native.Nat.{ℕ, _+_, _-_, _*_, min, _≤_, _<_}
-use mathlib.Core.Path.{_≡_, refl, sym, ap, _∙_}
+use mathlib.Core.Path.{_≡_, refl, sym, ap, ap₂, _∙_}
 use mathlib.Core.Bool.{Bool, true, false, cond, _||_}
 use mathlib.Core.List.{List, [], _∷_, _++_, foldl}
 use native.Mathlib.Omega.{arith}
@@ -15,16 +15,17 @@ use Rattle.records.specs.declared.frame.Ending.the-variants.{Whole, Cut}
 use Rattle.records.specs.Records.{partsOf, anyPart, total}
 use Rattle.records.specs.RecordsLaws.{length-of-whole, false-of-or}
 use Rattle.records.specs.Frame.{versionOf, stageAfter, stageOf, heardOf, endingOf, heardBytes, heardPart}
-use Rattle.records.specs.FrameLaws.{stage-append, heard-append, stage-other, heard-whole, ending-parts}
+use Rattle.records.specs.FrameLaws.{stage-other, heard-whole, ending-parts}
 use Rattle.board_record.specs.Host.{hostLength}
 use Rattle.records.specs.Limits.{mostFunctions}
-use Rattle.board.specs.Board.{noHost, misframed, boardNumber, fromVersion, fromFrame, fromCount, fromHeaders}
-use Rattle.board_record.specs.Function.{isShort, headerWrong}
-use Rattle.board_record.specs.FunctionLaws.{length-le}
+use Rattle.board.specs.Board.{isVersion, noHost, misframed, boardNumber, fromVersion, fromFrame, fromCount, fromHeaders}
+use Rattle.board_record.specs.Function.{isShort, wrongIn}
+use Rattle.board_record.specs.FunctionLaws.{length-le, right-of-version}
 use Rattle.board_feed.specs.declared.Feed.{Feed}
 use Rattle.board_feed.specs.declared.Tally.{Tally}
 use Rattle.board_feed.specs.Tally.{longestFunction, shortestFunction, mostBytes, mostCounted, fresh}
 use Rattle.board_feed.specs.Tally.{misfitsOf, countedOf, begunOf, heardBy, wholeNumber, numberAt}
+use Rattle.board_feed.specs.ShownLaws.{board-stage-append, board-heard-append, shown-version}
 use Rattle.board_feed.specs.Feed.{started, fedOf, frameNumber}
 
 -- ## The tally of whole records
@@ -104,45 +105,45 @@ number-whole p ps =
     ∙ number-counted (tallyOver t ps) (length ps) (noHost (p ∷ ps) || anyPart isShort ps) (tally-records t ps (omega arith))
     (tally-misframed t ps (omega arith) (omega arith))
 
-total-of-right : (ps : List (List ℕ)) → anyPart headerWrong ps ≡ false → total ps ≤ (2 + longestFunction) * length ps
+total-of-right : (v : ℕ) (ps : List (List ℕ)) → anyPart (wrongIn v) ps ≡ false → total ps ≤ (2 + longestFunction) * length ps
 unfolding total anyPart
-total-of-right [] h = omega arith
-total-of-right (p ∷ ps) h =
-    let right = false-of-or (headerWrong p) (anyPart headerWrong ps) h in
-    let a = length-le p (right .0) in
-    let b = total-of-right ps (right .1) in
+total-of-right v [] h = omega arith
+total-of-right v (p ∷ ps) h =
+    let right = false-of-or (wrongIn v p) (anyPart (wrongIn v) ps) h in
+    let a = length-le p (right-of-version v p (right .0)) in
+    let b = total-of-right v ps (right .1) in
     omega arith
 
 -- records that pass 20 and 22 and come to more than a lawful board has have one of a wrong length
-wrong-of-long : (p : List ℕ) (ps : List (List ℕ)) → mostBytes ≤ total (p ∷ ps) → noHost (p ∷ ps) ≡ false
-    → ltb mostFunctions (length ps) ≡ false → anyPart headerWrong ps ≡ true
+wrong-of-long : (v : ℕ) (p : List ℕ) (ps : List (List ℕ)) → mostBytes ≤ total (p ∷ ps) → noHost (p ∷ ps) ≡ false
+    → ltb mostFunctions (length ps) ≡ false → anyPart (wrongIn v) ps ≡ true
 unfolding total
-wrong-of-long p ps l h c = go (anyPart headerWrong ps) refl
+wrong-of-long v p ps l h c = go (anyPart (wrongIn v) ps) refl
   where
-    go : (t : Bool) → anyPart headerWrong ps ≡ t → t ≡ true
+    go : (t : Bool) → anyPart (wrongIn v) ps ≡ t → t ≡ true
     go true t = refl
     go false t =
         let host = eqb-true (length p) hostLength (not-false (eqb (length p) hostLength) h) in
-        absurd (omega (arith, total-of-right ps t, ltb-false mostFunctions (length ps) c))
+        absurd (omega (arith, total-of-right v ps t, ltb-false mostFunctions (length ps) c))
 
 -- the tally's number is the board's
-long-whole : (ps : List (List ℕ)) → mostBytes ≤ total ps
-    → wholeNumber (tallyOver fresh ps) ≡ fromFrame (record { parts = ps; whole = true })
+long-whole : (v : ℕ) (ps : List (List ℕ)) → mostBytes ≤ total ps
+    → wholeNumber (tallyOver fresh ps) ≡ fromFrame v (record { parts = ps; whole = true })
 unfolding fromFrame misframed fromCount fromHeaders wholeNumber
-long-whole [] l = refl
-long-whole (p ∷ ps) l = number-whole p ps ∙ go (noHost (p ∷ ps) || anyPart isShort ps) refl (ltb mostFunctions (length ps)) refl
+long-whole v [] l = refl
+long-whole v (p ∷ ps) l = number-whole p ps ∙ go (noHost (p ∷ ps) || anyPart isShort ps) refl (ltb mostFunctions (length ps)) refl
   where
     go : (b : Bool) → noHost (p ∷ ps) || anyPart isShort ps ≡ b → (t : Bool) → ltb mostFunctions (length ps) ≡ t
-        → cond b 20 (cond t 22 24) ≡ fromFrame (record { parts = p ∷ ps; whole = true })
+        → cond b 20 (cond t 22 24) ≡ fromFrame v (record { parts = p ∷ ps; whole = true })
     go true b t c = rw b
     go false b true c = rw (b, c)
-    go false b false c = rw (b, c, wrong-of-long p ps l (false-of-or (noHost (p ∷ ps)) (anyPart isShort ps) b .0) c)
+    go false b false c = rw (b, c, wrong-of-long v p ps l (false-of-or (noHost (p ∷ ps)) (anyPart isShort ps) b .0) c)
 
-long-frame : (w : Bool) (ps : List (List ℕ)) (t : Tally) → (w ≡ true → t ≡ tallyOver fresh ps) → (w ≡ true → mostBytes ≤ total ps)
-    → numberAt (cond w Whole Cut) t ≡ fromFrame (record { parts = ps; whole = w })
+long-frame : (v : ℕ) (w : Bool) (ps : List (List ℕ)) (t : Tally) → (w ≡ true → t ≡ tallyOver fresh ps) → (w ≡ true → mostBytes ≤ total ps)
+    → numberAt (cond w Whole Cut) t ≡ fromFrame v (record { parts = ps; whole = w })
 unfolding fromFrame misframed
-long-frame false ps t e l = refl
-long-frame true ps t e l = ap wholeNumber (e refl) ∙ long-whole ps (l refl)
+long-frame v false ps t e l = refl
+long-frame v true ps t e l = ap wholeNumber (e refl) ∙ long-whole v ps (l refl)
 
 -- ## The theorem
 
@@ -152,15 +153,18 @@ unfolding boardNumber fromVersion frameNumber stageOf heardOf versionOf
 long-board-number [] h = absurd (omega arith)
 long-board-number (v ∷ r) h =
     let n : eqb (length (v ∷ r)) 0 ≡ false = ne-eqb (length (v ∷ r)) 0 (λ z. omega arith) in
-    rw n (go (eqb v 1))
+    rw n (ap numbered (shown-version v) ∙ go (isVersion v))
   where
-    go : (t : Bool)
-        → numberAt (endingOf (stageOf (stageAfter (cond t Version Foreign)) r))
+    -- of a version that is known, or not
+    numbered : Bool → ℕ
+    numbered t =
+        numberAt (endingOf (stageOf (stageAfter (cond t Version Foreign)) r))
         (heardOf heardBy (stageAfter (cond t Version Foreign)) (heardBy fresh (cond t Version Foreign)) r)
-        ≡ cond t (fromFrame (partsOf r)) 21
+
+    go : (t : Bool) → numbered t ≡ cond t (fromFrame v (partsOf r)) 21
     go true =
         ap (λ (e : Ending). numberAt e (heardOf heardBy Between fresh r)) (ending-parts r)
-        ∙ long-frame (partsOf r .whole) (partsOf r .parts) (heardOf heardBy Between fresh r)
+        ∙ long-frame v (partsOf r .whole) (partsOf r .parts) (heardOf heardBy Between fresh r)
         (λ w. heard-whole heardBy (λ t b. refl) r w fresh)
         (λ w. omega (arith, length-of-whole r w))
     go false = ap (λ (g : Stage). numberAt (endingOf g) (heardOf heardBy Other fresh r)) (stage-other r)
@@ -168,7 +172,9 @@ long-board-number (v ∷ r) h =
 -- two pieces in a row are one
 pub fed-append : (f : Feed) (a b : List ℕ) → frameNumber (fedOf (fedOf f a) b) ≡ frameNumber (fedOf f (a ++ b))
 unfolding frameNumber
-fed-append f a b = rw (stage-append (f .stage) a b, heard-append heardBy (f .stage) (f .tally) a b)
+fed-append f a b =
+    ap₂ (λ (g : Stage) (t : Tally). numberAt (endingOf g) t) (sym (board-stage-append (f .stage) a b))
+    (sym (board-heard-append (f .stage) (f .tally) a b))
 
 -- and in pieces, wherever the cuts fall
 pub long-board-pieces : (a b : List ℕ) → mostBytes < length (a ++ b) → frameNumber (fedOf (fedOf started a) b) ≡ boardNumber (a ++ b)

@@ -6,6 +6,8 @@ ghost use mathlib.Core.List.{_++_};
 ghost use lib.ListN.{length, drop};
 ghost use lib.Seq.{sets};
 ghost use Rattle.board_feed.specs.Feed.{started, fedOf, isLong, frameNumber, planningOf, sheetOf, answerOf};
+ghost use Rattle.records.specs.declared.frame.Stage.the-variants.{Start};
+ghost use Rattle.board_feed.specs.Shown.{shownAt};
 ghost use Rattle.board_feed.specs.Tally.{misfitsOf, countedOf, begunOf, heardBy, wholeNumber};
 use plan_answer::Planning;
 use records::frame;
@@ -73,7 +75,7 @@ impl Feed {
         let mut tally = self.tally;
         let mut i = 0;
         while i < piece.len() {
-            let event = frame::event_of(stage, piece[i]);
+            let event = frame::event_of(stage, shown(stage, piece[i]));
             tally = tally.hear(event);
             stage = frame::stage_after(event);
             i += 1;
@@ -168,6 +170,25 @@ impl Tally {
         }
         24
     }
+}
+
+// The frame of a board is that of traces and sheets, of version 1; a first byte 2 is shown to it as 1.
+fn shown(stage: Stage, byte: u8) -> u8
+    ensures { λ r. ⌜ r ≡ shownAt stage byte ⌝ }
+{
+    match stage {
+        Stage::Start => first_shown(byte),
+        Stage::Other => byte,
+        Stage::Between => byte,
+        Stage::Length(_) => byte,
+        Stage::Inside(_) => byte,
+    }
+}
+
+fn first_shown(byte: u8) -> u8
+    ensures { λ r. ⌜ r ≡ shownAt Start byte ⌝ }
+{
+    if byte == 2 { 1 } else { byte }
 }
 
 // After so many records: the host first, then functions.

@@ -1,7 +1,7 @@
 -- What a function record whose header type passed its check keeps, and both checks of one function by what the code looks at. Assumes
 -- nothing.
 use mathlib.Core.Path.{_≡_, refl, sym, ap, ap₂, _∙_}
-use mathlib.Core.Bool.{Bool, true, false, cond, not, _&&_, _||_, and-true, and-false, and-eq-true-iff}
+use mathlib.Core.Bool.{Bool, true, false, cond, not, _&&_, _||_, and-true, and-false, and-eq-true-iff, true≢false}
 use mathlib.Core.List.{List, [], _∷_}
 use Prim.Native.Nat.{ℕ, zero, suc, _+_, _*_, _≤_, _<_}
 use native.Mathlib.Omega.{arith}
@@ -12,33 +12,92 @@ use Rattle.endian.specs.Endian.{be}
 use Rattle.lists.specs.BoolLaws.{false-of-or}
 use Rattle.bar.specs.Bar.{slots, anyBad}
 use Rattle.bar.specs.Header.{headerType, isBridge as isBridgeHeader}
-use Rattle.board_record.specs.Function.{lengthFor, readbacksFor, functionOfPart, wrongFor, headerWrong, isBridge, slotCount}
+use Rattle.board_record.specs.Function.{bridgeLength, lengthFor, readbacksFor, sparesFor, functionOfPart, wrongFor, wrongIn}
+use Rattle.board_record.specs.Function.{headerWrong, isBridge, slotCount}
 use Rattle.board_record.specs.Function.{readbacksWrong}
 
-pub length-of-header : (p : List ℕ) → headerWrong p ≡ false → length p ≡ lengthFor (getD p 3 0)
-unfolding headerWrong
-length-of-header p e =
+pub length-of-version : (version : ℕ) (p : List ℕ) → wrongIn version p ≡ false → length p ≡ lengthFor version (getD p 3 0)
+unfolding wrongIn
+length-of-version version p e =
     let header = getD p 3 0 in
-    let right = eqb (length p) (lengthFor header) in
+    let right = eqb (length p) (lengthFor version header) in
     let tests = false-of-or (not (eqb (headerType header) 0) && not (isBridgeHeader header)) (not right) e in
-    eqb-true (length p) (lengthFor header) (not-false right (tests .1))
+    eqb-true (length p) (lengthFor version header) (not-false right (tests .1))
+
+-- a record of some version has 30 bytes, or is a bridge of 14 or 17
+pub header-elim : {P : Type 0} (p : List ℕ) → headerWrong p ≡ false → (isBridgeHeader (getD p 3 0) ≡ false → length p ≡ 30 → P)
+    → (isBridgeHeader (getD p 3 0) ≡ true → length p ≡ 14 → P) → (isBridgeHeader (getD p 3 0) ≡ true → length p ≡ 17 → P) → P
+unfolding headerWrong
+header-elim {P} p e other first second = either (wrongIn 1 p) (wrongIn 2 p) refl refl e
+  where
+    in-first : wrongIn 1 p ≡ false → (t : Bool) → isBridgeHeader (getD p 3 0) ≡ t → P
+    in-first w true b = first b (rw b at (length-of-version 1 p w))
+    in-first w false b = other b (rw b at (length-of-version 1 p w))
+
+    in-second : wrongIn 2 p ≡ false → (t : Bool) → isBridgeHeader (getD p 3 0) ≡ t → P
+    in-second w true b = second b (rw b at (length-of-version 2 p w))
+    in-second w false b = other b (rw b at (length-of-version 2 p w))
+
+    either : (s t : Bool) → wrongIn 1 p ≡ s → wrongIn 2 p ≡ t → s && t ≡ false → P
+    either false t w u h = in-first w (isBridgeHeader (getD p 3 0)) refl
+    either true false w u h = in-second u (isBridgeHeader (getD p 3 0)) refl
+    either true true w u h = absurd (true≢false h)
 
 pub length-of-end : (p : List ℕ) → headerWrong p ≡ false → isBridgeHeader (getD p 3 0) ≡ false → length p ≡ 30
-length-of-end p e b = rw b at (length-of-header p e)
+length-of-end p e b =
+    header-elim p e (λ _ l. l) (λ t _. absurd (true≢false (sym t ∙ b))) (λ t _. absurd (true≢false (sym t ∙ b)))
 
 pub le-length : (p : List ℕ) → headerWrong p ≡ false → 14 ≤ length p
-le-length p e = go (isBridgeHeader (getD p 3 0)) refl (length-of-header p e)
-  where
-    go : (t : Bool) → isBridgeHeader (getD p 3 0) ≡ t → length p ≡ cond (isBridgeHeader (getD p 3 0)) 14 30 → 14 ≤ length p
-    go true b h = let k : length p ≡ 14 = rw b at h in omega arith
-    go false b h = let k : length p ≡ 30 = rw b at h in omega arith
+le-length p e = header-elim p e (λ _ l. omega arith) (λ _ l. omega arith) (λ _ l. omega arith)
 
 pub length-le : (p : List ℕ) → headerWrong p ≡ false → length p ≤ 30
-length-le p e = go (isBridgeHeader (getD p 3 0)) refl (length-of-header p e)
+length-le p e = header-elim p e (λ _ l. omega arith) (λ _ l. omega arith) (λ _ l. omega arith)
+
+-- what is right on a board of any version is a record of some version
+pub right-of-version : (version : ℕ) (p : List ℕ) → wrongIn version p ≡ false → headerWrong p ≡ false
+unfolding headerWrong wrongIn
+right-of-version version p e = go (eqb version 1) refl
   where
-    go : (t : Bool) → isBridgeHeader (getD p 3 0) ≡ t → length p ≡ cond (isBridgeHeader (getD p 3 0)) 14 30 → length p ≤ 30
-    go true b h = let k : length p ≡ 14 = rw b at h in omega arith
-    go false b h = let k : length p ≡ 30 = rw b at h in omega arith
+    go : (t : Bool) → eqb version 1 ≡ t → headerWrong p ≡ false
+    go true v = ap (λ (x : Bool). x && wrongIn 2 p) (rw v at e)
+    go false v = ap (λ (x : Bool). wrongIn 1 p && x) (rw v at e) ∙ and-false (wrongIn 1 p)
+
+-- ---- the spares
+
+-- a record that ends before them has none
+pub spares-none : (p : List ℕ) → length p ≤ 14 → be 3 p 14 ≡ 0
+unfolding be
+spares-none p h =
+    let a : getD p 14 0 ≡ 0 = List·getD-eq-default p 0 {n = 14} (omega arith) in
+    let b : getD p 15 0 ≡ 0 = List·getD-eq-default p 0 {n = 15} (omega arith) in
+    let c : getD p 16 0 ≡ 0 = List·getD-eq-default p 0 {n = 16} (omega arith) in
+    rw (a, b, c)
+
+pub spares-bytes : (p : List ℕ) → be 3 p 14 ≡ getD p 14 0 * 65536 + be 2 p 15
+unfolding be
+spares-bytes p = refl
+
+-- in the words of the code
+module _ (p : List ℕ) where
+  pub spares-short : headerWrong p ≡ false → isBridgeHeader (getD p 3 0) ≡ true → length p < 17 → 0 ≡ sparesFor (getD p 3 0) p
+  spares-short e b l =
+      rw b (sym (spares-none p (header-elim p e (λ t _. absurd (true≢false (sym b ∙ t))) (λ _ m. omega arith) (λ _ m. omega arith))))
+
+  pub spares-whole : isBridgeHeader (getD p 3 0) ≡ true → getD p 14 0 * 65536 + be 2 p 15 ≡ sparesFor (getD p 3 0) p
+  spares-whole b = rw b (sym (spares-bytes p))
+
+  pub spares-other : isBridgeHeader (getD p 3 0) ≡ false → 0 ≡ sparesFor (getD p 3 0) p
+  spares-other b = rw b
+
+module _ (p : List ℕ) where
+  -- one byte of spare buses and two of spare memory, on a bridge
+  pub spares-of-bridge : isBridgeHeader (getD p 3 0) ≡ true → functionOfPart p .spares ≡ be 3 p 14
+  unfolding functionOfPart
+  spares-of-bridge b = rw b
+
+  pub spares-of-end : isBridgeHeader (getD p 3 0) ≡ false → functionOfPart p .spares ≡ 0
+  unfolding functionOfPart
+  spares-of-end b = rw b
 
 -- a function record gives six read-backs
 pub length-readbacks : (p : List ℕ) → length (functionOfPart p .readbacks) ≡ 6
@@ -53,17 +112,17 @@ length-readbacks p = go (isBridgeHeader (getD p 3 0))
 
 -- ---- 24 by length and type
 
-pub header-wrong-short : (p : List ℕ) → length p < 4 → headerWrong p ≡ true
-unfolding headerWrong
-header-wrong-short p h =
+pub header-wrong-short : (version : ℕ) (p : List ℕ) → length p < 4 → wrongIn version p ≡ true
+unfolding wrongIn
+header-wrong-short version p h =
     let d : getD p 3 0 ≡ 0 = List·getD-eq-default p 0 {n = 3} (omega arith) in
     rw (d, ne-eqb (length p) 30 (λ e. omega arith))
 
-module _ (n header : ℕ) where
-  pub wrong-bridge : isBridgeHeader header ≡ true → wrongFor n header ≡ not (eqb n 14)
-  wrong-bridge h = rw (h, and-false (not (eqb (headerType header) 0)))
+module _ (version n header : ℕ) where
+  pub wrong-bridge : {k : ℕ} → k ≡ bridgeLength version → isBridgeHeader header ≡ true → wrongFor version n header ≡ not (eqb n k)
+  wrong-bridge e h = rw (h, and-false (not (eqb (headerType header) 0)), e)
 
-  pub wrong-end : isBridgeHeader header ≡ false → wrongFor n header ≡ (not (eqb (headerType header) 0) || not (eqb n 30))
+  pub wrong-end : isBridgeHeader header ≡ false → wrongFor version n header ≡ (not (eqb (headerType header) 0) || not (eqb n 30))
   wrong-end h = rw (h, and-true (not (eqb (headerType header) 0)))
 
 -- ---- 25 by the slots

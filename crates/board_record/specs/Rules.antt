@@ -4,15 +4,15 @@ use mathlib.Core.List.{List}
 use Prim.Native.Nat.{ℕ}
 use Rattle.board_record.specs.declared.Rule.{Rule}
 use Rattle.board_record.specs.declared.Rule.the-variants.{Length, Header, ReadBacks}
-use Rattle.board_record.specs.Function.{isShort, functionOfPart, headerWrong, readbacksWrong}
+use Rattle.board_record.specs.Function.{isShort, functionOfPart, wrongIn, headerWrong, readbacksWrong}
 
 abbrev pub breaks : Rule → List ℕ → Bool
 breaks Length p = isShort p
-breaks Header p = headerWrong p
+breaks (Header version) p = wrongIn version p
 breaks ReadBacks p = readbacksWrong (functionOfPart p)
 
 -- read-backs are looked at where the header passed its check
 abbrev pub tooEarly : Rule → List ℕ → Bool
 tooEarly Length p = false
-tooEarly Header p = false
+tooEarly (Header version) p = false
 tooEarly ReadBacks p = headerWrong p

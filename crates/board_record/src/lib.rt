@@ -5,8 +5,8 @@ ghost use mathlib.Core.Bool.{false};
 ghost use Prim.Native.Nat.{_<_};
 ghost use lib.ListN.{length, getD};
 ghost use Rattle.board_record.specs.Host.{hostLength, hostOfPart, offEdges, outside as isOutside, poolWrong, hostWrong};
-ghost use Rattle.board_record.specs.Function.{readbacksFor, functionOfPart, wrongFor, headerWrong, isBridge, slotCount};
-ghost use Rattle.board_record.specs.Function.{readbacksWrong};
+ghost use Rattle.board_record.specs.Function.{readbacksFor, sparesFor, functionOfPart, bridgeLength, wrongFor, wrongIn};
+ghost use Rattle.board_record.specs.Function.{headerWrong, isBridge, slotCount, readbacksWrong};
 ghost use Rattle.board_record.specs.Rules.{breaks as breaksOf, tooEarly};
 use pools::Pool;
 
@@ -25,19 +25,21 @@ pub struct Host {
     pub io: Span,
 }
 
-// A function record. A type 1 function has two read-backs; the last four are 0.
+// A function record. A type 1 function has two read-backs; the last four are 0. Its spares are a byte of buses and two of MiB of low memory,
+// as one number; any other function has none.
 pub struct Function {
     pub parent: u16,
     pub devfn: u8,
     pub header: u8,
     pub command: u16,
     pub readbacks: [u32; 6],
+    pub spares: u32,
 }
 
-// The checks of each function record by itself: its length among 20, its header (24) and its read-backs (25).
+// The checks of each function record by itself: its length among 20, its header on a board of this version (24) and its read-backs (25).
 pub enum Rule {
     Length,
-    Header,
+    Header(u8),
     ReadBacks,
 }
 
@@ -125,6 +127,7 @@ pub fn function_of(part: &[u8]) -> Function
         header: part[3],
         command: endian::read_be16(part, 4) as u16,
         readbacks,
+        spares: spares_of(part),
     }
 }
 
@@ -168,6 +171,20 @@ pub fn is_bridge(part: &[u8]) -> bool
     bar::is_bridge(header_of(part))
 }
 
+// A bridge of version 2 has them at its end.
+pub fn spares_of(part: &[u8]) -> u32
+    requires { ⌜ headerWrong (now part) ≡ false ⌝ }
+    ensures { λ r. ⌜ (r ≡ sparesFor (getD (now (part .entry)) 3 0) (now (part .entry))) × (r < 16777216) ⌝ }
+{
+    if bar::is_bridge(part[3]) {
+        if part.len() < 17 {
+            return 0;
+        }
+        return part[14] as u32 * 65536 + endian::read_be16(part, 15) as u32;
+    }
+    0
+}
+
 fn readbacks_of(part: &[u8]) -> [u32; 6]
     requires { ⌜ headerWrong (now part) ≡ false ⌝ }
     ensures { λ r. ⌜ r ≡ readbacksFor (getD (now (part .entry)) 3 0) (now (part .entry)) ⌝ }
@@ -201,29 +218,35 @@ pub fn breaks(rule: Rule, part: &[u8]) -> bool
 {
     match rule {
         Rule::Length => part.len() < 6,
-        Rule::Header => header_wrong(part),
+        Rule::Header(version) => header_wrong(version, part),
         Rule::ReadBacks => bad_readbacks(part),
     }
 }
 
 // 24
-pub fn header_wrong(part: &[u8]) -> bool
-    ensures { λ r. ⌜ r ≡ headerWrong (now (part .entry)) ⌝ }
+pub fn header_wrong(version: u8, part: &[u8]) -> bool
+    ensures { λ r. ⌜ r ≡ wrongIn version (now (part .entry)) ⌝ }
 {
     if part.len() < 4 {
         return true;
     }
-    wrong_for(part.len(), part[3])
+    wrong_for(version, part.len(), part[3])
 }
 
 // A header type other than 0 and 1, or another length than its.
-fn wrong_for(n: usize, header: u8) -> bool
-    ensures { λ r. ⌜ r ≡ wrongFor n header ⌝ }
+fn wrong_for(version: u8, n: usize, header: u8) -> bool
+    ensures { λ r. ⌜ r ≡ wrongFor version n header ⌝ }
 {
     if bar::is_bridge(header) {
-        return n != 14;
+        return n != bridge_length(version);
     }
     (header % 128 != 0) | (n != 30)
+}
+
+fn bridge_length(version: u8) -> usize
+    ensures { λ r. ⌜ r ≡ bridgeLength version ⌝ }
+{
+    if version == 1 { 14 } else { 17 }
 }
 
 // 25. One call for two slots and for six, so that the compiler can join it to the loop.

@@ -15,7 +15,7 @@ use Rattle.tlp.specs.declared.Reading.the-variants.{Accepted, Refused}
 use Rattle.tlp_fields.specs.Fields.{headAt, enablesAt, addressAt, unnamed}
 use Rattle.tlp.specs.Reading.{numberOf as readingNumber, judged, readOf}
 use Rattle.records.specs.Records.{nextOf, partsOver, partsOf, anyPart}
-use Rattle.lists.specs.Lists.{keep, any}
+use Rattle.lists.specs.Lists.{keep, front, any}
 use Rattle.plan_rule.specs.Align.{alignUp}
 use Rattle.plan_rule.specs.Layout.{layoutEnd, largestAlign}
 use Rattle.plan_rule.specs.Pieces.{barPieces, windowPieces, ownPieces, pieces}
@@ -27,7 +27,7 @@ use Rattle.bar.specs.Bars.{barsFrom}
 use Rattle.bar.specs.Values.{isBarValue, valuesFit}
 use Rattle.window.specs.Window.{closed, opened, start, stop, isNibbled}
 use Rattle.board_record.specs.Host.{hostOfPart, poolWrong, hostWrong}
-use Rattle.board_record.specs.Function.{functionOfPart, headerWrong, readbacksWrong}
+use Rattle.board_record.specs.Function.{functionOfPart, wrongIn, readbacksWrong}
 use Rattle.board_order.specs.Order.{above, parents, lastSibling, misplaced, anyMisplaced}
 use Rattle.board.specs.Board.{misframed, fromReadbacks, fromOrder, fromEdges, fromHeaders, fromCount, fromFrame, fromVersion, boardNumber}
 use Rattle.board.specs.Board.{hostOf, functionsOf}
@@ -166,12 +166,12 @@ unfolding examples ascii words windowText bridgeText endText lineOf countText pl
     pairOf findPair first table judged headAt enablesAt addressAt unnamed be ruleNumber fromRule5 fromRule6 fromRule7 fromRule8 fromRule9
     reservedSet fixedWrong upperZero enablesWrong crossesPage statusWrong row planning onBoard onRoom boardNumber fromVersion fromFrame
     fromCount fromHeaders fromEdges fromOrder fromReadbacks misframed above parents lastSibling misplaced anyMisplaced functionOfPart
-    headerWrong readbacksWrong hostOfPart poolWrong hostWrong beBytes nextOf partsOver partsOf anyPart any sizeFrom sized ioSlot
+    wrongIn readbacksWrong hostOfPart poolWrong hostWrong beBytes nextOf partsOver partsOf anyPart any sizeFrom sized ioSlot
     narrowSlot
     wideSlot slotHere slots anyBad hostOf functionsOf refusalOf outOfPool place placed pieces ownPieces windowPieces barPieces layoutEnd
     largestAlign keep alignUp bridges barsFrom sheetAfter sheetBytes flatMap recordBytes partBytes configBytes commonBytes bodyBytes
     bridgeBytes endBytes dwordBytes planOf plannedFrom valuesFrom windowFor barStart closed opened busNumber subordinateOf
-    oversFrom over lastBelow le
+    oversFrom over lastBelow front le
     leBytes routeOf fromSheet routePacket from42 walkFrom walkOver tallyOn join itemsOf items enabledIn sheetNumber from21 from20 from22
     from24 from27 from28 from25 from29 isFramed allSized entriesFrom commandsOf breaks anyBreaks allZero readBacksWrong hasId
     idTwice entryOf

@@ -1,5 +1,5 @@
 -- Document 01's examples, the user's demands, what becomes of a packet that goes by ID, and of document 02 messages (E1), traces (E4),
--- the audit (E6) and the index (E8).
+-- the audit (E6), the index (E8) and empty slots (E10).
 pub mod Examples
 pub mod Demand2
 pub mod Demand3
@@ -15,3 +15,5 @@ pub mod Audit
 pub mod AuditLaws
 pub mod FastLabels
 pub mod FastLabelsLaws
+pub mod EmptySlots
+pub mod EmptySlotsLaws

@@ -159,7 +159,7 @@ module _ {b : List ℕ} {first : ℕ} {counts memo c₀ sheet₀ c sheet : List 
     pub turn-placeable : Placeable first counts c here
     turn-placeable = record-placeable (r .prepared) (toHost (hostOf b)) c i here record-here inside (s .holding) room-here
 
-    pub turn-bridged : isBridge here ≡ true → Bridged first counts memo c i
+    pub turn-bridged : isBridge here ≡ true → Bridged first counts memo c i (here .parent)
     turn-bridged = record-bridged (r .prepared) (toHost (hostOf b)) c i here record-here inside (s .holding) room-here
 
     pub turn-room : sheetLength (suc i) ≤ length sheet

@@ -1,7 +1,7 @@
 -- One record of the placing pass: its registers and the cursors after it, from the cursors of every bus (three numbers each, at 3 * b), the
 -- bridges counted so far and what sizing stored. Assumes nothing.
 use mathlib.Core.Path.{_≡_}
-use Prim.Native.Nat.{ℕ, suc, _+_, _*_, _≤_, _<_, max}
+use Prim.Native.Nat.{ℕ, suc, _+_, _-_, _*_, _≤_, _<_, max}
 use mathlib.Core.Bool.{false, cond}
 use mathlib.Core.List.{List, [], _∷_}
 use lib.ListN.{length, getD, take}
@@ -33,9 +33,21 @@ endsList c = c .low ∷ c .high ∷ c .io ∷ []
 abbrev pub extentsIn : Laid → Extents
 extentsIn l = record { low = l .low; high = l .high; io = l .io }
 
+-- the numbers that the first k records take, from the first bus on, less the spares of record p and of the bridges above it, which come
+-- later: two counts for each record, at 2 * k
+abbrev pub numberIn : ℕ → List ℕ → ℕ → ℕ → ℕ
+numberIn first counts k p = first + (getD counts (2 * k) 0 - getD counts (2 * p + 1) 0)
+
 -- the bus number of record k's own bus
 abbrev pub busIn : ℕ → List ℕ → ℕ → ℕ
-busIn first counts k = first + getD counts k 0
+busIn first counts k = numberIn first counts k k
+
+-- there is such a number, and it is a byte
+pub record NumberFits (first : ℕ) (counts : List ℕ) (k p : ℕ) : Type 0 where
+  pub taken : 2 * k + 2 ≤ length counts
+  pub over : 2 * p + 2 ≤ length counts
+  pub fits : getD counts (2 * p + 1) 0 ≤ getD counts (2 * k) 0
+  pub byte : numberIn first counts k p < 256
 
 -- its BARs, from the cursors of the bus it is on
 abbrev pub barsIn : List ℕ → Function → BarsPlaced
@@ -75,7 +87,7 @@ bridgeWith first counts i f last values w =
       readbacks = f .readbacks;
       primary = busIn first counts (f .parent);
       secondary = busIn first counts (suc i);
-      subordinate = busIn first counts last;
+      subordinate = numberIn first counts last (f .parent);
       low = w .low;
       high = w .high;
       io = w .io;
@@ -108,17 +120,14 @@ module _ (memo c : List ℕ) (i : ℕ) (f : Function) where
 -- ## What a record asks of the arrays
 
 pub record Placeable (first : ℕ) (counts c : List ℕ) (f : Function) : Type 0 where
-  pub counted : f .parent < length counts
-  pub numbered : busIn first counts (f .parent) < 256
+  pub numbered : NumberFits first counts (f .parent) (f .parent)
   pub room : 3 * f .parent + 3 ≤ length c
   pub readable : anyBad (slots (take (slotCount f) (f .readbacks))) ≡ false
 
--- a bridge: its own bus, and the last bus below it
-pub record Bridged (first : ℕ) (counts memo c : List ℕ) (i : ℕ) : Type 0 where
-  pub counted : suc i < length counts
-  pub numbered : busIn first counts (suc i) < 256
+-- a bridge below record p: its own bus, and the last bus below it
+pub record Bridged (first : ℕ) (counts memo c : List ℕ) (i p : ℕ) : Type 0 where
+  pub numbered : NumberFits first counts (suc i) (suc i)
   pub room : 3 * suc i + 3 ≤ length c
   pub stored : 8 * i + 8 ≤ length memo
-  pub last-counted : laidAt memo i .next < length counts
-  pub last-numbered : busIn first counts (laidAt memo i .next) < 256
+  pub last-numbered : NumberFits first counts (laidAt memo i .next) p
   pub aligned : (q : Pool) → PowerOfTwo (max (granule q) (extentIn (extentsIn (laidAt memo i)) q .align))

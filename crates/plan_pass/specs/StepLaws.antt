@@ -1,6 +1,6 @@
 -- One record of the placing pass is the plan's: from arrays that hold the cursors before it, its registers are those planned, and the
 -- arrays after it hold the cursors before the next. Assumes nothing.
-use mathlib.Core.Path.{_≡_, refl, sym, ap, _∙_}
+use mathlib.Core.Path.{_≡_, refl, sym, ap, ap₂, _∙_}
 use mathlib.Core.Logic.{⊎-elim}
 use mathlib.Core.Bool.{Bool, true, false, true≢false, cond}
 use mathlib.Core.List.{List, [], _∷_, map, append-nil}
@@ -23,14 +23,14 @@ use Rattle.plan_rule.specs.Records as placing
 use Rattle.plan_rule.specs.Records.{Host, Lawful}
 use Rattle.plan_rule.specs.RecordLaws.{IsAt}
 use Rattle.plan_rule.specs.Placing.{placed}
-use Rattle.plan_rule.specs.Numbering.{bridges, busNumber, subordinateOf}
-use Rattle.plan_rule.specs.NumberingLaws.{bridges-split}
-use Rattle.plan_rule.specs.Numbered.{subordinate-laid}
+use Rattle.plan_rule.specs.Numbering.{bridges, over, busNumber, subordinateOf}
+use Rattle.plan_rule.specs.NumberingLaws.{bridges-split, bridges-take-mono}
+use Rattle.plan_rule.specs.Numbered.{spares-fit, over-le, subordinate-laid}
 use Rattle.plan_rule.specs.Sizing.{busLaid, laidFrom}
 use Rattle.plan_rule.specs.SizingLaws.{next-le}
 use Rattle.plan_rule.specs.Cap.{cap, capped}
 use Rattle.board_record.specs.declared.Function.{Function}
-use Rattle.board_record.specs.Function.{isBridge, slotCount}
+use Rattle.board_record.specs.Function.{isBridge, slotCount, spareLow}
 use Rattle.board.specs.ToPlacing.{toFunction, toPlacing}
 use Rattle.plan_sizing.specs.declared.Laid.{Laid}
 use Rattle.plan_sizing.specs.Memo.{laidAt, below}
@@ -43,7 +43,7 @@ use Rattle.plan_function.specs.JoinLaws.{Room, insideOf, parent-lt}
 use Rattle.plan_function.specs.LoopLaws.{Agrees, values-planned, window-planned, agrees-leaf, agrees-bridge, align-power}
 use Rattle.sheet_bytes.specs.Layout.{plannedOf}
 use Rattle.plan_answer.specs.Plan.{slotsOf, entryFor}
-use Rattle.plan_pass.specs.Step.{cursorsIn, endsList, extentsIn, busIn, barsIn, windowsIn, leafRegisters, bridgeRegisters}
+use Rattle.plan_pass.specs.Step.{cursorsIn, endsList, extentsIn, numberIn, busIn, NumberFits, barsIn, windowsIn, leafRegisters, bridgeRegisters}
 use Rattle.plan_pass.specs.Step.{registersOf, leafNext, bridgeNext, cursorsNext, Placeable, Bridged}
 
 -- ## The cursors' array as a function of bus and pool
@@ -166,10 +166,12 @@ pub record Prepared (first : ℕ) (fs : List Function) (counts memo : List ℕ) 
   pub readable : (i : ℕ) (f : Function) → RecordAt fs i f → anyBad (slotsOf f) ≡ false
   pub six : (i : ℕ) (f : Function) → RecordAt fs i f → length (f .readbacks) ≡ 6
   pub numbers : first + bridges (toPlacing fs) < 256
-  pub counts-room : length fs < length counts
-  pub counted : (k : ℕ) → k ≤ length fs → getD counts k 0 ≡ bridges (take k (toPlacing fs))
+  pub counts-room : 2 * length fs + 2 ≤ length counts
+  pub counted : (k : ℕ) → k ≤ length fs → getD counts (2 * k) 0 ≡ bridges (take k (toPlacing fs))
+  pub spared : (k : ℕ) → k ≤ length fs → getD counts (2 * k + 1) 0 ≡ over (toPlacing fs) k
   pub memo-room : 8 * length fs ≤ length memo
-  pub stored : (i : ℕ) (f : Function) → RecordAt fs i f → isBridge f ≡ true → laidAt memo i ≡ below (toPlacing fs) i
+  pub stored : (i : ℕ) (f : Function) → RecordAt fs i f → isBridge f ≡ true → laidAt memo i
+      ≡ below (toPlacing fs) i (spareLow f)
 
 module _ {first : ℕ} {fs : List Function} {counts memo : List ℕ} (prepared : Prepared first fs counts memo) (h : Host) (c : List ℕ)
     (i : ℕ) (f : Function)
@@ -185,7 +187,19 @@ module _ {first : ℕ} {fs : List Function} {counts memo : List ℕ} (prepared :
 
   bus-is : (k : ℕ) → k ≤ length fs → busIn first counts k ≡ busNumber first ps k
   unfolding busNumber
-  bus-is k l = ap (λ (n : ℕ). first + n) (prepared .counted k l)
+  bus-is k l = ap₂ (λ (n m : ℕ). first + (n - m)) (prepared .counted k l) (prepared .spared k l)
+
+  number-fits : (k p : ℕ) → k ≤ length fs → p ≤ length fs → over ps p ≤ bridges (take k ps) → NumberFits first counts k p
+  number-fits k p l m h =
+      record {
+        taken = omega (arith, prepared .counts-room);
+        over = omega (arith, prepared .counts-room);
+        fits = omega (arith, prepared .counted k l, prepared .spared p m);
+        byte = omega (arith, prepared .counted k l, prepared .numbers, bridges-split k ps);
+      }
+
+  own-fits : (k : ℕ) → k ≤ length fs → NumberFits first counts k k
+  own-fits k l = number-fits k k l l (over-le first ps (prepared .lawful) k (omega (arith, length-placing fs)))
 
   -- BARs
   values-are : Room h ps → take (slotCount f) (barsIn c f .values) ≡ valuesFrom (suc i) 0 (placed h ps) (slotsOf f) (f .readbacks)
@@ -236,7 +250,7 @@ module _ {first : ℕ} {fs : List Function} {counts memo : List ℕ} (prepared :
   -- ## A bridge
 
   module _ (bridge : isBridge f ≡ true) where
-    inner-is : (q : Pool) → extentIn (extentsIn (laidAt memo i)) q ≡ capped (insideOf ps i q)
+    inner-is : (q : Pool) → extentIn (extentsIn (laidAt memo i)) q ≡ capped (insideOf ps i (toFunction f) q)
     inner-is Low = ap (λ (l : Laid). extentIn (extentsIn l) Low) (prepared .stored i f at bridge)
     inner-is High = ap (λ (l : Laid). extentIn (extentsIn l) High) (prepared .stored i f at bridge)
     inner-is Io = ap (λ (l : Laid). extentIn (extentsIn l) Io) (prepared .stored i f at bridge)
@@ -259,10 +273,25 @@ module _ {first : ℕ} {fs : List Function} {counts memo : List ℕ} (prepared :
       length-placing fs,
     )
 
-    last-is : busIn first counts (laidAt memo i .next) ≡ subordinateOf first ps (suc i)
+    last-is : numberIn first counts (laidAt memo i .next) (f .parent) ≡ subordinateOf first ps (suc i)
     last-is =
-        bus-is (laidAt memo i .next) next-fits ∙ ap (busNumber first ps) next-is
+        ap₂ (λ (n m : ℕ). first + (n - m)) (prepared .counted (laidAt memo i .next) next-fits)
+        (prepared .spared (f .parent) (omega (arith, parent-le)))
+        ∙ ap (λ (n : ℕ). first + (bridges (take n ps) - over ps (f .parent))) next-is
         ∙ sym (subordinate-laid first ps (prepared .lawful) i (toFunction f) is-at bridge)
+
+    next-later : suc i ≤ laidAt memo i .next
+    unfolding busLaid
+    next-later = omega (arith, next-is)
+
+    pub last-fits : NumberFits first counts (laidAt memo i .next) (f .parent)
+    last-fits =
+        number-fits (laidAt memo i .next) (f .parent) next-fits (omega (arith, parent-le))
+        (omega (
+          arith,
+          spares-fit first ps (prepared .lawful) i (toFunction f) (drop (suc i) ps) is-at .1,
+          bridges-take-mono i (laidAt memo i .next) ps (omega (arith, next-later)),
+        ))
 
     pub bridge-planned : Room h ps
         → plannedOf (bridgeRegisters first counts memo c i f)
@@ -315,9 +344,6 @@ module _ {first : ℕ} {fs : List Function} {counts memo : List ℕ} (prepared :
 
   -- ## Either
 
-  bus-lt : (k : ℕ) → k ≤ length fs → busIn first counts k < 256
-  bus-lt k l = omega (arith, prepared .counted k l, prepared .numbers, bridges-split k ps)
-
   pub record-planned : Room h ps
       → plannedOf (registersOf first counts memo c i f) ≡ record { entry = entryFor first ps (placed h ps) (suc i) f; command = f .command }
   record-planned room = go (isBridge f) refl
@@ -339,21 +365,18 @@ module _ {first : ℕ} {fs : List Function} {counts memo : List ℕ} (prepared :
     pub record-placeable : Placeable first counts c f
     record-placeable =
         record {
-          counted = omega (arith, parent-le, prepared .counts-room);
-          numbered = bus-lt (f .parent) (omega (arith, parent-le));
+          numbered = own-fits (f .parent) (omega (arith, parent-le));
           room = omega (arith, parent-le);
           readable = prepared .readable i f at;
         }
 
-    pub record-bridged : isBridge f ≡ true → Bridged first counts memo c i
+    pub record-bridged : isBridge f ≡ true → Bridged first counts memo c i (f .parent)
     record-bridged e =
         record {
-          counted = omega (arith, prepared .counts-room);
-          numbered = bus-lt (suc i) inside;
+          numbered = own-fits (suc i) inside;
           room = omega arith;
           stored = omega (arith, prepared .memo-room);
-          last-counted = omega (arith, next-fits e, prepared .counts-room);
-          last-numbered = bus-lt (laidAt memo i .next) (next-fits e);
+          last-numbered = last-fits e;
           aligned =
               align-power h ps (prepared .lawful) i (toFunction f) is-at (f .readbacks) (slotCount f) refl (length fs) (endsIn c)
               agrees inside e

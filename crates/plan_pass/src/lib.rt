@@ -16,7 +16,7 @@ ghost use Rattle.sheet_bytes.specs.Layout.{sheetBytes};
 ghost use Rattle.plan_pass.specs.Loop.{mostBuses, planOn, Ready, basesFor, Filled, Placing};
 ghost use Rattle.plan_sizing.specs.Memo.{laidAt};
 ghost use Rattle.plan_function.specs.Kept.{extentIn, windowsPlaced};
-ghost use Rattle.plan_pass.specs.Step.{cursorsIn, endsList, extentsIn, busIn, barsIn, leafWith, leafRegisters, bridgeWith};
+ghost use Rattle.plan_pass.specs.Step.{cursorsIn, endsList, extentsIn, numberIn, NumberFits, barsIn, leafWith, leafRegisters, bridgeWith};
 ghost use Rattle.plan_pass.specs.Step.{bridgeRegisters, registersOf, recordOf, leafNext, bridgeNext, cursorsNext, Placeable, Bridged};
 use board_record::Function;
 use board_record::Host;
@@ -34,7 +34,7 @@ use window::Window;
 const BUSES: usize = 1 + records::MOST_FUNCTIONS;
 
 // The whole pass over a planned board: the sheet's bytes, and past them nothing.
-pub fn place_all(board: &[u8], host: Host, counts: &[u16], memo: &[u64], sheet: &mut [u8])
+pub fn place_all(board: &[u8], host: Host, counts: &[u8], memo: &[u64], sheet: &mut [u8])
     requires { ⌜ Placing (now board) host (now counts) (now memo) (now sheet) ⌝ }
     ensures { λ _. ⌜ now (sheet .exit) ≡ sets (now (sheet .entry)) 0 (sheetBytes (planOn (now (board .entry)))) ⌝ }
 {
@@ -48,7 +48,7 @@ pub fn place_all(board: &[u8], host: Host, counts: &[u16], memo: &[u64], sheet: 
 pub fn place_records(
     board: &[u8],
     first: u8,
-    counts: &[u16],
+    counts: &[u8],
     memo: &[u64],
     cursors: &mut [u64],
     sheet: &mut [u8],
@@ -81,13 +81,13 @@ pub fn place_record(
     f: Function,
     i: usize,
     first: u8,
-    counts: &[u16],
+    counts: &[u8],
     memo: &[u64],
     cursors: &mut [u64],
 ) -> Registers
     requires { ⌜
         Placeable first (now counts) (now cursors) f
-        × (isBridgeOf f ≡ true → Bridged first (now counts) (now memo) (now cursors) i)
+        × (isBridgeOf f ≡ true → Bridged first (now counts) (now memo) (now cursors) i (f .parent))
         ⌝ }
     ensures { λ r. ⌜
         (r ≡ registersOf first (now (counts .entry)) (now (memo .entry)) (now (cursors .entry)) i f)
@@ -147,12 +147,13 @@ fn extents_at(memo: &[u64], i: usize) -> Extents
 
 // ---- one record
 
-// The number of record k's own bus.
-fn bus_at(first: u8, counts: &[u16], k: usize) -> u8
-    requires { ⌜ (k < length (now counts)) × (busIn first (now counts) k < 256) ⌝ }
-    ensures { λ r. ⌜ (r ≡ busIn first (now (counts .entry)) k) × (r < 256) ⌝ }
+// The first bus and the numbers that k records take, less the spares still to come of record p and of the bridges above it: for p = k the
+// number of record k's own bus.
+fn number_at(first: u8, counts: &[u8], k: usize, p: usize) -> u8
+    requires { ⌜ NumberFits first (now counts) k p ⌝ }
+    ensures { λ r. ⌜ (r ≡ numberIn first (now (counts .entry)) k p) × (r < 256) ⌝ }
 {
-    (first as u16 + counts[k]) as u8
+    first + (counts[2 * k] - counts[2 * p + 1])
 }
 
 fn id_of(bus: u8, devfn: u8) -> u16
@@ -174,11 +175,12 @@ fn own_bars(f: Function, cursors: &[u64]) -> BarsPlaced
     )
 }
 
-fn leaf_registers(f: Function, first: u8, counts: &[u16], values: [u32; 6]) -> Registers
-    requires { ⌜ (f .parent < length (now counts)) × (busIn first (now counts) (f .parent) < 256) ⌝ }
+fn leaf_registers(f: Function, first: u8, counts: &[u8], values: [u32; 6]) -> Registers
+    requires { ⌜ NumberFits first (now counts) (f .parent) (f .parent) ⌝ }
     ensures { λ r. ⌜ r ≡ leafWith first (now (counts .entry)) f values ⌝ }
 {
-    let bus = bus_at(first, counts, f.parent as usize);
+    let parent = f.parent as usize;
+    let bus = number_at(first, counts, parent, parent);
     let readbacks = f.readbacks;
     Registers {
         id: id_of(bus, f.devfn),
@@ -199,7 +201,7 @@ fn place_leaf(
     f: Function,
     bars: BarsPlaced,
     first: u8,
-    counts: &[u16],
+    counts: &[u8],
     cursors: &mut [u64],
 ) -> Registers
     requires { ⌜ Placeable first (now counts) (now cursors) f × (bars ≡ barsIn (now cursors) f) ⌝ }
@@ -231,24 +233,22 @@ fn bridge_registers(
     f: Function,
     i: usize,
     first: u8,
-    counts: &[u16],
+    counts: &[u8],
     last: usize,
     values: [u32; 6],
     w: WindowsPlaced,
 ) -> Registers
     requires { ⌜
-        (f .parent < length (now counts))
-        × (busIn first (now counts) (f .parent) < 256)
-        × (suc i < length (now counts))
-        × (busIn first (now counts) (suc i) < 256)
-        × (last < length (now counts))
-        × (busIn first (now counts) last < 256)
+        NumberFits first (now counts) (f .parent) (f .parent)
+        × NumberFits first (now counts) (suc i) (suc i)
+        × NumberFits first (now counts) last (f .parent)
         ⌝ }
     ensures { λ r. ⌜ r ≡ bridgeWith first (now (counts .entry)) i f last values w ⌝ }
 {
-    let primary = bus_at(first, counts, f.parent as usize);
-    let secondary = bus_at(first, counts, i + 1);
-    let subordinate = bus_at(first, counts, last);
+    let parent = f.parent as usize;
+    let primary = number_at(first, counts, parent, parent);
+    let secondary = number_at(first, counts, i + 1, i + 1);
+    let subordinate = number_at(first, counts, last, parent);
     let readbacks = f.readbacks;
     let low = w.low;
     let high = w.high;
@@ -274,13 +274,13 @@ fn place_bridge(
     bars: BarsPlaced,
     i: usize,
     first: u8,
-    counts: &[u16],
+    counts: &[u8],
     memo: &[u64],
     cursors: &mut [u64],
 ) -> Registers
     requires { ⌜
         Placeable first (now counts) (now cursors) f
-        × Bridged first (now counts) (now memo) (now cursors) i
+        × Bridged first (now counts) (now memo) (now cursors) i (f .parent)
         × (bars ≡ barsIn (now cursors) f)
         ⌝ }
     ensures { λ r. ⌜
@@ -315,14 +315,14 @@ fn write_next(
     f: Function,
     i: usize,
     first: u8,
-    counts: &[u16],
+    counts: &[u8],
     memo: &[u64],
     cursors: &mut [u64],
     sheet: &mut [u8],
 )
     requires { ⌜
         Placeable first (now counts) (now cursors) f
-        × (isBridgeOf f ≡ true → Bridged first (now counts) (now memo) (now cursors) i)
+        × (isBridgeOf f ≡ true → Bridged first (now counts) (now memo) (now cursors) i (f .parent))
         ⌝ }
     requires { ⌜ sheetLength (suc i) ≤ length (now sheet) ⌝ }
     ensures cursors { λ _. ⌜ now (cursors .exit) ≡ cursorsNext (now (memo .entry)) (now (cursors .entry)) i f ⌝ }

@@ -115,6 +115,23 @@ wide = record { firstBus = 0; lastBus = 255; base = pooled 0 0x100000000 0; last
 abbrev pub narrow : Host
 narrow = record { firstBus = 0; lastBus = 255; base = pooled 0 0x100000000 0; last = pooled 0xffffffff 0xfffffffffffff 0x7fffe }
 
+-- Spare buses: two of the first bridge come after the one of the bridge below it, and the next bridge after both
+abbrev pub bridgeWith : ℕ → ℕ → ℕ → Function
+bridgeWith p buses room = record { parent = p; bridge = true; bars = []; spareLow = room; spareBuses = buses }
+
+abbrev pub with-spares : List Function
+with-spares = bridgeWith 0 2 0 ∷ bridgeWith 1 1 0 ∷ bridgeWith 0 0 0 ∷ []
+
+abbrev pub up-to : ℕ → Host
+up-to last = record { firstBus = 0; lastBus = last; base = pooled 1 1 1; last = pooled 0 0 0 }
+
+-- Spare room opens a window with nothing below; a window's own comes after that of a window in it, which comes after a function's BAR
+abbrev pub kept : ℕ → List Function
+kept n = bridgeWith 0 0 n ∷ []
+
+abbrev pub in-turn : List Function
+in-turn = bridgeWith 0 0 1 ∷ bridgeWith 1 0 1 ∷ endBelow 2 (at 0 low 0x1000 ∷ []) ∷ []
+
 abbrev pub rows : List Row
 rows =
     refused p10 p10-functions 0
@@ -145,40 +162,20 @@ rows =
     ∷ refused wide (rowFrom 0 256) 30
     ∷ refused wide (cardsFrom 1 128) 0
     ∷ refused narrow (cardsFrom 1 128) 33
+    ∷ numbers 0 with-spares ((1, 5) ∷ (2, 3) ∷ (6, 6) ∷ [])
+    ∷ refused (up-to 6) with-spares 0
+    ∷ refused (up-to 5) with-spares 30
+    ∷ refused from-one-mib (kept 4) 0
+    ∷ lies from-one-mib (kept 4) ((0x100000, 0x4fffff) ∷ [])
+    ∷ refused from-one-mib (kept 5) 31
+    ∷ lies from-one-mib in-turn ((0x100000, 0x3fffff) ∷ (0x100000, 0x2fffff) ∷ (0x100000, 0x100fff) ∷ [])
     ∷ []
 
 pub examples : All Holds rows
 unfolding
     keep front any alignUp layoutEnd largestAlign barPieces windowPieces ownPieces pieces place placed bridges oversFrom over lastBelow
     busNumber subordinateOf numberedFrom ranges outOfPool refusalOf extend busLaid
-examples = (
-  refl,
-  (
-    refl,
-    (
-      refl,
-      (
-        refl,
-        (
-          refl,
-          (
-            refl,
-            (
-              refl,
-              (
-                refl,
-                (
-                  refl,
-                  (refl, (refl, (refl, (refl, (refl, (refl, (refl, (refl, (refl, (refl, (refl, (refl, tt)))))))))))),
-                ),
-              ),
-            ),
-          ),
-        ),
-      ),
-    ),
-  ),
-)
+examples = (refl, (refl, (refl, (refl, (refl, (refl, (refl, (refl, (refl, (refl, (refl, (refl, (refl, (refl, (refl, (refl, (refl, (refl, (refl, (refl, (refl, (refl, (refl, (refl, (refl, (refl, (refl, (refl, tt))))))))))))))))))))))))))))
 
 -- P10's functions are lawful. A function below a bridge that a later sibling closed is not in depth-first order
 pub p10-lawful : Lawful p10-functions

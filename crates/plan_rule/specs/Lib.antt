@@ -23,6 +23,7 @@ pub mod Opened
 pub mod Placed
 pub mod RefusalLaws
 pub mod Numbered
+pub mod NoSpares
 pub mod ExtentLaws
 pub mod SizingLaws
 pub mod Cap

@@ -8,6 +8,7 @@ use Prim.Native.Nat.{ℕ, zero, suc, _+_, _-_, _≤_, _<_}
 use native.Mathlib.Omega.{arith}
 use lib.Dec.{eqb, leb}
 use lib.ListN.{length, getD, take, drop}
+use lib.Seq.{drop-cons}
 use borrow.Author.Tests.{eqb-true, eq-eqb, leb-true, leb-false}
 use Rattle.plan_rule.specs.Order.{le-or-lt, eq-or-ne, true-or-false}
 use Rattle.lists.specs.Lists.{All, Some, Pairwise, front}
@@ -22,12 +23,13 @@ use Rattle.plan_rule.specs.Sizing.{laidFrom, busLaid}
 use Rattle.plan_rule.specs.Numbering.{weight, ownSpare, bridges, over, busNumber, lastBelow, subordinateOf, Numbered, rowOf}
 use Rattle.plan_rule.specs.Numbering.{numberedFrom, numbered}
 use Rattle.plan_rule.specs.NumberingLaws.{bridges-take-suc, bridges-split, bridges-take-mono, weight-own, weight-bridge, over-host}
-use Rattle.plan_rule.specs.NumberingLaws.{over-record}
+use Rattle.plan_rule.specs.NumberingLaws.{bridges-take-add, take-front, over-record}
 
 -- A bridge's numbers, none above `most`
 pub record Range (most : ℕ) (x : Numbered) : Type 0 where
   pub bus-first : x .bus < x .secondary
   pub not-empty : x .secondary ≤ x .subordinate
+  pub spares-in : x .secondary + x .spares ≤ x .subordinate
   pub in-host : x .subordinate ≤ most
 
 -- y is the bridge just above x
@@ -36,6 +38,7 @@ pub record Under (x y : Numbered) : Type 0 where
   pub bridge : y .bridge ≡ true
   pub bus-is : x .bus ≡ y .secondary
   pub range-in : x .bridge ≡ true → x .subordinate ≤ y .subordinate
+  pub spares-after : x .bridge ≡ true → x .subordinate + y .spares ≤ y .subordinate
 
 pub bus-number-host : (first : ℕ) (fs : List Function) → busNumber first fs 0 ≡ first
 unfolding busNumber bridges
@@ -193,6 +196,17 @@ module _ (first : ℕ) (all : List Function) where
               (omega arith),
         )
 
+    spares-in : B (suc i) + ownSpare f ≤ subordinateOf first all (suc i)
+    spares-in =
+        omega (
+          arith,
+          bus-is (suc i),
+          subordinate-is i f fs e,
+          new-fits,
+          at-record,
+          bridges-take-mono (suc i) (endOf (suc i) (suc i) fs) all (omega arith),
+        )
+
     in-host : subordinateOf first all (suc i) ≤ first + bridges all
     in-host = omega (arith, subordinate-is i f fs e, bridges-split (endOf (suc i) (suc i) fs) all)
 
@@ -229,6 +243,25 @@ module _ (first : ℕ) (all : List Function) where
           omega (arith, r a i le (omega arith), bus-step ok i f fs e (d .0) c bridge, bus-mono ok i f fs e (d .0) c))
       go (inr n) later = later (omega arith) b
 
+  -- the spares to come, of a record and of its parent, fit in the numbers taken
+  fits-from : (ok : ℕ → Bool) (i : ℕ) (fs : List Function) → drop i all ≡ fs → DepthFirst ok (suc i) fs → Chain ok i
+      → (j : ℕ) (g : Function) (gs : List Function) → drop j all ≡ g ∷ gs → i ≤ j → (A (suc j) ≤ T (suc j)) × (A (g .parent) ≤ T j)
+  fits-from ok i [] e d c j g gs q l = absurd (cons≢nil (sym q ∙ past-end i j all e l))
+  fits-from ok i (f ∷ fs) e d c j g gs q l = go (eq-or-ne i j)
+      (fits-from (parentsAfter ok (suc i) f) (suc i) fs (drop-suc i all f fs e) (d .1) (chain-step ok i f fs e (d .0) c) j g gs q)
+    where
+      here : (x : ℕ) → x ≡ j → drop x all ≡ f ∷ fs → f ≡ g
+      here x same h = head-eq-of-cons-eq (sym h ∙ ap (λ (k : ℕ). drop k all) same ∙ q)
+
+      go : (i ≡ j) ⊎ (i ≡ j → ⊥) → (suc i ≤ j → (A (suc j) ≤ T (suc j)) × (A (g .parent) ≤ T j))
+          → (A (suc j) ≤ T (suc j)) × (A (g .parent) ≤ T j)
+      go (inl same) later = (
+        subst (λ (k : ℕ). A (suc k) ≤ T (suc k)) same (new-fits ok i f fs e (d .0) c),
+        subst (λ (k : ℕ). A (g .parent) ≤ T k) same
+            (subst (λ (h : Function). A (h .parent) ≤ T i) (here i same e) (parent-fits ok i f fs e (d .0) c)),
+      )
+      go (inr n) later = later (omega arith)
+
   -- ## Row by row
 
   rows-parent : (P : ℕ → Type 0) (i : ℕ) (fs : List Function) → All (λ f. P (f .parent)) fs → All (λ x. P (x .parent)) (rows i fs)
@@ -249,6 +282,7 @@ module _ (first : ℕ) (all : List Function) where
     λ b. record {
       bus-first = bus-first ok i f fs e (d .0) c b;
       not-empty = not-empty ok i f fs e (d .0) c;
+      spares-in = spares-in ok i f fs e (d .0) c;
       in-host = in-host ok i f fs e (d .0) c;
     },
     range-of-rows (parentsAfter ok (suc i) f) (suc i) fs (drop-suc i all f fs e) (d .1) (chain-step ok i f fs e (d .0) c),
@@ -399,6 +433,15 @@ module _ (first : ℕ) (all : List Function) where
             bridge = t .1;
             bus-is = k .0 ∙ ap B (t .0);
             range-in = λ b. omega (arith, k .1 (t .0), subordinate-is i f fs e, at-record ok i f fs e (d .0) c);
+            spares-after = λ b.
+                omega (
+                  arith,
+                  k .1 (t .0),
+                  subordinate-is i f fs e,
+                  at-record ok i f fs e (d .0) c,
+                  new-fits ok i f fs e (d .0) c,
+                  bridges-take-mono (suc i) (endOf (suc i) (suc i) fs) all (omega arith),
+                );
           })))
           (λ t. inl (omega (arith, c .earlier (x .parent) (t .0)), t .0))
           (parent-cases ok (suc i) f (x .parent) g)
@@ -422,6 +465,15 @@ module _ (first : ℕ) (fs : List Function) (lawful : Lawful fs) where
       bridges-rise first fs onlyHost 0 fs refl (lawful .ordered) (chain-start first fs)
       (λ a c l m. let za : a ≡ 0 = omega arith in let zc : c ≡ 0 = omega arith in rw (za, zc) (omega arith)) i f gs e (omega arith) b
 
+  -- The spares to come fit in the numbers taken
+  pub spares-fit : (i : ℕ) (f : Function) (gs : List Function) → drop i fs ≡ f ∷ gs
+      → (over fs (suc i) ≤ bridges (take (suc i) fs)) × (over fs (f .parent) ≤ bridges (take i fs))
+  spares-fit i f gs e = fits-from first fs onlyHost 0 fs refl (lawful .ordered) (chain-start first fs) i f gs e (omega arith)
+
+  pub over-le : (k : ℕ) → k ≤ length fs → over fs k ≤ bridges (take k fs)
+  over-le zero l = omega (arith, over-host fs)
+  over-le (suc i) l = spares-fit i (getD fs i noFunction) (drop (suc i) fs) (drop-cons fs i noFunction l) .0
+
   pub every-parent-rises : All (λ f. Rises first fs (f .parent)) fs
   every-parent-rises = parents-rise first fs onlyHost 0 fs refl (lawful .ordered) bridge-rises
       (λ j e a l. absurd (omega (arith, eqb-true j 0 e)))
@@ -431,6 +483,31 @@ module _ (first : ℕ) (fs : List Function) (lawful : Lawful fs) where
       → subordinateOf first fs (suc i) ≡ first + (bridges (take (busLaid fs (suc i) (laidFrom (suc i)) .next) fs) - over fs (f .parent))
   unfolding busLaid
   subordinate-laid i f e b = subordinate-is first fs i f (drop (suc i) fs) e
+
+  -- In document 02's words: its own number, the numbers taken below it, and right after them its spares
+  pub subordinate-after : (i : ℕ) (f : Function) → IsAt fs i f → f .bridge ≡ true
+      → subordinateOf first fs (suc i) ≡ busNumber first fs (suc i) + bridges (run (suc i) (drop (suc i) fs)) + f .spareBuses
+  subordinate-after i f e b =
+      let rest = drop (suc i) fs in
+      let below = run (suc i) rest in
+      let own : ownSpare f ≡ f .spareBuses = rw b in
+      let fits = spares-fit i f rest e in
+      let o = ordered-from fs (lawful .ordered) i in
+      let d : DepthFirst (o .allowed) (suc i) (f ∷ rest) = subst (DepthFirst (o .allowed) (suc i)) e (o .ordered) in
+      let earlier : f .parent ≤ i = omega (arith, o .bounded (f .parent) (d .0)) in
+      let upto : bridges (take (suc i + length below) fs) ≡ bridges (take (suc i) fs) + bridges below =
+      bridges-take-add (suc i) (length below) fs
+      ∙ ap (λ (l : List Function). bridges (take (suc i) fs) + bridges l) (take-front (λ g. leb (suc i) (g .parent)) rest) in
+      omega (
+        arith,
+        own,
+        fits .0,
+        fits .1,
+        upto,
+        bus-is first fs (suc i),
+        subordinate-is first fs i f rest e,
+        over-record fs i f rest e earlier,
+      )
 
   pub well-numbered : WellNumbered first fs
   well-numbered =

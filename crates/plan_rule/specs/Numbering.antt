@@ -18,6 +18,15 @@ unfoldable pub bridges : List Function → ℕ
 bridges [] = 0
 bridges (f ∷ fs) = weight f + bridges fs
 
+-- The same in document 02's words: so many bridges, and so many spare buses
+unfoldable pub bridgeCount : List Function → ℕ
+bridgeCount [] = 0
+bridgeCount (f ∷ fs) = cond (f .bridge) 1 0 + bridgeCount fs
+
+unfoldable pub spareCount : List Function → ℕ
+spareCount [] = 0
+spareCount (f ∷ fs) = ownSpare f + spareCount fs
+
 -- The spares of a record and of the bridges above it, which come later: one number for the host, then one for each record
 unfoldable pub oversFrom : List ℕ → List Function → List ℕ
 oversFrom acc [] = acc
@@ -38,7 +47,7 @@ lastBelow fs k = k + length (run k (drop k fs))
 unfoldable pub subordinateOf : ℕ → List Function → ℕ → ℕ
 subordinateOf first fs k = first + (bridges (take (lastBelow fs k) fs) - over fs (parentOf fs k))
 
--- A record with its numbers. `secondary` and `subordinate` are a bridge's
+-- A record with its numbers. `secondary`, `subordinate` and `spares` are a bridge's
 pub record Numbered : Type 0 where
   pub number : ℕ
   pub parent : ℕ
@@ -46,6 +55,7 @@ pub record Numbered : Type 0 where
   pub bus : ℕ
   pub secondary : ℕ
   pub subordinate : ℕ
+  pub spares : ℕ
 
 abbrev pub rowOf : ℕ → List Function → ℕ → Function → Numbered
 rowOf first all k f =
@@ -56,6 +66,7 @@ rowOf first all k f =
       bus = busNumber first all (f .parent);
       secondary = busNumber first all k;
       subordinate = subordinateOf first all k;
+      spares = ownSpare f;
     }
 
 unfoldable pub numberedFrom : ℕ → List Function → ℕ → List Function → List Numbered

@@ -6,7 +6,8 @@ use Prim.Native.Nat.{ℕ, zero, suc, _+_, _≤_, _<_}
 use native.Mathlib.Omega.{arith}
 use lib.ListN.{length, getD, take, drop, length-append}
 use Rattle.plan_rule.specs.Records.{Function}
-use Rattle.plan_rule.specs.Numbering.{weight, ownSpare, bridges, oversFrom, over}
+use Rattle.lists.specs.Lists.{front}
+use Rattle.plan_rule.specs.Numbering.{weight, ownSpare, bridges, bridgeCount, spareCount, oversFrom, over}
 
 pub bridges-take-suc : (i : ℕ) (l : List Function) (f : Function) (fs : List Function) → drop i l ≡ f ∷ fs
     → bridges (take (suc i) l) ≡ bridges (take i l) + weight f
@@ -28,6 +29,40 @@ bridges-take-mono zero j l h = omega arith
 bridges-take-mono (suc i) zero l h = absurd (omega arith)
 bridges-take-mono (suc i) (suc j) [] h = omega arith
 bridges-take-mono (suc i) (suc j) (g ∷ l) h = let k : i ≤ j = omega arith in omega (arith, bridges-take-mono i j l k)
+
+-- bridges and spare buses
+pub bridges-and-spares : (fs : List Function) → bridges fs ≡ bridgeCount fs + spareCount fs
+unfolding bridges bridgeCount spareCount
+bridges-and-spares [] = refl
+bridges-and-spares (f ∷ fs) = go (f .bridge) (bridges-and-spares fs)
+  where
+    go : (t : Bool) → bridges fs ≡ bridgeCount fs + spareCount fs
+        → cond t (suc (f .spareBuses)) 0 + bridges fs ≡ cond t 1 0 + bridgeCount fs + (cond t (f .spareBuses) 0 + spareCount fs)
+    go true e = omega arith
+    go false e = omega arith
+
+none-taken : (n : ℕ) → bridges (take n []) ≡ 0
+unfolding bridges
+none-taken zero = refl
+none-taken (suc n) = refl
+
+pub bridges-take-add : (a m : ℕ) (l : List Function) → bridges (take (a + m) l) ≡ bridges (take a l) + bridges (take m (drop a l))
+unfolding bridges
+bridges-take-add zero m l = let e : 0 + m ≡ m = omega arith in rw e (omega arith)
+bridges-take-add (suc a) m [] = let e : suc a + m ≡ suc (a + m) = omega arith in rw e (omega (arith, none-taken m))
+bridges-take-add (suc a) m (g ∷ l) =
+    let e : suc a + m ≡ suc (a + m) = omega arith in
+    rw e (omega (arith, bridges-take-add a m l))
+
+pub take-front : (p : Function → Bool) (l : List Function) → take (length (front p l)) l ≡ front p l
+unfolding front
+take-front p [] = refl
+take-front p (g ∷ l) = go (p g) (take-front p l)
+  where
+    go : (t : Bool) → take (length (front p l)) l ≡ front p l
+        → take (length (cond t (g ∷ front p l) [])) (g ∷ l) ≡ cond t (g ∷ front p l) []
+    go true e = ap (λ (m : List Function). g ∷ m) e
+    go false e = refl
 
 pub weight-own : (f : Function) → ownSpare f ≤ weight f
 weight-own f = go (f .bridge)

@@ -22,7 +22,7 @@ use Rattle.bar.specs.Header.{headerType, isBridge as isBridgeHeader}
 use Rattle.board_record.specs.declared.Span.{Span}
 use Rattle.board_record.specs.declared.Function.{Function}
 use Rattle.board_record.specs.Host.{hostOfPart, isOpen, outside, offEdges, poolWrong, hostWrong}
-use Rattle.board_record.specs.Function.{lengthFor, readbacksFor, functionOfPart, headerWrong, readbacksWrong}
+use Rattle.board_record.specs.Function.{lengthFor, readbacksFor, functionOfPart, wrongIn, headerWrong, readbacksWrong}
 use Rattle.board.specs.ToPlacing.{toHost, devfnOf}
 use Rattle.sheet.specs.Sheet.{allZero}
 use Rattle.plan_good.specs.Boards.{HostEdges}
@@ -87,11 +87,11 @@ readbacks-of-bytes header p b = go (isBridgeHeader header)
         record { six = refl; dwords = one (word 6) (one (word 10) later); rest-zero = refl }
 
 -- 24: the header type is 0 or 1
-type-of-header : (p : List ℕ) → headerWrong p ≡ false → getD p 3 0 % 128 ≤ 1
-unfolding headerWrong
-type-of-header p e =
+type-of-version : (version : ℕ) (p : List ℕ) → wrongIn version p ≡ false → getD p 3 0 % 128 ≤ 1
+unfolding wrongIn
+type-of-version version p e =
     let header = getD p 3 0 in
-    let right = eqb (length p) (lengthFor header) in
+    let right = eqb (length p) (lengthFor version header) in
     let tests = false-of-or (not (eqb (headerType header) 0) && not (isBridgeHeader header)) (not right) e in
     go (eqb (headerType header) 0) refl (isBridgeHeader header) refl (tests .0)
   where
@@ -100,6 +100,15 @@ type-of-header p e =
     go true h c k t = omega (arith, eqb-true (getD p 3 0 % 128) 0 h)
     go false h true k t = omega (arith, eqb-true (getD p 3 0 % 128) 1 k)
     go false h false k t = absurd (true≢false t)
+
+type-of-header : (p : List ℕ) → headerWrong p ≡ false → getD p 3 0 % 128 ≤ 1
+unfolding headerWrong
+type-of-header p e = go (wrongIn 1 p) (wrongIn 2 p) refl refl e
+  where
+    go : (s t : Bool) → wrongIn 1 p ≡ s → wrongIn 2 p ≡ t → s && t ≡ false → getD p 3 0 % 128 ≤ 1
+    go false t w u h = type-of-version 1 p w
+    go true false w u h = type-of-version 2 p u
+    go true true w u h = absurd (true≢false h)
 
 pub function-fits : (p : List ℕ) → Bytes p → headerWrong p ≡ false → readbacksWrong (functionOfPart p) ≡ false
     → FunctionFits (functionOfPart p)

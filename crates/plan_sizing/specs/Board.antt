@@ -17,24 +17,24 @@ use Rattle.plan_rule.specs.Sizing as placing
 use Rattle.plan_rule.specs.Sizing.{busLaid, functionLaid}
 use Rattle.plan_rule.specs.SizingLaws.{Ready}
 use Rattle.plan_sizing.specs.declared.Laid.{Laid}
-use Rattle.plan_sizing.specs.Functions.{slotsIn, functionsIn, setAt, functionAt}
+use Rattle.plan_sizing.specs.Functions.{slotsIn, headerIn, functionsIn, setAt, functionAt}
 use Rattle.plan_sizing.specs.Cut.{says, cut, Whole}
 use Rattle.plan_sizing.specs.Memo.{memoFrom, memoBetween}
 
 -- the arrays of a lawful board: long enough, depth-first, no more bridges above a function than may be, and no read-back unlawful
 pub record Board (ps hs ss : List ℕ) : Type 0 where
-  pub headers : length ps ≤ length hs
+  pub heads : length ps ≤ length hs
   pub readbacks : 6 * length ps ≤ length ss
   pub ordered : DepthFirst onlyHost 1 (functionsIn ps hs ss)
   pub shallow : (k : ℕ) → length (aboveByParents (functionsIn ps hs ss) k) ≤ mostAbove
-  pub readable : (i : ℕ) → i < length ps → anyBad (slotsIn (getD hs i 0) (setAt ss i)) ≡ false
+  pub readable : (i : ℕ) → i < length ps → anyBad (slotsIn (headerIn (getD hs i 0)) (setAt ss i)) ≡ false
 
 -- a function whose BARs can be laid out: it has its header type and its set, and no read-back is unlawful
 pub record OwnBars (hs ss : List ℕ) (l : Laid) : Type 0 where
-  pub header : l .next < length hs
+  pub head : l .next < length hs
   pub set : 6 * l .next + 6 ≤ length ss
   pub whole : Whole l
-  pub readable : anyBad (slotsIn (getD hs (l .next) 0) (setAt ss (l .next))) ≡ false
+  pub readable : anyBad (slotsIn (headerIn (getD hs (l .next) 0)) (setAt ss (l .next))) ≡ false
 
 -- is there a record at index i, and is it on bus b?
 abbrev pub isChild : List ℕ → ℕ → ℕ → Bool

@@ -23,7 +23,7 @@ use Rattle.plan_rule.specs.SizingLaws.{laid-ext, ready-start}
 use Rattle.plan_rule.specs.Cap.{cappedLaid, cap-bus-laid, out-of-pool-capped}
 use Rattle.plan_rule.specs.Refusals.{outOfPool}
 use Rattle.plan_sizing.specs.declared.Laid.{Laid}
-use Rattle.plan_sizing.specs.Functions.{functionsIn, functionAt}
+use Rattle.plan_sizing.specs.Functions.{headerIn, functionsIn, functionAt}
 use Rattle.plan_sizing.specs.FunctionsLaws.{functions-sized, length-functions, functions-at}
 use Rattle.plan_sizing.specs.Cut.{extentIn, cut}
 use Rattle.plan_sizing.specs.CutLaws.{says-of-cut, cut-of-capped, whole-of-cut}
@@ -93,8 +93,8 @@ out-of-pool-sized fs h bases memo memo' r lawful same b q l =
 
 -- what lies below each bridge can be read back
 pub stored-below : (ps hs ss memo memo' : List ℕ) (bases : Pool → ℕ) (r : Laid) → 8 * length ps ≤ length memo
-    → BoardSized (functionsIn ps hs ss) bases memo memo' r → (i : ℕ) → i < length ps → isBridge (getD hs i 0) ≡ true
-    → laidAt memo' i ≡ below (functionsIn ps hs ss) i
+    → BoardSized (functionsIn ps hs ss) bases memo memo' r → (i : ℕ) → i < length ps → isBridge (headerIn (getD hs i 0)) ≡ true
+    → laidAt memo' i ≡ below (functionsIn ps hs ss) i (functionAt ps hs ss i .spareLow)
 stored-below ps hs ss memo memo' bases r room b i h e =
     ap (λ (m : List ℕ). laidAt m i) (b .stored)
     ∙ laid-at-bridge (functionsIn ps hs ss) memo (omega (arith, length-functions ps hs ss)) i (functionAt ps hs ss i)

@@ -3,10 +3,10 @@
 use mathlib.Core.Path.{_≡_, refl, sym, ap, _∙_}
 use mathlib.Core.Bool.{Bool, true, false, true≢false, cond}
 use mathlib.Core.List.{List, _∷_}
-use Prim.Native.Nat.{ℕ, _+_, _≤_, _<_, max}
+use Prim.Native.Nat.{ℕ, _+_, _*_, _≤_, _<_, max}
 use native.Mathlib.Numerals.{add-one, add-two}
 use native.Mathlib.Omega.{arith}
-use borrow.Author.Tests.{ne-eqb}
+use borrow.Author.Tests.{eq-eqb, ne-eqb}
 use lib.ListN.{length, drop, drop-of-length-le}
 use Rattle.pools.specs.declared.Pool.{Pool}
 use Rattle.pools.specs.declared.Pool.the-variants.{Low, High, Io}
@@ -22,7 +22,7 @@ use Rattle.plan_rule.specs.Pieces.{windowSize, windowAlign}
 use Rattle.plan_rule.specs.Records as records
 use Rattle.plan_rule.specs.declared.Extent.{Extent}
 use Rattle.plan_rule.specs.Sizing as placing
-use Rattle.plan_rule.specs.Sizing.{grow, withBars, withWindow}
+use Rattle.plan_rule.specs.Sizing.{grow, withBars, withWindow, spared}
 use Rattle.plan_rule.specs.SizingLaws.{laid-ext}
 use Rattle.plan_rule.specs.Cap.{cap, capped, cap-cap, cap-align, cappedLaid, cap-with-bars}
 use Rattle.plan_sizing.specs.declared.Laid.{Laid}
@@ -79,6 +79,16 @@ with-bar-at Io size l e w g = λ i. record { next = l .next; low = whole-in l w 
 
 cap-add-bars : (bs : List records.Bar) (m : placing.Laid) → AllSized bs → cappedLaid (addBars bs (cappedLaid m)) ≡ cappedLaid (addBars bs m)
 cap-add-bars bs m h = laid-ext _ _ refl (λ q. cap-with-bars q (m .extent q) bs h)
+
+-- spare room moves the low pool only, and none moves nothing
+pub with-spare-at : (n : ℕ) (l : Laid) (e : Extent) → Whole l → (n ≡ 0 → ⊥) → e ≡ capped (grow (l .low) (n * 1048576) 1048576)
+    → withExtent l Low e ≡ cut (spared n (says l))
+with-spare-at n l e w z g =
+    rw (ne-eqb n 0 z) (λ i. record { next = l .next; low = g i; high = whole-in l w High i; io = whole-in l w Io i })
+
+pub with-spare-none : (n : ℕ) (l : Laid) → Whole l → n ≡ 0 → l ≡ cut (spared n (says l))
+with-spare-none n l w z =
+    rw (eq-eqb n 0 z) (λ i. record { next = l .next; low = whole-in l w Low i; high = whole-in l w High i; io = whole-in l w Io i })
 
 pub cut-add-bars : (bs : List records.Bar) (m : placing.Laid) → AllSized bs → cut (addBars bs (says (cut m))) ≡ cut (addBars bs m)
 cut-add-bars bs m h =

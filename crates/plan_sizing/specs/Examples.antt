@@ -19,7 +19,7 @@ use Rattle.plan_sizing.specs.Board.{basesOf, rootFrom}
 -- a board's three arrays and its pools' bases; what the root bus comes to, as numbers, and what is stored
 pub record Row : Type 0 where
   pub parents : List ℕ
-  pub headers : List ℕ
+  pub heads : List ℕ
   pub readbacks : List ℕ
   pub low : ℕ
   pub high : ℕ
@@ -28,14 +28,14 @@ pub record Row : Type 0 where
   pub stored : List ℕ
 
 abbrev pub functionsOf : Row → List Function
-functionsOf r = functionsIn (r .parents) (r .headers) (r .readbacks)
+functionsOf r = functionsIn (r .parents) (r .heads) (r .readbacks)
 
 abbrev pub rows : List Row
 rows =
     -- P10: a bridge, and behind it a function with BARs of 4 KiB low, 64 MiB high and 256 I/O addresses
     record {
       parents = 0 ∷ 1 ∷ [];
-      headers = 1 ∷ 0 ∷ [];
+      heads = 1 ∷ 0 ∷ [];
       readbacks = 0 ∷ 0 ∷ 0 ∷ 0 ∷ 0 ∷ 0 ∷ 4294963200 ∷ 4227858444 ∷ 4294967295 ∷ 4294967041 ∷ 0 ∷ 0 ∷ [];
       low = 4177526784;
       high = 9663676416;
@@ -46,7 +46,7 @@ rows =
     -- a bridge with a BAR of 1 MiB of its own, and behind it 2 MiB: the BAR, a gap of 1 MiB, the window; then a function of 128 bytes
     ∷ record {
       parents = 0 ∷ 1 ∷ 0 ∷ [];
-      headers = 129 ∷ 0 ∷ 0 ∷ [];
+      heads = 129 ∷ 0 ∷ 0 ∷ [];
       readbacks = 4293918720 ∷ 0 ∷ 0 ∷ 0 ∷ 0 ∷ 0 ∷ 4292870144 ∷ 0 ∷ 0 ∷ 0 ∷ 0 ∷ 0 ∷ 4294967168 ∷ 0 ∷ 0 ∷ 0 ∷ 0 ∷ 0 ∷ [];
       low = 0;
       high = 4294967296;
@@ -57,7 +57,7 @@ rows =
     -- two BARs of 2^63 behind a bridge: the end is kept as 2^62, the alignment whole
     ∷ record {
       parents = 0 ∷ 1 ∷ [];
-      headers = 1 ∷ 0 ∷ [];
+      heads = 1 ∷ 0 ∷ [];
       readbacks = 0 ∷ 0 ∷ 0 ∷ 0 ∷ 0 ∷ 0 ∷ 12 ∷ 2147483648 ∷ 12 ∷ 2147483648 ∷ 0 ∷ 0 ∷ [];
       low = 0;
       high = 4294967296;

@@ -1,6 +1,6 @@
--- A board's functions, as three arrays say them: the parent record and the header type byte of each, and its set of six read-backs.
--- Assumes nothing.
-use Prim.Native.Nat.{ℕ, _*_}
+-- A board's functions, as three arrays say them: the parent record of each, its head, which is its header type byte and above it its spares,
+-- and its set of six read-backs. Assumes nothing.
+use Prim.Native.Nat.{ℕ, _*_, _/_, _%_}
 use mathlib.Core.List.{List, [], _∷_}
 use lib.ListN.{getD, take, drop}
 use Rattle.bar.specs.declared.Slot.{Slot}
@@ -13,8 +13,22 @@ use Rattle.plan_rule.specs.Records.{Function}
 abbrev pub slotsIn : ℕ → List ℕ → List Slot
 slotsIn header set = slots (take (slotCount header) set)
 
+-- what a head says
+abbrev pub headerIn : ℕ → ℕ
+headerIn head = head % 256
+
+abbrev pub sparesIn : ℕ → ℕ
+sparesIn head = head / 256
+
 abbrev pub functionIn : ℕ → ℕ → List ℕ → Function
-functionIn parent header set = record { parent = parent; bridge = isBridge header; bars = barsFrom 0 (slotsIn header set) }
+functionIn parent head set =
+    record {
+      parent = parent;
+      bridge = isBridge (headerIn head);
+      bars = barsFrom 0 (slotsIn (headerIn head) set);
+      spareLow = sparesIn head % 65536;
+      spareBuses = sparesIn head / 65536;
+    }
 
 -- all of them, as many as there are parents
 unfoldable pub functionsIn : List ℕ → List ℕ → List ℕ → List Function

@@ -5,7 +5,7 @@ use mathlib.Core.List.{List, [], _∷_, _++_}
 use Prim.Native.Nat.{ℕ, suc, _+_, _-_, _*_}
 use lib.ListN.{getD, take, drop}
 use Rattle.plan_rule.specs.Records.{Function}
-use Rattle.plan_rule.specs.Sizing.{busLaid, laidFrom}
+use Rattle.plan_rule.specs.Sizing.{busLaid, laidFrom, spared}
 use Rattle.plan_sizing.specs.declared.Laid.{Laid}
 use Rattle.plan_sizing.specs.Cut.{cut}
 
@@ -27,12 +27,12 @@ laidAt m i =
       io = record { end = getD m (8 * i + 5) 0; align = getD m (8 * i + 6) 0 };
     }
 
--- the bus below the bridge at index i
-abbrev pub below : List Function → ℕ → Laid
-below fs i = cut (busLaid fs (suc i) (laidFrom (suc i)))
+-- the bus below the bridge at index i, with n MiB of spare room
+abbrev pub below : List Function → ℕ → ℕ → Laid
+below fs i n = cut (spared n (busLaid fs (suc i) (laidFrom (suc i))))
 
 abbrev pub memoOf : List Function → ℕ → Function → List ℕ
-memoOf fs i f = cond (f .bridge) (numbersOf (below fs i)) noNumbers
+memoOf fs i f = cond (f .bridge) (numbersOf (below fs i (f .spareLow))) noNumbers
 
 -- the numbers of the records gs, the first of which is at index i of fs
 unfoldable pub memoFrom : List Function → ℕ → List Function → List ℕ

@@ -35,7 +35,7 @@ sets-before o i (v ∷ vs) j ws h =
 pub length-memo-of : (fs : List Function) (i : ℕ) (f : Function) → length (memoOf fs i f) ≡ 8
 length-memo-of fs i f = go (f .bridge)
   where
-    go : (t : Bool) → length (cond t (numbersOf (below fs i)) noNumbers) ≡ 8
+    go : (t : Bool) → length (cond t (numbersOf (below fs i (f .spareLow))) noNumbers) ≡ 8
     go true = refl
     go false = refl
 
@@ -105,7 +105,8 @@ module _ (fs : List Function) (o : List ℕ) where
       p ∙ ap (sets o (8 * i)) (sym (memo-between-cons fs i (suc i) f e (omega arith) ∙ n))
 
   -- a bridge, stored after the records below it
-  pub memo-bridge : {o₁ o₂ : List ℕ} (i k : ℕ) (f : Function) (inner : Laid) → IsAt fs i f → f .bridge ≡ true → i < k → inner ≡ below fs i
+  pub memo-bridge : {o₁ o₂ : List ℕ} (i k : ℕ) (f : Function) (inner : Laid) → IsAt fs i f → f .bridge ≡ true → i < k
+      → inner ≡ below fs i (f .spareLow)
       → o₁ ≡ sets o (8 * (i + 1)) (memoBetween fs (i + 1) k) → o₂ ≡ sets o₁ (8 * i) (numbersOf inner) → o₂
       ≡ sets o (8 * i) (memoBetween fs i k)
   memo-bridge i k f inner e b h g p q =
@@ -141,7 +142,7 @@ module _ (fs : List Function) (o : List ℕ) where
         ∙ List·getD-append (memoOf fs i f) (memoBetween fs (suc i) n) 0 k (omega (arith, length-memo-of fs i f))
 
     -- what lies below a bridge is read back
-    pub laid-at-bridge : f .bridge ≡ true → laidAt (sets o 0 (memoFrom fs 0 fs)) i ≡ below fs i
+    pub laid-at-bridge : f .bridge ≡ true → laidAt (sets o 0 (memoFrom fs 0 fs)) i ≡ below fs i (f .spareLow)
     laid-at-bridge b =
         λ j.
         record {
@@ -151,8 +152,8 @@ module _ (fs : List Function) (o : List ℕ) where
           io = record { end = each 5 (omega arith) j; align = each 6 (omega arith) j };
         }
       where
-        each : (k : ℕ) → k < 8 → getD (sets o 0 (memoFrom fs 0 fs)) (8 * i + k) 0 ≡ getD (numbersOf (below fs i)) k 0
-        each k l = memo-at k l ∙ ap (λ (t : Bool). getD (cond t (numbersOf (below fs i)) noNumbers) k 0) b
+        each : (k : ℕ) → k < 8 → getD (sets o 0 (memoFrom fs 0 fs)) (8 * i + k) 0 ≡ getD (numbersOf (below fs i (f .spareLow))) k 0
+        each k l = memo-at k l ∙ ap (λ (t : Bool). getD (cond t (numbersOf (below fs i (f .spareLow))) noNumbers) k 0) b
 
-        first : getD (sets o 0 (memoFrom fs 0 fs)) (8 * i) 0 ≡ below fs i .next
+        first : getD (sets o 0 (memoFrom fs 0 fs)) (8 * i) 0 ≡ below fs i (f .spareLow) .next
         first = rw (add-zero (8 * i)) at (each 0 (omega arith))

@@ -2,7 +2,7 @@
 // what lies below each bridge is stored on the way, so that the placing pass sizes nothing again.
 ghost use mathlib.Core.Path.{_≡_};
 ghost use mathlib.Core.Bool.{false};
-ghost use Prim.Native.Nat.{_+_, _*_, _≤_, _<_};
+ghost use Prim.Native.Nat.{_+_, _*_, _%_, _≤_, _<_};
 ghost use lib.ListN.{length, getD, take};
 ghost use lib.Seq.{sets};
 ghost use Rattle.pools.specs.declared.Pool.{Pool as PoolName};
@@ -11,8 +11,8 @@ ghost use Rattle.bar.specs.Bars.{barsFrom};
 ghost use Rattle.plan_rule.specs.Align.{PowerOfTwo};
 ghost use Rattle.plan_rule.specs.Cap.{capped};
 ghost use Rattle.plan_rule.specs.Pieces.{windowAlign};
-ghost use Rattle.plan_rule.specs.Sizing.{grow as growOf, withWindow, barsLaid, windowLaid, laidFrom, endsPast};
-ghost use Rattle.plan_sizing.specs.Functions.{functionIn, functionsIn, setAt};
+ghost use Rattle.plan_rule.specs.Sizing.{grow as growOf, withWindow, barsLaid, windowLaid, spared, laidFrom, endsPast};
+ghost use Rattle.plan_sizing.specs.Functions.{headerIn, sparesIn, functionIn, functionsIn, setAt};
 ghost use Rattle.plan_sizing.specs.Cut.{extentIn, says, cut, Whole, addBar, addSlot, addBars};
 ghost use Rattle.plan_sizing.specs.Memo.{numbersOf, laidAt};
 ghost use Rattle.plan_sizing.specs.Board.{Board, OwnBars, isChild, Standing, BusSized, FunctionSized, basesOf, rootFrom, BoardSized};
@@ -32,25 +32,25 @@ pub struct Laid {
 const DEEPEST: usize = records::MOST_ABOVE + 1;
 
 // Every bus of the board, in one pass: what the root bus comes to from the pools' bases, and in `memo`, eight numbers for each function,
-// what lies below each bridge. Function i has its parent record and its header type byte at i, its six read-backs at 6 * i, its numbers at
-// 8 * i.
+// what lies below each bridge. Function i has its parent record and its head at i, its six read-backs at 6 * i, its numbers at 8 * i. A head
+// is a header type byte and, above it, the spares of a bridge.
 pub fn size_board(
     parents: &[u16],
-    headers: &[u8],
+    heads: &[u32],
     readbacks: &[u32],
     memo: &mut [u64],
     base_low: u64,
     base_high: u64,
     base_io: u64,
 ) -> Laid
-    requires { ⌜ Board (now parents) (now headers) (now readbacks) × (8 * length (now parents) ≤ length (now memo)) ⌝ }
+    requires { ⌜ Board (now parents) (now heads) (now readbacks) × (8 * length (now parents) ≤ length (now memo)) ⌝ }
     ensures { λ r. ⌜
-        BoardSized (functionsIn (now (parents .entry)) (now (headers .entry)) (now (readbacks .entry)))
+        BoardSized (functionsIn (now (parents .entry)) (now (heads .entry)) (now (readbacks .entry)))
         (basesOf «base_low» «base_high» «base_io») (now (memo .entry)) (now (memo .exit)) r
         ⌝ }
 {
     let start = root_from(base_low, base_high, base_io);
-    bus_size(parents, headers, readbacks, memo, 0, DEEPEST, start)
+    bus_size(parents, heads, readbacks, memo, 0, DEEPEST, start)
 }
 
 // What was stored of the function at index i.
@@ -94,46 +94,47 @@ pub fn ends_past(last: u64, e: Extent) -> bool
 // `depth` is what remains: a bus may lie so many bridges below this one. It falls at each bridge, and so do the records left.
 fn bus_size(
     parents: &[u16],
-    headers: &[u8],
+    heads: &[u32],
     readbacks: &[u32],
     memo: &mut [u64],
     bus: usize,
     depth: usize,
     start: Laid,
 ) -> Laid
-    requires { ⌜ Standing (now parents) (now headers) (now readbacks) (now memo) bus depth start ⌝ }
+    requires { ⌜ Standing (now parents) (now heads) (now readbacks) (now memo) bus depth start ⌝ }
     ensures { λ r. ⌜
-        BusSized (now (parents .entry)) (now (headers .entry)) (now (readbacks .entry)) (now (memo .entry)) (now (memo .exit)) bus start r
+        BusSized (now (parents .entry)) (now (heads .entry)) (now (readbacks .entry)) (now (memo .entry)) (now (memo .exit)) bus start r
         ⌝ }
 {
     let mut l = start;
     while is_child(parents, l.next, bus) {
-        l = function_size(parents, headers, readbacks, memo, depth, l);
+        l = function_size(parents, heads, readbacks, memo, depth, l);
     }
     l
 }
 
 fn function_size(
     parents: &[u16],
-    headers: &[u8],
+    heads: &[u32],
     readbacks: &[u32],
     memo: &mut [u64],
     depth: usize,
     l: Laid,
 ) -> Laid
     requires { ⌜
-        Standing (now parents) (now headers) (now readbacks) (now memo) (getD (now parents) (l .next) 0) depth l
+        Standing (now parents) (now heads) (now readbacks) (now memo) (getD (now parents) (l .next) 0) depth l
         × (l .next < length (now parents))
         ⌝ }
     ensures { λ r. ⌜
-        FunctionSized (now (parents .entry)) (now (headers .entry)) (now (readbacks .entry)) (now (memo .entry)) (now (memo .exit)) l r
+        FunctionSized (now (parents .entry)) (now (heads .entry)) (now (readbacks .entry)) (now (memo .entry)) (now (memo .exit)) l r
         ⌝ }
 {
     let i = l.next;
-    let own = own_bars(headers, readbacks, l);
-    if bar::is_bridge(headers[i]) {
+    let own = own_bars(heads, readbacks, l);
+    if bar::is_bridge(header_at(heads, i)) {
         let inside = laid_from(i + 1);
-        let inner = bus_size(parents, headers, readbacks, memo, i + 1, depth - 1, inside);
+        let bus = bus_size(parents, heads, readbacks, memo, i + 1, depth - 1, inside);
+        let inner = with_spare(bus, spare_at(heads, i));
         store(memo, i, inner);
         return with_windows(own, inner);
     }
@@ -144,14 +145,14 @@ fn function_size(
 // ---- the items of a function: its BARs, then its windows
 
 // The next function's own BARs: items of its own bus, a bridge's too.
-fn own_bars(headers: &[u8], readbacks: &[u32], l: Laid) -> Laid
-    requires { ⌜ OwnBars (now headers) (now readbacks) l ⌝ }
+fn own_bars(heads: &[u32], readbacks: &[u32], l: Laid) -> Laid
+    requires { ⌜ OwnBars (now heads) (now readbacks) l ⌝ }
     ensures { λ r. ⌜
-        r ≡ cut (barsLaid (functionIn 0 (getD (now (headers .entry)) (l .next) 0) (setAt (now (readbacks .entry)) (l .next))) (says l))
+        r ≡ cut (barsLaid (functionIn 0 (getD (now (heads .entry)) (l .next) 0) (setAt (now (readbacks .entry)) (l .next))) (says l))
         ⌝ }
 {
     let i = l.next;
-    let count = bar::slot_count(headers[i]);
+    let count = bar::slot_count(header_at(heads, i));
     let own = with_bars(l, set_at(readbacks, i), count);
     let low = own.low;
     let high = own.high;
@@ -232,6 +233,25 @@ fn with_windows(l: Laid, inner: Laid) -> Laid
     }
 }
 
+// With so many MiB of spare room at the end of the low pool.
+fn with_spare(l: Laid, spare: u64) -> Laid
+    requires { ⌜ Whole l × (spare < 65536) ⌝ }
+    ensures { λ r. ⌜ r ≡ cut (spared spare (says l)) ⌝ }
+{
+    if spare == 0 {
+        return l;
+    }
+    let low = l.low;
+    let high = l.high;
+    let io = l.io;
+    Laid {
+        next: l.next,
+        low: grow(low, spare * 1048576, 1048576),
+        high: high,
+        io: io,
+    }
+}
+
 // A bridge's window over what its bus comes to: none where there is nothing inside.
 fn with_window(q: Pool, e: Extent, inner: Extent) -> Extent
     requires { ⌜ PowerOfTwo (windowAlign q (inner .align)) ⌝ }
@@ -268,6 +288,21 @@ fn is_child(parents: &[u16], i: usize, bus: usize) -> bool
         return parents[i] as usize == bus;
     }
     false
+}
+
+// The header type byte of function i, and its spare room in MiB.
+fn header_at(heads: &[u32], i: usize) -> u8
+    requires { ⌜ i < length (now heads) ⌝ }
+    ensures { λ r. ⌜ r ≡ headerIn (getD (now (heads .entry)) i 0) ⌝ }
+{
+    (heads[i] % 256) as u8
+}
+
+fn spare_at(heads: &[u32], i: usize) -> u64
+    requires { ⌜ i < length (now heads) ⌝ }
+    ensures { λ r. ⌜ (r ≡ sparesIn (getD (now (heads .entry)) i 0) % 65536) × (r < 65536) ⌝ }
+{
+    (heads[i] / 256 % 65536) as u64
 }
 
 fn set_at(readbacks: &[u32], i: usize) -> [u32; 6]

@@ -1,59 +1,115 @@
--- The counts of bridges: the pass that stores them, and that the k-th is the number of bridges among the first k functions. Assumes
--- nothing.
+-- The pass that counts bus numbers: it starts, a function is one turn, and at the end all are counted. Assumes nothing.
 use mathlib.Core.Path.{_≡_, refl, sym, ap, _∙_}
+use mathlib.Core.Logic.{⊎-elim}
+use mathlib.Core.Bool.{Bool, true, false, cond}
 use mathlib.Core.List.{List, [], _∷_}
-use Prim.Native.Nat.{ℕ, zero, suc, _+_, _≤_, _<_}
-use native.Mathlib.Nat.{add-zero, zero-add, add-assoc}
+use Prim.Native.Nat.{ℕ, zero, suc, _+_, _*_, _/_, _%_, _≤_, _<_}
+use native.Mathlib.Nat.{add-zero}
 use native.Mathlib.Numerals.{add-one}
 use native.Mathlib.Omega.{arith}
-use lib.ListN.{length, getD, take, drop, set, drop-of-length-le}
-use lib.Seq.{sets, drop-cons}
-use Rattle.endian.specs.SetsLaws.{getD-sets-at}
-use Rattle.plan_rule.specs.Numbering.{bridges}
-use Rattle.plan_sizing.specs.Functions.{functionsIn}
-use Rattle.plan_tables.specs.Counts.{weightOf, countsFrom, countsOf}
+use lib.ListN.{length, getD, take, drop}
+use lib.Seq.{sets, take-length}
+use Rattle.endian.specs.SetsLaws.{getD-sets-before, getD-sets-at}
+use Rattle.plan_rule.specs.Order.{eq-or-ne}
+use Rattle.plan_rule.specs.Records.{Function}
+use Rattle.plan_rule.specs.RecordLaws.{IsAt}
+use Rattle.plan_rule.specs.Numbering.{weight, ownSpare, bridges, over}
+use Rattle.plan_rule.specs.NumberingLaws.{bridges-take-suc, over-host, over-record}
+use Rattle.plan_sizing.specs.Functions.{functionsIn, functionAt}
+use Rattle.plan_sizing.specs.FunctionsLaws.{length-functions, functions-at}
+use Rattle.plan_tables.specs.Counts.{spareOf, weightOf, CountedAt, Counted, Countable, AllCounted, Counting}
 
--- ---- the pass: n bridges are before index i, and the counts before it are stored
+mod-again : (a b : ℕ) → (a % 256 + b) % 256 ≡ (a + b) % 256
+mod-again a b = omega arith
 
-module _ {r : List ℕ} (cs hs : List ℕ) (i n : ℕ) (e : sets cs i (countsFrom n (drop i hs)) ≡ r) where
-  pub counts-turn : (w : ℕ) → w ≡ weightOf (getD hs i 0) → i < length hs
-      → sets (set cs i n) (i + 1) (countsFrom (n + w) (drop (i + 1) hs)) ≡ r
-  unfolding countsFrom
-  counts-turn w q h =
-      let more : drop i hs ≡ getD hs i 0 ∷ drop (suc i) hs = drop-cons hs i 0 h in
-      rw (q, add-one i) (rw more at e)
+-- ---- two numbers stored
 
-  pub counts-end : length hs ≤ i → set cs i n ≡ r
-  unfolding countsFrom
-  counts-end h = rw (drop-of-length-le hs {i = i} h) at e
+module _ (c : List ℕ) (k x y : ℕ) (room : 2 * k + 2 ≤ length c) where
+  stored-first : getD (sets c (2 * k) (x ∷ y ∷ [])) (2 * k) 0 ≡ x
+  stored-first =
+      ap (λ (j : ℕ). getD (sets c (2 * k) (x ∷ y ∷ [])) j 0) (sym (add-zero (2 * k)))
+      ∙ getD-sets-at c (2 * k) (x ∷ y ∷ []) 0 0 (omega arith) (omega arith)
 
--- ---- what is stored
+  stored-second : getD (sets c (2 * k) (x ∷ y ∷ [])) (2 * k + 1) 0 ≡ y
+  stored-second = getD-sets-at c (2 * k) (x ∷ y ∷ []) 1 0 (omega arith) (omega arith)
 
-pub length-counts : (n : ℕ) (hs : List ℕ) → length (countsFrom n hs) ≡ suc (length hs)
-unfolding countsFrom
-length-counts n [] = refl
-length-counts n (h ∷ hs) = ap suc (length-counts (n + weightOf h) hs)
+module _ (fs : List Function) (c : List ℕ) where
+  counted-start : {c' : List ℕ} → c' ≡ sets c 0 (0 ∷ 0 ∷ []) → 2 ≤ length c → Counted fs c' 0
+  unfolding bridges
+  counted-start e room k l =
+      let z : k ≡ 0 = omega arith in
+      rw (z, e)
+      (record {
+        taken-is = stored-first c 0 0 0 (omega arith);
+        over-is = stored-second c 0 0 0 (omega arith) ∙ ap (λ (n : ℕ). n % 256) (sym (over-host fs));
+      })
 
-getD-counts-from : (ps hs ss : List ℕ) (n k : ℕ) → length ps ≤ length hs → k ≤ length ps
-    → getD (countsFrom n hs) k 0 ≡ n + bridges (take k (functionsIn ps hs ss))
-unfolding countsFrom functionsIn bridges
-getD-counts-from ps [] ss n zero l h = sym (add-zero n)
-getD-counts-from ps (x ∷ hs) ss n zero l h = sym (add-zero n)
-getD-counts-from [] hs ss n (suc k) l h = absurd (omega arith)
-getD-counts-from (p ∷ ps) [] ss n (suc k) l h = absurd (omega arith)
-getD-counts-from (p ∷ ps) (x ∷ hs) ss n (suc k) l h =
-    getD-counts-from ps hs (drop 6 ss) (n + weightOf x) k (omega arith) (omega arith)
-    ∙ add-assoc n (weightOf x) (bridges (take k (functionsIn ps hs (drop 6 ss))))
+  counted-next : {c' : List ℕ} {x y : ℕ} (i : ℕ) → Counted fs c i → c' ≡ sets c (2 * (i + 1)) (x ∷ y ∷ []) → 2 * (i + 1) + 2 ≤ length c
+      → x ≡ bridges (take (i + 1) fs) % 256 → y ≡ over fs (i + 1) % 256 → Counted fs c' (i + 1)
+  counted-next {c'} {x} {y} i h e room p q k l = rw e (⊎-elim here before (eq-or-ne k (i + 1)))
+    where
+      here : k ≡ i + 1 → CountedAt fs (sets c (2 * (i + 1)) (x ∷ y ∷ [])) k
+      here z =
+          rw z
+          (record {
+            taken-is = stored-first c (i + 1) x y room ∙ p;
+            over-is = stored-second c (i + 1) x y room ∙ q;
+          })
 
--- the k-th count is that of the bridges among the first k functions
-pub getD-counts : (ps hs ss : List ℕ) (k : ℕ) → length ps ≤ length hs → k ≤ length ps
-    → getD (countsOf hs) k 0 ≡ bridges (take k (functionsIn ps hs ss))
-getD-counts ps hs ss k l h = getD-counts-from ps hs ss 0 k l h ∙ zero-add (bridges (take k (functionsIn ps hs ss)))
+      before : (k ≡ i + 1 → ⊥) → CountedAt fs (sets c (2 * (i + 1)) (x ∷ y ∷ [])) k
+      before n =
+          record {
+            taken-is = getD-sets-before c (2 * (i + 1)) (x ∷ y ∷ []) (2 * k) 0 (omega arith) ∙ h k (omega arith) .taken-is;
+            over-is = getD-sets-before c (2 * (i + 1)) (x ∷ y ∷ []) (2 * k + 1) 0 (omega arith) ∙ h k (omega arith) .over-is;
+          }
 
--- the same of the array that they were stored in
-pub getD-counted : {cs' : List ℕ} (cs ps hs ss : List ℕ) (k : ℕ) → cs' ≡ sets cs 0 (countsOf hs) → length hs < length cs
-    → length ps ≤ length hs → k ≤ length ps → getD cs' k 0 ≡ bridges (take k (functionsIn ps hs ss))
-getD-counted cs ps hs ss k e room l h =
-    let none : 0 + k ≡ k = zero-add k in
-    let at = getD-sets-at cs 0 (countsOf hs) k 0 (omega (arith, length-counts 0 hs)) (omega arith) in
-    ap (λ (c : List ℕ). getD c k 0) e ∙ ap (λ (j : ℕ). getD (sets cs 0 (countsOf hs)) j 0) (sym none) ∙ at ∙ getD-counts ps hs ss k l h
+-- ---- in the words of the code
+
+pub counting-start : (ps hs ss c : List ℕ) {c' : List ℕ} → c' ≡ sets c 0 (0 ∷ 0 ∷ []) → 2 ≤ length c
+    → Counting (functionsIn ps hs ss) c' 0 0
+unfolding bridges
+counting-start ps hs ss c e room = record { counted = counted-start (functionsIn ps hs ss) c e room; taken = refl }
+
+module _ (ps hs ss : List ℕ) {c : List ℕ} {i t : ℕ} (s : Counting (functionsIn ps hs ss) c i t) (earlier : getD ps i 0 ≤ i)
+    (inside : i < length ps) where
+  abbrev fs : List Function
+  fs = functionsIn ps hs ss
+
+  abbrev f : Function
+  f = functionAt ps hs ss i
+
+  at : IsAt fs i f
+  at = functions-at ps hs ss i inside
+
+  -- o is what was read of the parent, w and z what the function's head says
+  pub counting-turn : {c' : List ℕ} (o w z : ℕ) → o ≡ getD c (2 * getD ps i 0 + 1) 0 → w ≡ weightOf (getD hs i 0) → z ≡ spareOf (getD hs i 0)
+      → c' ≡ sets c (2 * (i + 1)) ((t + w) % 256 ∷ (o + z) % 256 ∷ []) → 2 * (i + 1) + 2 ≤ length c → Counting fs c' (i + 1) (t + w)
+  counting-turn o w z read weighs spares e room =
+      record {
+        counted = counted-next fs c i (s .counted) e room (ap (λ (n : ℕ). n % 256) more) over-more;
+        taken = more;
+      }
+    where
+      more : t + w ≡ bridges (take (i + 1) fs)
+      more =
+          ap (λ (n : ℕ). t + n) weighs ∙ ap (λ (n : ℕ). n + weight f) (s .taken)
+          ∙ sym (bridges-take-suc i fs f (drop (suc i) fs) at)
+          ∙ ap (λ (n : ℕ). bridges (take n fs)) (sym (add-one i))
+
+      over-more : (o + z) % 256 ≡ over fs (i + 1) % 256
+      over-more =
+          ap (λ (n : ℕ). (o + n) % 256) spares
+          ∙ ap (λ (n : ℕ). (n + ownSpare f) % 256) (read ∙ s .counted (f .parent) earlier .over-is)
+          ∙ mod-again (over fs (f .parent)) (ownSpare f)
+          ∙ ap (λ (n : ℕ). n % 256) (sym (over-record fs i f (drop (suc i) fs) at earlier))
+          ∙ ap (λ (n : ℕ). over fs n % 256) (sym (add-one i))
+
+pub counting-end : (ps hs ss : List ℕ) {c : List ℕ} {i t : ℕ} → Counting (functionsIn ps hs ss) c i t → i ≡ length ps
+    → AllCounted (functionsIn ps hs ss) c (length ps) t
+counting-end ps hs ss {c} {i} {t} s e =
+    let fs = functionsIn ps hs ss in
+    let all : i ≡ length fs = e ∙ sym (length-functions ps hs ss) in
+    record {
+      counted = rw e at (s .counted);
+      all = s .taken ∙ ap (λ (n : ℕ). bridges (take n fs)) all ∙ ap bridges (take-length fs);
+    }

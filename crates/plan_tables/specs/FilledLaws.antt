@@ -1,32 +1,36 @@
 -- What the filled arrays say is the board's functions, and sizing may take them. Assumes nothing.
 use mathlib.Core.Path.{_≡_, refl, sym, ap, ap₂, _∙_, subst}
-use mathlib.Core.Bool.{false}
+use mathlib.Core.Bool.{Bool, false, cond}
 use mathlib.Core.List.{List, [], _∷_, _++_, map, flatMap}
-use Prim.Native.Nat.{ℕ, zero, suc, _+_, _*_, _≤_, _<_}
+use Prim.Native.Nat.{ℕ, zero, suc, _+_, _*_, _/_, _%_, _≤_, _<_}
+use lib.Dec.{eqb}
 use native.Mathlib.Omega.{arith}
 use lib.ListN.{length, getD, take, drop, length-map, length-append}
 use lib.Seq.{sets, sets-eq, length-sets, length-take-le, take-at, drop-at, drop-append-add}
 use Rattle.records.specs.Records.{partsOf, partsFrom}
 use Rattle.records.specs.RecordsLaws.{false-of-or}
 use Rattle.records.specs.Limits.{mostFunctions}
-use Rattle.bar.specs.Bar.{anyBad}
+use Rattle.bar.specs.Bar.{slots, anyBad}
+use Rattle.bar.specs.Bars.{barsFrom}
+use Rattle.bar.specs.Header.{isBridge as isBridgeHeader}
 use Rattle.lists.specs.Lists.{All, any}
 use Rattle.plan_rule.specs.Records as placing
 use Rattle.plan_rule.specs.Records.{DepthFirst, onlyHost}
-use Rattle.plan_rule.specs.Numbering.{bridges}
+use Rattle.plan_rule.specs.RecordLaws.{ordered-from}
 use Rattle.board_record.specs.declared.Function.{Function}
-use Rattle.board_record.specs.Function.{functionOfPart, readbacksWrong}
+use Rattle.board_record.specs.Function.{functionOfPart, isBridge, readbacksWrong}
 use Rattle.board_record.specs.FunctionLaws.{length-readbacks}
 use Rattle.board.specs.Board.{boardNumber, functionsOf}
 use Rattle.board.specs.BoardLaws.{accepted-of-zero}
 use Rattle.board.specs.ToPlacing.{toFunction, toPlacing}
 use Rattle.board.specs.ToPlacingLaws.{lawful-of-accepted}
 use Rattle.board.specs.Depth.{few-above-of-accepted}
-use Rattle.plan_sizing.specs.Functions.{slotsIn, functionIn, functionsIn, setAt}
+use Rattle.plan_sizing.specs.Functions.{slotsIn, headerIn, sparesIn, functionIn, functionsIn, setAt}
+use Rattle.plan_sizing.specs.FunctionsLaws.{functions-at}
+use Rattle.plan_sizing.specs.BusLaws.{lawful-of-board}
 use Rattle.plan_sizing.specs.Board.{Board}
-use Rattle.plan_tables.specs.Tables.{parentsOf, headersOf, readbacksOf, Room, Filled}
-use Rattle.plan_tables.specs.Counts.{countsOf}
-use Rattle.plan_tables.specs.CountsLaws.{getD-counted}
+use Rattle.plan_tables.specs.Tables.{parentsOf, headOf, headsOf, readbacksOf, Room, Filled}
+use Rattle.plan_tables.specs.Counts.{Countable, AllCounted}
 
 -- ---- six read-backs each
 
@@ -50,37 +54,67 @@ length-readbacksOf (f ∷ fs) s =
 
 -- ---- the lists that the arrays start with
 
-pub functions-of-lists : (fs : List Function) → SixEach fs → functionsIn (parentsOf fs) (headersOf fs) (readbacksOf fs) ≡ toPlacing fs
+-- a head is read back
+pub header-of-head : (f : Function) → headerIn (headOf f) ≡ f .header % 256
+header-of-head f = omega arith
+
+pub spares-of-head : (f : Function) → sparesIn (headOf f) ≡ f .spares
+spares-of-head f = omega arith
+
+type-of-byte : (header : ℕ) → isBridgeHeader (header % 256) ≡ isBridgeHeader header
+type-of-byte header = let e : header % 256 % 128 ≡ header % 128 = omega arith in ap (λ (n : ℕ). eqb n 1) e
+
+pub bridge-of-head : (f : Function) → isBridgeHeader (headerIn (headOf f)) ≡ isBridge f
+bridge-of-head f = ap isBridgeHeader (header-of-head f) ∙ type-of-byte (f .header)
+
+slots-of-head : (f : Function) → slotsIn (headerIn (headOf f)) (f .readbacks) ≡ slotsIn (f .header) (f .readbacks)
+slots-of-head f = ap (λ (t : Bool). slots (take (cond t 2 6) (f .readbacks))) (bridge-of-head f)
+
+function-of-head : (f : Function) → functionIn (f .parent) (headOf f) (f .readbacks) ≡ toFunction f
+function-of-head f =
+    let b = bridge-of-head f in
+    let x = spares-of-head f in
+    let z = slots-of-head f in
+    λ j. record {
+      parent = f .parent;
+      bridge = b j;
+      bars = barsFrom 0 (z j);
+      spareLow = x j % 65536;
+      spareBuses = x j / 65536;
+    }
+
+pub functions-of-lists : (fs : List Function) → SixEach fs → functionsIn (parentsOf fs) (headsOf fs) (readbacksOf fs) ≡ toPlacing fs
 unfolding functionsIn flatMap
 functions-of-lists [] s = refl
 functions-of-lists (f ∷ fs) s =
-    ap₂ (λ (x y : List ℕ). functionIn (f .parent) (f .header) x ∷ functionsIn (parentsOf fs) (headersOf fs) y)
+    ap₂ (λ (x y : List ℕ). functionIn (f .parent) (headOf f) x ∷ functionsIn (parentsOf fs) (headsOf fs) y)
     (take-at (f .readbacks) (readbacksOf fs) 6 (s .0))
     (drop-at (f .readbacks) (readbacksOf fs) 6 (s .0))
-    ∙ ap (λ (l : List placing.Function). toFunction f ∷ l) (functions-of-lists fs (s .1))
+    ∙ ap₂ (λ (g : placing.Function) (l : List placing.Function). g ∷ l) (function-of-head f) (functions-of-lists fs (s .1))
 
 readable-of : (fs : List Function) → SixEach fs → any readbacksWrong fs ≡ false → (i : ℕ) → i < length (parentsOf fs)
-    → anyBad (slotsIn (getD (headersOf fs) i 0) (setAt (readbacksOf fs) i)) ≡ false
+    → anyBad (slotsIn (headerIn (getD (headsOf fs) i 0)) (setAt (readbacksOf fs) i)) ≡ false
 unfolding any flatMap readbacksWrong
 readable-of [] s e i h = absurd (omega arith)
 readable-of (f ∷ fs) s e zero h =
-    ap (λ (l : List ℕ). anyBad (slotsIn (f .header) l)) (take-at (f .readbacks) (readbacksOf fs) 6 (s .0))
+    ap (λ (l : List ℕ). anyBad (slotsIn (headerIn (headOf f)) l)) (take-at (f .readbacks) (readbacksOf fs) 6 (s .0))
+    ∙ ap anyBad (slots-of-head f)
     ∙ false-of-or (readbacksWrong f) (any readbacksWrong fs) e .0
 readable-of (f ∷ fs) s e (suc i) h =
     let past : 6 * suc i ≡ length (f .readbacks) + 6 * i = omega (arith, s .0) in
-    ap (λ (k : ℕ). anyBad (slotsIn (getD (headersOf fs) i 0) (take 6 (drop k (f .readbacks ++ readbacksOf fs))))) past
-    ∙ ap (λ (l : List ℕ). anyBad (slotsIn (getD (headersOf fs) i 0) (take 6 l))) (drop-append-add (f .readbacks) (readbacksOf fs) (6 * i))
+    ap (λ (k : ℕ). anyBad (slotsIn (headerIn (getD (headsOf fs) i 0)) (take 6 (drop k (f .readbacks ++ readbacksOf fs))))) past
+    ∙ ap (λ (l : List ℕ). anyBad (slotsIn (headerIn (getD (headsOf fs) i 0)) (take 6 l))) (drop-append-add (f .readbacks) (readbacksOf fs) (6 * i))
     ∙ readable-of fs (s .1) (false-of-or (readbacksWrong f) (any readbacksWrong fs) e .1) i (omega arith)
 
 pub board-of-lists : (b : List ℕ) → boardNumber b ≡ 0
-    → Board (parentsOf (functionsOf b)) (headersOf (functionsOf b)) (readbacksOf (functionsOf b))
+    → Board (parentsOf (functionsOf b)) (headsOf (functionsOf b)) (readbacksOf (functionsOf b))
 board-of-lists b e =
     let fs = functionsOf b in
     let six = six-of-board b in
     let ps = length-map fs (λ f. f .parent) in
-    let hs = length-map fs (λ f. f .header) in
+    let hs = length-map fs headOf in
     record {
-      headers = omega (arith, ps, hs);
+      heads = omega (arith, ps, hs);
       readbacks = omega (arith, ps, length-readbacksOf fs six);
       ordered = subst (λ (l : List placing.Function). DepthFirst onlyHost 1 l) (sym (functions-of-lists fs six))
           (lawful-of-accepted b e .ordered);
@@ -106,15 +140,15 @@ module _ {ps hs ss ps' hs' ss' : List ℕ} {n : ℕ} (b : List ℕ) (e : boardNu
       let fs = functionsOf b in
       record {
         parents = omega (arith, filled-few, r .parents, ap length (f .parents), length-sets ps 0 (parentsOf fs));
-        headers = omega (arith, filled-few, r .headers, ap length (f .headers), length-sets hs 0 (headersOf fs));
+        heads = omega (arith, filled-few, r .heads, ap length (f .heads), length-sets hs 0 (headsOf fs));
         readbacks = omega (arith, filled-few, r .readbacks, ap length (f .readbacks), length-sets ss 0 (readbacksOf fs));
       }
 
   pub length-take-parents : length (take n ps') ≡ n
   length-take-parents = length-take-le n ps' (room-filled .parents)
 
-  pub length-take-headers : length (take n hs') ≡ n
-  length-take-headers = length-take-le n hs' (room-filled .headers)
+  pub length-take-heads : length (take n hs') ≡ n
+  length-take-heads = length-take-le n hs' (room-filled .heads)
 
   pub length-take-readbacks : length (take (6 * n) ss') ≡ 6 * n
   length-take-readbacks = length-take-le (6 * n) ss' (room-filled .readbacks)
@@ -124,10 +158,10 @@ module _ {ps hs ss ps' hs' ss' : List ℕ} {n : ℕ} (b : List ℕ) (e : boardNu
       take-stored ps (parentsOf (functionsOf b)) n (f .parents) (length-map (functionsOf b) (λ g. g .parent) ∙ sym (f .count))
       (omega (arith, filled-few, r .parents))
 
-  pub take-headers : take n hs' ≡ headersOf (functionsOf b)
-  take-headers =
-      take-stored hs (headersOf (functionsOf b)) n (f .headers) (length-map (functionsOf b) (λ g. g .header) ∙ sym (f .count))
-      (omega (arith, filled-few, r .headers))
+  pub take-heads : take n hs' ≡ headsOf (functionsOf b)
+  take-heads =
+      take-stored hs (headsOf (functionsOf b)) n (f .heads) (length-map (functionsOf b) headOf ∙ sym (f .count))
+      (omega (arith, filled-few, r .heads))
 
   pub take-readbacks : take (6 * n) ss' ≡ readbacksOf (functionsOf b)
   take-readbacks =
@@ -137,19 +171,38 @@ module _ {ps hs ss ps' hs' ss' : List ℕ} {n : ℕ} (b : List ℕ) (e : boardNu
 
   -- they say the board's functions
   pub functions-filled : functionsIn (take n ps') (take n hs') (take (6 * n) ss') ≡ toPlacing (functionsOf b)
-  functions-filled = rw (take-parents, take-headers, take-readbacks) (functions-of-lists (functionsOf b) (six-of-board b))
+  functions-filled = rw (take-parents, take-heads, take-readbacks) (functions-of-lists (functionsOf b) (six-of-board b))
 
   -- and are what sizing requires
   pub board-filled : Board (take n ps') (take n hs') (take (6 * n) ss')
-  board-filled = rw (take-parents, take-headers, take-readbacks) (board-of-lists b e)
+  board-filled = rw (take-parents, take-heads, take-readbacks) (board-of-lists b e)
 
-  -- the bridges counted from their header types
-  pub bridges-filled : {cs' : List ℕ} (cs : List ℕ) (k : ℕ) → cs' ≡ sets cs 0 (countsOf (take n hs')) → n < length cs → k ≤ n
-      → getD cs' k 0 ≡ bridges (take k (toPlacing (functionsOf b)))
-  bridges-filled cs k q room h =
-      let fs = functionsOf b in
-      let p = length-map fs (λ g. g .parent) in
-      let l = length-map fs (λ g. g .header) in
-      getD-counted cs (parentsOf fs) (headersOf fs) (readbacksOf fs) k (rw take-headers at q)
-      (omega (arith, l, f .count)) (omega (arith, l, p)) (omega (arith, p, f .count))
-      ∙ ap (λ (l : List placing.Function). bridges (take k l)) (functions-of-lists fs (six-of-board b))
+  -- a parent is an earlier record
+  pub parents-earlier : (i : ℕ) → i < n → getD (take n ps') i 0 ≤ i
+  parents-earlier i l =
+      let fs = functionsIn (take n ps') (take n hs') (take (6 * n) ss') in
+      let lawful = lawful-of-board board-filled in
+      let inside : i < length (take n ps') = omega (arith, length-take-parents) in
+      let at = functions-at (take n ps') (take n hs') (take (6 * n) ss') i inside in
+      let o = ordered-from fs (lawful .ordered) i in
+      let d = subst (DepthFirst (o .allowed) (suc i)) at (o .ordered) in
+      omega (arith, o .bounded (getD (take n ps') i 0) (d .0))
+
+  -- and what the pass that counts asks
+  pub countable-filled : (counts : List ℕ) → 2 * mostFunctions + 2 ≤ length counts → Countable (take n ps') (take n hs') counts
+  countable-filled counts room =
+      record {
+        few = omega (arith, length-take-parents, filled-few);
+        heads = omega (arith, length-take-parents, length-take-heads);
+        earlier = λ i l. parents-earlier i (omega (arith, length-take-parents));
+        room = omega (arith, length-take-parents, filled-few);
+      }
+
+  -- the numbers that the board's functions take, and their spares
+  pub counted-filled : {cs' : List ℕ} {r : ℕ}
+      → ((ss : List ℕ) → AllCounted (functionsIn (take n ps') (take n hs') ss) cs' (length (take n ps')) r)
+      → AllCounted (toPlacing (functionsOf b)) cs' (length (functionsOf b)) r
+  counted-filled {cs'} {r} h =
+      subst (λ (l : List placing.Function). AllCounted l cs' (length (functionsOf b)) r) functions-filled
+      (subst (λ (m : ℕ). AllCounted (functionsIn (take n ps') (take n hs') (take (6 * n) ss')) cs' m r)
+      (length-take-parents ∙ f .count) (h (take (6 * n) ss')))

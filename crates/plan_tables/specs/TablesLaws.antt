@@ -17,7 +17,7 @@ use Rattle.board_record.specs.Function.{functionOfPart, headerWrong}
 use Rattle.board_record.specs.FunctionLaws.{length-readbacks}
 use Rattle.board.specs.Board.{boardNumber, functionsOf}
 use Rattle.board.specs.BoardLaws.{accepted-of-zero}
-use Rattle.plan_tables.specs.Tables.{parentsOf, headersOf, readbacksOf, Room, Put, Filled, functionsFrom, Filling}
+use Rattle.plan_tables.specs.Tables.{parentsOf, headOf, headsOf, readbacksOf, Room, Put, Filled, functionsFrom, Filling}
 
 -- ---- stores one by one: a run `vs` from `at` on, of which those before j are stored
 
@@ -31,14 +31,20 @@ module _ {r : List ℕ} (o vs : List ℕ) (at j : ℕ) (e : sets o (at + j) (dro
   pub run-end : length vs ≤ j → o ≡ r
   run-end h = rw (drop-of-length-le vs {i = j} h) at e
 
+-- ---- a head, in the words of the code
+
+pub head-is : (p : List ℕ) (h s : ℕ) → h ≡ functionOfPart p .header → s ≡ functionOfPart p .spares → h < 256
+    → h + 256 * s ≡ headOf (functionOfPart p)
+head-is p h s e g l = omega (arith, e, g)
+
 -- ---- one function stored
 
 module _ {f : Function} {i : ℕ} {ps hs ss ps' hs' ss' : List ℕ} (p : Put f i ps hs ss ps' hs' ss') where
   pub put-parents : length ps' ≡ length ps
   put-parents = ap length (p .parents) ∙ length-set ps i (f .parent)
 
-  pub put-headers : length hs' ≡ length hs
-  put-headers = ap length (p .headers) ∙ length-set hs i (f .header)
+  pub put-heads : length hs' ≡ length hs
+  put-heads = ap length (p .heads) ∙ length-set hs i (headOf f)
 
   pub put-readbacks : length ss' ≡ length ss
   put-readbacks = ap length (p .readbacks) ∙ length-sets ss (6 * i) (f .readbacks)
@@ -47,7 +53,7 @@ module _ {f : Function} {i : ℕ} {ps hs ss ps' hs' ss' : List ℕ} (p : Put f i
   put-room n r =
       record {
         parents = omega (arith, put-parents, r .parents);
-        headers = omega (arith, put-headers, r .headers);
+        heads = omega (arith, put-heads, r .heads);
         readbacks = omega (arith, put-readbacks, r .readbacks);
       }
 
@@ -63,7 +69,7 @@ filling-start b ps hs ss e r =
       room = r;
       count = zero-add (length (functionsFrom b 33)) ∙ sym (ap length fs);
       parents = sym (ap (λ (l : List Function). sets ps 0 (parentsOf l)) fs);
-      headers = sym (ap (λ (l : List Function). sets hs 0 (headersOf l)) fs);
+      heads = sym (ap (λ (l : List Function). sets hs 0 (headsOf l)) fs);
       readbacks = sym (ap (λ (l : List Function). sets ss 0 (readbacksOf l)) fs);
     }
 
@@ -73,9 +79,9 @@ module _ {b ps hs ss ps' hs' ss' : List ℕ} {at i : ℕ} (s : Filling b ps hs s
   filling-parents =
       sym (length-sets ps' i (parentsOf (functionsFrom b at))) ∙ ap length (s .parents) ∙ length-sets ps 0 (parentsOf (functionsOf b))
 
-  pub filling-headers : length hs' ≡ length hs
-  filling-headers =
-      sym (length-sets hs' i (headersOf (functionsFrom b at))) ∙ ap length (s .headers) ∙ length-sets hs 0 (headersOf (functionsOf b))
+  pub filling-heads : length hs' ≡ length hs
+  filling-heads =
+      sym (length-sets hs' i (headsOf (functionsFrom b at))) ∙ ap length (s .heads) ∙ length-sets hs 0 (headsOf (functionsOf b))
 
   pub filling-readbacks : length ss' ≡ length ss
   filling-readbacks =
@@ -89,7 +95,7 @@ module _ {b ps hs ss ps' hs' ss' : List ℕ} {at i : ℕ} (s : Filling b ps hs s
       record {
         count = sym (add-zero i) ∙ (rw e at (s .count));
         parents = rw e at (s .parents);
-        headers = rw e at (s .headers);
+        heads = rw e at (s .heads);
         readbacks = rw e at (s .readbacks);
       }
 
@@ -110,7 +116,7 @@ module _ {b ps hs ss ps' hs' ss' : List ℕ} {at i : ℕ} (s : Filling b ps hs s
     filling-room =
         record {
           parents = omega (arith, filling-lt, s .room .parents);
-          headers = omega (arith, filling-lt, s .room .headers);
+          heads = omega (arith, filling-lt, s .room .heads);
           readbacks = omega (arith, filling-lt, s .room .readbacks);
         }
 
@@ -129,6 +135,6 @@ module _ {b ps hs ss ps' hs' ss' : List ℕ} {at i : ℕ} (s : Filling b ps hs s
           room = put-room p mostFunctions (s .room);
           count = omega (arith, s .count, ap length left);
           parents = rw (p .parents, one) (rw left at (s .parents));
-          headers = rw (p .headers, one) (rw left at (s .headers));
+          heads = rw (p .heads, one) (rw left at (s .heads));
           readbacks = rw (p .readbacks, six) (sets-sets ss' (6 * i) (f .readbacks) (readbacksOf rest) ∙ (rw left at (s .readbacks)));
         }

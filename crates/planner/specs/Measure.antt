@@ -4,8 +4,7 @@ use mathlib.Core.Bool.{Bool, true, cond}
 use mathlib.Core.List.{List}
 use Prim.Native.Nat.{ℕ, _+_, _*_, _≤_, _<_}
 use lib.Dec.{ltb}
-use lib.ListN.{length, getD, take}
-use lib.Seq.{sets}
+use lib.ListN.{length, take}
 use Rattle.records.specs.Limits.{mostFunctions}
 use Rattle.plan_rule.specs.Numbering.{bridges}
 use Rattle.plan_rule.specs.declared.Extent.{Extent}
@@ -13,7 +12,7 @@ use Rattle.plan_rule.specs.Sizing.{busLaid, rootLaid, endsPast}
 use Rattle.board_record.specs.declared.Span.{Span}
 use Rattle.board_record.specs.declared.Host.{Host}
 use Rattle.board_record.specs.declared.Function.{Function}
-use Rattle.board_record.specs.Function.{isBridge}
+use Rattle.board_record.specs.Function.{isBridge, spareLow}
 use Rattle.board.specs.Board.{hostOf, functionsOf}
 use Rattle.board.specs.ToPlacing.{toHost, toPlacing}
 use Rattle.plan_sizing.specs.Cut.{cut}
@@ -21,7 +20,7 @@ use Rattle.plan_sizing.specs.Functions.{functionsIn}
 use Rattle.plan_sizing.specs.Memo.{laidAt, below}
 use Rattle.plan_sizing.specs.Board.{Board, basesOf, BoardSized}
 use Rattle.plan_tables.specs.Tables.{Room}
-use Rattle.plan_tables.specs.Counts.{countsOf}
+use Rattle.plan_tables.specs.Counts.{Counted, Countable, AllCounted}
 use Rattle.plan_pass.specs.StepLaws.{RecordAt}
 use Rattle.planner.specs.declared.Measured.{Measured}
 
@@ -41,25 +40,27 @@ pub record Measurable (ps hs ss : List ℕ) (n : ℕ) (counts memo : List ℕ) :
   pub arrays : Room n ps hs ss
   pub few : n ≤ mostFunctions
   pub board : Board (take n ps) (take n hs) (take (6 * n) ss)
-  pub counts-room : n < length counts
+  pub countable : Countable (take n ps) (take n hs) counts
   pub memo-room : 8 * n ≤ length memo
 
 -- what counting and sizing them leaves
 pub record CountedAndSized (ps hs ss : List ℕ) (n : ℕ) (h : Host) (counts memo counts' memo' : List ℕ) (m : Measured) : Type 0 where
   pub functions : m .functions ≡ n
-  pub counts-are : counts' ≡ sets counts 0 (countsOf (take n hs))
-  pub bridges-are : m .bridges ≡ getD counts' n 0
+  pub counted : (xs : List ℕ) → AllCounted (functionsIn (take n ps) (take n hs) xs) counts' (length (take n ps)) (m .bridges)
+  pub few-buses : m .bridges ≤ 131072
+  pub counts-kept : length counts' ≡ length counts
   pub sized : BoardSized (functionsIn (take n ps) (take n hs) (take (6 * n) ss)) (basesOf (h .low .base) (h .high .base) (h .io .base))
       memo memo' (m .root)
 
--- the board measured: its functions and bridges, what its root bus comes to, and the arrays that count the bridges before each function and
+-- the board measured: its functions and the bus numbers they take, what its root bus comes to, and the arrays that count those numbers and
 -- keep what lies below each bridge
 pub record IsMeasured (b counts memo : List ℕ) (m : Measured) : Type 0 where
   pub functions : m .functions ≡ length (functionsOf b)
   pub bridges-are : m .bridges ≡ bridges (toPlacing (functionsOf b))
   pub root : m .root ≡ cut (busLaid (toPlacing (functionsOf b)) 0 (rootLaid (toHost (hostOf b))))
-  pub counts-room : length (functionsOf b) < length counts
-  pub counted : (k : ℕ) → k ≤ length (functionsOf b) → getD counts k 0 ≡ bridges (take k (toPlacing (functionsOf b)))
+  pub few-buses : m .bridges ≤ 131072
+  pub counts-room : 2 * length (functionsOf b) + 2 ≤ length counts
+  pub counted : Counted (toPlacing (functionsOf b)) counts (length (functionsOf b))
   pub memo-room : 8 * length (functionsOf b) ≤ length memo
   pub stored : (i : ℕ) (f : Function) → RecordAt (functionsOf b) i f → isBridge f ≡ true → laidAt memo i
-      ≡ below (toPlacing (functionsOf b)) i
+      ≡ below (toPlacing (functionsOf b)) i (spareLow f)

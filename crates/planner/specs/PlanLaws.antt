@@ -80,31 +80,6 @@ sheet-stored {n = n} b room e l g =
 pub host-read-is : {p : List ℕ} {h : Host} (b : List ℕ) → boardNumber b ≡ 0 → p ≡ take 30 (drop (1 + 2) b) → h ≡ hostOfPart p → h ≡ hostOf b
 host-read-is b e part host = host ∙ ap hostOfPart part ∙ sym (accepted-of-zero b e .host-read)
 
-bridges-le-length : (fs : List placing.Function) → bridges fs ≤ length fs
-unfolding bridges
-bridges-le-length [] = omega arith
-bridges-le-length (f ∷ fs) = go (f .bridge) (bridges-le-length fs)
-  where
-    go : (t : Bool) → bridges fs ≤ length fs → cond t 1 0 + bridges fs ≤ suc (length fs)
-    go true l = omega arith
-    go false l = omega arith
-
-pub few-bridges : {counts memo : List ℕ} {m : Measured} (b : List ℕ) → boardNumber b ≡ 0 → IsMeasured b counts memo m
-    → m .bridges ≤ mostFunctions
-few-bridges b e is =
-    let a = accepted-of-zero b e in
-    let fs = toPlacing (functionsOf b) in
-    omega (
-      arith,
-      is .bridges-are,
-      bridges-le-length fs,
-      length-map (functionsOf b) toFunction,
-      ap length (a .functions-read),
-      length-map
-          (partsFrom b 33) functionOfPart,
-      a .few,
-    )
-
 module _ {h : Host} {counts memo : List ℕ} {m : Measured} {n : ℕ} (b : List ℕ) (bytes : Bytes b) (accepted : boardNumber b ≡ 0)
     (host-is : h ≡ hostOf b)
     (is : IsMeasured b counts memo m) (number : n ≡ refusalBy h m) where

@@ -85,7 +85,7 @@ placing-of-measured {h} {counts} {memo} b sheet bytes accepted host-is is planne
       prepared =
           prepared-of-accepted b (h .«first_bus») counts memo accepted
           (omega (arith, first, kept .buses, board .edges .last-bus-is-byte))
-          (is .counts-room) (is .counted) (is .memo-room) (is .stored);
+          (is .counts-room) (λ k l. is .counted k l .taken-is) (λ k l. is .counted k l .over-is) (is .memo-room) (is .stored);
       last = lastOf (toHost (hostOf b));
       room = room-by-last (toHost (hostOf b)) (toPlacing (functionsOf b)) board kept;
       sheet-room = fits;

@@ -1,7 +1,7 @@
 // The planner: a board's bytes to its register sheet, or the number of the first check that the board fails. Any bytes may be given, and
 // any room.
 ghost use mathlib.Core.Path.{_≡_};
-ghost use Prim.Native.Nat.{_*_, _≤_, _<_};
+ghost use Prim.Native.Nat.{_+_, _*_, _≤_};
 ghost use lib.ListN.{length};
 ghost use Rattle.records.specs.Limits.{mostFunctions};
 ghost use Rattle.board.specs.Board.{boardNumber, hostOf, functionsOf};
@@ -32,7 +32,8 @@ pub fn plan(board: &[u8], sheet: &mut [u8]) -> Planning
 // What is known of a lawful board before anything is placed.
 pub struct Measured {
     pub functions: usize,
-    pub bridges: u16,
+    // the bus numbers that its bridges and their spares take
+    pub bridges: u32,
     // what its root bus comes to in each pool
     pub root: Laid,
 }
@@ -45,7 +46,7 @@ fn plan_lawful(board: &[u8], sheet: &mut [u8]) -> Planning
         × (now (sheet .exit) ≡ sheetAs r (now (board .entry)) (now (sheet .entry)))
         ⌝ }
 {
-    let mut counts = [0u16; 1 + MOST_FUNCTIONS];
+    let mut counts = [0u8; 2 + 2 * MOST_FUNCTIONS];
     let mut memo = [0u64; 8 * MOST_FUNCTIONS];
     let host = board_record::host_of(records::part_at(board, 1, 30));
     let m = measure(board, host, &mut counts, &mut memo);
@@ -61,56 +62,56 @@ fn plan_lawful(board: &[u8], sheet: &mut [u8]) -> Planning
     Planning::Planned(size)
 }
 
-// One pass fills the arrays, one counts the bridges before each function, one sizes every bus.
-fn measure(board: &[u8], host: Host, counts: &mut [u16], memo: &mut [u64]) -> Measured
+// One pass fills the arrays, one counts the bus numbers that the functions take, one sizes every bus.
+fn measure(board: &[u8], host: Host, counts: &mut [u8], memo: &mut [u64]) -> Measured
     requires { ⌜ (boardNumber (now board) ≡ 0) × (host ≡ hostOf (now board)) ⌝ }
-    requires { ⌜ (mostFunctions < length (now counts)) × (8 * mostFunctions ≤ length (now memo)) ⌝ }
+    requires { ⌜ (2 * mostFunctions + 2 ≤ length (now counts)) × (8 * mostFunctions ≤ length (now memo)) ⌝ }
     ensures { λ r. ⌜ IsMeasured (now (board .entry)) (now (counts .exit)) (now (memo .exit)) r ⌝ }
 {
     let mut parents = [0u16; MOST_FUNCTIONS];
-    let mut headers = [0u8; MOST_FUNCTIONS];
+    let mut heads = [0u32; MOST_FUNCTIONS];
     let mut readbacks = [0u32; 6 * MOST_FUNCTIONS];
-    let n = plan_tables::fill(board, &mut parents, &mut headers, &mut readbacks);
-    count_and_size(&parents, &headers, &readbacks, n, host, counts, memo)
+    let n = plan_tables::fill(board, &mut parents, &mut heads, &mut readbacks);
+    count_and_size(&parents, &heads, &readbacks, n, host, counts, memo)
 }
 
 // The first n functions of the arrays.
 fn count_and_size(
     parents: &[u16],
-    headers: &[u8],
+    heads: &[u32],
     readbacks: &[u32],
     n: usize,
     host: Host,
-    counts: &mut [u16],
+    counts: &mut [u8],
     memo: &mut [u64],
 ) -> Measured
-    requires { ⌜ Measurable (now parents) (now headers) (now readbacks) n (now counts) (now memo) ⌝ }
+    requires { ⌜ Measurable (now parents) (now heads) (now readbacks) n (now counts) (now memo) ⌝ }
     ensures { λ r. ⌜
-        CountedAndSized (now (parents .entry)) (now (headers .entry)) (now (readbacks .entry)) n host (now (counts .entry))
+        CountedAndSized (now (parents .entry)) (now (heads .entry)) (now (readbacks .entry)) n host (now (counts .entry))
         (now (memo .entry)) (now (counts .exit)) (now (memo .exit)) r
         ⌝ }
 {
-    let hs = &headers[..n];
-    plan_tables::count_bridges(hs, counts);
+    let ps = &parents[..n];
+    let hs = &heads[..n];
+    let bridges = plan_tables::count_buses(ps, hs, counts);
     let low = host.low;
     let high = host.high;
     let io = host.io;
-    let ps = &parents[..n];
     let sets = &readbacks[..6 * n];
     let root = plan_sizing::size_board(ps, hs, sets, memo, low.base, high.base, io.base);
     Measured {
         functions: n,
-        bridges: counts[n],
+        bridges,
         root,
     }
 }
 
 // The number of what runs out first: bus numbers, then the low, high and I/O pool. 0 where nothing does.
 fn refusal(host: Host, m: Measured) -> u8
-    requires { ⌜ m .bridges ≤ mostFunctions ⌝ }
+    requires { ⌜ m .bridges ≤ 131072 ⌝ }
     ensures { λ r. ⌜ r ≡ refusalBy host m ⌝ }
 {
-    if (host.last_bus as u16) < host.first_bus as u16 + m.bridges {
+    if (host.last_bus as u32) < host.first_bus as u32 + m.bridges {
         return 30;
     }
     let root = m.root;

@@ -5,7 +5,7 @@ use Prim.Native.Nat.{ℕ}
 use Rattle.endian.specs.Endian.{be, beBytes, le}
 use Rattle.text.specs.Text.{ascii, hexadecimal, decimalOver, decimal}
 use Rattle.records.specs.Records.{nextOf, partsOver, partsOf, anyPart}
-use Rattle.lists.specs.Lists.{keep, any}
+use Rattle.lists.specs.Lists.{keep, front, any}
 use Rattle.plan_rule.specs.Align.{alignUp}
 use Rattle.plan_rule.specs.Layout.{layoutEnd, largestAlign}
 use Rattle.plan_rule.specs.Pieces.{barPieces, windowPieces, ownPieces, pieces}
@@ -17,7 +17,7 @@ use Rattle.bar.specs.Bars.{barsFrom}
 use Rattle.bar.specs.Values.{isBarValue, valuesFit}
 use Rattle.window.specs.Window.{closed, opened, start, stop, isNibbled}
 use Rattle.board_record.specs.Host.{hostOfPart, poolWrong, hostWrong}
-use Rattle.board_record.specs.Function.{functionOfPart, headerWrong, readbacksWrong}
+use Rattle.board_record.specs.Function.{functionOfPart, wrongIn, readbacksWrong}
 use Rattle.board_order.specs.Order.{above, parents, lastSibling, misplaced, anyMisplaced}
 use Rattle.board.specs.Board.{misframed, fromReadbacks, fromOrder, fromEdges, fromHeaders, fromCount, fromFrame, fromVersion, boardNumber}
 use Rattle.board.specs.Board.{hostOf, functionsOf}
@@ -44,12 +44,12 @@ pub record Printed : Type 0 where
 pub examples : Printed
 unfolding p10-text ascii words windowText bridgeText endText lineOf countText planText refusalText sheetText boardText hexadecimal
     decimalOver decimal flatMap planning onBoard onRoom boardNumber fromVersion fromFrame fromCount fromHeaders fromEdges fromOrder
-    fromReadbacks misframed above parents lastSibling misplaced anyMisplaced functionOfPart headerWrong readbacksWrong
+    fromReadbacks misframed above parents lastSibling misplaced anyMisplaced functionOfPart wrongIn readbacksWrong
     hostOfPart poolWrong
     hostWrong be beBytes le nextOf partsOver partsOf anyPart any sizeFrom sized ioSlot narrowSlot wideSlot slotHere slots anyBad hostOf
     functionsOf refusalOf outOfPool place placed pieces ownPieces windowPieces barPieces layoutEnd largestAlign keep alignUp
     bridges barsFrom
-    planOf plannedFrom valuesFrom windowFor barStart closed opened busNumber subordinateOf oversFrom over lastBelow sheetNumber from21 from20 from22
+    planOf plannedFrom valuesFrom windowFor barStart closed opened busNumber subordinateOf oversFrom over lastBelow front sheetNumber from21 from20 from22
     from24 from27 from28 from25 from29 isFramed allSized entriesFrom breaks anyBreaks allZero readBacksWrong hasId idTwice entryOf dwords
     windowOf start stop isNibbled isBarValue valuesFit
 examples = record { p10-planned = refl; p10-short-room = refl; p10-sheet = refl; p8-sheet = refl; bad-sheet = refl }

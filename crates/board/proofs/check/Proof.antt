@@ -7,7 +7,7 @@ use mathlib.Core.Path.{_≡_, sym, ap, _∙_}
 use mathlib.Core.Bool.{false}
 use mathlib.Core.List.{List, map}
 use lib.ListN.{length, getD, take, drop}
-use borrow.Author.Tests.{eq-eqb, ne-eqb}
+use borrow.Author.Tests.{eq-eqb, not-true, not-false}
 use Rattle.lists.specs.Lists.{any}
 use Rattle.records.specs.Records.{partsOf, partsFrom, anyPart}
 use Rattle.records.specs.RecordsLaws.{fits-at, length-part}
@@ -15,16 +15,16 @@ use Rattle.board_record.specs.declared.Host.{Host}
 use Rattle.board_record.specs.declared.Function.{Function}
 use Rattle.board_record.specs.declared.Rule.the-variants.{Header, ReadBacks}
 use Rattle.board_record.specs.Host.{hostOfPart, hostWrong}
-use Rattle.board_record.specs.Function.{functionOfPart, headerWrong, readbacksWrong}
+use Rattle.board_record.specs.Function.{functionOfPart, wrongIn, headerWrong, readbacksWrong}
 use Rattle.board.specs.PassLaws.{any-never}
-use Rattle.board.specs.Board.{misframed, fromReadbacks, fromOrder, fromEdges, fromHeaders, fromCount, fromFrame, fromVersion}
+use Rattle.board.specs.Board.{misframed, fromReadbacks, fromOrder, fromEdges, fromHeaders, fromCount, fromFrame}
 use Rattle.board.specs.Board.{boardNumber}
 use Rattle.board.specs.BoardLaws.{any-map, host-of-framed, breaks-of-framed, framed, past-version, past-count, past-headers}
-use Rattle.board.specs.BoardLaws.{past-edges, past-order}
+use Rattle.board.specs.BoardLaws.{other-version, right-parts, past-edges, past-order}
 
 -- the start of the call, from each check that is passed
 abbrev start-2 : tie.Else2 → tie.Start
-start-2 c = c .before .before .before .before
+start-2 c = c .before .before .before .before .before
 
 abbrev start-3 : tie.Else3 → tie.Start
 start-3 c = start-2 (c .before .before)
@@ -51,23 +51,38 @@ host c = hostOfPart (take 30 (drop 3 (bytes c)))
 abbrev functions : tie.Start → List Function
 functions c = map functionOfPart (partsFrom (bytes c) 33)
 
-past-2 : (c : tie.Else2) → boardNumber (bytes (start-2 c)) ≡ fromFrame (partsOf (drop 1 (bytes (start-2 c))))
-past-2 c = past-version _ (c .before .before .if1 .left) (c .if2 .left)
+-- its version
+abbrev version : tie.Start → ℕ
+version c = getD (bytes c) 0 0
+
+past-2 : (c : tie.Else2) → boardNumber (bytes (start-2 c)) ≡ fromFrame (version (start-2 c)) (partsOf (drop 1 (bytes (start-2 c))))
+past-2 c =
+    past-version (bytes (start-2 c)) (c .before .before .before .if1 .left)
+    (sym (c .before .is-version .ensures) ∙ not-false (c .before .is-version .result) (c .if2 .left))
 
 whole : (c : tie.Else3) → misframed (partsOf (drop 1 (bytes (start-3 c)))) ≡ false
 whole c = sym (c .before .misframed .ensures) ∙ c .if3 .left
 
-past-3 : (c : tie.Else3) → boardNumber (bytes (start-3 c)) ≡ fromCount (host (start-3 c)) (partsFrom (bytes (start-3 c)) 33)
-past-3 c = past-2 (c .before .before) ∙ framed (bytes (start-3 c)) (whole c)
+past-3 : (c : tie.Else3)
+    → boardNumber (bytes (start-3 c)) ≡ fromCount (version (start-3 c)) (host (start-3 c)) (partsFrom (bytes (start-3 c)) 33)
+past-3 c = past-2 (c .before .before) ∙ framed (bytes (start-3 c)) (version (start-3 c)) (whole c)
 
-past-4 : (c : tie.Else4) → boardNumber (bytes (start-4 c)) ≡ fromHeaders (host (start-4 c)) (partsFrom (bytes (start-4 c)) 33)
-past-4 c = past-3 (c .before .before) ∙ past-count _ _ (sym (c .before .too-many .ensures) ∙ c .if4 .left)
+past-4 : (c : tie.Else4)
+    → boardNumber (bytes (start-4 c)) ≡ fromHeaders (version (start-4 c)) (host (start-4 c)) (partsFrom (bytes (start-4 c)) 33)
+past-4 c = past-3 (c .before .before) ∙ past-count _ _ _ (sym (c .before .too-many .ensures) ∙ c .if4 .left)
 
-headers : (c : tie.After-any-breaks) → c .any-breaks .result ≡ anyPart headerWrong (partsFrom (bytes (start-4 (c .before))) 33)
-headers c = c .any-breaks .ensures ∙ breaks-of-framed (bytes (start-4 (c .before))) Header (whole (c .before .before .before))
+headers : (c : tie.After-any-breaks)
+    → c .any-breaks .result ≡ anyPart (wrongIn (version (start-4 (c .before)))) (partsFrom (bytes (start-4 (c .before))) 33)
+headers c =
+    c .any-breaks .ensures
+    ∙ breaks-of-framed (bytes (start-4 (c .before))) (Header (version (start-4 (c .before)))) (whole (c .before .before .before))
+
+-- every record is one of some version
+records-right : (c : tie.Else5) → anyPart headerWrong (partsFrom (bytes (start-5 c)) 33) ≡ false
+records-right c = right-parts (version (start-5 c)) (partsFrom (bytes (start-5 c)) 33) (sym (headers (c .before)) ∙ c .if5 .left)
 
 past-5 : (c : tie.Else5) → boardNumber (bytes (start-5 c)) ≡ fromEdges (host (start-5 c)) (functions (start-5 c))
-past-5 c = past-4 (c .before .before) ∙ past-headers _ _ (sym (headers (c .before)) ∙ c .if5 .left)
+past-5 c = past-4 (c .before .before) ∙ past-headers _ _ _ (sym (headers (c .before)) ∙ c .if5 .left)
 
 edges : (c : tie.After-host-wrong) → c .host-wrong .result ≡ hostWrong (host (start-5 (c .before .before .before)))
 edges c = c .host-wrong .ensures ∙ ap hostWrong (c .before .host-of .ensures ∙ ap hostOfPart (c .before .before .part-at .ensures))
@@ -89,15 +104,17 @@ returns : tie.Need-returns
 unfolding boardNumber
 returns c = sym (rw (eq-eqb (length (bytes (c .before .before))) 0 (c .if1 .taken)))
 
-shared-slice-read-if2 : tie.Need-shared-slice-read-if2
-shared-slice-read-if2 c = search needs
+shared-slice-read-version : tie.Need-shared-slice-read-version
+shared-slice-read-version c = search needs
+
+is-version-requires : tie.Need-is-version-requires
+is-version-requires c κs = search needs
 
 returns-2 : tie.Need-returns-2
-unfolding boardNumber fromVersion
 returns-2 c =
-    let place = c .before .before .before .before in
-    let s = bytes place in
-    sym (rw (ne-eqb (length s) 0 (c .before .before .if1 .left), ne-eqb (getD s 0 0) 1 (c .if2 .taken)))
+    let place = c .before .before .before .before .before in
+    sym (other-version (bytes place) (c .before .before .before .if1 .left)
+    (sym (c .before .is-version .ensures) ∙ not-true (c .before .is-version .result) (c .if2 .taken)))
 
 misframed-requires : tie.Need-misframed-requires
 misframed-requires c κs = search needs
@@ -136,21 +153,14 @@ unfolding fromEdges
 returns-6 c = sym (past-5 (c .before .before .before .before) ∙ rw (sym (edges (c .before)) ∙ c .if6 .taken))
 
 misplaced-requires : tie.Need-misplaced-requires
-misplaced-requires c κs =
-    let if5 = c .before .before .before .before .if5 in
-    let place = c .before .before .before .before .before in
-    sym (headers place) ∙ if5 .left
+misplaced-requires c κs = records-right (c .before .before .before .before)
 
 returns-7 : tie.Need-returns-7
 unfolding fromOrder
 returns-7 c = sym (past-6 (c .before .before) ∙ rw (sym (c .before .misplaced .ensures) ∙ c .if7 .taken))
 
 any-breaks-requires-2 : tie.Need-any-breaks-requires-2
-any-breaks-requires-2 c κs =
-    let at-if5 = c .before .before .before .before .before .before in
-    let if5 = at-if5 .if5 in
-    let place = at-if5 .before in
-    sym (headers place) ∙ if5 .left
+any-breaks-requires-2 c κs = records-right (c .before .before .before .before .before .before)
 
 returns-8 : tie.Need-returns-8
 unfolding fromReadbacks
@@ -165,7 +175,8 @@ check-spec =
     tie.close
     (tie.spec
     returns
-    shared-slice-read-if2
+    shared-slice-read-version
+    is-version-requires
     returns-2
     misframed-requires
     returns-3

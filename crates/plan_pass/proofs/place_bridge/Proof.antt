@@ -18,13 +18,9 @@ last-below-requires c κs = search needs
 bridge-registers-requires : tie.Need-bridge-registers-requires
 bridge-registers-requires c κs =
     let pre = c .before .before .before .before .before .before .before .before .pre in (
-      pre .0 .counted,
       pre .0 .numbered,
-      pre .1 .counted,
       pre .1 .numbered,
-      rw (c .last-below .ensures) (pre .1 .last-counted),
-      rw
-          (c .last-below .ensures) (pre .1 .last-numbered),
+      rw (c .last-below .ensures) (pre .1 .last-numbered),
     )
 
 cast-store-cursors : tie.Need-cast-store-cursors

@@ -1,6 +1,7 @@
 -- `plan_pass::place_records` meets its contract. The invariant is `Standing`: the records before the cursor are placed and written, and the
 -- cursors hold what is left for the rest. The measure is the bytes left. Assumes nothing.
-use mathlib.Core.Path.{sym, ap, subst, _∙_}
+use mathlib.Core.Path.{_≡_, sym, ap, subst, _∙_}
+use mathlib.Core.Bool.{true}
 use Prim.Native.Nat.{_+_, _-_, _*_}
 use native.Mathlib.Numerals.{add-one}
 use native.Mathlib.Omega.{arith}
@@ -12,7 +13,7 @@ use Rattle.board_record.specs.declared.Function.{Function}
 use Rattle.board_record.specs.Function.{isBridge}
 use Rattle.sheet.specs.Sheet.{sheetLength}
 use Rattle.sheet_bytes.specs.Layout.{plannedOf, recordBytes}
-use Rattle.plan_pass.specs.Step.{registersOf, cursorsNext, Placeable}
+use Rattle.plan_pass.specs.Step.{registersOf, cursorsNext, Placeable, Bridged}
 use Rattle.plan_pass.specs.Loop.{Standing}
 use Rattle.plan_pass.specs.LoopLaws.{standing-start, header-right, turn-placeable, turn-bridged, turn-room, standing-turn}
 use Rattle.plan_pass.specs.LoopLaws.{finished-end, finished-broken}
@@ -87,8 +88,8 @@ write-next-requires c κs =
       (
         subst (λ (f : Function). Placeable (args .first) (args .counts .now) (loop .cursors) f) (sym (function-at .ensures))
             (turn-placeable pre (loop .inv) _ e),
-        λ h. turn-bridged pre (loop .inv) _ e
-            (sym (ap isBridge (function-at .ensures)) ∙ h),
+        subst (λ (f : Function). isBridge f ≡ true → Bridged (args .first) (args .counts .now) (args .memo .now) (loop .cursors) (loop .i) (f .parent))
+            (sym (function-at .ensures)) (turn-bridged pre (loop .inv) _ e),
       ),
       turn-room
           pre (loop .inv) _ e,

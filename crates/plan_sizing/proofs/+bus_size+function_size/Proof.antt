@@ -14,7 +14,8 @@ use Rattle.plan_sizing.specs.Board.{OnBus}
 use Rattle.plan_sizing.specs.BusLaws.{on-bus-start, on-bus-length, on-bus-end, child-within, child-standing, lt-next-of-turn}
 use Rattle.plan_sizing.specs.BusLaws.{on-bus-turn}
 use Rattle.plan_sizing.specs.BridgeLaws.{depth-left, own-bars-of-standing, inside-standing, inner-align-power, leaf-walked}
-use Rattle.plan_sizing.specs.BridgeLaws.{bridge-walked}
+use Rattle.plan_sizing.specs.BridgeLaws.{bus-whole, bridge-walked}
+use Rattle.bar.specs.Header.{isBridge}
 use borrow.Fn.Kinds.{In}
 use borrow.Fn.PlainCycle.{Measures, is, falls, and}
 use Rattle.plan_sizing.proofs.bus_size.Reads as bus-size
@@ -27,6 +28,9 @@ use Rattle.bar.proofs.is_bridge.Reads as is-bridge-reads
 use Rattle.plan_sizing.proofs.is_child.Reads as is-child-reads
 use Rattle.plan_sizing.proofs.laid_from.Reads as laid-from-reads
 use Rattle.plan_sizing.proofs.own_bars.Reads as own-bars-reads
+use Rattle.plan_sizing.proofs.header_at.Reads as header-at-reads
+use Rattle.plan_sizing.proofs.spare_at.Reads as spare-at-reads
+use Rattle.plan_sizing.proofs.with_spare.Reads as with-spare-reads
 use Rattle.plan_sizing.proofs.store.Reads as store-reads
 use Rattle.plan_sizing.proofs.with_windows.Reads as with-windows-reads
 use Rattle.plan_sizing.proofs.+bus_size+function_size.{statement}
@@ -70,12 +74,18 @@ abbrev function-size-claims : ℕ → function-size-lts.Claims
 function-size-claims t = (
   own-bars-reads.Asked,
   own-bars-reads.Learnt,
+  header-at-reads.Asked,
+  header-at-reads.Learnt,
   is-bridge-reads.Asked,
   is-bridge-reads.Learnt,
   laid-from-reads.Asked,
   laid-from-reads.Learnt,
   bus-size-below t,
   bus-size.Post,
+  spare-at-reads.Asked,
+  spare-at-reads.Learnt,
+  with-spare-reads.Asked,
+  with-spare-reads.Learnt,
   store-reads.Asked,
   store-reads.Learnt,
   with-windows-reads.Asked,
@@ -83,10 +93,10 @@ function-size-claims t = (
 )
 
 abbrev bus-size-Inv-loop : bus-size-lts.InvT-loop
-bus-size-Inv-loop parents headers readbacks memo₀ bus depth l₀ memo l = OnBus parents headers readbacks memo₀ memo bus depth l₀ l
+bus-size-Inv-loop parents heads readbacks memo₀ bus depth l₀ memo l = OnBus parents heads readbacks memo₀ memo bus depth l₀ l
 
 abbrev bus-size-μ-loop : bus-size-lts.MeasureT-loop
-bus-size-μ-loop parents headers readbacks memo₀ bus depth l₀ memo l = length parents - l .next
+bus-size-μ-loop parents heads readbacks memo₀ bus depth l₀ memo l = length parents - l .next
 
 bus-size-loop-holds : (t : ℕ) → bus-size-lts.Need-loop-holds (bus-size-claims t) (bus-size-at t) bus-size.Post bus-size-Inv-loop
     bus-size-μ-loop
@@ -136,12 +146,11 @@ function-size-own-bars-requires : (t : ℕ) → function-size-lts.Need-own-bars-
     function-size.Post
 function-size-own-bars-requires t c κs = let pre = c .before .before .before .before .pre .1 in own-bars-of-standing (pre .0) (pre .1)
 
-function-size-shared-slice-read-is-bridge : (t : ℕ)
-    → function-size-lts.Need-shared-slice-read-is-bridge (function-size-claims t) (function-size-at t) function-size.Post
-function-size-shared-slice-read-is-bridge t c =
-    let the-pre = c .before .before .before .before .before .before .pre in
-    let pre = the-pre .1 in
-    omega (arith, pre .1, pre .0 .board .headers)
+function-size-header-at-requires : (t : ℕ) → function-size-lts.Need-header-at-requires (function-size-claims t) (function-size-at t)
+    function-size.Post
+function-size-header-at-requires t c κs =
+    let pre = c .before .before .before .before .before .pre .1 in
+    omega (arith, pre .1, pre .0 .board .heads)
 
 function-size-is-bridge-requires : (t : ℕ) → function-size-lts.Need-is-bridge-requires (function-size-claims t) (function-size-at t)
     function-size.Post
@@ -177,34 +186,53 @@ function-size-bus-size-requires t c κs =
     let left = depth-left (pre .1 .0) (pre .1 .1) in
     (omega (arith, pre .0, pre .1 .1, left, ap (λ (x : Laid). x .next) fresh), inside-standing (pre .1 .0) (pre .1 .1) fresh)
 
+function-size-spare-at-requires : (t : ℕ) → function-size-lts.Need-spare-at-requires (function-size-claims t) (function-size-at t)
+    function-size.Post
+function-size-spare-at-requires t c κs =
+    let pre = c .before .before .before .before .before .before .before .before .before .before .before .before .before .pre .1 in
+    omega (arith, pre .1, pre .0 .board .heads)
+
+function-size-with-spare-requires : (t : ℕ) → function-size-lts.Need-with-spare-requires (function-size-claims t) (function-size-at t)
+    function-size.Post
+function-size-with-spare-requires t c κs =
+    let call = c .before .before .before in
+    let fresh = call .before .before in
+    let pre = fresh .before .before .before .before .before .before .before .before .before .pre .1 in
+    (bus-whole (pre .0) (pre .1) (fresh .laid-from .ensures) (call .bus-size .ensures), c .spare-at .ensures .1)
+
 function-size-store-requires : (t : ℕ) → function-size-lts.Need-store-requires (function-size-claims t) (function-size-at t)
     function-size.Post
 function-size-store-requires t c κs =
-    let the-pre = c .before .before .before .before .before .before .before .before .before .before .before .before .before .before .pre in
-    let pre = the-pre .1 in
-    omega (arith, pre .0 .room, pre .1, c .before .before .before .bus-size .kept .1 .1 .1 .0)
+    let call = c .before .before .before .before .before in
+    let pre = call .before .before .before .before .before .before .before .before .before .before .before .pre .1 in
+    omega (arith, pre .0 .room, pre .1, call .bus-size .kept .1 .1 .1 .0)
 
 function-size-with-windows-requires : (t : ℕ) → function-size-lts.Need-with-windows-requires (function-size-claims t) (function-size-at t)
     function-size.Post
 function-size-with-windows-requires t c κs =
-    let call = c .before .before .before .before .before .before in
+    let spare = c .before .before .before .before in
+    let call = spare .before .before .before .before in
     let fresh = call .before .before in
     let pre = fresh .before .before .before .before .before .before .before .before .before .pre .1 in
-    inner-align-power (pre .0) (pre .1) (fresh .laid-from .ensures) (call .bus-size .ensures)
+    inner-align-power (pre .0) (pre .1) (fresh .laid-from .ensures) (call .bus-size .ensures) (spare .before .spare-at .ensures .0)
+    (spare .with-spare .ensures)
 
 function-size-same-length : (t : ℕ) → function-size-lts.Need-same-length (function-size-claims t) (function-size-at t) function-size.Post
 function-size-same-length t c = search needs
 
 function-size-returns : (t : ℕ) → function-size-lts.Need-returns (function-size-claims t) (function-size-at t) function-size.Post
 function-size-returns t c =
-    let call = c .before .before .before .before .before .before .before in
+    let spare = c .before .before .before .before .before in
+    let call = spare .before .before .before .before in
     let fresh = call .before .before in
     let yes = fresh .before in
-    let own = yes .before .before .before in
+    let header = yes .before .before in
+    let own = header .before in
     let pre = own .before .before .before .before .before .pre .1 in
-    bridge-walked (pre .0) (pre .1) (fresh .laid-from .ensures) (call .bus-size .ensures)
-    (sym (yes .before .is-bridge .ensures) ∙ yes .if1 .taken) (own .own-bars .ensures) (c .before .before .before .store .ensures)
-    (c .with-windows .ensures)
+    bridge-walked (pre .0) (pre .1) (fresh .laid-from .ensures) (call .bus-size .ensures) (spare .before .spare-at .ensures .0)
+    (spare .with-spare .ensures)
+    (ap isBridge (sym (header .header-at .ensures)) ∙ sym (yes .before .is-bridge .ensures) ∙ yes .if1 .taken) (own .own-bars .ensures)
+    (c .before .before .before .store .ensures) (c .with-windows .ensures)
 
 function-size-laid-from-requires-2 : (t : ℕ) → function-size-lts.Need-laid-from-requires-2 (function-size-claims t) (function-size-at t)
     function-size.Post
@@ -230,7 +258,8 @@ function-size-returns-2 t c =
     let start = at-if1 .before .before .before .before .before .before .before .before in
     let none = ap (λ (x : Laid). sets (start .args .memo .now) (8 * start .args .l .next) (numbersOf x))
     (c .before .before .before .laid-from2 .ensures) in
-    leaf-walked (start .pre .1 .0) (start .pre .1 .1) (sym (is-bridge .ensures) ∙ if1 .left) (own-bars .ensures)
+    leaf-walked (start .pre .1 .0) (start .pre .1 .1)
+    (ap isBridge (sym (at-if1 .before .before .header-at .ensures)) ∙ sym (is-bridge .ensures) ∙ if1 .left) (own-bars .ensures)
     (c .before .before .store2 .ensures ∙ none)
 
 pub +bus-size+function-size-spec : {M : Type 1} → statement M
@@ -250,13 +279,15 @@ pub +bus-size+function-size-spec : {M : Type 1} → statement M
     (function-size-at t)
     function-size.Post
     (function-size-own-bars-requires t)
-    (function-size-shared-slice-read-is-bridge t)
+    (function-size-header-at-requires t)
     (function-size-is-bridge-requires t)
     (function-size-add-laid-from t)
     (function-size-laid-from-requires t)
     (function-size-add-bus-size t)
     (function-size-sub-bus-size t)
     (function-size-bus-size-requires t)
+    (function-size-spare-at-requires t)
+    (function-size-with-spare-requires t)
     (function-size-store-requires t)
     (function-size-with-windows-requires t)
     (function-size-same-length t)

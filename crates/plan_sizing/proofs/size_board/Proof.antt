@@ -23,7 +23,7 @@ returns c =
     let root-from = c .before .before .before .before .root-from in
     let args = c .before .before .before .before .before .before .before .before .before .args in
     let a = args in
-    board-sized (a .parents .now) (a .headers .now) (a .readbacks .now) (basesOf (a .base-low) (a .base-high) (a .base-io))
+    board-sized (a .parents .now) (a .heads .now) (a .readbacks .now) (basesOf (a .base-low) (a .base-high) (a .base-io))
     (root-from .ensures) (c .before .before .bus-size .ensures)
 
 pub size-board-spec : {M : Type 1} → statement M

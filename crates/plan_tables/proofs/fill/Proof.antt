@@ -8,24 +8,24 @@ use lib.ListN.{length}
 use Rattle.records.specs.RecordsLaws.{fits-at, none-here}
 use Rattle.board_record.specs.Function.{functionOfPart, headerWrong}
 use Rattle.plan_tables.specs.Tables.{Filling}
-use Rattle.plan_tables.specs.TablesLaws.{filling-start, filling-parents, filling-headers, filling-readbacks, filled-end}
+use Rattle.plan_tables.specs.TablesLaws.{filling-start, filling-parents, filling-heads, filling-readbacks, filled-end}
 use Rattle.plan_tables.specs.TablesLaws.{filled-broken, filling-lt, filling-room, filling-record}
 use Rattle.plan_tables.proofs.fill.Statement.{statement}
 use Rattle.plan_tables.proofs.fill.Tie as tie
 
 abbrev Inv-loop : tie.InvT-loop
-Inv-loop board parents₀ headers₀ readbacks₀ at₀ i₀ parents headers readbacks at i =
-    Filling board parents₀ headers₀ readbacks₀ at i parents headers readbacks
+Inv-loop board parents₀ headers₀ readbacks₀ at₀ i₀ parents heads readbacks at i =
+    Filling board parents₀ headers₀ readbacks₀ at i parents heads readbacks
 
 abbrev μ-loop : tie.MeasureT-loop
-μ-loop board parents₀ headers₀ readbacks₀ at₀ i₀ parents headers readbacks at i = length board - at
+μ-loop board parents₀ headers₀ readbacks₀ at₀ i₀ parents heads readbacks at i = length board - at
 
 loop-holds : tie.Need-loop-holds Inv-loop μ-loop
 loop-holds c =
     let args = c .before .before .before .before .args in
     let pre = c .before .before .before .before .pre in
     let a = args in
-    filling-start (a .board .now) (a .parents .now) (a .headers .now) (a .readbacks .now) (pre .0) (pre .1)
+    filling-start (a .board .now) (a .parents .now) (a .heads .now) (a .readbacks .now) (pre .0) (pre .1)
 
 next-at-requires : tie.Need-next-at-requires Inv-loop μ-loop
 next-at-requires c κs = search needs
@@ -37,7 +37,7 @@ same-length : tie.Need-same-length Inv-loop μ-loop
 same-length c = filling-parents (c .before .before .before .loop .inv)
 
 same-length-2 : tie.Need-same-length-2 Inv-loop μ-loop
-same-length-2 c = filling-headers (c .before .before .before .loop .inv)
+same-length-2 c = filling-heads (c .before .before .before .loop .inv)
 
 same-length-3 : tie.Need-same-length-3 Inv-loop μ-loop
 same-length-3 c = filling-readbacks (c .before .before .before .loop .inv)
@@ -52,7 +52,7 @@ same-length-4 : tie.Need-same-length-4 Inv-loop μ-loop
 same-length-4 c = filling-parents (c .before .before .before .loop .inv)
 
 same-length-5 : tie.Need-same-length-5 Inv-loop μ-loop
-same-length-5 c = filling-headers (c .before .before .before .loop .inv)
+same-length-5 c = filling-heads (c .before .before .before .loop .inv)
 
 same-length-6 : tie.Need-same-length-6 Inv-loop μ-loop
 same-length-6 c = filling-readbacks (c .before .before .before .loop .inv)

@@ -1,58 +1,61 @@
--- `plan_tables::put` meets its contract: one store for each field. Assumes nothing.
 use borrow.Author.Needs.{needs}
-use mathlib.Core.Path.{refl, ap}
-use native.Mathlib.Omega.{arith}
-use lib.ListN.{set}
-use Rattle.board_record.specs.Function.{functionOfPart}
-use Rattle.board_record.specs.FunctionLaws.{le-length}
 use Rattle.plan_tables.proofs.put.Statement.{statement}
 use Rattle.plan_tables.proofs.put.Tie as tie
+use Rattle.plan_tables.proofs.put.Reads as reads
+use Rattle.plan_tables.proofs.put.Lts as lts
+use Rattle.board_record.proofs.parent_of.Reads as parent-of-reads
+use Rattle.plan_tables.proofs.head_of.Reads as head-of-reads
+use Rattle.plan_tables.proofs.put_set.Reads as put-set-reads
+use mathlib.Core.Path.{ap}
+use lib.ListN.{set}
 
+-- src/lib.rt:77:18
 parent-of-requires : tie.Need-parent-of-requires
 parent-of-requires c κs = search needs
 
+-- src/lib.rt:77:5
 mul-parents : tie.Need-mul-parents
 mul-parents c = search needs
 
+-- src/lib.rt:77:5
 slice-write-parents : tie.Need-slice-write-parents
 slice-write-parents c = search needs
 
-shared-slice-read-headers : tie.Need-shared-slice-read-headers
-shared-slice-read-headers c =
-    let pre = c .before .before .before .before .before .before .pre in
-    omega (arith, le-length _ (pre .0))
+-- src/lib.rt:78:16
+head-of-requires : tie.Need-head-of-requires
+head-of-requires c κs = search needs
 
-slice-write-headers : tie.Need-slice-write-headers
-slice-write-headers c = search needs
+-- src/lib.rt:78:5
+mul-heads : tie.Need-mul-heads
+mul-heads c = search needs
 
+-- src/lib.rt:78:5
+slice-write-heads : tie.Need-slice-write-heads
+slice-write-heads c = search needs
+
+-- src/lib.rt:79:24
 mul-put-set : tie.Need-mul-put-set
 mul-put-set c = search needs
 
+-- src/lib.rt:79:5
 put-set-requires : tie.Need-put-set-requires
 put-set-requires c κs = search needs
 
+-- src/lib.rt:70:1
 same-length : tie.Need-same-length
 same-length c = search needs
 
+-- src/lib.rt:70:1
 same-length-2 : tie.Need-same-length-2
 same-length-2 c = search needs
 
+-- src/lib.rt:70:1
 same-length-3 : tie.Need-same-length-3
 same-length-3 c = search needs
 
+-- src/lib.rt:70:1
 returns : tie.Need-returns
-unfolding functionOfPart
-returns c =
-    let at-parent-of = c .before .before .before .before .before in
-    let parent-of = at-parent-of .parent-of in
-    let args = at-parent-of .before .before .before .before .before .args in
-    let a = args in
-    record {
-      parents = ap (set (a .parents .now) (a .i)) (parent-of .ensures);
-      headers = refl;
-      readbacks
-          = c .before .before .put-set .ensures;
-    }
+returns c = let a = c .before .before .before .before .before .before .before .before .before .before .args in record { parents = ap (set (a .parents .now) (a .i)) (c .before .before .before .before .before .parent-of .ensures); heads = ap (set (a .heads .now) (a .i)) (c .before .before .before .before .head-of .ensures); readbacks = c .before .before .put-set .ensures }
 
 pub put-spec : {M : Type 1} → statement M
 put-spec =
@@ -61,8 +64,9 @@ put-spec =
     parent-of-requires
     mul-parents
     slice-write-parents
-    shared-slice-read-headers
-    slice-write-headers
+    head-of-requires
+    mul-heads
+    slice-write-heads
     mul-put-set
     put-set-requires
     same-length

@@ -7,7 +7,7 @@ use mathlib.Core.Path.{refl, ap, _∙_}
 use lib.ListN.{length}
 use Rattle.records.specs.RecordsLaws.{fits-at, length-part}
 use Rattle.board.specs.BoardLaws.{accepted-of-zero}
-use Rattle.planner.specs.PlanLaws.{host-read-is, few-bridges, lawful-refused, lawful-short, lawful-placing, lawful-planned}
+use Rattle.planner.specs.PlanLaws.{host-read-is, lawful-refused, lawful-short, lawful-placing, lawful-planned}
 use Rattle.planner.specs.PlanLaws.{lawful-sheet}
 
 part-at-requires : tie.Need-part-at-requires
@@ -37,9 +37,7 @@ measure-requires c κs =
     )
 
 refusal-requires : tie.Need-refusal-requires
-refusal-requires c κs =
-    let pre = c .before .before .before .before .before .before .before .before .before .pre in
-    few-bridges _ pre (c .before .before .measure .ensures)
+refusal-requires c κs = c .before .before .measure .ensures .few-buses
 
 returns : tie.Need-returns
 returns c =

@@ -1,0 +1,114 @@
+-- Document 02's E10 holds: where a board's spares are, and that nobody is in them. Assumes nothing.
+use mathlib.Core.Path.{_≡_, refl, sym, ap, subst, _∙_}
+use mathlib.Core.Bool.{Bool, true, false}
+use mathlib.Core.List.{List, [], _∷_, map}
+use Prim.Native.Nat.{ℕ, suc, _+_, _*_, _/_, _%_, _<_}
+use native.Mathlib.Omega.{arith}
+use lib.ListN.{length, getD}
+use Rattle.endian.specs.Endian.{Bytes, be}
+use Rattle.endian.specs.EndianLaws.{be-lt}
+use Rattle.lists.specs.Lists.{All}
+use Rattle.pools.specs.declared.Space.the-variants.{Memory as memorySpace}
+use Rattle.records.specs.Records.{partsFrom, anyPart}
+use Rattle.records.specs.RecordsLaws.{false-of-or}
+use Rattle.bar.specs.Header.{isBridge as isBridgeHeader}
+use Rattle.plan_rule.specs.Records.{Function}
+use Rattle.plan_rule.specs.NoSpares.{NoSpares, bridges-counted, bus-number-counted, subordinate-counted}
+use Rattle.plan_rule.specs.NumberingLaws.{bridges-and-spares}
+use Rattle.plan_rule.specs.Numbered.{subordinate-after}
+use Rattle.board_record.specs.Function.{functionOfPart, bridgeLength, wrongIn}
+use Rattle.board_record.specs.FunctionLaws.{length-of-version, spares-none, spares-bytes, spares-of-bridge, spares-of-end}
+use Rattle.board.specs.Board.{hostOf, functionsOf}
+use Rattle.board.specs.BoardLaws.{accepted-of-zero, other-version}
+use Rattle.board.specs.ToPlacing.{toPlacing}
+use Rattle.board.specs.ToPlacingLaws.{lawful-of-accepted}
+use Rattle.plan_good.specs.SpareRoom.{NobodyThere}
+use Rattle.plan_good.specs.SpareRoomLaws.{room-kept, nobody-there}
+use Rattle.plan_answer.specs.declared.Planning.the-variants.{Planned}
+use Rattle.plan_answer.specs.Plan.{planning}
+use Rattle.plan_sheet.specs.Accepted.{fits-of-accepted}
+use Rattle.plan_sheet.specs.Answer.{planned-of-answer}
+use Rattle.demands.specs.Demand3.{Lawful, host, functions}
+use Rattle.demands.specs.Demand3Laws.{demand-3}
+use Rattle.demands.specs.EmptySlots.{versionOf, Spares, AsBefore, BridgeAt, EmptySlots}
+
+-- ## Records
+
+spares-read : (p : List ℕ) → Bytes p → isBridgeHeader (getD p 3 0) ≡ true → Spares p
+spares-read p bytes b =
+    let e : functionOfPart p .spares ≡ getD p 14 0 * 65536 + be 2 p 15 = spares-of-bridge p b ∙ spares-bytes p in
+    let l : be 2 p 15 < 65536 = be-lt 2 p 15 bytes in
+    record { buses = omega (arith, e, l); room = omega (arith, e, l) }
+
+lengths : (v : ℕ) (ps : List (List ℕ)) → anyPart (wrongIn v) ps ≡ false
+    → All (λ p. isBridgeHeader (getD p 3 0) ≡ true → length p ≡ bridgeLength v) ps
+unfolding anyPart
+lengths v [] e = tt
+lengths v (p ∷ ps) e =
+    let both = false-of-or (wrongIn v p) (anyPart (wrongIn v) ps) e in
+    (λ b. rw b at (length-of-version v p (both .0)), lengths v ps (both .1))
+
+-- ## Version 1
+
+spares-zero : (p : List ℕ) → wrongIn 1 p ≡ false → functionOfPart p .spares ≡ 0
+spares-zero p w = go (isBridgeHeader (getD p 3 0)) refl
+  where
+    go : (t : Bool) → isBridgeHeader (getD p 3 0) ≡ t → functionOfPart p .spares ≡ 0
+    go true b =
+        let l : length p ≡ 14 = rw b at (length-of-version 1 p w) in
+        spares-of-bridge p b ∙ spares-none p (omega (arith, l))
+    go false b = spares-of-end p b
+
+none-of-parts : (ps : List (List ℕ)) → anyPart (wrongIn 1) ps ≡ false → NoSpares (toPlacing (map functionOfPart ps))
+unfolding anyPart
+none-of-parts [] e = tt
+none-of-parts (p ∷ ps) e =
+    let both = false-of-or (wrongIn 1 p) (anyPart (wrongIn 1) ps) e in
+    let z = spares-zero p (both .0) in
+    (record { no-buses = omega (arith, z); no-room = omega (arith, z) }, none-of-parts ps (both .1))
+
+none-of-board : (b : List ℕ) → Lawful b → versionOf b ≡ 1 → NoSpares (functions b)
+none-of-board b lawful v =
+    let a = accepted-of-zero b lawful in
+    rw (a .functions-read)
+    (none-of-parts (partsFrom b 33) (subst (λ (n : ℕ). anyPart (wrongIn n) (partsFrom b 33) ≡ false) v (a .of-version)))
+
+as-before : (b : List ℕ) → Lawful b → versionOf b ≡ 1 → AsBefore b
+as-before b lawful v =
+    let fs = functions b in
+    let none = none-of-board b lawful v in
+    record {
+      no-spares = none;
+      one-number-each = bridges-counted fs none;
+      bus-numbers = bus-number-counted fs none (host b .firstBus);
+      subordinates = subordinate-counted fs none (host b .firstBus);
+    }
+
+-- ## The request
+
+pub empty-slots : EmptySlots
+empty-slots =
+    record {
+      bridges-by-version = λ b lawful. lengths (versionOf b) (partsFrom b 33) (accepted-of-zero b lawful .of-version);
+      spares-read = spares-read;
+      versions-known = other-version;
+      version-1-as-before = as-before;
+      spare-buses-last = λ b lawful i f at.
+          subordinate-after (host b .firstBus) (functions b) (lawful-of-accepted b lawful) i f (at .stands) (at .is-bridge);
+      spare-room-kept = λ b lawful i f at.
+          room-kept (host b) (functions b) (lawful-of-accepted b lawful) i f (at .stands) (at .is-bridge);
+      spares-counted = λ b.
+          let e = bridges-and-spares (functions b) in
+          (λ l. omega (arith, e, l), λ l. omega (arith, e, l));
+      nobody-in-spare-room = nobody;
+      spare-room-refused = λ b room n bytes planned t same header p read a is i f at w m v spare.
+          demand-3 .requests-routed b room n bytes planned t same header p read memorySpace a is .else-no-owner .1
+          (λ k o. nobody b room n bytes planned i f at w m v a spare k (o .bar-holds));
+    }
+  where
+    nobody : (b room : List ℕ) (n : ℕ) → Bytes b → planning b (length room) ≡ Planned n
+        → (i : ℕ) (f : Function) → BridgeAt b i f → NobodyThere (host b) (functions b) (suc i) f
+    nobody b room n bytes planned i f at =
+        let answers = planned-of-answer b (length room) n planned in
+        nobody-there (host b) (functions b) (fits-of-accepted b bytes (answers .accepted) .board) (answers .not-refused) i f (at .stands)
+        (at .is-bridge)
