@@ -96,7 +96,7 @@ module _ (host s : List ℕ) (bytes : Bytes s) (a : Accepted host s) (sp : Space
   nodes-are = nodes-functions sp 1 (entriesOf s)
 
   -- the bridges above, by number
-  above-agree : (f : Registers) → f ∈ fs → numbersOf (walking.bridgesAbove walkHost fs f) ≡ bridgesAbove host s (f .node .number)
+  pub above-agree : (f : Registers) → f ∈ fs → numbersOf (walking.bridgesAbove walkHost fs f) ≡ bridgesAbove host s (f .node .number)
   above-agree f m =
       let here : f .node ∈ nodesOf s = subst (λ (ns : List Node). f .node ∈ ns) nodes-are (node-mem m) in
       ap₂ (λ (ns : List Node) (bus : ℕ). numbersOf (above (walkHost .first) ns bus)) nodes-are (sym (bus-of-node s (f .node) here))

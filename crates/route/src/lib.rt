@@ -104,7 +104,7 @@ pub fn route_packet(p: Packet, sheet: &[u8]) -> Routing
 // ---- the walk
 
 // Where a walk ends: at a record after so many bridges, or refused by number.
-enum Walked {
+pub enum Walked {
     Delivered(u16, u8),
     Refused(u8),
 }
@@ -125,7 +125,7 @@ fn route_aimed(p: Packet, sheet: &[u8], aim: Aim, root: u8) -> Routing
 }
 
 // From a bus on, with so many bridges crossed. A bridge's secondary bus has a greater number than its own, so the walk ends.
-fn walk(sheet: &[u8], aim: Aim, bus: u8, crossed: u8) -> Walked
+pub fn walk(sheet: &[u8], aim: Aim, bus: u8, crossed: u8) -> Walked
     requires { ⌜ Checked (now sheet) × (crossed ≤ bus) ⌝ }
     ensures { λ r. ⌜ outcomeOf r ≡ walked aim (now (sheet .entry)) bus crossed ⌝ }
 {

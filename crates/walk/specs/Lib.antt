@@ -12,7 +12,17 @@ pub mod AboveLaws
 pub mod Good
 pub mod Reach
 pub mod Delivery
+pub mod WayLaws
+pub mod Holders
 pub mod Ids
 pub mod IdsLaws
 pub mod IdsDelivery
+pub mod Climb
+pub mod ClimbLaws
+pub mod Cards
+pub mod CardWays
+pub mod MeetingLaws
+pub mod CardToCard
+pub mod Switch
+pub mod CardExamples
 pub mod Examples

@@ -95,7 +95,7 @@ module _ (enabled : ℕ → Bool) (fs : List Registers) (address : ℕ) where
 
 module _ {host : Host} {fs : List Registers} (sound : Sound host fs) (enabled : ℕ → Bool) (address : ℕ) where
   -- A window of the bridge above holds what an item below it holds.
-  window-above : (i : Item) → i ∈ items fs → Holds (i .range) address → (b : Node) → LeadsTo (i .owner .node .bus) (nodes fs) b
+  pub window-above : (i : Item) → i ∈ items fs → Holds (i .range) address → (b : Node) → LeadsTo (i .owner .node .bus) (nodes fs) b
       → (w : Item) × (w ∈ items fs) × Holds (w .range) address × (w .owner .node ≡ b) × (w .claim ≡ window (b .number) (b .secondary))
   window-above i m h b l =
       let (g, in-fs, is-b) = nodes-elim fs (l .in-sheet) in

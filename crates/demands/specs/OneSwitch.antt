@@ -1,0 +1,64 @@
+-- Document 02, E13, "One card's switch", in the request's sentences, over what the router and `sendingOf` answer on bytes. `one-switch` of
+-- OneSwitchLaws proves it. Assumes nothing.
+use mathlib.Core.Path.{_≡_}
+use mathlib.Core.Logic.{_⊎_}
+use mathlib.Core.Bool.{true}
+use mathlib.Core.List.{List}
+use Prim.Native.Nat.{ℕ, suc}
+use lib.ListN.{getD}
+use Rattle.packet.specs.declared.Packet.{Packet}
+use Rattle.tlp.specs.declared.Reading.the-variants.{Accepted as Read}
+use Rattle.tlp.specs.Reading.{readOf}
+use Rattle.lists.specs.Lists.{_∈_, Some}
+use Rattle.pools.specs.declared.Space.{Space}
+use Rattle.walk.specs.Ranges.{Holds}
+use Rattle.walk.specs.Registers.{Registers}
+use Rattle.walk.specs.Switch.{goneUp}
+use Rattle.sheet.specs.Sheet.{commandsOf, sheetNumber}
+use Rattle.sheet.specs.Spaces.{registersOf, enabledOf}
+use Rattle.sheet.specs.Commands.{SameButCommands}
+use Rattle.route.specs.Route.{root, routeOf}
+use Rattle.route_cards.specs.Sending.{masterOf, sendingOf}
+use Rattle.route_cards.specs.Search.{functionAt}
+use Rattle.demands.specs.Demand3.{IsRequest}
+use Rattle.demands.specs.ById.{GoesById}
+use Rattle.demands.specs.CardToCard.{IsCardRequest}
+
+-- "any two sheets that pass checks 20 to 29 and differ only in one function's command word": function k's, numbered from 1
+pub record DifferAt (k : ℕ) (s t : List ℕ) : Type 0 where
+  pub passes : sheetNumber s ≡ 0
+  pub same-but-commands : SameButCommands s t
+  pub same-elsewhere : (i : ℕ) → ¬ (suc i ≡ k) → getD (commandsOf s) i 0 ≡ getD (commandsOf t) i 0
+
+-- the address "lies in that function's BARs or, if it is a bridge, in its windows", of the request's own space, enabled or not
+pub record LiesIn (s : List ℕ) (sp : Space) (address k : ℕ) : Type 0 where
+  pub function : Registers
+  pub in-sheet : function ∈ registersOf sp s
+  pub number-is : function .node .number ≡ k
+  pub holds-it : Some (λ r. Holds r address) (function .bars)
+      ⊎ ((function .node .bridge ≡ true) × Some (λ r. Holds r address) (function .windows))
+
+-- the bridges that a request from function j goes up through on a sheet
+abbrev pub wentUp : List ℕ → Space → ℕ → ℕ → List ℕ
+wentUp s sp address j = goneUp (enabledOf sp s) (masterOf s) (registersOf sp s) address (root s) (functionAt sp s j)
+
+pub record OneSwitch : Type 0 where
+  -- no check looks at a command word, so that one of the two passes where the other does
+  pub pass-alike : (k : ℕ) (s t : List ℕ) → DifferAt k s t → sheetNumber t ≡ 0
+  -- "give a host request the same answer unless its address lies in that function's BARs or, if it is a bridge, in its windows"
+  pub host-agrees : (k : ℕ) (s t : List ℕ) → DifferAt k s t
+      → (header : List ℕ) (p : Packet) → readOf header ≡ Read p → (sp : Space) (address : ℕ) → IsRequest p sp address
+      → ¬ LiesIn s sp address k → routeOf header t ≡ routeOf header s
+  -- "Configuration requests, completions and messages by ID always agree."
+  pub ids-agree : (k : ℕ) (s t : List ℕ) → DifferAt k s t
+      → (header : List ℕ) (p : Packet) → readOf header ≡ Read p → (id : ℕ) → GoesById p id → routeOf header t ≡ routeOf header s
+  -- and so does whatever goes by no address: a header that is not read, a broadcast, what ends at the port or only travels up
+  pub others-agree : (k : ℕ) (s t : List ℕ) → DifferAt k s t
+      → (header : List ℕ) → ((p : Packet) (sp : Space) (address : ℕ) → readOf header ≡ Read p → ¬ IsRequest p sp address)
+      → routeOf header t ≡ routeOf header s
+  -- "For E11, also exclude requests that start at that function or go up through it under either sheet."
+  pub cards-agree : (k : ℕ) (s t : List ℕ) → DifferAt k s t
+      → (j : ℕ) → ¬ (j ≡ k) → (header : List ℕ)
+      → ((p : Packet) (sp : Space) (address : ℕ) → readOf header ≡ Read p → IsCardRequest p sp address
+      → ¬ LiesIn s sp address k × ¬ (k ∈ wentUp s sp address j) × ¬ (k ∈ wentUp t sp address j))
+      → sendingOf j header t ≡ sendingOf j header s

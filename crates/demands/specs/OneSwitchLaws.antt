@@ -1,0 +1,290 @@
+-- Document 02, E13, is proved: no check and no register looks at a command word, so both sheets have the same registers; and by these only
+-- the bits of one function differ. Assumes nothing.
+use mathlib.Core.Path.{_≡_, refl, sym, ap, subst, _∙_}
+use mathlib.Core.Logic.{_⊎_, inl, inr}
+use mathlib.Core.Bool.{Bool, false, cond}
+use mathlib.Core.List.{List, map}
+use Prim.Native.Nat.{ℕ, suc, _-_, _/_, _%_}
+use native.Mathlib.Nat.{suc-ne-zero}
+use native.Mathlib.Omega.{arith}
+use lib.Dec.{eqb}
+use lib.ListN.{length, getD, List·getD-map}
+use borrow.Author.Tests.{eq-eqb}
+use Rattle.pairs.specs.declared.MessageRouting.the-variants.{ToRoot, ByAddress, ById, Broadcast, Local, Gathered}
+use Rattle.packet.specs.declared.Packet.{Packet}
+use Rattle.packet.specs.declared.Packet.the-variants.{Memory, Io, Config, Completion, Message}
+use Rattle.tlp.specs.declared.Reading.{Reading}
+use Rattle.tlp.specs.declared.Reading.the-variants.{Accepted as Read, Refused as NotRead}
+use Rattle.tlp.specs.Reading.{readOf}
+use Rattle.lists.specs.Lists.{_∈_}
+use Rattle.lists.specs.ListLaws.{some-of-member}
+use Rattle.pools.specs.declared.Space.{Space}
+use Rattle.pools.specs.declared.Space.the-variants.{Memory as memorySpace, Io as ioSpace}
+use Rattle.walk.specs.Registers.{Node, Registers, rootOf, enabledIn}
+use Rattle.walk.specs.RegistersLaws.{BarOf, WindowOf, item-elim, enabled-in-suc}
+use Rattle.walk.specs.Tally.{Tally, tallyOn}
+use Rattle.walk.specs.Walk.{noOwner, walkFrom}
+use Rattle.walk.specs.Ids.{tallyById}
+use Rattle.walk.specs.Climb.{starts, nowhere, startAt, sendFrom}
+use Rattle.walk.specs.Switch.{Clear, SameBut, goneUp, tallies-agree, send-agree}
+use Rattle.sheet_record.specs.Spaces.{enables}
+use Rattle.sheet.specs.Sheet.{entriesOf, commandsOf, sheetNumber}
+use Rattle.sheet.specs.Spaces.{registersOf, nodesOf, enabledOf}
+use Rattle.sheet.specs.SheetLaws.{Checked, checked-of-zero, numbered-functions}
+use Rattle.sheet.specs.CommandsLaws.{number-same, registers-same, nodes-same}
+use Rattle.claims.specs.declared.Aim.{Aim}
+use Rattle.claims.specs.declared.Aim.the-variants.{Address, Id}
+use Rattle.route_arrival.specs.declared.Heading.{Heading}
+use Rattle.route_arrival.specs.declared.Heading.the-variants.{Aimed, Up, Every, Port}
+use Rattle.route_arrival.specs.Arrival.{headingOf, typeWrong}
+use Rattle.route.specs.declared.Routing.{Routing}
+use Rattle.route.specs.declared.Routing.the-variants.{Refused}
+use Rattle.route.specs.Route.{wrongType, answer, walked, root, headedOver, routeOver, routePacket, fromSheet, fromReading, routeOf}
+use Rattle.route.specs.RouteLaws.{packet-over}
+use Rattle.route_cards.specs.declared.start.Request.{Request}
+use Rattle.route_cards.specs.declared.start.Request.the-variants.{At, Other}
+use Rattle.route_cards.specs.Sending.{requestOf, masters, masterOf, sendingOf}
+use Rattle.route_cards.specs.Sending as sending
+use Rattle.route_cards.specs.Search.{functionAt, IsEnd}
+use Rattle.route_cards.specs.RecordLaws.{function-mem, function-elim, end-bridge, start-of-end}
+use Rattle.route_cards.specs.RequestLaws.{end-or-nowhere}
+use Rattle.demands.specs.Demand3.{IsRequest}
+use Rattle.demands.specs.ById.{GoesById}
+use Rattle.demands.specs.CardToCard.{IsCardRequest}
+use Rattle.demands.specs.OneSwitch.{DifferAt, LiesIn, wentUp, OneSwitch}
+
+-- ## What goes by an address
+
+request-of-aim : (p : Packet) (sp : Space) (address : ℕ) → headingOf p ≡ Aimed (Address sp address) → IsRequest p sp address
+request-of-aim (Memory k h e a) sp address q = (cc, cc)
+request-of-aim (Io k h e a) sp address q = (cc, cc)
+request-of-aim (Config k h e t) sp address q = suc-ne-zero 0 (cc)
+request-of-aim (Completion k h o) sp address q = suc-ne-zero 0 (cc)
+request-of-aim (Message k h ToRoot code tail) sp address q = suc-ne-zero 0 (cc)
+request-of-aim (Message k h ByAddress code tail) sp address q = (cc, cc)
+request-of-aim (Message k h ById code tail) sp address q = suc-ne-zero 0 (cc)
+request-of-aim (Message k h Broadcast code tail) sp address q = suc-ne-zero 0 (cc)
+request-of-aim (Message k h Local code tail) sp address q = suc-ne-zero 0 (cc)
+request-of-aim (Message k h Gathered code tail) sp address q = suc-ne-zero 0 (cc)
+
+-- and by an ID goes nothing that goes by an address
+not-by-both : (p : Packet) (id : ℕ) → GoesById p id → (sp : Space) (address : ℕ) → ¬ IsRequest p sp address
+not-by-both (Memory k h e a) id by sp address is = by
+not-by-both (Io k h e a) id by sp address is = by
+not-by-both (Config k h e t) id by sp address is = is
+not-by-both (Completion k h o) id by sp address is = is
+not-by-both (Message k h ToRoot code tail) id by sp address is = is
+not-by-both (Message k h ByAddress code tail) id by sp address is = by
+not-by-both (Message k h ById code tail) id by sp address is = is
+not-by-both (Message k h Broadcast code tail) id by sp address is = is
+not-by-both (Message k h Local code tail) id by sp address is = is
+not-by-both (Message k h Gathered code tail) id by sp address is = is
+
+-- one address for one request
+one-address : (p : Packet) (sp sp′ : Space) (a a′ : ℕ) → IsRequest p sp a → IsRequest p sp′ a′ → (sp ≡ sp′) × (a ≡ a′)
+one-address (Memory k h e x) sp sp′ a a′ (m, is) (m′, is′) = (m ∙ sym m′, is ∙ sym is′)
+one-address (Io k h e x) sp sp′ a a′ (m, is) (m′, is′) = (m ∙ sym m′, is ∙ sym is′)
+one-address (Config k h e t) sp sp′ a a′ is is′ = absurd is
+one-address (Completion k h o) sp sp′ a a′ is is′ = absurd is
+one-address (Message k h ToRoot code tail) sp sp′ a a′ is is′ = absurd is
+one-address (Message k h ByAddress code tail) sp sp′ a a′ (m, is) (m′, is′) = (m ∙ sym m′, is ∙ sym is′)
+one-address (Message k h ById code tail) sp sp′ a a′ is is′ = absurd is
+one-address (Message k h Broadcast code tail) sp sp′ a a′ is is′ = absurd is
+one-address (Message k h Local code tail) sp sp′ a a′ is is′ = absurd is
+one-address (Message k h Gathered code tail) sp sp′ a a′ is is′ = absurd is
+
+card-request : (p : Packet) (sp : Space) (address : ℕ) → requestOf p ≡ At sp address → IsCardRequest p sp address
+card-request (Memory k h e a) sp address q = (cc, cc)
+card-request (Io k h e a) sp address q = (cc, cc)
+card-request (Config k h e t) sp address q = suc-ne-zero 0 (cc)
+card-request (Completion k h o) sp address q = suc-ne-zero 0 (cc)
+card-request (Message k h routing code tail) sp address q = suc-ne-zero 0 (cc)
+
+-- ## Two sheets that differ in function k's command word
+
+bit-at : (g : ℕ → Bool) → g 0 ≡ false → (cs : List ℕ) (i : ℕ) → enabledIn (map g cs) (suc i) ≡ g (getD cs i 0)
+bit-at g off cs i = enabled-in-suc (map g cs) i ∙ ap (getD (map g cs) i) (sym off) ∙ List·getD-map g cs i 0
+
+module _ (k : ℕ) (s t : List ℕ) (d : DifferAt k s t) where
+  checked : Checked s
+  checked = checked-of-zero s (d .passes)
+
+  passes : sheetNumber t ≡ 0
+  passes = number-same (d .same-but-commands) ∙ d .passes
+
+  nodes-are : nodesOf t ≡ nodesOf s
+  nodes-are = nodes-same (d .same-but-commands) (checked .framed)
+
+  registers-are : (sp : Space) → registersOf sp t ≡ registersOf sp s
+  registers-are sp = registers-same (d .same-but-commands) (checked .framed) sp
+
+  -- any bit of the command words
+  bits-agree : (g : ℕ → Bool) → g 0 ≡ false → (sp : Space)
+      → SameBut (registersOf sp s) k (enabledIn (map g (commandsOf t))) (enabledIn (map g (commandsOf s)))
+  bits-agree g off sp f m other =
+      let n = f .node .number in
+      let is : n ≡ suc (n - 1) = omega (arith, function-elim s checked sp f m .0 .from-1) in
+      ap (enabledIn (map g (commandsOf t))) is
+      ∙ bit-at g off (commandsOf t) (n - 1)
+      ∙ ap g (sym (d .same-elsewhere (n - 1) (λ e. other (is ∙ e))))
+      ∙ sym (bit-at g off (commandsOf s) (n - 1))
+      ∙ ap (enabledIn (map g (commandsOf s))) (sym is)
+
+  enabled-agree : (sp : Space) → SameBut (registersOf sp s) k (enabledOf sp t) (enabledOf sp s)
+  enabled-agree memorySpace = bits-agree (enables memorySpace) refl memorySpace
+  enabled-agree ioSpace = bits-agree (enables ioSpace) refl ioSpace
+
+  clear-of : (sp : Space) (address : ℕ) → ¬ LiesIn s sp address k → Clear (registersOf sp s) address k
+  clear-of sp address outside i m is held = go (item-elim (registersOf sp s) m)
+    where
+      go : BarOf (registersOf sp s) i ⊎ WindowOf (registersOf sp s) i → ⊥
+      go (inl b) =
+          outside (record {
+            function = i .owner;
+            in-sheet = b .in-sheet;
+            number-is = is;
+            holds-it = inl (some-of-member _ (i .owner .bars) (b .in-bars) held);
+          })
+      go (inr w) =
+          outside (record {
+            function = i .owner;
+            in-sheet = w .in-sheet;
+            number-is = is;
+            holds-it = inr (w .is-bridge, some-of-member _ (i .owner .windows) (w .in-windows) held);
+          })
+
+  -- ## From the host
+
+  by-address : (sp : Space) (address : ℕ) → ¬ LiesIn s sp address k
+      → walked (Address sp address) t (root t) 0 ≡ walked (Address sp address) s (root s) 0
+  by-address sp address outside =
+      ap (λ (fs : List Registers). walkFrom (tallyOn (enabledOf sp t) fs address) (root t) 0) (registers-are sp)
+      ∙ ap (λ (tally : ℕ → Tally). walkFrom tally (root t) 0)
+      (tallies-agree (enabledOf sp t) (enabledOf sp s) (registersOf sp s) address k (enabled-agree sp) (clear-of sp address outside))
+      ∙ ap (λ (ns : List Node). walkFrom (tallyOn (enabledOf sp s) (registersOf sp s) address) (rootOf ns) 0) nodes-are
+
+  by-id : (id : ℕ) → walked (Id id) t (root t) 0 ≡ walked (Id id) s (root s) 0
+  by-id id = ap (λ (ns : List Node). walkFrom (tallyById ns (id / 256) (id % 256)) (rootOf ns) 0) nodes-are
+
+  -- where the packet's own aim has one outcome
+  packet-agree : (p : Packet)
+      → ((aim : Aim) → headingOf p ≡ Aimed aim → walked aim t (root t) 0 ≡ walked aim s (root s) 0)
+      → routePacket p t ≡ routePacket p s
+  packet-agree p same =
+      packet-over p t
+      ∙ ap (λ (ns : List Node). routeOver (length ns) (rootOf ns) (λ aim. walked aim t (root t) 0) p) nodes-are
+      ∙ ap (λ (r : Routing). cond (eqb (length (nodesOf s)) 0) (Refused noOwner) (cond (typeWrong (root s) p) (Refused wrongType) r))
+      (go (headingOf p) refl)
+      ∙ sym (packet-over p s)
+    where
+      go : (h : Heading) → headingOf p ≡ h
+          → headedOver (length (nodesOf s)) (λ aim. walked aim t (root t) 0) h p
+          ≡ headedOver (length (nodesOf s)) (λ aim. walked aim s (root s) 0) h p
+      go (Aimed aim) e = ap (answer p) (same aim e)
+      go Up e = refl
+      go Every e = refl
+      go Port e = refl
+
+  routes-agree : (header : List ℕ)
+      → ((p : Packet) → readOf header ≡ Read p → (sp : Space) (address : ℕ) → IsRequest p sp address → ¬ LiesIn s sp address k)
+      → routeOf header t ≡ routeOf header s
+  unfolding routeOf fromSheet
+  routes-agree header outside = go (readOf header) refl
+    where
+      go : (r : Reading) → readOf header ≡ r → fromReading r t ≡ fromReading r s
+      go (NotRead n) e = refl
+      go (Read p) e =
+          rw (eq-eqb (sheetNumber t) 0 passes, eq-eqb (sheetNumber s) 0 (d .passes)) (packet-agree p aimed)
+        where
+          aimed : (aim : Aim) → headingOf p ≡ Aimed aim → walked aim t (root t) 0 ≡ walked aim s (root s) 0
+          aimed (Address sp address) q = by-address sp address (outside p e sp address (request-of-aim p sp address q))
+          aimed (Id id) q = by-id id
+
+  host-agrees : (header : List ℕ) (p : Packet) → readOf header ≡ Read p → (sp : Space) (address : ℕ) → IsRequest p sp address
+      → ¬ LiesIn s sp address k → routeOf header t ≡ routeOf header s
+  host-agrees header p read sp address is outside =
+      routes-agree header (λ q e sp′ address′ is′ lies.
+      let same : p ≡ q = let x : Read p ≡ Read q = sym read ∙ e in cc in
+      let one = one-address p sp sp′ address address′ is (subst (λ (z : Packet). IsRequest z sp′ address′) (sym same) is′) in
+      outside (rw (one .0, one .1) lies))
+
+  others-agree : (header : List ℕ) → ((p : Packet) (sp : Space) (address : ℕ) → readOf header ≡ Read p → ¬ IsRequest p sp address)
+      → routeOf header t ≡ routeOf header s
+  others-agree header never = routes-agree header (λ p e sp address is lies. never p sp address e is)
+
+  ids-agree : (header : List ℕ) (p : Packet) → readOf header ≡ Read p → (id : ℕ) → GoesById p id → routeOf header t ≡ routeOf header s
+  ids-agree header p read id by =
+      others-agree header (λ q sp address e is.
+      let same : p ≡ q = let x : Read p ≡ Read q = sym read ∙ e in cc in
+      not-by-both p id by sp address (subst (λ (z : Packet). IsRequest z sp address) (sym same) is))
+
+  -- ## From a card
+
+  function-is : (sp : Space) (j : ℕ) → IsEnd s j → startAt (registersOf sp t) j ≡ starts (functionAt sp s j)
+  function-is sp j end = ap (λ (fs : List Registers). startAt fs j) (registers-are sp) ∙ start-of-end s checked sp j end
+
+  -- the function of record j is one on both
+  function-same : (sp : Space) (j : ℕ) → IsEnd s j → functionAt sp t j ≡ functionAt sp s j
+  function-same sp j end = go (end-or-nowhere t (checked-of-zero t passes) j)
+    where
+      go : IsEnd t j ⊎ ((sp : Space) → startAt (registersOf sp t) j ≡ nowhere) → functionAt sp t j ≡ functionAt sp s j
+      go (inl there) =
+          let x : starts (functionAt sp t j) ≡ starts (functionAt sp s j) =
+          sym (start-of-end t (checked-of-zero t passes) sp j there) ∙ function-is sp j end in
+          cc
+      go (inr none-there) =
+          let x : nowhere ≡ starts (functionAt sp s j) = sym (none-there sp) ∙ function-is sp j end in absurd (suc-ne-zero 0 (cc))
+
+  sent-agree : (p : Packet) (sp : Space) (address j : ℕ) → ¬ (j ≡ k) → ¬ LiesIn s sp address k → ¬ (k ∈ wentUp s sp address j)
+      → ¬ (k ∈ wentUp t sp address j)
+      → sending.sendRequest p t sp address (startAt (registersOf sp t) j)
+      ≡ sending.sendRequest p s sp address (startAt (registersOf sp s) j)
+  sent-agree p sp address j other outside up-s up-t = go (end-or-nowhere s checked j)
+    where
+      go : IsEnd s j ⊎ ((sp : Space) → startAt (registersOf sp s) j ≡ nowhere)
+          → sending.sendRequest p t sp address (startAt (registersOf sp t) j)
+          ≡ sending.sendRequest p s sp address (startAt (registersOf sp s) j)
+      go (inr none-there) =
+          ap (sending.sendRequest p t sp address) (ap (λ (fs : List Registers). startAt fs j) (registers-are sp) ∙ none-there sp)
+          ∙ sym (ap (sending.sendRequest p s sp address) (none-there sp))
+      go (inl end) =
+          let f = functionAt sp s j in
+          let up-t′ : ¬ (k ∈ goneUp (enabledOf sp t) (masterOf t) (registersOf sp s) address (root s) f) = λ m.
+          up-t (rw (function-same sp j end, registers-are sp, nodes-are) m) in
+          ap (sending.sendRequest p t sp address) (function-is sp j end)
+          ∙ ap (λ (fs : List Registers). sending.answer p (sendFrom (enabledOf sp t) (masterOf t) fs address (root t) f)) (registers-are sp)
+          ∙ ap (λ (ns : List Node). sending.answer p (sendFrom (enabledOf sp t) (masterOf t) (registersOf sp s) address (rootOf ns) f))
+          nodes-are
+          ∙ ap (sending.answer p)
+          (send-agree (enabledOf sp t) (enabledOf sp s) (masterOf t) (masterOf s) (registersOf sp s) address (root s) k
+          (numbered-functions sp 1 (entriesOf s)) (enabled-agree sp) (bits-agree masters refl sp) (clear-of sp address outside) f
+          (function-mem s checked sp j (end .is-record)) (end-bridge s sp j end) other up-t′ up-s)
+          ∙ sym (ap (sending.sendRequest p s sp address) (start-of-end s checked sp j end))
+
+  cards-agree : (j : ℕ) → ¬ (j ≡ k) → (header : List ℕ)
+      → ((p : Packet) (sp : Space) (address : ℕ) → readOf header ≡ Read p → IsCardRequest p sp address
+      → ¬ LiesIn s sp address k × ¬ (k ∈ wentUp s sp address j) × ¬ (k ∈ wentUp t sp address j))
+      → sendingOf j header t ≡ sendingOf j header s
+  unfolding sendingOf sending.fromSheet sending.sendPacket
+  cards-agree j other header excluded = go (readOf header) refl
+    where
+      by-request : (p : Packet) → readOf header ≡ Read p → (r : Request) → requestOf p ≡ r
+          → sending.onRequest j p t r ≡ sending.onRequest j p s r
+      by-request p e Other q = refl
+      by-request p e (At sp address) q =
+          let x = excluded p sp address e (card-request p sp address q) in sent-agree p sp address j other (x .0) (x .1) (x .2)
+
+      go : (r : Reading) → readOf header ≡ r → sending.fromReading j r t ≡ sending.fromReading j r s
+      go (NotRead n) e = refl
+      go (Read p) e =
+          rw (eq-eqb (sheetNumber t) 0 passes, eq-eqb (sheetNumber s) 0 (d .passes)) (by-request p e (requestOf p) refl)
+
+pub one-switch : OneSwitch
+one-switch =
+    record {
+      pass-alike = passes;
+      host-agrees = host-agrees;
+      ids-agree = ids-agree;
+      others-agree = others-agree;
+      cards-agree = cards-agree;
+    }

@@ -1,0 +1,16 @@
+-- `route_cards::above::leads_to`: both tests of the record. Assumes nothing.
+use borrow.Author.Needs.{needs}
+use Rattle.route_cards.proofs.above.leads_to.Statement.{statement}
+use Rattle.route_cards.proofs.above.leads_to.Tie as tie
+
+is-bridge-requires : tie.Need-is-bridge-requires
+is-bridge-requires c κs = search needs
+
+secondary-of-requires : tie.Need-secondary-of-requires
+secondary-of-requires c κs = search needs
+
+returns : tie.Need-returns
+returns c = rw (c .before .is-bridge .ensures, c .secondary-of .ensures)
+
+pub leads-to-spec : {M : Type 1} → statement M
+leads-to-spec = tie.close (tie.spec is-bridge-requires secondary-of-requires returns)
