@@ -1,0 +1,14 @@
+-- The ledger of open requests, document 02's E12: words and places, the two calls, histories, and the request's sentences.
+pub mod Words
+pub mod WordsLaws
+pub mod PlacesLaws
+pub mod Ledger
+pub mod LedgerLaws
+pub mod History
+pub mod Kinds
+pub mod OpenRequests
+pub mod StepLaws
+pub mod HistoryLaws
+pub mod StandingLaws
+pub mod OpenRequestsLaws
+pub mod Examples

@@ -1,0 +1,341 @@
+// The ledger of open requests, document 02's E12: 256 places, a word each, in an array that the caller keeps. A place is free, or holds a
+// non-posted request by its requester ID and tag until completions close it. Any 256 words are a ledger; 256 zeros are an empty one.
+ghost use mathlib.Core.Path.{_≡_};
+ghost use Prim.Native.Nat.{_<_, _≤_};
+ghost use lib.ListN.{length};
+ghost use Rattle.ledger.specs.Words.{keyOf, wordOf, leftIn, isRead, isConfig, isLocked, placeOf, inUse, usedBy, empty};
+ghost use Rattle.ledger.specs.Ledger.{classOf, hasData, inLockedForm, differ, disagrees, onSuccess, settled, onCompletion, onRequest};
+ghost use Rattle.ledger.specs.Ledger.{Inside, openingOf, completingOf, numberOf, wordsAfter};
+ghost use Rattle.ledger.specs.Ledger.{openNumber, openAfter, completeNumber, completeAfter};
+use packet::Packet;
+use pairs::CompletionKind;
+use pairs::ConfigKind;
+use pairs::IoKind;
+use pairs::Kind;
+use pairs::MemoryKind;
+use tlp::Reading;
+
+// What a call does: a request opened at a place, its word put there; the word of a request that stays open; a place freed; or the number
+// of the first check that fails, and nothing.
+pub enum Verdict {
+    Opened(usize, u64),
+    Kept(usize, u64),
+    Closed(usize),
+    Refused(u8),
+}
+
+// A kind that is a non-posted request, with the three bits that its word keeps of it: a read (4), a configuration request (2), a locked
+// one (1).
+pub enum Class {
+    NonPosted(u8),
+    Other,
+}
+
+pub fn start() -> [u64; 256]
+    ensures { λ r. ⌜ r ≡ empty ⌝ }
+{
+    [0u64; 256]
+}
+
+// Opens the request of a header. 0, or the reader's number, 60, 61 or 62, with every word as it was.
+pub fn open_request(ledger: &mut [u64; 256], header: &[u8]) -> u8
+    ensures { λ r. ⌜
+        (r ≡ openNumber (now (header .entry)) (now (ledger .entry)))
+        × (now (ledger .exit) ≡ openAfter (now (header .entry)) (now (ledger .entry)))
+        ⌝ }
+{
+    open_in(ledger, header)
+}
+
+// Completes a request by a header. 0, or the reader's number, 60, 63, 64 or 65, with every word as it was.
+pub fn complete_request(ledger: &mut [u64; 256], header: &[u8]) -> u8
+    ensures { λ r. ⌜
+        (r ≡ completeNumber (now (header .entry)) (now (ledger .entry)))
+        × (now (ledger .exit) ≡ completeAfter (now (header .entry)) (now (ledger .entry)))
+        ⌝ }
+{
+    complete_in(ledger, header)
+}
+
+// How many requests are open.
+pub fn in_use(ledger: &[u64; 256]) -> usize
+    ensures { λ r. ⌜ r ≡ inUse (now (ledger .entry)) ⌝ }
+{
+    count(ledger)
+}
+
+fn open_in(words: &mut [u64], header: &[u8]) -> u8
+    ensures { λ r. ⌜
+        (r ≡ openNumber (now (header .entry)) (now (words .entry)))
+        × (now (words .exit) ≡ openAfter (now (header .entry)) (now (words .entry)))
+        ⌝ }
+{
+    let v = opening(words, header);
+    perform(words, v)
+}
+
+fn complete_in(words: &mut [u64], header: &[u8]) -> u8
+    ensures { λ r. ⌜
+        (r ≡ completeNumber (now (header .entry)) (now (words .entry)))
+        × (now (words .exit) ≡ completeAfter (now (header .entry)) (now (words .entry)))
+        ⌝ }
+{
+    let v = completing(words, header);
+    perform(words, v)
+}
+
+// ---- verdicts
+
+// The reader's number, then 60.
+fn opening(words: &[u64], header: &[u8]) -> Verdict
+    ensures { λ r. ⌜ r ≡ openingOf (now (header .entry)) (now (words .entry)) ⌝ }
+{
+    let reading = tlp::read(header);
+    let Reading::Accepted(p) = reading else {
+        return Verdict::Refused(reading.number());
+    };
+    let h = packet::head_of(p);
+    match class_of(packet::kind_of(p)) {
+        Class::NonPosted(class) => {
+            let key = key_of(h.requester, h.tag);
+            open_word(words, key, word_of(key, h.length, class))
+        }
+        Class::Other => Verdict::Refused(60),
+    }
+}
+
+// 61, then 62.
+fn open_word(words: &[u64], key: u64, word: u64) -> Verdict
+    ensures { λ r. ⌜ r ≡ onRequest key word (now (words .entry)) ⌝ }
+{
+    if find(words, key) < words.len() {
+        return Verdict::Refused(61);
+    }
+    let place = find(words, 0);
+    if place < words.len() {
+        return Verdict::Opened(place, word);
+    }
+    Verdict::Refused(62)
+}
+
+// The reader's number, then 60.
+fn completing(words: &[u64], header: &[u8]) -> Verdict
+    ensures { λ r. ⌜ r ≡ completingOf (now (header .entry)) (now (words .entry)) ⌝ }
+{
+    let reading = tlp::read(header);
+    let Reading::Accepted(p) = reading else {
+        return Verdict::Refused(reading.number());
+    };
+    match p {
+        Packet::Memory(_, _, _, _) => Verdict::Refused(60),
+        Packet::Io(_, _, _, _) => Verdict::Refused(60),
+        Packet::Config(_, _, _, _) => Verdict::Refused(60),
+        Packet::Completion(k, h, o) => {
+            complete_word(words, key_of(h.requester, h.tag), k, h.length, o.status)
+        }
+        Packet::Message(_, _, _, _, _) => Verdict::Refused(60),
+    }
+}
+
+// 63, then what the word says.
+fn complete_word(words: &[u64], key: u64, k: CompletionKind, dwords: u16, status: u8) -> Verdict
+    ensures { λ r. ⌜ r ≡ onCompletion key k dwords status (now (words .entry)) ⌝ }
+{
+    let place = find(words, key);
+    if place < words.len() {
+        return settle(place, words[place], k, dwords as u64, status);
+    }
+    Verdict::Refused(63)
+}
+
+// 64; then a success delivers, and another status closes.
+fn settle(place: usize, word: u64, k: CompletionKind, dwords: u64, status: u8) -> Verdict
+    ensures { λ r. ⌜ r ≡ settled place word k dwords status ⌝ }
+{
+    if disagree(word, k, status) {
+        return Verdict::Refused(64);
+    }
+    if status == 0 {
+        return deliver(place, word, dwords);
+    }
+    Verdict::Closed(place)
+}
+
+// 65; then a read that has dwords to come stays open.
+fn deliver(place: usize, word: u64, dwords: u64) -> Verdict
+    ensures { λ r. ⌜ r ≡ onSuccess place word dwords ⌝ }
+{
+    let left = left_in(word);
+    if left < dwords {
+        return Verdict::Refused(65);
+    }
+    if is_read(word) & (dwords < left) {
+        return Verdict::Kept(place, word - 8 * dwords);
+    }
+    Verdict::Closed(place)
+}
+
+fn perform(words: &mut [u64], v: Verdict) -> u8
+    requires { ⌜ Inside v (length (now words)) ⌝ }
+    ensures { λ r. ⌜ (r ≡ numberOf v) × (now (words .exit) ≡ wordsAfter v (now (words .entry))) ⌝ }
+{
+    match v {
+        Verdict::Opened(place, word) => {
+            words[place] = word;
+            0
+        }
+        Verdict::Kept(place, word) => {
+            words[place] = word;
+            0
+        }
+        Verdict::Closed(place) => {
+            words[place] = 0;
+            0
+        }
+        Verdict::Refused(n) => n,
+    }
+}
+
+// 64: retry for a request that is not configuration, or a success whose form is not the request's.
+fn disagree(word: u64, k: CompletionKind, status: u8) -> bool
+    ensures { λ r. ⌜ r ≡ disagrees word k status ⌝ }
+{
+    ((status == 2) & !is_config(word))
+        | ((status == 0)
+            & (differ(has_data(k), is_read(word)) | differ(in_locked_form(k), is_locked(word))))
+}
+
+// ---- kinds
+
+fn class_of(kind: Kind) -> Class
+    ensures { λ r. ⌜ r ≡ classOf kind ⌝ }
+{
+    match kind {
+        Kind::Memory(k) => match k {
+            MemoryKind::MRd => Class::NonPosted(4),
+            MemoryKind::MRdLk => Class::NonPosted(5),
+            MemoryKind::MWr => Class::Other,
+        },
+        Kind::Io(k) => match k {
+            IoKind::IORd => Class::NonPosted(4),
+            IoKind::IOWr => Class::NonPosted(0),
+        },
+        Kind::Config(k) => match k {
+            ConfigKind::CfgRd0 => Class::NonPosted(6),
+            ConfigKind::CfgWr0 => Class::NonPosted(2),
+            ConfigKind::CfgRd1 => Class::NonPosted(6),
+            ConfigKind::CfgWr1 => Class::NonPosted(2),
+        },
+        Kind::Completion(_) => Class::Other,
+        Kind::Message(_, _) => Class::Other,
+        Kind::FetchAdd => Class::Other,
+        Kind::Swap => Class::Other,
+        Kind::Cas => Class::Other,
+    }
+}
+
+fn has_data(k: CompletionKind) -> bool
+    ensures { λ r. ⌜ r ≡ hasData k ⌝ }
+{
+    match k {
+        CompletionKind::Cpl => false,
+        CompletionKind::CplD => true,
+        CompletionKind::CplLk => false,
+        CompletionKind::CplDLk => true,
+    }
+}
+
+fn in_locked_form(k: CompletionKind) -> bool
+    ensures { λ r. ⌜ r ≡ inLockedForm k ⌝ }
+{
+    match k {
+        CompletionKind::Cpl => false,
+        CompletionKind::CplD => false,
+        CompletionKind::CplLk => true,
+        CompletionKind::CplDLk => true,
+    }
+}
+
+// ---- words
+
+// A word is the key times this, and what is kept of the request: dwords to come in bits 13:3, its class in bits 2:0.
+const HALF: u64 = 4294967296;
+
+// Requester ID and tag as one number, from 1 on: free places have the key 0.
+fn key_of(requester: u16, tag: u16) -> u64
+    ensures { λ r. ⌜ (r ≡ keyOf requester tag) × (r < 134217728) ⌝ }
+{
+    (requester as u64) * 1024 + (tag as u64) + 1
+}
+
+fn word_of(key: u64, dwords: u16, class: u8) -> u64
+    requires { ⌜ key < 134217728 ⌝ }
+    ensures { λ r. ⌜ r ≡ wordOf key dwords class ⌝ }
+{
+    key * HALF + (dwords as u64) * 8 + (class as u64)
+}
+
+fn left_in(word: u64) -> u64
+    ensures { λ r. ⌜ r ≡ leftIn word ⌝ }
+{
+    word % HALF / 8
+}
+
+fn is_read(word: u64) -> bool
+    ensures { λ r. ⌜ r ≡ isRead word ⌝ }
+{
+    word / 4 % 2 == 1
+}
+
+fn is_config(word: u64) -> bool
+    ensures { λ r. ⌜ r ≡ isConfig word ⌝ }
+{
+    word / 2 % 2 == 1
+}
+
+fn is_locked(word: u64) -> bool
+    ensures { λ r. ⌜ r ≡ isLocked word ⌝ }
+{
+    word % 2 == 1
+}
+
+fn differ(a: bool, b: bool) -> bool
+    ensures { λ r. ⌜ r ≡ differ a b ⌝ }
+{
+    (a & !b) | (!a & b)
+}
+
+// The first place with the key, or how many places there are.
+fn find(words: &[u64], key: u64) -> usize
+    ensures { λ r. ⌜ r ≡ placeOf key (now (words .entry)) ⌝ }
+{
+    let mut i: usize = 0;
+    while i < words.len() {
+        if words[i] / HALF == key {
+            return i;
+        }
+        i += 1;
+    }
+    i
+}
+
+fn count(words: &[u64]) -> usize
+    ensures { λ r. ⌜ r ≡ inUse (now (words .entry)) ⌝ }
+{
+    let mut n: usize = 0;
+    let mut i: usize = 0;
+    while i < words.len() {
+        n += used_by(words[i]);
+        i += 1;
+    }
+    n
+}
+
+fn used_by(word: u64) -> usize
+    ensures { λ r. ⌜ (r ≡ usedBy word) × (r ≤ 1) ⌝ }
+{
+    if word / HALF == 0 {
+        return 0;
+    }
+    1
+}
