@@ -1,9 +1,5 @@
 -- Document 01's examples, the user's demands, what becomes of a packet that goes by ID, and of document 02 messages (E1), traces (E4),
-<<<<<<< ours
--- the audit (E6), the index (E8) and empty slots (E10).
-=======
--- the audit (E6), the index (E8), card to card (E11) and one card's switch (E13).
->>>>>>> theirs
+-- the audit (E6), the index (E8), empty slots (E10), card to card (E11) and one card's switch (E13).
 pub mod Examples
 pub mod Demand2
 pub mod Demand3
@@ -19,12 +15,9 @@ pub mod Audit
 pub mod AuditLaws
 pub mod FastLabels
 pub mod FastLabelsLaws
-<<<<<<< ours
 pub mod EmptySlots
 pub mod EmptySlotsLaws
-=======
 pub mod CardToCard
 pub mod CardToCardLaws
 pub mod OneSwitch
 pub mod OneSwitchLaws
->>>>>>> theirs
