@@ -3,6 +3,8 @@ use packet::Packet;
 use plan_answer::Planning;
 use route::Delivery;
 use route::Routing;
+use route_cards::Arrival;
+use route_cards::Sending;
 use sheet::Lookup;
 use text::front;
 use text::put_byte;
@@ -16,6 +18,7 @@ pub enum Verb {
     Command,
     Lookup,
     Header,
+    From,
     // another word
     Other,
 }
@@ -43,6 +46,10 @@ pub fn put_answer(
         },
         Verb::Header => Answer {
             count: put_routing(out, bytes, front(sheet, size)),
+            size,
+        },
+        Verb::From => Answer {
+            count: put_sending(out, bytes, front(sheet, size)),
             size,
         },
         Verb::Other => Answer {
@@ -133,6 +140,29 @@ fn put_delivery(out: &mut [u8], d: Delivery) -> usize {
     let mut at = put_named(out, 0, b"record ", d.owner as u64);
     at = put_named(out, at, b" bridges ", d.bridges as u64);
     let p = d.packet;
+    put_arrived(out, at, p)
+}
+
+// A record, and a header that starts there.
+fn put_sending(out: &mut [u8], bytes: &[u8], sheet: &[u8]) -> usize {
+    if bytes.len() < 2 {
+        return put_wrong(out);
+    }
+    let start = endian::read_be16(bytes, 0) as u16;
+    match route_cards::route_from(start, &bytes[2..], sheet) {
+        Sending::Delivered(a) => put_arrival(out, a),
+        Sending::Host(bridges, p) => {
+            let at = put_named(out, 0, b"host bridges ", bridges as u64);
+            put_arrived(out, at, p)
+        }
+        Sending::Refused(n) => put_number(out, b"refused ", n as u64),
+    }
+}
+
+fn put_arrival(out: &mut [u8], a: Arrival) -> usize {
+    let mut at = put_named(out, 0, b"record ", a.owner as u64);
+    at = put_named(out, at, b" bridges ", a.bridges as u64);
+    let p = a.packet;
     put_arrived(out, at, p)
 }
 

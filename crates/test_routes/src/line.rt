@@ -118,5 +118,8 @@ fn named(word: &[u8]) -> Verb {
     if check::same(word, b"header") {
         return Verb::Header;
     }
+    if check::same(word, b"from") {
+        return Verb::From;
+    }
     Verb::Other
 }

@@ -1,6 +1,6 @@
 // A script on standard input, and an answer on standard output for each of its lines: boards
 // planned, sheets taken over, command words rewritten, IDs looked up, and headers routed over the
-// current sheet.
+// current sheet, from the host or from a function.
 //
 //   board HEX         planned, the board's sheet becomes the current one: its listing, or `refused N`, and the sheet stays
 //   sheet HEX         these bytes become the current sheet, whatever they are: `sheet N`, with the number of its checks
@@ -8,8 +8,9 @@
 //   lookup ID         where that function's 64 register bytes start in the sheet: `lookup OFFSET` or `refused N`
 //   header HEX        the header's packet, routed: `record R bridges B`, for a broadcast `all N`, for the port `port`, and the packet as it
 //                     arrives, or `refused N`
+//   from RECORD HEX   the header's packet, routed from the function with this record: as above, for the host `host bridges B`
 //
-// HEX is any number of bytes, none too, ID and VALUE two bytes each, as hexadecimal digits in either
+// HEX is any number of bytes, none too, ID, VALUE and RECORD two bytes each, as hexadecimal digits in either
 // case with spaces between bytes as one likes. Before the first sheet the current one is empty. A
 // line that starts with `#` and a blank one are passed over. Any other line is answered by
 // `not a line`, one of more than 65,536 bytes by `line too long`, and neither changes the current

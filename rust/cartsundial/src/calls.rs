@@ -62,6 +62,15 @@ mod c {
             answer: *mut u64,
             answer_len: usize,
         ) -> u32;
+        pub fn cartsundial_route_from(
+            record: u32,
+            header: *const u8,
+            header_len: usize,
+            sheet: *const u8,
+            sheet_len: usize,
+            answer: *mut u64,
+            answer_len: usize,
+        ) -> u32;
         pub fn cartsundial_index(
             host: *const u8,
             host_len: usize,
@@ -178,6 +187,26 @@ pub fn command(sheet: &mut [u8], id: u32, command: u32) -> u32 {
 pub fn route(header: &[u8], sheet: &[u8], answer: &mut [u64]) -> u32 {
     unsafe {
         c::cartsundial_route(
+            header.as_ptr(),
+            header.len(),
+            sheet.as_ptr(),
+            sheet.len(),
+            answer.as_mut_ptr(),
+            answer.len(),
+        )
+    }
+}
+
+/// Routes a request from the function with this record number, from 1, into the first [`ROUTE`] numbers of `answer`.
+///
+/// | answer | record | bridges |
+/// |---|---|---|
+/// | another function | its record, from 1 | crossed, up and down |
+/// | the host | 0 | crossed, up |
+pub fn route_from(record: u32, header: &[u8], sheet: &[u8], answer: &mut [u64]) -> u32 {
+    unsafe {
+        c::cartsundial_route_from(
+            record,
             header.as_ptr(),
             header.len(),
             sheet.as_ptr(),

@@ -25,6 +25,7 @@
 //! | its functions one by one, or from a record to its ID | [`functions()`], [`id_of`] |
 //! | where a packet goes: a function, every function, the port | [`route`] |
 //! | the same for many headers over one sheet | [`Index`] |
+//! | where a request goes that starts at a function: another function, the host | [`route_from`] |
 //! | a line for each header of a trace: in pieces, of a whole one | [`Annotator`], [`lines()`] |
 //! | the same calls with numbers in place of types | [`calls`] |
 //!
@@ -57,6 +58,7 @@ extern crate std;
 mod annotator;
 mod arrival;
 pub mod calls;
+mod cards;
 mod fields;
 mod functions;
 mod host;
@@ -73,6 +75,7 @@ mod unfit;
 
 pub use annotator::{Annotator, LONGEST_LINE};
 pub use arrival::{route, Arrival, Delivery};
+pub use cards::{route_from, Sending};
 pub use fields::{Body, Enables, Fields};
 pub use functions::{functions, Function};
 pub use host::{audit, HostRecord};

@@ -67,6 +67,10 @@ pub enum Refusal {
     ConfigurationType = 42,
     /// A message that only travels up: to the root complex, or gathered on its way there.
     Upward = 43,
+    /// Card to card: the starting function, or a bridge that the request would go up through, is no bus master.
+    NoBusMaster = 44,
+    /// Card to card: the record is no type 0 function of the sheet, or the packet is no memory or I/O request.
+    NoStart = 45,
     /// Audit: the first record is not on the host's first bus, not exactly one bridge leads to a function's bus, or a
     /// bridge's buses lie outside the parent's or the host's or meet a sibling's.
     BusTree = 50,
@@ -78,7 +82,7 @@ pub enum Refusal {
 
 impl Refusal {
     /// Every refusal, by rising number.
-    pub const ALL: [Refusal; 32] = [
+    pub const ALL: [Refusal; 34] = [
         Refusal::ShortHeader,
         Refusal::UnknownPair,
         Refusal::NotCarried,
@@ -108,6 +112,8 @@ impl Refusal {
         Refusal::Contested,
         Refusal::ConfigurationType,
         Refusal::Upward,
+        Refusal::NoBusMaster,
+        Refusal::NoStart,
         Refusal::BusTree,
         Refusal::Place,
         Refusal::Overlap,
@@ -162,6 +168,8 @@ impl Refusal {
             Refusal::Contested => "contested",
             Refusal::ConfigurationType => "wrong configuration type",
             Refusal::Upward => "a message that only travels up",
+            Refusal::NoBusMaster => "no bus master: the starting function, or a bridge on the way up",
+            Refusal::NoStart => "no start: the record is no type 0 function, or the packet no memory or I/O request",
             Refusal::BusTree => "first record's bus, the bridge to a bus, or a bridge's buses",
             Refusal::Place => "a BAR or window outside the window or pool above",
             Refusal::Overlap => "two BARs or windows overlap on a bus",

@@ -5,6 +5,7 @@
 pub mod aim;
 pub mod audit;
 pub mod board;
+pub mod cards;
 pub mod damage;
 pub mod foreign;
 pub mod header;

@@ -1,5 +1,6 @@
-//! Document 01, with requests E1, E2, E4, E5, E6 and E8 of document 02, in plain, safe Rust: the header codec, the board
-//! planner, the packet router, the trace annotator, the audit of a sheet and the index.
+//! Document 01, with requests E1, E2, E4, E5, E6, E8 and E11 of document 02, in plain, safe Rust: the header codec, the
+//! board planner, the packet router, from the host and from card to card, the trace annotator, the audit of a sheet and
+//! the index.
 //!
 //! Written from the documents and the readings of their open points in docs/DECISIONS.md, not from the proved code. The
 //! proved library is compared with it, and the stored answers of the test programs come from it. Every refusal is the
@@ -10,6 +11,7 @@
 mod audit;
 mod bar;
 mod board;
+mod cards;
 mod index;
 mod label;
 mod packet;
@@ -20,6 +22,7 @@ mod sheet;
 mod trace;
 
 pub use audit::{audit, program as audit_program};
+pub use cards::{route_from, Sending};
 pub use index::{build, find};
 pub use label::program as label_program;
 pub use packet::{read, to_numbers, write, write_numbers, Form, Kind, Packet};

@@ -51,7 +51,7 @@ pub fn route(header: &[u8], sheet: &[u8]) -> Result<Arrival, u8> {
 }
 
 /// What an address finds on a bus.
-enum Claim {
+pub(crate) enum Claim {
     /// A BAR of the record with this index.
     Bar(usize),
     /// A window to this bus.
@@ -188,13 +188,13 @@ impl Sheet<'_> {
 }
 
 /// The BARs of the record that hold the address.
-fn bars_that_hold(record: Record<'_>, space: Space, address: u64) -> impl Iterator<Item = Bar> + '_ {
+pub(crate) fn bars_that_hold(record: Record<'_>, space: Space, address: u64) -> impl Iterator<Item = Bar> + '_ {
     bar::bars(record.read_backs())
         .filter(move |bar| bar.is_io == (space == Space::Io) && bar.holds(record.value(bar), address))
 }
 
 /// The windows of the record that hold the address; only a bridge has any.
-fn windows_that_hold(record: Record<'_>, space: Space, address: u64) -> impl Iterator<Item = Pool> + '_ {
+pub(crate) fn windows_that_hold(record: Record<'_>, space: Space, address: u64) -> impl Iterator<Item = Pool> + '_ {
     let pools = if record.is_bridge() { space.windows() } else { &[] };
     pools.iter().copied().filter(move |&pool| record.window(pool).holds(address))
 }

@@ -5,6 +5,7 @@
 #![forbid(unsafe_code)]
 
 mod audits;
+mod cards;
 mod headers;
 mod labels;
 mod messages;

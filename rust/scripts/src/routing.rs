@@ -1,6 +1,7 @@
 //! The router's script: planned sheets at their edges, command words, sheets that no planner wrote, refusals,
-//! messages, and tags of ten bits last.
+//! messages, tags of ten bits, and card to card last.
 
+use crate::cards;
 use crate::messages;
 use crate::script::Script;
 use crate::tags;
@@ -30,6 +31,7 @@ pub fn script() -> String {
     full_sheets(&mut script);
     messages::groups(&mut script);
     tags::groups(&mut script);
+    cards::groups(&mut script);
     script.0
 }
 

@@ -30,6 +30,11 @@ impl Script {
         self.line(format!("header {}", hex(bytes)).trim_end());
     }
 
+    /// A header that starts at a record.
+    pub fn from(&mut self, record: u16, bytes: &[u8]) {
+        self.line(format!("from {record:04X} {}", hex(bytes)).trim_end());
+    }
+
     /// A line in a spelling of its own.
     pub fn raw(&mut self, text: &str) {
         self.line(text);

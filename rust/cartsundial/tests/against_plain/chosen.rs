@@ -1,7 +1,7 @@
 //! The chosen cases of the scripts, the runs of the annotator and of the audit, and full indexes, once, whatever the rounds.
 
 use crate::tally::Tally;
-use crate::{audits, boards, headers, indexes, routes, sheets, traces};
+use crate::{audits, boards, cards, headers, indexes, routes, sheets, traces};
 use inputs::random::Random;
 
 pub fn compare(random: &mut Random, _: u64, tally: &mut Tally) {
@@ -19,6 +19,7 @@ pub fn compare(random: &mut Random, _: u64, tally: &mut Tally) {
     }
     audits::chosen(random, tally);
     indexes::chosen(random, tally);
+    cards::chosen(random, tally);
 }
 
 /// One line. A board that is planned, and a sheet, become the current sheet.
@@ -47,6 +48,10 @@ fn request(line: &str, sheet: &mut Vec<u8>, random: &mut Random, tally: &mut Tal
         "header" => {
             headers::read(&bytes(rest), random, tally);
             routes::route(&bytes(rest), sheet, random, tally);
+        }
+        "from" => {
+            let (record, header) = rest.split_once(' ').unwrap_or((rest, ""));
+            let _ = cards::route(number(record), &bytes(header), sheet, random, tally);
         }
         _ => panic!("{line}"),
     }

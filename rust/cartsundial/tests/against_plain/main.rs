@@ -8,6 +8,7 @@
 
 mod audits;
 mod boards;
+mod cards;
 mod chosen;
 mod headers;
 mod indexes;
@@ -32,7 +33,7 @@ fn main() -> ExitCode {
     let rounds = setting("CARTSUNDIAL_ROUNDS", 1);
     println!("against plain: seed {seed}, rounds {rounds}");
     let mut tally = Tally::default();
-    let parts: [(&str, Part); 8] = [
+    let parts: [(&str, Part); 9] = [
         ("chosen", chosen::compare),
         ("headers", headers::compare),
         ("boards", boards::compare),
@@ -41,12 +42,13 @@ fn main() -> ExitCode {
         ("traces", traces::compare),
         ("audits", audits::compare),
         ("indexes", indexes::compare),
+        ("cards", cards::compare),
     ];
     for (number, (name, compare)) in (0..).zip(parts) {
         let before = tally.total();
         let start = Instant::now();
         // Each part has its own numbers, so that one can change without the others.
-        let mut random = Random::new(seed.wrapping_mul(8).wrapping_add(number));
+        let mut random = Random::new(seed.wrapping_mul(16).wrapping_add(number));
         compare(&mut random, rounds, &mut tally);
         println!("{name}: {} calls in {:.1} s", tally.total() - before, start.elapsed().as_secs_f64());
     }

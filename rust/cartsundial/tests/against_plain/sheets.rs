@@ -101,7 +101,7 @@ pub fn lookup(bytes: &[u8], id: u32, random: &mut Random, tally: &mut Tally) {
 }
 
 /// A record of the sheet, one before or past them, and rarely any number.
-fn any_record(sheet: &[u8], random: &mut Random) -> u32 {
+pub fn any_record(sheet: &[u8], random: &mut Random) -> u32 {
     if random.chance(1, 32) {
         return random.word() as u32;
     }

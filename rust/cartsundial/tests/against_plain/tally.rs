@@ -2,7 +2,7 @@
 
 use cartsundial::{Label, Owner, Refusal};
 use inputs::board::{MOST_ABOVE, MOST_FUNCTIONS};
-use plain::Arrival;
+use plain::{Arrival, Sending};
 use std::fmt;
 
 #[derive(Clone, Copy, Debug, PartialEq, Eq)]
@@ -16,13 +16,14 @@ pub enum Call {
     Id,
     Command,
     Route,
+    RouteFrom,
     Index,
     Find,
     Annotate,
     End,
 }
 
-const CALLS: [Call; 13] = [
+const CALLS: [Call; 14] = [
     Call::Read,
     Call::Write,
     Call::Plan,
@@ -32,6 +33,7 @@ const CALLS: [Call; 13] = [
     Call::Id,
     Call::Command,
     Call::Route,
+    Call::RouteFrom,
     Call::Index,
     Call::Find,
     Call::Annotate,
@@ -54,6 +56,7 @@ impl Call {
             Call::Id => &[0, 11, 20, 21, 22, 24, 25, 27, 28, 29, 40],
             Call::Command => &[0, 10, 20, 21, 22, 24, 25, 27, 28, 29, 40],
             Call::Route => &[0, 1, 2, 3, 4, 5, 6, 7, 8, 9, 11, 20, 21, 22, 24, 25, 27, 28, 29, 40, 41, 42, 43],
+            Call::RouteFrom => &[0, 1, 2, 3, 4, 5, 6, 7, 8, 9, 11, 20, 21, 22, 24, 25, 27, 28, 29, 40, 41, 44, 45],
             Call::Index => &[0, 11, 20, 21, 22, 24, 25, 26, 27, 28, 29, 50, 51, 52],
             Call::Find => &[0, 1, 2, 3, 4, 5, 6, 7, 8, 9, 11, 40, 42, 43],
             Call::Annotate | Call::End => &[0, 10, 11],
@@ -71,6 +74,10 @@ pub struct Tally {
     functions: [u64; MOST_FUNCTIONS + 1],
     /// Packets delivered, by the bridges that they crossed.
     bridges: [u64; 256],
+    /// Requests delivered from card to card, by the bridges that they crossed.
+    cards: [u64; 256],
+    /// Requests from a card that went to the host, by the bridges that they crossed.
+    hosts: [u64; 256],
     /// Messages that went to every function, by how many there are.
     broadcasts: [u64; MOST_FUNCTIONS + 1],
     /// Messages that ended at the port.
@@ -85,6 +92,8 @@ impl Default for Tally {
             numbers: [[0; NUMBERS]; CALLS.len()],
             functions: [0; MOST_FUNCTIONS + 1],
             bridges: [0; 256],
+            cards: [0; 256],
+            hosts: [0; 256],
             broadcasts: [0; MOST_FUNCTIONS + 1],
             ports: 0,
             labels: [0; LABELS.len()],
@@ -109,6 +118,13 @@ impl Tally {
             Arrival::Function { bridges, .. } => self.bridges[usize::from(bridges)] += 1,
             Arrival::Every { functions, .. } => self.broadcasts[usize::from(functions)] += 1,
             Arrival::Port { .. } => self.ports += 1,
+        }
+    }
+
+    pub fn sent(&mut self, sending: &Sending) {
+        match *sending {
+            Sending::Function { bridges, .. } => self.cards[usize::from(bridges)] += 1,
+            Sending::Host { bridges, .. } => self.hosts[usize::from(bridges)] += 1,
         }
     }
 
@@ -148,6 +164,9 @@ impl Tally {
         }
         if self.bridges[..=MOST_ABOVE].contains(&0) || self.bridges[255] == 0 {
             faults.push("some number of bridges, 0 to 32 or 255, was never crossed".into());
+        }
+        if self.cards[..=2 * MOST_ABOVE].contains(&0) || self.cards[255] == 0 || self.hosts[..3].contains(&0) {
+            faults.push("some number of bridges was never crossed from card to card, or to the host".into());
         }
         if self.broadcasts[1] == 0 || self.broadcasts[MOST_FUNCTIONS] == 0 || self.ports == 0 {
             faults.push("no message went to the one function, to all 512, or to the port".into());
@@ -197,6 +216,8 @@ impl fmt::Display for Tally {
         writeln!(f)?;
         writeln!(f, "boards planned, by functions: {}", by_size(&self.functions))?;
         writeln!(f, "packets delivered, by bridges crossed: {}", by_size(&self.bridges))?;
+        writeln!(f, "requests from card to card, by bridges crossed: {}", by_size(&self.cards))?;
+        writeln!(f, "requests from a card to the host, by bridges crossed: {}", by_size(&self.hosts))?;
         writeln!(f, "messages for every function, by functions: {}", by_size(&self.broadcasts))?;
         writeln!(f, "messages for the port: {}", self.ports)?;
         let labels: Vec<String> =

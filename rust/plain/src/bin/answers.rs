@@ -7,6 +7,8 @@
 //! - `lookup ID` prints `lookup OFFSET` or `refused N`.
 //! - `header HEX` prints `record R bridges B`, for a broadcast `all N`, for a message that ends at the port `port`, and
 //!   the packet as it arrives, or `refused N`.
+//! - `from RECORD HEX` prints the same for a header that starts at the function with this record, for the host `host
+//!   bridges B`.
 //!
 //! Blank lines and lines that start with `#` are skipped. Any other line is an error.
 
@@ -71,6 +73,13 @@ fn answer(line: &str, sheet: &mut Vec<u8>) -> Option<String> {
             Ok(arrival) => format!("{arrival}\n"),
             Err(number) => refused(number),
         },
+        "from" => {
+            let (record, header) = rest.trim().split_once(char::is_whitespace).unwrap_or((rest.trim(), ""));
+            match plain::route_from(word_of(record)?.into(), &bytes(header)?, sheet) {
+                Ok(sending) => format!("{sending}\n"),
+                Err(number) => refused(number),
+            }
+        }
         _ => return None,
     })
 }
