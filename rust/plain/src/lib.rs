@@ -1,6 +1,6 @@
-//! Document 01, with requests E1, E2, E4, E5, E6, E8 and E11 of document 02, in plain, safe Rust: the header codec, the
-//! board planner, the packet router, from the host and from card to card, the trace annotator, the audit of a sheet and
-//! the index.
+//! Document 01, with requests E1, E2, E4, E5, E6, E8, E11 and E14 of document 02, in plain, safe Rust: the header codec, the
+//! board planner, the packet router, from the host and from card to card, the trace annotator, the audit of a sheet, the
+//! index and the write script.
 //!
 //! Written from the documents and the readings of their open points in docs/DECISIONS.md, not from the proved code. The
 //! proved library is compared with it, and the stored answers of the test programs come from it. Every refusal is the
@@ -18,6 +18,7 @@ mod packet;
 mod plan;
 mod pool;
 mod route;
+mod script;
 mod sheet;
 mod trace;
 
@@ -28,5 +29,6 @@ pub use label::program as label_program;
 pub use packet::{read, to_numbers, write, write_numbers, Form, Kind, Packet};
 pub use plan::plan;
 pub use route::{route, Arrival};
+pub use script::{program as script_program, script};
 pub use sheet::{check, id_of, listing, lookup, set_command, Sheet, FULL_SHEET};
 pub use trace::{annotate, program, Annotator};

@@ -126,6 +126,11 @@ impl Record<'_> {
         self.0[ID]
     }
 
+    /// The 64 bytes of the configuration header.
+    pub fn registers(&self) -> &[u8] {
+        &self.0[HEADER..][..HEADER_LENGTH]
+    }
+
     pub fn command(self) -> u16 {
         self.u16(COMMAND)
     }
