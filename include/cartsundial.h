@@ -303,8 +303,8 @@ uint32_t cartsundial_find(const uint8_t *header, size_t header_len, const uint8_
  *     state[3]      how many bytes are kept of the record under way, at most 16
  *     state[4..5]   bytes 0 to 7, and 8 to 15, of those kept, each as one number, the first byte highest
  *
- * With the same sheet throughout, the lines of all pieces together, with that of the end, are those of the trace in one piece, wherever
- * the cuts fall; so is the state. That is proved.
+ * With the same sheet or index throughout, the lines of all pieces together, with that of the end, are those of the trace in one piece,
+ * wherever the cuts fall; so is the state. That is proved.
  */
 
 /*
@@ -320,8 +320,20 @@ uint32_t cartsundial_annotate(uint64_t *state, size_t state_len, const uint8_t *
                               uint64_t *written, size_t written_len);
 
 /*
+ * The same by an index in place of the sheet. By an index that cartsundial_index left, the call returns and writes what
+ * cartsundial_annotate does over the index's sheet, in far less time where the sheet has many functions; so the two may take turns on one
+ * state. A longer slice with the index at its front will do.
+ * Any other bytes may be given too: the lines then say what cartsundial_find answers over them.
+ * Refused: as cartsundial_annotate. The index is not checked, so single records cost no more than larger pieces.
+ */
+uint32_t cartsundial_label(uint64_t *state, size_t state_len, const uint8_t *index, size_t index_len,
+                           const uint8_t *piece, size_t piece_len, uint8_t *lines, size_t lines_len,
+                           uint64_t *written, size_t written_len);
+
+/*
  * The line that a trace gets if it ends here, at the front of lines: `cut` inside a record or its length, `refused 20` where there was no
- * byte, else none. written: how many bytes. The state stays as it was, and more pieces may follow.
+ * byte, else none. written: how many bytes. The state stays as it was, and more pieces may follow. It needs neither sheet nor index, so it
+ * ends a trace of either call.
  * Refused: as cartsundial_annotate.
  */
 uint32_t cartsundial_annotate_end(const uint64_t *state, size_t state_len, uint8_t *lines, size_t lines_len,

@@ -68,12 +68,11 @@ use Rattle.plan_answer.specs.declared.Planning.{Planning}
 use Rattle.plan_answer.specs.declared.Planning.the-variants.{Planned, Refused as NotPlanned}
 use Rattle.plan_answer.specs.Plan.{onRoom, onBoard, planning}
 use Rattle.trace.specs.Feed.{fedOf, finishedOf}
-use Rattle.trace_line.specs.Line.{lineOver}
 use Rattle.trace_numbers.specs.Parsing.{Parsed as ParsedState, Accepted as State, Refused as NoState, traceOf}
 use Rattle.trace_numbers.specs.NumbersLaws.{NumberedParsed as NumberedParsedState, numbered-traceOf}
 use Rattle.capi_answers.specs.Answers.{refuses, gives}
 use Rattle.capi_answers.specs.AnswersLaws.{Numbered}
-use Rattle.capi_trace.specs.Calls.{onLines, annotateOn, annotateAnswer, endOn, endAnswer}
+use Rattle.capi_trace.specs.Calls.{onLines, pieceOn, pieceAnswer, endOn, endAnswer}
 use Rattle.capi.specs.Calls.{onReading, readAnswer, onWriting, onParsed, writeAnswer, onLookup, lookupAnswer}
 use Rattle.capi_find.specs.Calls.{onRouting, findAnswer}
 use Rattle.capi.specs.Calls.{onRecordId, idAnswer, routeAnswer}
@@ -338,11 +337,12 @@ numbered-plan board room =
 numbered-lines : (number count : ℕ) → Numbered (onLines number count)
 numbered-lines number count = unless-zero Numbered number (gives (count ∷ [])) (refuses number) tt (λ h. h)
 
-pub numbered-annotate : (state sheet piece : List ℕ) (room : ℕ) → Numbered (annotateAnswer state sheet piece room)
-numbered-annotate state sheet piece room = go (traceOf state) (numbered-traceOf state)
+-- over a sheet or by an index
+pub numbered-piece : (line : ℕ → List ℕ → List ℕ) (state piece : List ℕ) (room : ℕ) → Numbered (pieceAnswer line state piece room)
+numbered-piece line state piece room = go (traceOf state) (numbered-traceOf state)
   where
-    go : (q : ParsedState) → NumberedParsedState q → Numbered (annotateOn q sheet piece room)
-    go (State t) h = let f = fedOf (lineOver sheet) t piece room in numbered-lines (f .number) (f .written)
+    go : (q : ParsedState) → NumberedParsedState q → Numbered (pieceOn line q piece room)
+    go (State t) h = let f = fedOf line t piece room in numbered-lines (f .number) (f .written)
     go (NoState n) h = h
 
 pub numbered-end : (state : List ℕ) (room : ℕ) → Numbered (endAnswer state room)

@@ -22,7 +22,7 @@ use Rattle.plan_answer.specs.Plan.{planning, sheetAs, sheetAfter}
 use Rattle.index_build.specs.Build.{buildNumber, indexAfter}
 use Rattle.capi_answers.specs.Answers.{Answer, returned, filled}
 use Rattle.capi_answers.specs.AnswersLaws.{one-given, refused-keeps-slice}
-use Rattle.capi_trace.specs.Calls.{annotateAnswer, stateLeft, linesLeft, endAnswer, endLeft}
+use Rattle.capi_trace.specs.Calls.{pieceAnswer, stateLeft, linesLeft, endAnswer, endLeft}
 use Rattle.capi_trace.specs.Refused.{refused-keeps-state, refused-keeps-lines, refused-keeps-last}
 use Rattle.capi.specs.Calls.{onWriting, onParsed, writeAnswer, roomOf, roomLeft, word, commandNumber, commandLeft}
 use Rattle.capi.specs.Calls.{onPlanning, planAnswer, sheetLeft}
@@ -40,11 +40,11 @@ pub record RefusedKeeps : Type 0 where
   pub commanded-sheet : (sheet : List ℕ) (id command : ℕ) → ¬ (commandNumber sheet id command ≡ 0) → commandLeft sheet id command ≡ sheet
   -- the slice of an index
   pub index-slice : (host sheet slice : List ℕ) → ¬ (buildNumber host sheet (length slice) ≡ 0) → indexAfter host sheet slice ≡ slice
-  -- the state and the lines of a trace, and the line of its end
-  pub trace-state : (state sheet piece written : List ℕ) (room : ℕ) → ¬ (returned (annotateAnswer state sheet piece room) written ≡ 0)
-      → stateLeft state sheet piece room written ≡ state
-  pub trace-lines : (state sheet piece lines written : List ℕ)
-      → ¬ (returned (annotateAnswer state sheet piece (length lines)) written ≡ 0) → linesLeft state sheet piece lines written ≡ lines
+  -- the state and the lines of a trace, over a sheet or by an index, and the line of its end
+  pub trace-state : (line : ℕ → List ℕ → List ℕ) (state piece written : List ℕ) (room : ℕ)
+      → ¬ (returned (pieceAnswer line state piece room) written ≡ 0) → stateLeft line state piece room written ≡ state
+  pub trace-lines : (line : ℕ → List ℕ → List ℕ) (state piece lines written : List ℕ)
+      → ¬ (returned (pieceAnswer line state piece (length lines)) written ≡ 0) → linesLeft line state piece lines written ≡ lines
   pub end-lines : (state lines written : List ℕ) → ¬ (returned (endAnswer state (length lines)) written ≡ 0)
       → endLeft state lines written ≡ lines
 

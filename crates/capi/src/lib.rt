@@ -8,9 +8,12 @@ ghost use Rattle.sheet.specs.Lookup.{lookupOf};
 ghost use Rattle.plan_answer.specs.Plan.{numberOf as planningNumber, planning};
 ghost use Rattle.audit_rule.specs.Audit.{auditNumber};
 ghost use Rattle.index_build.specs.Build.{buildNumber, indexAfter};
+ghost use Rattle.trace_line.specs.declared.Engine.the-variants.{Index};
+ghost use Rattle.trace_line.specs.Line.{lineOver};
+ghost use Rattle.trace_line.specs.Engine.{lineBy};
 ghost use Rattle.capi_answers.specs.Answers.{returned, filled, leftBeside};
 ghost use Rattle.capi_find.specs.Calls.{findAnswer};
-ghost use Rattle.capi_trace.specs.Calls.{annotateAnswer, stateLeft, linesLeft, endAnswer, endLeft};
+ghost use Rattle.capi_trace.specs.Calls.{pieceAnswer, stateLeft, linesLeft, endAnswer, endLeft};
 ghost use Rattle.capi.specs.Calls.{readAnswer, onWriting, writeAnswer, roomLeft, lookupAnswer, idAnswer, unownedOf};
 ghost use Rattle.capi.specs.Calls.{commandNumber, commandLeft, routeAnswer, planAnswer, sheetLeft};
 use packet::Packet;
@@ -173,27 +176,58 @@ pub extern "C" fn cartsundial_annotate(
 ) -> u32
     ensures { λ r. ⌜
         r
-        ≡ returned (annotateAnswer (now (state .entry)) (now (sheet .entry)) (now (piece .entry)) (length (now (lines .entry))))
+        ≡ returned (pieceAnswer (lineOver (now (sheet .entry))) (now (state .entry)) (now (piece .entry)) (length (now (lines .entry))))
         (now (written .entry))
         ⌝ }
     ensures { λ _. ⌜
         now (state .exit)
-        ≡ stateLeft (now (state .entry)) (now (sheet .entry)) (now (piece .entry)) (length (now (lines .entry))) (now (written .entry))
+        ≡ stateLeft (lineOver (now (sheet .entry))) (now (state .entry)) (now (piece .entry)) (length (now (lines .entry))) (now (written .entry))
         ⌝ }
     ensures { λ _. ⌜
         now (lines .exit)
-        ≡ linesLeft (now (state .entry)) (now (sheet .entry)) (now (piece .entry)) (now (lines .entry)) (now (written .entry))
+        ≡ linesLeft (lineOver (now (sheet .entry))) (now (state .entry)) (now (piece .entry)) (now (lines .entry)) (now (written .entry))
         ⌝ }
     ensures { λ _. ⌜
         now (written .exit)
-        ≡ filled (annotateAnswer (now (state .entry)) (now (sheet .entry)) (now (piece .entry)) (length (now (lines .entry))))
+        ≡ filled (pieceAnswer (lineOver (now (sheet .entry))) (now (state .entry)) (now (piece .entry)) (length (now (lines .entry))))
         (now (written .entry))
         ⌝ }
 {
     capi_trace::annotate(state, sheet, piece, lines, written)
 }
 
-// Ends a trace: its last line, if it gets one, and how many bytes it is.
+// The same by an index: over one that was built, the lines and the state are those over its sheet. Any bytes may be given as an index.
+#[no_mangle]
+pub extern "C" fn cartsundial_label(
+    state: &mut [u64],
+    index: &[u8],
+    piece: &[u8],
+    lines: &mut [u8],
+    written: &mut [u64],
+) -> u32
+    ensures { λ r. ⌜
+        r
+        ≡ returned (pieceAnswer (lineBy Index (now (index .entry))) (now (state .entry)) (now (piece .entry)) (length (now (lines .entry))))
+        (now (written .entry))
+        ⌝ }
+    ensures { λ _. ⌜
+        now (state .exit)
+        ≡ stateLeft (lineBy Index (now (index .entry))) (now (state .entry)) (now (piece .entry)) (length (now (lines .entry))) (now (written .entry))
+        ⌝ }
+    ensures { λ _. ⌜
+        now (lines .exit)
+        ≡ linesLeft (lineBy Index (now (index .entry))) (now (state .entry)) (now (piece .entry)) (now (lines .entry)) (now (written .entry))
+        ⌝ }
+    ensures { λ _. ⌜
+        now (written .exit)
+        ≡ filled (pieceAnswer (lineBy Index (now (index .entry))) (now (state .entry)) (now (piece .entry)) (length (now (lines .entry))))
+        (now (written .entry))
+        ⌝ }
+{
+    capi_trace::label(state, index, piece, lines, written)
+}
+
+// Ends a trace, labelled over a sheet or by an index: its last line, if it gets one, and how many bytes it is.
 #[no_mangle]
 pub extern "C" fn cartsundial_annotate_end(
     state: &[u64],

@@ -1,4 +1,5 @@
--- What the two calls on a trace answer, and what the state and the lines that they were lent then hold. Assumes nothing.
+-- What the calls on a trace answer, and what the state and the lines that they were lent then hold: a piece, over a sheet or by an index,
+-- and the end. Assumes nothing.
 use Prim.Native.Nat.{ℕ}
 use mathlib.Core.Bool.{cond}
 use mathlib.Core.List.{List, [], _∷_, _++_}
@@ -7,7 +8,6 @@ use lib.Dec.{eqb}
 use Rattle.trace.specs.declared.Fed.{Fed}
 use Rattle.trace.specs.declared.Finished.{Finished}
 use Rattle.trace.specs.Feed.{fedOf, fedPut, finishedOf, finishedPut}
-use Rattle.trace_line.specs.Line.{lineOver}
 use Rattle.trace_numbers.specs.Numbers.{numbersOf}
 use Rattle.trace_numbers.specs.Parsing.{size, Parsed, Accepted, Refused, traceOf}
 use Rattle.capi_answers.specs.Answers.{Answer, refuses, gives, leftBeside}
@@ -16,36 +16,37 @@ use Rattle.capi_answers.specs.Answers.{Answer, refuses, gives, leftBeside}
 abbrev pub onLines : ℕ → ℕ → Answer
 onLines number count = cond (eqb number 0) (gives (count ∷ [])) (refuses number)
 
--- ## A piece
+-- ## A piece, whose records have the lines of one engine
 
 abbrev pub onFed : Fed → Answer
 onFed f = onLines (f .number) (f .written)
-
-abbrev pub annotateOn : Parsed → List ℕ → List ℕ → ℕ → Answer
-annotateOn (Accepted t) sheet piece room = onFed (fedOf (lineOver sheet) t piece room)
-annotateOn (Refused n) sheet piece room = refuses n
-
-abbrev pub annotateAnswer : List ℕ → List ℕ → List ℕ → ℕ → Answer
-annotateAnswer state sheet piece room = annotateOn (traceOf state) sheet piece room
 
 -- the numbers of the state after the piece, and what follows them
 abbrev pub statePut : Fed → List ℕ → List ℕ
 statePut f state = cond (eqb (f .number) 0) (numbersOf (f .state) ++ drop size state) state
 
-abbrev pub stateOn : Parsed → List ℕ → List ℕ → List ℕ → ℕ → List ℕ
-stateOn (Accepted t) state sheet piece room = statePut (fedOf (lineOver sheet) t piece room) state
-stateOn (Refused n) state sheet piece room = state
+module _ (line : ℕ → List ℕ → List ℕ) where
+  abbrev pub pieceOn : Parsed → List ℕ → ℕ → Answer
+  pieceOn (Accepted t) piece room = onFed (fedOf line t piece room)
+  pieceOn (Refused n) piece room = refuses n
 
--- with no room for the answer the piece is not taken
-abbrev pub stateLeft : List ℕ → List ℕ → List ℕ → ℕ → List ℕ → List ℕ
-stateLeft state sheet piece room written = leftBeside written state (stateOn (traceOf state) state sheet piece room)
+  abbrev pub pieceAnswer : List ℕ → List ℕ → ℕ → Answer
+  pieceAnswer state piece room = pieceOn (traceOf state) piece room
 
-abbrev pub linesOn : Parsed → List ℕ → List ℕ → List ℕ → List ℕ
-linesOn (Accepted t) sheet piece lines = fedPut (lineOver sheet) t piece lines
-linesOn (Refused n) sheet piece lines = lines
+  abbrev pub stateOn : Parsed → List ℕ → List ℕ → ℕ → List ℕ
+  stateOn (Accepted t) state piece room = statePut (fedOf line t piece room) state
+  stateOn (Refused n) state piece room = state
 
-abbrev pub linesLeft : List ℕ → List ℕ → List ℕ → List ℕ → List ℕ → List ℕ
-linesLeft state sheet piece lines written = leftBeside written lines (linesOn (traceOf state) sheet piece lines)
+  -- with no room for the answer the piece is not taken
+  abbrev pub stateLeft : List ℕ → List ℕ → ℕ → List ℕ → List ℕ
+  stateLeft state piece room written = leftBeside written state (stateOn (traceOf state) state piece room)
+
+  abbrev pub linesOn : Parsed → List ℕ → List ℕ → List ℕ
+  linesOn (Accepted t) piece lines = fedPut line t piece lines
+  linesOn (Refused n) piece lines = lines
+
+  abbrev pub linesLeft : List ℕ → List ℕ → List ℕ → List ℕ → List ℕ
+  linesLeft state piece lines written = leftBeside written lines (linesOn (traceOf state) piece lines)
 
 -- ## The end
 

@@ -1,4 +1,4 @@
--- The two calls on a trace one step each, in the words of the code. Assumes nothing.
+-- The calls on a trace one step each, in the words of the code. Assumes nothing.
 use Prim.Native.Nat.{ℕ, _≤_}
 use native.Mathlib.Nat.{zero-add}
 use native.Mathlib.Omega.{arith}
@@ -14,24 +14,23 @@ use Rattle.trace.specs.declared.Fed.{Fed}
 use Rattle.trace.specs.declared.Finished.{Finished}
 use Rattle.trace.specs.Trace.{linesOf, endLine}
 use Rattle.trace.specs.Feed.{takenFed, refusedFed, fedOf, fedPut, endedOf, finishedOf, finishedPut}
-use Rattle.trace_line.specs.Line.{lineOver}
 use Rattle.trace_numbers.specs.declared.Taken.{Taken}
 use Rattle.trace_numbers.specs.Numbers.{numbersOf}
 use Rattle.trace_numbers.specs.Parsing.{size, Accepted, traceOf, takenAs}
 use Rattle.trace_numbers.specs.NumbersLaws.{length-numbersOf, enough-of-accepted, accepted-of-zero, refused-of-number}
 use Rattle.capi_answers.specs.Answers.{gives, returned, filled}
 use Rattle.capi_answers.specs.AnswersLaws.{Answered, answered-short, left-same}
-use Rattle.capi_trace.specs.Calls.{onFed, annotateAnswer, stateLeft, linesLeft, onFinished, endAnswer, endLeft}
+use Rattle.capi_trace.specs.Calls.{onFed, pieceAnswer, stateLeft, linesLeft, onFinished, endAnswer, endLeft}
 
 -- ## A piece
 
 -- what is returned, and the three slices after, together
-abbrev pub AnnotatedFor : List ℕ → List ℕ → List ℕ → List ℕ → List ℕ → ℕ → List ℕ → List ℕ → List ℕ → Type 0
-AnnotatedFor state sheet piece lines written r state′ lines′ written′ =
-    (r ≡ returned (annotateAnswer state sheet piece (length lines)) written)
-    × ((state′ ≡ stateLeft state sheet piece (length lines) written)
-    × ((lines′ ≡ linesLeft state sheet piece lines written)
-    × (written′ ≡ filled (annotateAnswer state sheet piece (length lines)) written)))
+abbrev pub TakenFor : (ℕ → List ℕ → List ℕ) → List ℕ → List ℕ → List ℕ → List ℕ → ℕ → List ℕ → List ℕ → List ℕ → Type 0
+TakenFor line state piece lines written r state′ lines′ written′ =
+    (r ≡ returned (pieceAnswer line state piece (length lines)) written)
+    × ((state′ ≡ stateLeft line state piece (length lines) written)
+    × ((lines′ ≡ linesLeft line state piece lines written)
+    × (written′ ≡ filled (pieceAnswer line state piece (length lines)) written)))
 
 -- with no room for the answer it is 11, whether or not the lines fit
 fed-short : (line : ℕ → List ℕ → List ℕ) (t : Trace) (piece written : List ℕ) (room : ℕ) → length written ≡ 0
@@ -43,8 +42,8 @@ fed-short line t piece written room z = go (leb (length (linesOf line t piece)) 
     go true = answered-short (length (linesOf line t piece) ∷ []) written (omega arith)
     go false = (refl, refl)
 
-module _ (state sheet piece lines written : List ℕ) (u : Taken) (answered : u ≡ takenAs (traceOf state)) where
-  pub not-taken : ¬ (u .number ≡ 0) → AnnotatedFor state sheet piece lines written (u .number) state lines written
+module _ (line : ℕ → List ℕ → List ℕ) (state piece lines written : List ℕ) (u : Taken) (answered : u ≡ takenAs (traceOf state)) where
+  pub not-taken : ¬ (u .number ≡ 0) → TakenFor line state piece lines written (u .number) state lines written
   not-taken other = rw (refused-of-number state u answered other) (refl, (left-same written state, (left-same written lines, refl)))
 
   module _ (zero : u .number ≡ 0) where
@@ -54,20 +53,20 @@ module _ (state sheet piece lines written : List ℕ) (u : Taken) (answered : u 
     pub six-of-state : size ≤ length state
     six-of-state = enough-of-accepted state (u .state) is-state
 
-    pub no-slice : length written ≡ 0 → AnnotatedFor state sheet piece lines written 11 state lines written
+    pub no-slice : length written ≡ 0 → TakenFor line state piece lines written 11 state lines written
     no-slice z =
-        let short = fed-short (lineOver sheet) (u .state) piece written (length lines) z in
+        let short = fed-short line (u .state) piece written (length lines) z in
         rw (is-state, eq-eqb (length written) 0 z) (short .0, (refl, (refl, short .1)))
 
     -- the piece was fed
-    module _ (some : length written ≡ 0 → ⊥) (f : Fed) (e : f ≡ fedOf (lineOver sheet) (u .state) piece (length lines)) (lines′ : List ℕ)
-        (put : lines′ ≡ fedPut (lineOver sheet) (u .state) piece lines) where
-      pub not-fed : (f .number ≡ 0 → ⊥) → AnnotatedFor state sheet piece lines written (f .number) state lines′ written
+    module _ (some : length written ≡ 0 → ⊥) (f : Fed) (e : f ≡ fedOf line (u .state) piece (length lines)) (lines′ : List ℕ)
+        (put : lines′ ≡ fedPut line (u .state) piece lines) where
+      pub not-fed : (f .number ≡ 0 → ⊥) → TakenFor line state piece lines written (f .number) state lines′ written
       not-fed other = rw (is-state, ne-eqb (length written) 0 some, ← e, ne-eqb (f .number) 0 other) (refl, (refl, (put, refl)))
 
       pub fed : f .number ≡ 0 → (r : ℕ) (state′ written′ : List ℕ) → state′ ≡ sets state 0 (numbersOf (f .state))
           → Answered (gives (f .written ∷ [])) written r written′
-          → AnnotatedFor state sheet piece lines written r state′ lines′ written′
+          → TakenFor line state piece lines written r state′ lines′ written′
       fed whole r state′ written′ stored a =
           let six = length-numbersOf (f .state) in
           let moved : state′ ≡ numbersOf (f .state) ++ drop size state =

@@ -11,59 +11,59 @@ use Rattle.trace.specs.declared.Fed.{Fed}
 use Rattle.trace.specs.declared.Finished.{Finished}
 use Rattle.trace.specs.Trace.{linesOf, endLine}
 use Rattle.trace.specs.Feed.{textPut, takenFed, refusedFed, fedOf, endedOf}
-use Rattle.trace_line.specs.Line.{lineOver}
 use Rattle.trace_numbers.specs.Numbers.{numbersOf}
 use Rattle.trace_numbers.specs.Parsing.{size, Parsed, Accepted, Refused, traceOf}
 use Rattle.capi_answers.specs.Answers.{returned}
 use Rattle.capi_answers.specs.AnswersLaws.{one-given}
-use Rattle.capi_trace.specs.Calls.{onFed, annotateOn, annotateAnswer, statePut, stateOn, stateLeft, linesOn, linesLeft}
+use Rattle.capi_trace.specs.Calls.{onFed, pieceOn, pieceAnswer, statePut, stateOn, stateLeft, linesOn, linesLeft}
 use Rattle.capi_trace.specs.Calls.{onFinished, endOn, endAnswer, lastOn, endLeft}
 
 -- ## A piece
 
-pub refused-keeps-state : (state sheet piece written : List ℕ) (room : ℕ)
-    → ¬ (returned (annotateAnswer state sheet piece room) written ≡ 0) → stateLeft state sheet piece room written ≡ state
-refused-keeps-state state sheet piece written room h = go (eqb (length written) 0) refl
-  where
-    by-fed : (f : Fed) → eqb (length written) 0 ≡ false → ¬ (returned (onFed f) written ≡ 0) → statePut f state ≡ state
-    by-fed f e h = by-number (eqb (f .number) 0) refl
-      where
-        by-number : (b : Bool) → eqb (f .number) 0 ≡ b → cond b (numbersOf (f .state) ++ drop size state) state ≡ state
-        by-number true z = absurd (h (rw z (one-given (f .written) written e)))
-        by-number false z = refl
+module _ (line : ℕ → List ℕ → List ℕ) where
+  pub refused-keeps-state : (state piece written : List ℕ) (room : ℕ) → ¬ (returned (pieceAnswer line state piece room) written ≡ 0)
+      → stateLeft line state piece room written ≡ state
+  refused-keeps-state state piece written room h = go (eqb (length written) 0) refl
+    where
+      by-fed : (f : Fed) → eqb (length written) 0 ≡ false → ¬ (returned (onFed f) written ≡ 0) → statePut f state ≡ state
+      by-fed f e h = by-number (eqb (f .number) 0) refl
+        where
+          by-number : (b : Bool) → eqb (f .number) 0 ≡ b → cond b (numbersOf (f .state) ++ drop size state) state ≡ state
+          by-number true z = absurd (h (rw z (one-given (f .written) written e)))
+          by-number false z = refl
 
-    by-state : (q : Parsed) → eqb (length written) 0 ≡ false → ¬ (returned (annotateOn q sheet piece room) written ≡ 0)
-        → stateOn q state sheet piece room ≡ state
-    by-state (Accepted t) e h = by-fed (fedOf (lineOver sheet) t piece room) e h
-    by-state (Refused n) e h = refl
+      by-state : (q : Parsed) → eqb (length written) 0 ≡ false → ¬ (returned (pieceOn line q piece room) written ≡ 0)
+          → stateOn line q state piece room ≡ state
+      by-state (Accepted t) e h = by-fed (fedOf line t piece room) e h
+      by-state (Refused n) e h = refl
 
-    go : (b : Bool) → eqb (length written) 0 ≡ b → cond b state (stateOn (traceOf state) state sheet piece room) ≡ state
-    go true e = refl
-    go false e = by-state (traceOf state) e h
+      go : (b : Bool) → eqb (length written) 0 ≡ b → cond b state (stateOn line (traceOf state) state piece room) ≡ state
+      go true e = refl
+      go false e = by-state (traceOf state) e h
 
--- lines that do not fit are refused and not put
-fed-keeps-lines : (line : ℕ → List ℕ → List ℕ) (t : Trace) (piece lines written : List ℕ) → eqb (length written) 0 ≡ false
-    → ¬ (returned (onFed (fedOf line t piece (length lines))) written ≡ 0) → textPut (linesOf line t piece) lines ≡ lines
-unfolding fedOf textPut
-fed-keeps-lines line t piece lines written e = go (leb (length (linesOf line t piece)) (length lines))
-  where
-    go : (b : Bool) → ¬ (returned (onFed (cond b (takenFed line t piece) (refusedFed line t))) written ≡ 0)
-        → cond b (linesOf line t piece ++ drop (length (linesOf line t piece)) lines) lines ≡ lines
-    go true h = absurd (h (one-given (length (linesOf line t piece)) written e))
-    go false h = refl
+  -- lines that do not fit are refused and not put
+  fed-keeps-lines : (t : Trace) (piece lines written : List ℕ) → eqb (length written) 0 ≡ false
+      → ¬ (returned (onFed (fedOf line t piece (length lines))) written ≡ 0) → textPut (linesOf line t piece) lines ≡ lines
+  unfolding fedOf textPut
+  fed-keeps-lines t piece lines written e = go (leb (length (linesOf line t piece)) (length lines))
+    where
+      go : (b : Bool) → ¬ (returned (onFed (cond b (takenFed line t piece) (refusedFed line t))) written ≡ 0)
+          → cond b (linesOf line t piece ++ drop (length (linesOf line t piece)) lines) lines ≡ lines
+      go true h = absurd (h (one-given (length (linesOf line t piece)) written e))
+      go false h = refl
 
-pub refused-keeps-lines : (state sheet piece lines written : List ℕ)
-    → ¬ (returned (annotateAnswer state sheet piece (length lines)) written ≡ 0) → linesLeft state sheet piece lines written ≡ lines
-refused-keeps-lines state sheet piece lines written h = go (eqb (length written) 0) refl
-  where
-    by-state : (q : Parsed) → eqb (length written) 0 ≡ false → ¬ (returned (annotateOn q sheet piece (length lines)) written ≡ 0)
-        → linesOn q sheet piece lines ≡ lines
-    by-state (Accepted t) e h = fed-keeps-lines (lineOver sheet) t piece lines written e h
-    by-state (Refused n) e h = refl
+  pub refused-keeps-lines : (state piece lines written : List ℕ)
+      → ¬ (returned (pieceAnswer line state piece (length lines)) written ≡ 0) → linesLeft line state piece lines written ≡ lines
+  refused-keeps-lines state piece lines written h = go (eqb (length written) 0) refl
+    where
+      by-state : (q : Parsed) → eqb (length written) 0 ≡ false → ¬ (returned (pieceOn line q piece (length lines)) written ≡ 0)
+          → linesOn line q piece lines ≡ lines
+      by-state (Accepted t) e h = fed-keeps-lines t piece lines written e h
+      by-state (Refused n) e h = refl
 
-    go : (b : Bool) → eqb (length written) 0 ≡ b → cond b lines (linesOn (traceOf state) sheet piece lines) ≡ lines
-    go true e = refl
-    go false e = by-state (traceOf state) e h
+      go : (b : Bool) → eqb (length written) 0 ≡ b → cond b lines (linesOn line (traceOf state) piece lines) ≡ lines
+      go true e = refl
+      go false e = by-state (traceOf state) e h
 
 -- ## The end
 

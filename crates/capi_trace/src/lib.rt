@@ -1,11 +1,15 @@
-// What the C boundary's two calls on a trace do. The state is six numbers that the caller keeps; fewer are 11 and numbers that are no state
+// What the C boundary's calls on a trace do. The state is six numbers that the caller keeps; fewer are 11 and numbers that are no state
 // 10, both tried first. Lines that do not fit, and an answer slice of no numbers, are 11: the state, the lines and the slice then stay.
 ghost use mathlib.Core.Path.{_≡_};
 ghost use lib.ListN.{length};
+ghost use Rattle.trace_line.specs.declared.Engine.the-variants.{Index};
+ghost use Rattle.trace_line.specs.Line.{lineOver};
+ghost use Rattle.trace_line.specs.Engine.{Knows, lineBy};
 ghost use Rattle.capi_answers.specs.Answers.{returned, filled};
-ghost use Rattle.capi_trace.specs.Calls.{annotateAnswer, stateLeft, linesLeft, endAnswer, endLeft};
+ghost use Rattle.capi_trace.specs.Calls.{pieceAnswer, stateLeft, linesLeft, endAnswer, endLeft};
+use trace_line::Engine;
 
-// Takes a piece: the lines of the records that end in it, and how many bytes they are.
+// Takes a piece over a sheet, which is checked once: the lines of the records that end in it, and how many bytes they are.
 pub fn annotate(
     state: &mut [u64],
     sheet: &[u8],
@@ -15,20 +19,83 @@ pub fn annotate(
 ) -> u32
     ensures { λ r. ⌜
         r
-        ≡ returned (annotateAnswer (now (state .entry)) (now (sheet .entry)) (now (piece .entry)) (length (now (lines .entry))))
+        ≡ returned (pieceAnswer (lineOver (now (sheet .entry))) (now (state .entry)) (now (piece .entry)) (length (now (lines .entry))))
         (now (written .entry))
         ⌝ }
     ensures { λ _. ⌜
         now (state .exit)
-        ≡ stateLeft (now (state .entry)) (now (sheet .entry)) (now (piece .entry)) (length (now (lines .entry))) (now (written .entry))
+        ≡ stateLeft (lineOver (now (sheet .entry))) (now (state .entry)) (now (piece .entry)) (length (now (lines .entry))) (now (written .entry))
         ⌝ }
     ensures { λ _. ⌜
         now (lines .exit)
-        ≡ linesLeft (now (state .entry)) (now (sheet .entry)) (now (piece .entry)) (now (lines .entry)) (now (written .entry))
+        ≡ linesLeft (lineOver (now (sheet .entry))) (now (state .entry)) (now (piece .entry)) (now (lines .entry)) (now (written .entry))
         ⌝ }
     ensures { λ _. ⌜
         now (written .exit)
-        ≡ filled (annotateAnswer (now (state .entry)) (now (sheet .entry)) (now (piece .entry)) (length (now (lines .entry))))
+        ≡ filled (pieceAnswer (lineOver (now (sheet .entry))) (now (state .entry)) (now (piece .entry)) (length (now (lines .entry))))
+        (now (written .entry))
+        ⌝ }
+{
+    let engine = Engine::Sheet(sheet::check(sheet));
+    take(state, engine, sheet, piece, lines, written)
+}
+
+// The same by an index, which any bytes may be given as.
+pub fn label(
+    state: &mut [u64],
+    index: &[u8],
+    piece: &[u8],
+    lines: &mut [u8],
+    written: &mut [u64],
+) -> u32
+    ensures { λ r. ⌜
+        r
+        ≡ returned (pieceAnswer (lineBy Index (now (index .entry))) (now (state .entry)) (now (piece .entry)) (length (now (lines .entry))))
+        (now (written .entry))
+        ⌝ }
+    ensures { λ _. ⌜
+        now (state .exit)
+        ≡ stateLeft (lineBy Index (now (index .entry))) (now (state .entry)) (now (piece .entry)) (length (now (lines .entry))) (now (written .entry))
+        ⌝ }
+    ensures { λ _. ⌜
+        now (lines .exit)
+        ≡ linesLeft (lineBy Index (now (index .entry))) (now (state .entry)) (now (piece .entry)) (now (lines .entry)) (now (written .entry))
+        ⌝ }
+    ensures { λ _. ⌜
+        now (written .exit)
+        ≡ filled (pieceAnswer (lineBy Index (now (index .entry))) (now (state .entry)) (now (piece .entry)) (length (now (lines .entry))))
+        (now (written .entry))
+        ⌝ }
+{
+    take(state, Engine::Index, index, piece, lines, written)
+}
+
+// The same by an engine, which has the number of its sheet already.
+fn take(
+    state: &mut [u64],
+    engine: Engine,
+    bytes: &[u8],
+    piece: &[u8],
+    lines: &mut [u8],
+    written: &mut [u64],
+) -> u32
+    requires { ⌜ Knows engine (now bytes) ⌝ }
+    ensures { λ r. ⌜
+        r
+        ≡ returned (pieceAnswer (lineBy engine (now (bytes .entry))) (now (state .entry)) (now (piece .entry)) (length (now (lines .entry))))
+        (now (written .entry))
+        ⌝ }
+    ensures { λ _. ⌜
+        now (state .exit)
+        ≡ stateLeft (lineBy engine (now (bytes .entry))) (now (state .entry)) (now (piece .entry)) (length (now (lines .entry))) (now (written .entry))
+        ⌝ }
+    ensures { λ _. ⌜
+        now (lines .exit)
+        ≡ linesLeft (lineBy engine (now (bytes .entry))) (now (state .entry)) (now (piece .entry)) (now (lines .entry)) (now (written .entry))
+        ⌝ }
+    ensures { λ _. ⌜
+        now (written .exit)
+        ≡ filled (pieceAnswer (lineBy engine (now (bytes .entry))) (now (state .entry)) (now (piece .entry)) (length (now (lines .entry))))
         (now (written .entry))
         ⌝ }
 {
@@ -40,7 +107,7 @@ pub fn annotate(
         return 11;
     }
     let t = taken.state;
-    let fed = trace_feed::feed(t, sheet, piece, lines);
+    let fed = trace_feed::feed_by(t, engine, bytes, piece, lines);
     if fed.number != 0 {
         return fed.number as u32;
     }

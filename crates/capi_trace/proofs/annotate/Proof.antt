@@ -1,114 +1,30 @@
--- `capi_trace::annotate` meets its contract: numbers that are no state, no room for the answer, lines that do not fit, and a piece that was
--- taken. Assumes nothing.
+-- `capi_trace::annotate` meets its contract: a sheet is an engine with the sheet's own number. Assumes nothing.
 use borrow.Author.Needs.{needs}
-use Rattle.capi_trace.specs.CallsLaws.{not-taken, six-of-state, no-slice, not-fed, fed}
+use Rattle.trace_line.specs.Line.{lineOver}
+use Rattle.trace_line.specs.Engine.{routingBy}
 use Rattle.capi_trace.proofs.annotate.Statement.{statement}
 use Rattle.capi_trace.proofs.annotate.Tie as tie
 
-state-of-requires : tie.Need-state-of-requires
-state-of-requires c κs = search needs
+check-requires : tie.Need-check-requires
+check-requires c κs = search needs
 
-cast-result : tie.Need-cast-result
-cast-result c = search needs
+take-requires : tie.Need-take-requires
+take-requires c κs = search needs
 
 same-length : tie.Need-same-length
 same-length c = search needs
 
-returns : tie.Need-returns
-returns c =
-    let call = c .before .before .before in
-    let u = call .state-of in
-    let s = call .before .before .before .before .before .before .before .args in
-    not-taken (s .state .now) (s .sheet .now) (s .piece .now) (s .lines .now) (s .written .now) (u .result) (u .ensures)
-    (c .before .if1 .taken)
-
 same-length-2 : tie.Need-same-length-2
 same-length-2 c = search needs
-
-returns-2 : tie.Need-returns-2
-returns-2 c =
-    let call = c .before .before .before in
-    let u = call .state-of in
-    let s = call .before .before .before .before .before .before .before .args in
-    no-slice (s .state .now) (s .sheet .now) (s .piece .now) (s .lines .now) (s .written .now) (u .result) (u .ensures)
-    (c .before .if1 .left) (c .if2 .taken)
-
-feed-requires : tie.Need-feed-requires
-feed-requires c κs = search needs
-
-cast-result-2 : tie.Need-cast-result-2
-cast-result-2 c = search needs
 
 same-length-3 : tie.Need-same-length-3
 same-length-3 c = search needs
 
-same-length-4 : tie.Need-same-length-4
-same-length-4 c = search needs
-
-returns-3 : tie.Need-returns-3
-returns-3 c =
-    let feed = c .before .before .before .before .before in
-    let slice = feed .before .before .before in
-    let call = slice .before .before .before in
-    let u = call .state-of in
-    let s = call .before .before .before .before .before .before .before .args in
-    not-fed (s .state .now) (s .sheet .now) (s .piece .now) (s .lines .now) (s .written .now) (u .result) (u .ensures)
-    (slice .before .if1 .left) (slice .if2 .left) (feed .feed .result) (feed .feed .ensures .0) _ (feed .feed .ensures .1)
-    (c .before .if3 .taken)
-
-put-state-requires : tie.Need-put-state-requires
-put-state-requires c κs =
-    let test = c .before .before .before .before .before .before .before .before .before .before in
-    let call = test .before .before in
-    let u = call .state-of in
-    let s = call .before .before .before .before .before .before .before .args in
-    six-of-state (s .state .now) (s .sheet .now) (s .piece .now) (s .lines .now) (s .written .now) (u .result) (u .ensures)
-    (test .if1 .left)
-
-give-one-requires : tie.Need-give-one-requires
-give-one-requires c κs = search needs
-
-same-length-5 : tie.Need-same-length-5
-same-length-5 c = search needs
-
-same-length-6 : tie.Need-same-length-6
-same-length-6 c = search needs
-
-same-length-7 : tie.Need-same-length-7
-same-length-7 c = search needs
-
-returns-4 : tie.Need-returns-4
-returns-4 c =
-    let given = c .before .before in
-    let put = given .before .before .before .before in
-    let fits = put .before .before .before in
-    let feed = fits .before .before .before .before in
-    let slice = feed .before .before .before in
-    let call = slice .before .before .before in
-    let u = call .state-of in
-    let s = call .before .before .before .before .before .before .before .args in
-    fed (s .state .now) (s .sheet .now) (s .piece .now) (s .lines .now) (s .written .now) (u .result) (u .ensures)
-    (slice .before .if1 .left) (slice .if2 .left) (feed .feed .result) (feed .feed .ensures .0) _ (feed .feed .ensures .1) (fits .if3 .left)
-    _ _ _ (put .put-state .ensures) (given .give-one .ensures)
+returns : tie.Need-returns
+unfolding lineOver routingBy
+returns c = search needs
 
 pub annotate-spec : {M : Type 1} → statement M
 annotate-spec =
     tie.close
-    (tie.spec
-    state-of-requires
-    cast-result
-    same-length
-    returns
-    same-length-2
-    returns-2
-    feed-requires
-    cast-result-2
-    same-length-3
-    same-length-4
-    returns-3
-    put-state-requires
-    give-one-requires
-    same-length-5
-    same-length-6
-    same-length-7
-    returns-4)
+    (tie.spec check-requires take-requires same-length same-length-2 same-length-3 returns)
