@@ -2,7 +2,7 @@
 //! register, a bus number or an edge moved.
 
 use crate::aim;
-use crate::board::{self, Board, CLOSED_HIGH, CLOSED_IO, CLOSED_LOW, MOST_FUNCTIONS};
+use crate::board::{self, Board, CLOSED_HIGH, CLOSED_IO, CLOSED_LOW, LEAST_MEMORY_BIT, MOST_FUNCTIONS};
 use crate::damage;
 use crate::foreign::{self, Record};
 use crate::random::Random;
@@ -70,7 +70,8 @@ pub fn nested(random: &mut Random) -> Pair {
         free_of(host.io.0.into(), host.io.1.into()),
     ];
     let free = Free { buses: (u16::from(host.buses.0) + 1, host.buses.1.into()), pools };
-    let mut nest = Nest { records: Vec::new(), random, in_a_row };
+    let side_by_side = random.chance(1, 16);
+    let mut nest = Nest { records: Vec::new(), random, in_a_row, side_by_side };
     nest.fill(host.buses.0, free);
     let mut records = nest.records;
     if random.chance(1, 2) {
@@ -155,12 +156,18 @@ struct Nest<'a> {
     random: &'a mut Random,
     /// One bridge below the other, as far as the bus numbers go.
     in_a_row: bool,
+    /// More functions on a bus, and all memory BARs of the least size: an index has many of them in one bucket.
+    side_by_side: bool,
 }
 
 impl Nest<'_> {
     /// Puts functions on a bus, and below its bridges.
     fn fill(&mut self, bus: u8, mut free: Free) {
-        let count = if self.in_a_row { 1 + self.random.below(2) } else { self.random.below(8) };
+        let (count, apart) = match (self.in_a_row, self.side_by_side) {
+            (true, _) => (1 + self.random.below(2), 27),
+            (false, true) => (self.random.below(32), 7),
+            (false, false) => (self.random.below(8), 27),
+        };
         let mut device_function = self.random.below(32) as u8;
         for _ in 0..count {
             if self.records.len() >= MOST_FUNCTIONS {
@@ -172,7 +179,7 @@ impl Nest<'_> {
                 Some(buses) => self.bridge(id, buses, &mut free),
                 None => self.end(id, &mut free),
             }
-            device_function += 1 + self.random.below(27) as u8;
+            device_function += 1 + self.random.below(apart) as u8;
         }
     }
 
@@ -225,7 +232,11 @@ impl Nest<'_> {
         let mut slot = 0;
         while slot < slots {
             let kind = self.random.below(if self.in_a_row { 32 } else { 8 });
-            let bits = if kind == 0 { 2 + self.random.below(9) } else { 4 + self.random.below(18) } as u32;
+            let bits = match kind {
+                0 => 2 + self.random.below(9) as u32,
+                _ if self.side_by_side => LEAST_MEMORY_BIT,
+                _ => LEAST_MEMORY_BIT + self.random.below(15) as u32,
+            };
             let pool = [IO, LOW, LOW, LOW, HIGH][kind.min(4) as usize];
             let is_wide = kind == 3 || kind == 4;
             if kind <= 4 && slot + usize::from(is_wide) < slots {

@@ -6,6 +6,10 @@ use crate::random::Random;
 pub const MOST_FUNCTIONS: usize = 512;
 pub const MOST_ABOVE: usize = 32;
 
+/// The size bit of the least memory BAR, of 128 bytes (document 02, E9); and the bits of its type, which lie below.
+pub const LEAST_MEMORY_BIT: u32 = 7;
+pub const TYPE_BITS: u32 = 4;
+
 #[derive(Clone)]
 pub struct Function {
     pub parent: u16,
@@ -142,6 +146,17 @@ pub fn short_io(bits: u32) -> u32 {
     io(bits) & 0xFFFF
 }
 
+/// The two slots of a memory BAR of 16, 32 or 64 bytes in any form, which is 25; the second is unused where 32 bits are all.
+pub fn tiny(random: &mut Random) -> [u32; 2] {
+    let bits = TYPE_BITS + random.below(u64::from(LEAST_MEMORY_BIT - TYPE_BITS)) as u32;
+    match random.below(4) {
+        0 => [memory(bits), 0],
+        1 => [prefetchable(bits), 0],
+        2 => wide(bits),
+        _ => high(bits),
+    }
+}
+
 /// P10's board.
 pub fn p10() -> Board {
     let mut board = Board {
@@ -197,7 +212,7 @@ pub struct Style {
     pub functions: usize,
     /// Bridges in a hundred functions.
     pub bridges: u64,
-    /// The greatest memory and I/O BARs, as powers of two.
+    /// The greatest memory and I/O BARs, as powers of two. Of memory at the least [`LEAST_MEMORY_BIT`].
     pub memory_bits: u32,
     pub io_bits: u32,
 }
@@ -254,7 +269,7 @@ fn random_read_backs(random: &mut Random, style: &Style, slots: usize) -> Vec<u3
     let mut read_backs = Vec::new();
     let few = random.below(slots as u64 + 1);
     while read_backs.len() < slots {
-        let bits = 4 + random.below(u64::from(style.memory_bits) - 3) as u32;
+        let bits = LEAST_MEMORY_BIT + random.below(u64::from(style.memory_bits - LEAST_MEMORY_BIT) + 1) as u32;
         let io_bits = 2 + random.below(u64::from(style.io_bits) - 1) as u32;
         let pair = read_backs.len() + 2 <= slots;
         match random.below(few + 6) {

@@ -55,7 +55,7 @@ fn card(random: &mut Random, has_io: bool) -> Vec<u32> {
 }
 
 /// A host record and a sheet of 512 functions on two buses that an index is slowest to build for and to search: on each bus
-/// BARs of 16 bytes side by side, the last record's lowest, and one BAR of the root bus far from all others, so that a bucket
+/// BARs of 128 bytes side by side, the last record's lowest, and one BAR of the root bus far from all others, so that a bucket
 /// has those of a whole bus.
 pub fn skewed() -> ([u8; 30], Vec<u8>) {
     const HALF: u16 = 256;
@@ -63,12 +63,12 @@ pub fn skewed() -> ([u8; 30], Vec<u8>) {
         let mut record = Record::end(bus << 8 | device);
         for slot in 0..5u32 {
             let place = 5 * u32::from(HALF - 1 - device) + (4 - slot);
-            record = record.bar(slot as usize, memory(4), 0x1000_0000 + (u32::from(bus) << 20) + 16 * place);
+            record = record.bar(slot as usize, memory(7), 0x1000_0000 + (u32::from(bus) << 20) + 128 * place);
         }
         record.bar(5, io(2), u32::from(bus << 12) + 4 * u32::from(HALF - 1 - device) + 1)
     };
     let mut records: Vec<Record> = (0..HALF - 1).map(|device| card(0, device)).collect();
-    records[0] = records[0].clone().bar(0, memory(4), 0xFE00_0000);
+    records[0] = records[0].clone().bar(0, memory(7), 0xFE00_0000);
     records.push(Record::bridge(HALF - 1, 1, 1).low(0x1010, 0x1010).io(0x10, 0x10));
     records.extend((0..HALF).map(|device| card(1, device)));
     let host = [

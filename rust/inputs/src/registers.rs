@@ -1,12 +1,13 @@
 //! Random sheets: ones that no planner wrote, and planned ones with other registers.
 
-use crate::board::{self, MOST_FUNCTIONS};
+use crate::board::{self, LEAST_MEMORY_BIT, MOST_FUNCTIONS, TYPE_BITS};
 use crate::damage;
 use crate::foreign::{self, Record};
 use crate::random::Random;
 
-/// A record with its two-byte length.
+/// A record with its two-byte length, and where its read-backs start.
 const RECORD: usize = 92;
+const READ_BACKS: usize = 68;
 
 /// A sheet that no planner wrote. Most pass their checks, and many addresses have two claims or none.
 pub fn foreign(random: &mut Random) -> Vec<u8> {
@@ -98,7 +99,10 @@ fn bars(mut record: Record, random: &mut Random) -> Record {
     let slots = if record.registers[0x0E] & 0x7F == 1 { 2 } else { 6 };
     let mut slot = 0;
     while slot < slots {
-        let bits = if random.chance(1, 16) { 4 + random.below(28) } else { 12 + random.below(10) } as u32;
+        let bits = match random.below(16) {
+            0 => LEAST_MEMORY_BIT + random.below(25) as u32,
+            _ => 12 + random.below(10) as u32,
+        };
         let low = somewhere(random) + random.below(1 << 20);
         let wide = slot + 2 <= slots;
         match random.below(8) {
@@ -165,7 +169,7 @@ pub fn rewrite(sheet: &mut [u8], random: &mut Random) {
 
 /// Makes one thing of a sheet wrong, or different at the least.
 pub fn spoil(sheet: &mut Vec<u8>, random: &mut Random) {
-    match random.below(12) {
+    match random.below(13) {
         0 => damage::bytes(sheet, random),
         1 => damage::bits(sheet, random),
         2 => sheet.truncate(random.below(sheet.len() as u64 + 1) as usize),
@@ -178,6 +182,11 @@ pub fn spoil(sheet: &mut Vec<u8>, random: &mut Random) {
                 other[2..4].copy_from_slice(&id);
             }
         }
+        5 => {
+            if let Some(record) = record_of(sheet, random) {
+                shrink(record, random);
+            }
+        }
         _ => {
             // The header type, a register that the checks look at, or a read-back.
             let Some(record) = record_of(sheet, random) else { return };
@@ -187,10 +196,30 @@ pub fn spoil(sheet: &mut Vec<u8>, random: &mut Random) {
                 2 => 4 + 0x1C + random.below(2),
                 3 => 4 + 0x20 + random.below(8),
                 4 | 5 => 4 + 0x10 + random.below(24),
-                _ => 68 + random.below(24),
+                _ => READ_BACKS as u64 + random.below(24),
             };
             record[at as usize] ^= 1 << random.below(8);
         }
+    }
+}
+
+/// Makes one of a record's memory BARs smaller, of 16 to 128 bytes. Where it starts, it may.
+fn shrink(record: &mut [u8], random: &mut Random) {
+    let slots = if record[4 + 0x0E] & 0x7F == 1 { 2 } else { 6 };
+    let (read_backs, _) = record[READ_BACKS..].as_chunks_mut::<4>();
+    let mut slot = 0;
+    while slot < slots {
+        let low = u32::from_be_bytes(read_backs[slot]);
+        let is_wide = low & 7 == 4 && slot + 1 < slots;
+        if low != 0 && low & 1 == 0 && random.chance(1, 2) {
+            let bits = TYPE_BITS + random.below(u64::from(LEAST_MEMORY_BIT - TYPE_BITS) + 1) as u32;
+            read_backs[slot] = (board::memory(bits) | low & 15).to_be_bytes();
+            if is_wide {
+                read_backs[slot + 1] = [0xFF; 4];
+            }
+            return;
+        }
+        slot += 1 + usize::from(is_wide);
     }
 }
 

@@ -1,6 +1,8 @@
 //! Random boards beyond [`board::random`]: deep ones, huge ones, other pools and buses, and boards that are not lawful.
 
-use crate::board::{self, Board, Function, Style, CLOSED_HIGH, CLOSED_IO, CLOSED_LOW, MOST_ABOVE, MOST_FUNCTIONS};
+use crate::board::{
+    self, Board, Function, Style, CLOSED_HIGH, CLOSED_IO, CLOSED_LOW, LEAST_MEMORY_BIT, MOST_ABOVE, MOST_FUNCTIONS,
+};
 use crate::damage;
 use crate::random::Random;
 
@@ -17,7 +19,7 @@ pub fn lawful(random: &mut Random) -> Board {
             let style = Style {
                 functions: random.below(24) as usize,
                 bridges: random.below(80),
-                memory_bits: 6 + random.below(22) as u32,
+                memory_bits: LEAST_MEMORY_BIT + random.below(21) as u32,
                 io_bits: 3 + random.below(8) as u32,
             };
             board::random(random, &style)
@@ -86,7 +88,7 @@ pub fn large(random: &mut Random) -> Board {
     let style = Style {
         functions: if random.chance(1, 2) { MOST_FUNCTIONS } else { 64 + random.below(449) as usize },
         bridges: 5 + random.below(40),
-        memory_bits: 6 + random.below(12) as u32,
+        memory_bits: LEAST_MEMORY_BIT + random.below(11) as u32,
         io_bits: 3,
     };
     let leave = (1, 8 + random.below(24));
@@ -101,7 +103,7 @@ pub fn large(random: &mut Random) -> Board {
 }
 
 fn card(random: &mut Random) -> Vec<u32> {
-    let bits = 4 + random.below(16) as u32;
+    let bits = LEAST_MEMORY_BIT + random.below(13) as u32;
     let [low, upper] = if random.chance(1, 2) { board::high(bits) } else { board::wide(bits) };
     vec![board::memory(bits), low, upper, board::io(2 + random.below(5) as u32), board::prefetchable(bits)]
 }
@@ -173,7 +175,7 @@ pub fn spoil(board: &mut Board, random: &mut Random) {
 
 fn spoil_function(function: &mut Function, count: usize, random: &mut Random) {
     let any = random.word();
-    match random.below(7) {
+    match random.below(8) {
         0 => function.parent = (any % (count as u64 + 2)) as u16,
         1 => function.parent = any as u16,
         2 => function.device_function = any as u8,
@@ -183,6 +185,10 @@ fn spoil_function(function: &mut Function, count: usize, random: &mut Random) {
             if let Some(read_back) = function.read_backs.get_mut(any as usize % 6) {
                 *read_back = random.word() as u32;
             }
+        }
+        6 => {
+            let slots = function.read_backs.iter_mut().skip(any as usize % 6);
+            slots.zip(board::tiny(random)).for_each(|(read_back, tiny)| *read_back = tiny);
         }
         _ => {
             if let Some(read_back) = function.read_backs.get_mut(any as usize % 6) {

@@ -2,6 +2,9 @@
 
 use crate::pool::{Item, Pool, Range};
 
+/// The least size of a memory BAR (document 02, E9).
+const LEAST_MEMORY: u64 = 128;
+
 /// A read-back that no BAR gives (25).
 #[derive(Clone, Copy, Debug, PartialEq, Eq)]
 pub struct Malformed;
@@ -58,14 +61,18 @@ impl Bar {
             _ => return Err(Malformed),
         };
         let prefetchable = low & 8 != 0;
-        Ok(Bar {
+        let bar = Bar {
             slot,
             pool: if is_wide && prefetchable { Pool::High } else { Pool::Low },
             is_io: false,
             is_wide,
             kind: low & 0xF,
             mask,
-        })
+        };
+        if bar.size() < LEAST_MEMORY {
+            return Err(Malformed);
+        }
+        Ok(bar)
     }
 
     /// How many slots the BAR takes.
@@ -155,9 +162,14 @@ mod tests {
 
     #[test]
     fn memory_read_backs() {
-        assert_eq!(size_at(&[0xFFFF_FFF0], 0), Ok(16));
+        assert_eq!(size_at(&[0xFFFF_FF80], 0), Ok(128));
+        assert_eq!(size_at(&[0xFFFF_FF88], 0), Ok(128));
         assert_eq!(size_at(&[0x8000_0008], 0), Ok(1 << 31));
         for low in [0xF0FF_F000, 8, 2, 6, 0xFFFF_F002, 0xFFFF_F006, 0x7FFF_F000, 4, 12] {
+            assert_eq!(Bar::at(&[low], 0), Err(Malformed), "{low:08X}");
+        }
+        // 64, 32 and 16 bytes.
+        for low in [0xFFFF_FFC0, 0xFFFF_FFC8, 0xFFFF_FFE0, 0xFFFF_FFE8, 0xFFFF_FFF0, 0xFFFF_FFF8] {
             assert_eq!(Bar::at(&[low], 0), Err(Malformed), "{low:08X}");
         }
     }
@@ -166,7 +178,11 @@ mod tests {
     fn wide_read_backs() {
         assert_eq!(size_at(&[0x0000_000C, 0xFFFF_FFFF], 0), Ok(1 << 32));
         assert_eq!(size_at(&[0x0000_0004, 0x8000_0000], 0), Ok(1 << 63));
-        assert_eq!(size_at(&[0xFFFF_FFF4, 0xFFFF_FFFF], 0), Ok(16));
+        assert_eq!(size_at(&[0xFFFF_FF84, 0xFFFF_FFFF], 0), Ok(128));
+        assert_eq!(size_at(&[0xFFFF_FF8C, 0xFFFF_FFFF], 0), Ok(128));
+        for low in [0xFFFF_FFC4, 0xFFFF_FFCC, 0xFFFF_FFE4, 0xFFFF_FFEC, 0xFFFF_FFF4, 0xFFFF_FFFC] {
+            assert_eq!(Bar::at(&[low, 0xFFFF_FFFF], 0), Err(Malformed), "{low:08X}");
+        }
         assert_eq!(Bar::at(&[0xFFFF_F00C, 0], 0), Err(Malformed));
         assert_eq!(Bar::at(&[0xFFFF_F00C, 0xFFFF_FFFE], 0), Err(Malformed));
         assert_eq!(Bar::at(&[0, 0xFFFF_F00C], 1), Err(Malformed));

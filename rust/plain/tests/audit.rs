@@ -482,7 +482,7 @@ fn in_a_closed_pool() {
     let closed = Board { buses: (0x20, 0x24), ..Board::closed() };
     let bare = [Record::bridge(0x2000, 0x21, 0x23), Record::bridge(0x2100, 0x22, 0x22), Record::end(0x2200)];
     assert_eq!(number(&closed, &bare), 0);
-    for item in [Record::end(0x2008).bar(0, memory(4), 0), Record::end(0x2008).bar(0, io(2), 1)] {
+    for item in [Record::end(0x2008).bar(0, memory(7), 0), Record::end(0x2008).bar(0, io(2), 1)] {
         assert_eq!(number(&closed, &[&bare[..], &[item]].concat()), 51);
     }
     for window in [bare[0].clone().low(0xF900, 0xF900), bare[0].clone().io(0x40, 0x40)] {
@@ -498,7 +498,7 @@ fn at_address_0() {
     let host = Board { low: (0, 0xF_FFFF), io: (0, 0xFFF), ..host() };
     let end = Record::end(0x2000).bar(0, memory(19), 0).bar(1, io(11), 1);
     assert_eq!(number(&host, std::slice::from_ref(&end)), 0);
-    assert_eq!(number(&host, &[end.clone(), Record::end(0x2008).bar(0, memory(4), 0)]), 52);
+    assert_eq!(number(&host, &[end.clone(), Record::end(0x2008).bar(0, memory(7), 0)]), 52);
     assert_eq!(number(&host, &[end, Record::end(0x2008).bar(0, io(2), 1)]), 52);
 }
 
@@ -513,8 +513,8 @@ fn bars_on_one_bus() {
     assert_eq!((own(0x6101), own(0x6FFD)), (0, 0));
     assert_eq!((own(0x6001), own(0x60FD)), (52, 52));
     // High, 2_40400000 to 2_4047FFFF.
-    let own = |start| at(4, |end| end.wide(2, 12, 19, 0x2_4040_0000).wide(4, 12, 4, start));
-    assert_eq!((own(0x2_4048_0000), own(0x2_4047_FFF0)), (0, 52));
+    let own = |start| at(4, |end| end.wide(2, 12, 19, 0x2_4040_0000).wide(4, 12, 7, start));
+    assert_eq!((own(0x2_4048_0000), own(0x2_4047_FF80)), (0, 52));
     // 64-bit and 32-bit ones in the low pool.
     assert_eq!(at(2, |end| end.wide(4, 4, 20, 0xF900_0000)), 52);
     // Another function's, on this bus and on another.
@@ -545,8 +545,8 @@ fn bars_and_windows_on_one_bus() {
     // A bridge's own BAR and its own windows.
     assert_eq!(at(5, |bridge| bridge.value(0, 0xF960_0000)), 52);
     assert_eq!(at(5, |bridge| bridge.low(0xF950, 0xF960)), 52);
-    assert_eq!(at(5, |bridge| bridge.bar(1, memory(4), 0xF960_0000)), 52);
-    assert_eq!(at(5, |bridge| bridge.bar(1, memory(4), 0xF950_0000)), 52);
+    assert_eq!(at(5, |bridge| bridge.bar(1, memory(7), 0xF960_0000)), 52);
+    assert_eq!(at(5, |bridge| bridge.bar(1, memory(7), 0xF950_0000)), 52);
     assert_eq!(at(5, |bridge| bridge.bar(0, memory(19), 0xF950_0000).bar(1, memory(19), 0xF958_0000)), 0);
     assert_eq!(at(5, |bridge| bridge.bar(1, io(2), 0x7001)), 52);
     assert_eq!(at(5, |bridge| bridge.bar(0, high(20)[0], 0x4050_000C).bar(1, high(20)[1], 2)), 52);

@@ -1,4 +1,4 @@
-//! Sheets that real firmware left (tests/audit): their audits, and last winter's fault among them.
+//! Sheets that real firmware left (tests/audit): their audits, last winter's fault and memory BARs under 128 bytes among them.
 
 use std::fs;
 
@@ -9,7 +9,7 @@ const CAPTURES: [(&str, usize, u8); 7] = [
     ("ovmf-one-bridge", 6, 0),
     ("ovmf-overlap", 10, 52),
     ("seabios-deep-16", 29, 51),
-    ("seabios-flat", 18, 51),
+    ("seabios-flat", 18, 25),
     ("seabios-one-bridge", 6, 51),
     ("seabios-seed1", 10, 0),
     ("seabios-seed2", 10, 0),
@@ -24,9 +24,24 @@ fn audits() {
     for (name, functions, number) in CAPTURES {
         let (host, sheet) = (read(name, "host"), read(name, "sheet"));
         assert_eq!(sheet.len(), 1 + 92 * functions, "{name}");
-        assert_eq!(plain::check(&sheet), 0, "{name}");
+        let passes = number == 0 || number >= 50;
+        assert_eq!(plain::check(&sheet), if passes { 0 } else { number }, "{name}");
         assert_eq!(plain::audit(&host, &sheet), number, "{name}");
     }
+}
+
+/// Memory BARs of 16 and 32 bytes are 25. With all of them of 128 bytes, where they are, the sheet passes its checks, and
+/// 51 is left: a 64-bit BAR that is not prefetchable, above 4 GiB.
+#[test]
+fn tiny_bars() {
+    let (host, mut sheet) = (read("seabios-flat", "host"), read("seabios-flat", "sheet"));
+    for (record, slot, tiny) in [(2, 0, 0xFFFF_FFF0u32), (3, 1, 0xFFFF_FFE0), (5, 0, 0xFFFF_FFF0)] {
+        assert_eq!(plain::audit(&host, &sheet), 25);
+        let read_back = 1 + 92 * (record - 1) + 68 + 4 * slot;
+        assert_eq!(sheet[read_back..read_back + 4], tiny.to_be_bytes());
+        sheet[read_back..read_back + 4].copy_from_slice(&0xFFFF_FF80u32.to_be_bytes());
+    }
+    assert_eq!((plain::check(&sheet), plain::audit(&host, &sheet)), (0, 51));
 }
 
 /// The I/O window of bridge 00:01.0, 6000 to 6FFF, lies over the I/O BARs of 00:01.1, 00:1F.3 and 00:1F.2 beside it.

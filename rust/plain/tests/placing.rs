@@ -201,7 +201,7 @@ fn random_boards_agree() {
         let style = Style {
             functions: 1 + numbers.below(if round % 20 == 0 { 512 } else { 24 }) as usize,
             bridges: 10 + numbers.below(60),
-            memory_bits: 6 + numbers.below(22) as u32,
+            memory_bits: 7 + numbers.below(21) as u32,
             io_bits: 3 + numbers.below(8) as u32,
         };
         let mut board = board::random(&mut numbers, &style);

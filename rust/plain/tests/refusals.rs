@@ -154,6 +154,28 @@ fn sheet_24_27_28() {
     assert_eq!(sheet_with(|records| records[1].id = 0), 28);
 }
 
+/// Document 02's E9, on boards and sheets alike, of bridges too: a memory BAR of 128 bytes and one of 64, both of 32 bits and
+/// of 64, and an I/O BAR of 4.
+#[test]
+fn least_bars() {
+    let cases: [([u32; 2], u32, u8); 5] = [
+        ([0xFFFF_FF80, 0], 0, 0),
+        ([0xFFFF_FFC0, 0], 0, 25),
+        ([0xFFFF_FF8C, 0xFFFF_FFFF], 12, 0),
+        ([0xFFFF_FFCC, 0xFFFF_FFFF], 12, 25),
+        ([0xFFFF_FFFD, 0], 1, 0),
+    ];
+    for ([first, second], kind, number) in cases {
+        for (header_type, record) in [(0, Record::end(0x0000)), (1, Record::bridge(0x0000, 1, 1))] {
+            let mut board = Board::new();
+            board.add(0, 0, header_type, &[first, second]);
+            assert_eq!(refusal(&board.bytes()), number, "{first:08X} of type {header_type}");
+            let record = record.bar(0, first, kind).bar(1, second, 0);
+            assert_eq!(plain::check(&sheet(&[record])), number, "{first:08X} of type {header_type}");
+        }
+    }
+}
+
 #[test]
 fn sheet_25_29() {
     let bars = |index: usize, slot: usize, read_back: u32, value: u32| {

@@ -82,7 +82,7 @@ fn planned(numbers: &mut Random) -> Option<(Board, Vec<u8>)> {
     let style = Style {
         functions: 1 + numbers.below(30) as usize,
         bridges: 20 + numbers.below(50),
-        memory_bits: 6 + numbers.below(18) as u32,
+        memory_bits: 7 + numbers.below(17) as u32,
         io_bits: 3 + numbers.below(6) as u32,
     };
     let mut board = board::random(numbers, &style);
