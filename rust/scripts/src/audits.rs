@@ -71,6 +71,12 @@ fn accepted() -> Vec<Run> {
         Record::bridge(0x0000, 1, 1).low(0xF910, 0xF900).high(0x4011, 0x4001, 2, 2).io(0x50, 0x40),
         Record::bridge(0x0008, 2, 2).low(0x0010, 0x0000).high(0x0001, 0xFFF1, 1, 0).io(0x10, 0x00),
     ];
+    // In P10's pools, side by side.
+    let least = of(&[Record::end(0x0000)
+        .bar(0, memory(7), 0xF900_0000)
+        .bar(1, memory(7), 0xF900_0080)
+        .wide(2, 12, 7, 0x2_4000_0000)
+        .wide(4, 4, 7, 0xF900_0100)]);
     let disabled = with(|records| records.map(|record| record.command(0)));
     vec![
         ("p10", input(&board::p10(), &planned(&board::p10()))),
@@ -81,6 +87,7 @@ fn accepted() -> Vec<Run> {
         ("bridges-in-a-row", of(&in_a_row())),
         ("windows-closed", of(&spellings)),
         ("disabled", disabled),
+        ("128-byte-bars", least),
     ]
 }
 
@@ -95,6 +102,7 @@ fn refused_by_the_sheet() -> Vec<Run> {
         ("refused-22", of(&too_many)),
         ("refused-24", also(Record::end(0x0008).set(0x0E, 2))),
         ("refused-25", also(Record::end(0x0008).value(0, 1))),
+        ("refused-25-64-bytes", also(Record::end(0x0008).bar(0, memory(6), 0xF910_0000))),
         ("refused-27", also(Record::bridge(0x0008, 0, 0))),
         ("refused-28", also(Record::end(0x0100))),
         ("refused-29", also(Record::bridge(0x0008, 3, 3).io(0xF1, 0x00))),

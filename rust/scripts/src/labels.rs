@@ -15,22 +15,24 @@ const CAPTURES: [&str; 7] = [
     "ovmf-one-bridge",
     "ovmf-overlap-refused-52",
     "seabios-deep-16-refused-51",
-    "seabios-flat-refused-51",
+    "seabios-flat-refused-25",
     "seabios-one-bridge-refused-51",
     "seabios-seed1",
     "seabios-seed2",
 ];
 
 /// Runs of `audit` whose sheets are refused here as well, before a trace that could be labelled.
-const REFUSED: [&str; 9] = [
+const REFUSED: [&str; 11] = [
     "refused-21",
     "refused-24",
     "refused-25",
+    "refused-25-64-bytes",
     "refused-27",
     "refused-28",
     "refused-29",
     "refused-50-first",
     "refused-51-first",
+    "refused-51-low-bar-high",
     "refused-52-bars",
 ];
 

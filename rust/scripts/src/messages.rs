@@ -209,15 +209,15 @@ fn foreign_windows(script: &mut Script) {
     put(
         script,
         "messages: a BAR at address 0, and BARs that end at 4 GiB and at 2^64",
-        &[Record::end(0x0000).bar(5, memory(4), 0).bar(0, memory(4), 0xFFFF_FFF0).wide(1, 12, 4, u64::MAX - 0xF)],
+        &[Record::end(0x0000).bar(5, memory(7), 0).bar(0, memory(7), 0xFFFF_FF80).wide(1, 12, 7, u64::MAX - 0x7F)],
         &[
             by_address(0),
-            by_address(0xC),
-            by_address(0x10),
+            by_address(0x7C),
+            by_address(0x80),
             by_address(0xFFFF_FFFC),
             by_address(0x1_0000_0000),
-            by_address(u64::MAX - 0x13),
-            by_address(u64::MAX - 0xF),
+            by_address(u64::MAX - 0x83),
+            by_address(u64::MAX - 0x7F),
             by_address(u64::MAX - 3),
         ],
     );

@@ -19,6 +19,7 @@ pub fn script() -> String {
     slots(&mut script);
     io_read_backs(&mut script);
     memory_read_backs(&mut script);
+    least_bars(&mut script);
     refused_20_21(&mut script);
     refused_22_24(&mut script);
     refused_26(&mut script);
@@ -75,11 +76,11 @@ fn shapes(script: &mut Script) {
     for _ in 0..32 {
         board.end(above, 0x00, &[memory(12)]);
         levels.push(above);
-        above = board.add(above, 0x08, 1, &[memory(13), prefetchable(5)]);
+        above = board.add(above, 0x08, 1, &[memory(13), prefetchable(7)]);
     }
     board.end(above, 0x18, &card);
     for level in levels.into_iter().rev() {
-        board.end(level, 0xF8, &[memory(4), high(4)[0], high(4)[1]]);
+        board.end(level, 0xF8, &[memory(7), high(7)[0], high(7)[1]]);
     }
     put(script, "32 bridges with endpoints before and after each", &board);
 
@@ -104,7 +105,7 @@ fn shapes(script: &mut Script) {
 
     let mut board = Board::new();
     for device in 0..32 {
-        board.end(0, device << 3, &[memory(4 + u32::from(device) % 17), io(2 + u32::from(device) % 6)]);
+        board.end(0, device << 3, &[memory(7 + u32::from(device) % 14), io(2 + u32::from(device) % 6)]);
     }
     put(script, "32 devices on the root bus", &board);
     let mut board = Board::new();
@@ -131,7 +132,7 @@ fn shapes(script: &mut Script) {
         for function in 0..4 {
             let multiple = if function == 0 { 0x80 } else { 0 };
             let bridge = board.add(0, device << 3 | function, 1 | multiple, &[]);
-            board.end(bridge, 0, &[memory(5)]);
+            board.end(bridge, 0, &[memory(7)]);
             bridges += 1;
         }
     }
@@ -189,7 +190,7 @@ fn halves(board: &mut Board, parent: u16, level: u32, levels: u32) {
             let bridge = board.bridge(parent, device_function);
             halves(board, bridge, level + 1, levels);
         } else {
-            board.end(parent, device_function, &[memory(4 + u32::from(parent) % 13)]);
+            board.end(parent, device_function, &[memory(7 + u32::from(parent) % 10)]);
         }
     }
 }
@@ -216,10 +217,10 @@ fn low_pool(script: &mut Script) {
     let pool = |first: u32, count: u32| Board { low: (first, first + (count * MIB - 1)), ..Board::new() };
     let bars: [(&str, &[u32]); 6] = [
         ("512 KiB, 256 KiB, 256 KiB fill 1 MiB", &[memory(19), memory(18), memory(18)]),
-        ("16 bytes more: 31", &[memory(19), memory(18), memory(18), memory(4)]),
+        ("128 bytes more: 31", &[memory(19), memory(18), memory(18), memory(7)]),
         ("256, 512, 256 KiB leave a hole: 31", &[memory(18), memory(19), memory(18)]),
         ("256, 256, 512 KiB fill it", &[memory(18), memory(18), memory(19)]),
-        ("16 bytes, then 512 KiB at the half", &[memory(4), memory(19)]),
+        ("128 bytes, then 512 KiB at the half", &[memory(7), memory(19)]),
         ("32-bit prefetchable and 64-bit BARs are low", &[prefetchable(19), wide(18)[0], wide(18)[1], memory(18)]),
     ];
     for (why, read_backs) in bars {
@@ -230,28 +231,28 @@ fn low_pool(script: &mut Script) {
     for (count, first) in [(1, 0), (1, 0xFFF0_0000), (2, 0xFFE0_0000)] {
         let mut board = pool(first, count);
         let bridge = board.bridge(0, 0);
-        board.end(bridge, 0, &[memory(4)]);
-        put(script, &format!("low: 16 bytes behind a bridge, {count} MiB at {first:08X}"), &board);
+        board.end(bridge, 0, &[memory(7)]);
+        put(script, &format!("low: 128 bytes behind a bridge, {count} MiB at {first:08X}"), &board);
         let bridge = board.bridge(0, 8);
-        board.end(bridge, 0, &[memory(4)]);
-        put(script, "low: and 16 bytes behind a second one", &board);
+        board.end(bridge, 0, &[memory(7)]);
+        put(script, "low: and 128 bytes behind a second one", &board);
     }
     for count in [1, 2] {
         let mut board = pool(0x1000_0000, count);
-        let bridge = board.add(0, 0, 1, &[memory(4)]);
+        let bridge = board.add(0, 0, 1, &[memory(7)]);
         board.end(bridge, 0, &[memory(20)]);
         put(script, &format!("low: a bridge's own BAR beside its window, {count} MiB"), &board);
     }
     for count in [16, 17] {
         let mut board = pool(0x0010_0000, count);
         let bridge = board.bridge(0, 0);
-        board.end(bridge, 0, &[memory(23), memory(4)]);
+        board.end(bridge, 0, &[memory(23), memory(7)]);
         board.end(0, 8, &[memory(20)]);
         put(script, &format!("low: 8 MiB behind a bridge, pool of {count} MiB from 1 MiB"), &board);
     }
     let mut board = pool(0, 64);
     let outer = board.bridge(0, 0);
-    board.end(outer, 0, &[memory(4)]);
+    board.end(outer, 0, &[memory(7)]);
     let inner = board.bridge(outer, 8);
     board.end(inner, 0, &[memory(20), memory(23)]);
     board.end(outer, 0x10, &[memory(20)]);
@@ -261,8 +262,8 @@ fn low_pool(script: &mut Script) {
     let mut board = Board { low: (0, 0xFFFF_FFFF), ..Board::new() };
     board.end(0, 0, &four_gib);
     put(script, "low: 4 GiB on the root bus fill the whole pool", &board);
-    board.end(0, 8, &[memory(4)]);
-    put(script, "low: and 16 bytes more: 31", &board);
+    board.end(0, 8, &[memory(7)]);
+    put(script, "low: and 128 bytes more: 31", &board);
     let mut board = Board { low: (0, 0xFFFF_FFFF), ..Board::new() };
     let last = board.chain(0, 0, 2);
     board.end(last, 0, &four_gib);
@@ -280,7 +281,7 @@ fn low_pool(script: &mut Script) {
 fn high_pool(script: &mut Script) {
     let gib = 1 << 30;
     let pool = |first: u64, length: u64| Board { high: (first, first + (length - 1)), ..Board::new() };
-    for bits in [28, 4] {
+    for bits in [28, 7] {
         let mut board = pool(1 << 32, gib);
         board.end(0, 0, &[high(29), high(28), high(bits)].concat());
         put(script, "high: 512 MiB, 256 MiB and one more in 1 GiB", &board);
@@ -290,18 +291,18 @@ fn high_pool(script: &mut Script) {
     for count in [1, 2] {
         let mut board = pool(0xF_FFE0_0000, count << 20);
         let bridge = board.bridge(0, 0);
-        board.end(bridge, 0, &high(4));
-        put(script, &format!("high: 16 bytes behind a bridge, {count} MiB up to a 4 GiB edge"), &board);
+        board.end(bridge, 0, &high(7));
+        put(script, &format!("high: 128 bytes behind a bridge, {count} MiB up to a 4 GiB edge"), &board);
         let other = board.bridge(bridge, 8);
-        board.end(other, 0, &high(5));
-        put(script, "high: and 32 behind a bridge below it", &board);
+        board.end(other, 0, &high(8));
+        put(script, "high: and 256 behind a bridge below it", &board);
     }
     let whole = pool(1 << 32, (1 << 52) - (1 << 32));
     let mut board = whole.clone();
     board.end(0, 0, &high(51));
     put(script, "high: 2^51 bytes end at the last byte below 2^52", &board);
-    board.end(0, 8, &high(4));
-    put(script, "high: and 16 bytes: 32", &board);
+    board.end(0, 8, &high(7));
+    put(script, "high: and 128 bytes: 32", &board);
     let mut board = whole.clone();
     let bridge = board.bridge(0, 0);
     board.end(bridge, 0, &high(51));
@@ -317,7 +318,7 @@ fn high_pool(script: &mut Script) {
     let bridge = board.add(0, 0, 1, &high(32));
     board.end(bridge, 0, &[high(20), high(33)].concat());
     put(script, "high: BARs of 4 and 8 GiB, the window ends at the pool's last byte", &board);
-    board.functions[1].read_backs[4..6].copy_from_slice(&high(4));
+    board.functions[1].read_backs[4..6].copy_from_slice(&high(7));
     put(script, "high: one granule over: 32", &board);
 }
 
@@ -358,7 +359,7 @@ fn io_pool(script: &mut Script) {
 }
 
 fn closed_pools(script: &mut Script) {
-    let items: [(&str, [u32; 2]); 3] = [("low", [memory(4), 0]), ("high", high(4)), ("I/O", [io(2), 0])];
+    let items: [(&str, [u32; 2]); 3] = [("low", [memory(7), 0]), ("high", high(7)), ("I/O", [io(2), 0])];
     for (name, read_backs) in items {
         let mut board = Board::closed();
         let bridge = board.bridge(0, 0);
@@ -371,10 +372,10 @@ fn closed_pools(script: &mut Script) {
     put(script, "closed pools and no item", &board);
     let mut board = Board { low: (0x1000_0001, 0x1000_0000), high: (2, 1), io: (1, 0), ..Board::new() };
     put(script, "closed pools off every edge", &board);
-    board.end(0, 0, &[io(2), 0, 0, 0, high(4)[0], high(4)[1]]);
+    board.end(0, 0, &[io(2), 0, 0, 0, high(7)[0], high(7)[1]]);
     put(script, "closed pools off every edge: 32 before 33", &board);
     let mut board = Board { low: (0x1000_0000, 0x0FFF_FFFF), ..Board::new() };
-    board.end(0, 0, &[memory(4)]);
+    board.end(0, 0, &[memory(7)]);
     put(script, "a closed low pool, last just below base: 31", &board);
     let mut board = Board { high: (u64::MAX, u64::MAX - 1), ..Board::new() };
     put(script, "a closed high pool at the top", &board);
@@ -382,8 +383,8 @@ fn closed_pools(script: &mut Script) {
     put(script, "and an item that starts past 2^64: 32", &board);
     let mut board = Board { high: (u64::MAX, u64::MAX - 1), ..Board::new() };
     board.chain(0, 0, 2);
-    board.end(2, 0, &high(4));
-    put(script, "and 16 bytes behind bridges: 32", &board);
+    board.end(2, 0, &high(7));
+    put(script, "and 128 bytes behind bridges: 32", &board);
     let mut board = Board { low: (0xFFFF_FFFF, 0xFFFF_FFFE), ..Board::new() };
     board.end(0, 0, &[memory(31)]);
     put(script, "a closed low pool at the top: 31", &board);
@@ -412,14 +413,15 @@ fn huge_sizes(script: &mut Script) {
         for behind in [0, 2] {
             let mut board = Board::new();
             let parent = board.chain(0, 0, behind);
-            for device in 0..20 {
+            // 2^63 down to 2^7.
+            for device in 0..19 {
                 let bits = 63 - 3 * u32::from(device);
                 board.end(parent, device << 3, &[bar(bits), bar(bits - 1), bar(bits - 2)].concat());
             }
-            put(script, &format!("{name}: 2^64 - 16 bytes in 60 BARs behind {behind} bridges"), &board);
+            put(script, &format!("{name}: 2^64 - 128 bytes in 57 BARs behind {behind} bridges"), &board);
         }
         let mut board = Board { low: (0, 0xFFFF_FFFF), ..Board::new() };
-        board.end(0, 0, &[bar(4), bar(63), bar(63)].concat());
+        board.end(0, 0, &[bar(7), bar(63), bar(63)].concat());
         board.end(0, 8, &[bar(63), bar(63), bar(20)].concat());
         put(script, &format!("{name}: sums past 2^65, a small BAR last"), &board);
         let mut board = Board { low: (0, 0xFFFF_FFFF), ..Board::new() };
@@ -485,12 +487,11 @@ fn io_read_backs(script: &mut Script) {
 
 fn memory_read_backs(script: &mut Script) {
     let mut board = Board { low: (0, 0xFFFF_FFFF), ..Board::new() };
-    for device in 0..5 {
-        let bits = 4 + 5 * u32::from(device);
-        let sizes: Vec<u32> = (bits..bits + 5).map(memory).collect();
-        board.end(0, device << 3, &sizes);
+    let sizes: Vec<u32> = (7..29).map(memory).collect();
+    for (device, sizes) in (0..).zip(sizes.chunks(5)) {
+        board.end(0, device << 3, sizes);
     }
-    put(script, "memory BARs of 2^4 to 2^28 bytes in rising order", &board);
+    put(script, "memory BARs of 2^7 to 2^28 bytes in rising order", &board);
     for function in &mut board.functions {
         function.read_backs.reverse();
         function.read_backs.iter_mut().filter(|read_back| **read_back != 0).for_each(|read_back| *read_back |= 8);
@@ -512,6 +513,34 @@ fn memory_read_backs(script: &mut Script) {
         board.end(0, 8, &[0, first, second]);
         put(script, &format!("memory read-back {first:08X} {second:08X}: 25"), &board);
     }
+}
+
+/// Memory BARs of 128 bytes in every form, smaller ones, and I/O BARs, which may be smaller (document 02, E9).
+fn least_bars(script: &mut Script) {
+    let bars = |bits| [&[memory(bits), prefetchable(bits)][..], &wide(bits), &high(bits)].concat();
+    let mut board = Board::new();
+    board.end(0, 0, &bars(7));
+    let bridge = board.add(0, 8, 1, &high(7));
+    board.end(bridge, 0, &bars(7));
+    let bridge = board.add(0, 16, 1, &[memory(7), prefetchable(7)]);
+    board.end(bridge, 0, &[io(2), io(3), io(4), short_io(5), short_io(6), memory(7)]);
+    put(script, "memory BARs of 128 bytes in every form, I/O BARs of 4 to 64", &board);
+    for bits in 4..7 {
+        for read_backs in [vec![memory(bits)], vec![prefetchable(bits)], wide(bits).to_vec(), high(bits).to_vec()] {
+            for is_bridge in [false, true] {
+                let mut board = Board::new();
+                board.add(0, 0, u8::from(is_bridge), &read_backs);
+                let whose = if is_bridge { "a bridge's" } else { "a" };
+                put(script, &format!("{whose} memory BAR of {} bytes, {:08X}: 25", 1 << bits, read_backs[0]), &board);
+            }
+        }
+    }
+    let mut board = Board { low: CLOSED_LOW, ..Board::new() };
+    board.end(0, 0, &[memory(7)]);
+    board.end(0, 8, &[0, 0, 0, 0, 0, memory(6)]);
+    put(script, "64 bytes in the last slot: 25 before 31", &board);
+    board.functions[1].device_function = 0;
+    put(script, "23 before 64 bytes", &board);
 }
 
 fn refused_20_21(script: &mut Script) {

@@ -33,8 +33,14 @@ fn planned() -> Vec<Run> {
             }
         })
     };
+    // The least memory BARs in each form, and the least I/O BAR.
+    let least = of(Board { functions: vec![], ..p10() }, |board| {
+        board.end(0, 0, &[memory(7), prefetchable(7), io(2), 0, high(7)[0], high(7)[1]]);
+        board.end(0, 8, &[wide(7)[0], wide(7)[1], memory(7)]);
+    });
     vec![
         ("p10", p10().bytes()),
+        ("128-byte-bars", least),
         ("p8", Board::closed().bytes()),
         ("tree-001", document_001().bytes()),
         ("record-order-2-mib", in_order(0xF91F_FFFF)),
@@ -42,7 +48,7 @@ fn planned() -> Vec<Run> {
     ]
 }
 
-/// Every number that the program can print, each of a small board; 22 and 23 are among the edges.
+/// Every number that the program can print, of small boards; 22 and 23 are among the edges.
 fn refused() -> Vec<Run> {
     let two = |board: &mut Board, first: &[u32], second: &[u32]| {
         board.end(0, 0x00, first);
@@ -53,6 +59,8 @@ fn refused() -> Vec<Run> {
         ("refused-21", of(p10(), |board| board.version = 0)),
         ("refused-24", of(p10(), |board| board.tail = vec![0, 6, 0, 0, 8, 0, 0, 0])),
         ("refused-25", of(Board::new(), |board| _ = board.end(0, 0, &[0xF0FF_F000]))),
+        ("refused-25-64-bytes", of(Board::new(), |board| _ = board.end(0, 0, &[memory(6)]))),
+        ("refused-25-64-bytes-of-64-bits", of(Board::new(), |board| _ = board.end(0, 0, &high(6)))),
         ("refused-26", of(p10(), |board| board.buses = (1, 0))),
         ("refused-30", of(Board { buses: (0, 0), ..Board::new() }, |board| _ = board.bridge(0, 0))),
         (

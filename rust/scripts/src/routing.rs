@@ -208,7 +208,7 @@ fn edges(script: &mut Script) {
             bar_edges(record, &mut requests);
             window_edges(record, &mut requests);
         }
-        let keep = requests.len().div_ceil(24);
+        let keep = requests.len().div_ceil(30);
         let start = numbers.below(keep as u64) as usize;
         for header in requests.iter().skip(start).step_by(keep) {
             script.header(header);
@@ -304,8 +304,8 @@ fn outside(script: &mut Script) {
     put(
         script,
         "a BAR at address 0 and an unused slot",
-        &[Record::end(0x0000).bar(5, memory(4), 0).bar(1, 0xFFFF_FFFD, 1)],
-        &[request(MRD, 0), request(MRD, 12), request(MRD, 16), request(IORD, 0), request(IORD, 4)],
+        &[Record::end(0x0000).bar(5, memory(7), 0).bar(1, 0xFFFF_FFFD, 1)],
+        &[request(MRD, 0), request(MRD, 124), request(MRD, 128), request(IORD, 0), request(IORD, 4)],
     );
     put(
         script,
@@ -354,8 +354,8 @@ fn contested(script: &mut Script) {
     put(
         script,
         "two BARs of one function",
-        &[Record::end(0x0000).bar(0, memory(12), 0x1000).bar(1, memory(5), 0x1FE0).wide(3, 12, 4, 0x1000)],
-        &[request(MRD, 0x1000), request(MRD, 0x1010), request(MRD, 0x1FDC), request(MRD, 0x1FE0)],
+        &[Record::end(0x0000).bar(0, memory(12), 0x1000).bar(1, memory(7), 0x1F80).wide(3, 12, 7, 0x1000)],
+        &[request(MRD, 0x1000), request(MRD, 0x1080), request(MRD, 0x1F7C), request(MRD, 0x1F80)],
     );
     put(
         script,
@@ -400,12 +400,12 @@ fn contested(script: &mut Script) {
 }
 
 fn tops(script: &mut Script) {
-    let top = u64::MAX - 0xF;
+    let top = u64::MAX - 0x7F;
     put(
         script,
         "BARs that end at 2^64",
         &[
-            Record::end(0x0000).wide(0, 12, 4, top).wide(2, 4, 62, 1 << 63),
+            Record::end(0x0000).wide(0, 12, 7, top).wide(2, 4, 62, 1 << 63),
             Record::end(0x0008).wide(4, 4, 20, u64::MAX - 0xFFFF_FFFF),
         ],
         &[
@@ -436,7 +436,7 @@ fn tops(script: &mut Script) {
         "windows that end at 2^64 and at 2^32",
         &[
             Record::bridge(0x0000, 1, 1).high(0x0001, 0xFFF1, 0xFFFF_FFFF, 0xFFFF_FFFF).low(0x8000, 0xFFF0),
-            Record::end(0x0100).wide(0, 12, 4, top).bar(2, memory(16), 0xFFFF_0000),
+            Record::end(0x0100).wide(0, 12, 7, top).bar(2, memory(16), 0xFFFF_0000),
         ],
         &[
             request(MRD, u64::MAX - 3),
@@ -637,24 +637,24 @@ fn long_chains(script: &mut Script) {
         let mut records: Vec<Record> = (0..count)
             .map(|bus: u16| Record::bridge(bus << 8, bus as u8 + 1, count as u8).low(0x1000, 0x1000).io(0x30, 0x30))
             .collect();
-        records.push(Record::end(count << 8).bar(0, memory(4), 0x1000_0010).bar(1, 0xFFFF_FFFD, 0x3001));
+        records.push(Record::end(count << 8).bar(0, memory(7), 0x1000_0080).bar(1, 0xFFFF_FFFD, 0x3001));
         put(
             script,
             &format!("{count} bridges in a row"),
             &records,
             &[
-                request(MRD, 0x1000_0010),
-                request(MRD, 0x1000_0020),
+                request(MRD, 0x1000_0080),
+                request(MRD, 0x1000_0100),
                 request(IORD, 0x3000),
                 configuration(CFGRD1, count << 8, 0),
                 completion(CPL, (count - 1) << 8),
-                message(MSG, 0b001, 0x50, 0x1000_0010),
+                message(MSG, 0b001, 0x50, 0x1000_0080),
                 message(MSGD, 0b010, 0x7E, u64::from(count) << 56),
                 message(MSG, 0b011, 0x19, 0),
             ],
         );
         script.command((count - 1) << 8, 2);
-        script.header(&request(MRD, 0x1000_0010));
+        script.header(&request(MRD, 0x1000_0080));
         script.header(&request(IORD, 0x3000));
         script.lookup(count << 8);
     }
@@ -792,6 +792,15 @@ fn damaged_sheets(script: &mut Script) {
             }),
         ),
         ("25: read-back F0FFF000", change(1, &|r| r.read_back(0, 0xF0FF_F000))),
+        ("25: a memory BAR of 64 bytes", change(1, &|r| r.read_back(0, memory(6)))),
+        ("25: one of 16 bytes", change(1, &|r| r.read_back(0, memory(4)))),
+        ("one of 128 bytes", change(1, &|r| r.read_back(0, memory(7)))),
+        ("25: a 64-bit BAR of 64 bytes", change(1, &|r| r.wide(1, 12, 6, 0x6_0000_0000))),
+        ("25: one that is not prefetchable", change(1, &|r| r.wide(1, 4, 6, 0x6_0000_0000))),
+        ("one of 128 bytes", change(1, &|r| r.wide(1, 12, 7, 0x6_0000_0000))),
+        ("25: a bridge's memory BAR of 64 bytes", change(0, &|r| r.bar(1, memory(6), 0xF900_0040))),
+        ("one of 128 bytes", change(0, &|r| r.bar(1, memory(7), 0xF900_0080))),
+        ("an I/O BAR of 4 bytes", change(0, &|r| r.read_back(0, 0xFFFF_FFFD))),
         ("25: a value off its size", change(1, &|r| r.value(0, 0xF900_0800))),
         ("25: a value without its type bits", change(1, &|r| r.value(1, 0))),
         ("25: a value with type bits that it lacks", change(1, &|r| r.value(0, 0xF900_0008))),
