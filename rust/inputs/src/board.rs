@@ -10,6 +10,14 @@ pub const MOST_ABOVE: usize = 32;
 pub const LEAST_MEMORY_BIT: u32 = 7;
 pub const TYPE_BITS: u32 = 4;
 
+/// What a bridge keeps free below it (document 02, E10).
+#[derive(Clone, Copy, Debug, Default, PartialEq, Eq)]
+pub struct Spares {
+    pub buses: u8,
+    /// Low memory in MiB.
+    pub memory: u16,
+}
+
 #[derive(Clone)]
 pub struct Function {
     pub parent: u16,
@@ -17,6 +25,14 @@ pub struct Function {
     pub header_type: u8,
     pub command: u16,
     pub read_backs: Vec<u32>,
+    /// Three bytes at the end of the record, which a lawful bridge has in version 2 and no other record has.
+    pub spares: Option<Spares>,
+}
+
+impl Function {
+    pub fn is_bridge(&self) -> bool {
+        self.header_type & 0x7F == 1
+    }
 }
 
 #[derive(Clone)]
@@ -56,6 +72,26 @@ impl Board {
         }
     }
 
+    /// The same of version 2.
+    pub fn version_2() -> Board {
+        Board { version: 2, ..Board::new() }
+    }
+
+    /// The same board in version 2, with no spares.
+    pub fn without_spares(&self) -> Board {
+        let mut board = Board { version: 2, ..self.clone() };
+        for bridge in board.functions.iter_mut().filter(|function| function.is_bridge()) {
+            bridge.spares = Some(Spares::default());
+        }
+        board
+    }
+
+    /// How many bus numbers the bridges and their spares take.
+    pub fn bus_numbers(&self) -> usize {
+        let spares = |bridge: &Function| bridge.spares.map_or(0, |spares| usize::from(spares.buses));
+        self.functions.iter().filter(|function| function.is_bridge()).map(|bridge| 1 + spares(bridge)).sum()
+    }
+
     pub fn closed() -> Board {
         Board { low: CLOSED_LOW, high: CLOSED_HIGH, io: CLOSED_IO, ..Board::new() }
     }
@@ -65,7 +101,8 @@ impl Board {
         let slots = if header_type & 0x7F == 1 { 2 } else { 6 };
         let mut read_backs = read_backs.to_vec();
         read_backs.resize(slots, 0);
-        self.functions.push(Function { parent, device_function, header_type, command: 3, read_backs });
+        let spares = (self.version == 2 && slots == 2).then_some(Spares::default());
+        self.functions.push(Function { parent, device_function, header_type, command: 3, read_backs, spares });
         self.functions.len() as u16
     }
 
@@ -75,6 +112,13 @@ impl Board {
 
     pub fn end(&mut self, parent: u16, device_function: u8, read_backs: &[u32]) -> u16 {
         self.add(parent, device_function, 0, read_backs)
+    }
+
+    /// A bridge with spares, of a board of version 2.
+    pub fn spare_bridge(&mut self, parent: u16, device_function: u8, buses: u8, memory: u16) -> u16 {
+        let record = self.bridge(parent, device_function);
+        self.functions[usize::from(record) - 1].spares = Some(Spares { buses, memory });
+        record
     }
 
     /// A chain of bridges below `parent`, each at `device_function`; the last one's record.
@@ -101,12 +145,17 @@ impl Board {
         let mut bytes = vec![self.version, 0, 30];
         bytes.extend(self.host());
         for function in &self.functions {
-            bytes.extend((6 + 4 * function.read_backs.len() as u16).to_be_bytes());
+            let spares = function.spares.map_or(0, |_| 3);
+            bytes.extend((6 + 4 * function.read_backs.len() as u16 + spares).to_be_bytes());
             bytes.extend(function.parent.to_be_bytes());
             bytes.extend([function.device_function, function.header_type]);
             bytes.extend(function.command.to_be_bytes());
             for read_back in &function.read_backs {
                 bytes.extend(read_back.to_be_bytes());
+            }
+            if let Some(Spares { buses, memory }) = function.spares {
+                bytes.push(buses);
+                bytes.extend(memory.to_be_bytes());
             }
         }
         bytes.extend(&self.tail);

@@ -1,12 +1,13 @@
 //! Random boards beyond [`board::random`]: deep ones, huge ones, other pools and buses, and boards that are not lawful.
 
 use crate::board::{
-    self, Board, Function, Style, CLOSED_HIGH, CLOSED_IO, CLOSED_LOW, LEAST_MEMORY_BIT, MOST_ABOVE, MOST_FUNCTIONS,
+    self, Board, Function, Spares, Style, CLOSED_HIGH, CLOSED_IO, CLOSED_LOW, LEAST_MEMORY_BIT, MOST_ABOVE,
+    MOST_FUNCTIONS,
 };
 use crate::damage;
 use crate::random::Random;
 
-/// A board whose tree and read-backs are lawful: small, large, deep or huge. Its pools are as they come.
+/// A board of either version whose tree and read-backs are lawful: small, large, deep or huge. Its pools are as they come.
 pub fn lawful(random: &mut Random) -> Board {
     let mut board = match random.below(8) {
         0 => {
@@ -26,10 +27,45 @@ pub fn lawful(random: &mut Random) -> Board {
         }
     };
     if random.chance(1, 2) {
+        board = with_spares(&board, random);
+    }
+    if random.chance(1, 2) {
         set_pools(&mut board, random);
     }
     if random.chance(1, 2) {
         set_buses(&mut board, random);
+    }
+    board
+}
+
+/// The board in version 2: no spares, a few, some at every bridge, or as many at one bridge as there can be or fit.
+pub fn with_spares(board: &Board, random: &mut Random) -> Board {
+    let mut board = board.without_spares();
+    let mut bridges: Vec<&mut Spares> = board.functions.iter_mut().filter_map(|one| one.spares.as_mut()).collect();
+    if bridges.is_empty() {
+        return board;
+    }
+    match random.below(8) {
+        0 => {}
+        1..=4 => {
+            for bridge in bridges {
+                if random.chance(1, 4) {
+                    *bridge = Spares { buses: random.below(3) as u8, memory: random.below(4) as u16 };
+                }
+            }
+        }
+        5 | 6 => {
+            let memory = [1, 16, 256][random.below(3) as usize];
+            for bridge in bridges {
+                *bridge = Spares { buses: random.below(2) as u8, memory: random.below(memory + 1) as u16 };
+            }
+        }
+        _ => {
+            let (most, at) = (bridges.len().min(255) as u8, random.below(bridges.len() as u64) as usize);
+            let buses = [0, 1, 255 - most, 254, 255][random.below(5) as usize];
+            let memory = [0, 1, 2048, 4095, 4096, 4097, 65_535][random.below(7) as usize];
+            *bridges[at] = Spares { buses, memory };
+        }
     }
     board
 }
@@ -55,9 +91,9 @@ fn set_pools(board: &mut Board, random: &mut Random) {
 
 /// Bus numbers that just suffice, or one more or less.
 fn set_buses(board: &mut Board, random: &mut Random) {
-    let bridges = board.functions.iter().filter(|function| function.header_type & 0x7F == 1).count();
-    let first = random.below(256 - bridges.min(255) as u64) as usize;
-    let last = (first + bridges + random.below(3) as usize).saturating_sub(1).clamp(first, 255);
+    let taken = board.bus_numbers();
+    let first = random.below(256 - taken.min(255) as u64) as usize;
+    let last = (first + taken + random.below(3) as usize).saturating_sub(1).clamp(first, 255);
     board.buses = (first as u8, last as u8);
 }
 
@@ -148,7 +184,7 @@ pub fn spoil(board: &mut Board, random: &mut Random) {
     let any = random.word();
     let count = board.functions.len();
     let at = random.below(count.max(1) as u64) as usize;
-    match random.below(17) {
+    match random.below(18) {
         0 => board.version = any as u8,
         1 => board.buses = (any as u8, (any >> 8) as u8),
         2 => board.low.0 ^= 1 << (any % 32),
@@ -160,6 +196,8 @@ pub fn spoil(board: &mut Board, random: &mut Random) {
         8 => board.tail = (0..any % 40).map(|_| random.word() as u8).collect(),
         9 => lengthen(board, random),
         10 => one_address(board, random),
+        // Each version's records under the other one's number.
+        17 => board.version ^= 3,
         _ if count == 0 => board.tail.push(any as u8),
         11 => board.functions.swap(at, any as usize % count),
         12 => {
@@ -175,18 +213,23 @@ pub fn spoil(board: &mut Board, random: &mut Random) {
 
 fn spoil_function(function: &mut Function, count: usize, random: &mut Random) {
     let any = random.word();
-    match random.below(8) {
+    match random.below(10) {
         0 => function.parent = (any % (count as u64 + 2)) as u16,
         1 => function.parent = any as u16,
         2 => function.device_function = any as u8,
         3 => function.header_type ^= 1 << (any % 8),
         4 => function.read_backs.resize((any % 8) as usize, 0),
-        5 => {
+        5 => function.spares = if function.spares.is_some() { None } else { Some(Spares::default()) },
+        6 => {
+            let spares = Spares { buses: any as u8, memory: (any >> 8) as u16 };
+            function.spares = function.spares.map(|_| spares);
+        }
+        7 => {
             if let Some(read_back) = function.read_backs.get_mut(any as usize % 6) {
                 *read_back = random.word() as u32;
             }
         }
-        6 => {
+        8 => {
             let slots = function.read_backs.iter_mut().skip(any as usize % 6);
             slots.zip(board::tiny(random)).for_each(|(read_back, tiny)| *read_back = tiny);
         }
@@ -211,7 +254,8 @@ fn one_address(board: &mut Board, random: &mut Random) {
 /// Functions until there are about 512, so that some boards have too many.
 fn lengthen(board: &mut Board, random: &mut Random) {
     let count = MOST_FUNCTIONS - 2 + random.below(5) as usize;
-    let function = Function { parent: 0, device_function: 0, header_type: 0x80, command: 0, read_backs: vec![0; 6] };
+    let function =
+        Function { parent: 0, device_function: 0, header_type: 0x80, command: 0, read_backs: vec![0; 6], spares: None };
     board.functions.resize(count.max(board.functions.len()), function);
 }
 
@@ -256,11 +300,14 @@ fn set_record(bytes: &mut Vec<u8>, random: &mut Random) {
     }
     let start = starts[random.below(starts.len() as u64) as usize];
     let old = usize::from(u16::from_be_bytes([bytes[start], bytes[start + 1]]));
-    let length = match random.below(4) {
+    let length = match random.below(6) {
         0 => random.below(40) as usize,
         1 => 5 + random.below(3) as usize,
         2 => old + 1,
-        _ => old.saturating_sub(1),
+        3 => old.saturating_sub(1),
+        // By what a bridge of version 2 has more.
+        4 => old + 3,
+        _ => old.saturating_sub(3),
     };
     let end = (start + 2 + old).min(bytes.len());
     let mut record: Vec<u8> = bytes[start + 2..end].to_vec();

@@ -11,6 +11,9 @@ pub const MAX_ABOVE: usize = 32;
 pub const HOST: usize = 30;
 const HEADER: usize = 6;
 
+/// The version whose bridge records end with their spares.
+const WITH_SPARES: u8 = 2;
+
 #[derive(Clone, Copy, Debug)]
 pub struct Host {
     pub first_bus: u8,
@@ -39,6 +42,27 @@ impl Host {
     }
 }
 
+/// What a bridge keeps free below it for a card that is plugged in later.
+#[derive(Clone, Copy, Debug)]
+pub struct Spares {
+    pub buses: u8,
+    /// Low memory in MiB.
+    pub memory: u16,
+}
+
+impl Spares {
+    pub const NONE: Spares = Spares { buses: 0, memory: 0 };
+
+    /// The end of a bridge record, of no bytes in version 1; `None` when it has another length.
+    fn parse(version: u8, end: &[u8]) -> Option<Spares> {
+        match (version == WITH_SPARES, end) {
+            (true, &[buses, high, low]) => Some(Spares { buses, memory: u16::from_be_bytes([high, low]) }),
+            (false, []) => Some(Spares::NONE),
+            _ => None,
+        }
+    }
+}
+
 /// One function record.
 #[derive(Clone, Copy, Debug)]
 pub struct Function {
@@ -49,30 +73,42 @@ pub struct Function {
     pub command: u16,
     /// A type 1 function has the first two.
     pub read_backs: [u32; 6],
+    /// None for a type 0 function.
+    pub spares: Spares,
 }
 
 impl Function {
-    const EMPTY: Function = Function { parent: 0, device_function: 0, header_type: 0, command: 0, read_backs: [0; 6] };
+    const EMPTY: Function = Function {
+        parent: 0,
+        device_function: 0,
+        header_type: 0,
+        command: 0,
+        read_backs: [0; 6],
+        spares: Spares::NONE,
+    };
 
-    /// `None` when the header type, or the length for it, is not lawful.
-    fn parse(record: &[u8]) -> Option<Function> {
-        let (head, slots) = record.split_first_chunk::<HEADER>()?;
+    /// `None` when the header type, or the length for it in this version, is not lawful.
+    fn parse(version: u8, record: &[u8]) -> Option<Function> {
+        let (head, rest) = record.split_first_chunk::<HEADER>()?;
         let header_type = head[3];
-        let (slots, rest) = slots.as_chunks::<4>();
-        if slots.len() != slot_count(header_type)? || !rest.is_empty() {
-            return None;
-        }
+        let slots = slot_count(header_type)?;
+        let (slots, end) = rest.split_at_checked(4 * slots)?;
         let mut read_backs = [0; 6];
-        for (read_back, slot) in read_backs.iter_mut().zip(slots) {
+        for (read_back, slot) in read_backs.iter_mut().zip(slots.as_chunks::<4>().0) {
             *read_back = u32::from_be_bytes(*slot);
         }
-        Some(Function {
+        let function = Function {
             parent: u16::from_be_bytes([head[0], head[1]]),
             device_function: head[2],
             header_type,
             command: u16::from_be_bytes([head[4], head[5]]),
             read_backs,
-        })
+            spares: Spares::NONE,
+        };
+        if function.is_bridge() {
+            return Some(Function { spares: Spares::parse(version, end)?, ..function });
+        }
+        end.is_empty().then_some(function)
     }
 
     pub fn is_bridge(&self) -> bool {
@@ -105,7 +141,7 @@ impl Board {
     /// Checks 20, 21, 22, 24, 26, 23 and 25, each over all records before the next.
     pub fn parse(bytes: &[u8]) -> Result<Board, u8> {
         let (&version, records) = bytes.split_first().ok_or(20)?;
-        if version != 1 {
+        if version != 1 && version != WITH_SPARES {
             return Err(21);
         }
         let (host, functions) = split_record(records).ok_or(20)?;
@@ -118,7 +154,7 @@ impl Board {
         let mut rest = functions;
         for function in &mut board.functions[..count] {
             let (record, after) = split_record(rest).ok_or(20)?;
-            *function = Function::parse(record).ok_or(24)?;
+            *function = Function::parse(version, record).ok_or(24)?;
             rest = after;
         }
         if !board.host.is_lawful() {

@@ -5,7 +5,7 @@
 //! alignment inside, so its content can be laid out again from that start, at the offsets of the first pass.
 
 use crate::bar;
-use crate::board::{Board, Function, Path};
+use crate::board::{Board, Function, Path, Spares};
 use crate::pool::{Extent, Item, PerPool, Pool};
 use crate::sheet::{self, Registers, RECORD};
 
@@ -37,36 +37,48 @@ impl Bridge {
 /// The most bridges: one for each bus number but the first.
 const MAX_BRIDGES: usize = 255;
 
+/// A bus of the path in the first pass: whose it is, and what lies on it so far.
+#[derive(Clone, Copy)]
+struct BusSize {
+    /// Its bridge's number in record order, and that bridge's spares; the root bus has neither.
+    bridge: usize,
+    spares: Spares,
+    extents: PerPool<Extent>,
+}
+
 /// The first pass, and checks 30 to 33. The bridges are in record order.
 fn size(board: &Board) -> Result<[Bridge; MAX_BRIDGES], u8> {
     let host = &board.host;
-    let count = board.functions().iter().filter(|function| function.is_bridge()).count();
-    if usize::from(host.first_bus) + count > usize::from(host.last_bus) {
+    let buses = |function: &Function| 1 + usize::from(function.spares.buses);
+    let taken: usize = board.functions().iter().filter(|function| function.is_bridge()).map(buses).sum();
+    if usize::from(host.first_bus) + taken > usize::from(host.last_bus) {
         return Err(30);
     }
     let mut bridges = [Bridge::EMPTY; MAX_BRIDGES];
-    let mut numbered: u8 = 0;
+    let mut count = 0;
+    // The last bus number that was given to a bridge or kept as a spare.
+    let mut last = host.first_bus;
     let root = host.pools.map(|pool| Extent::from(pool.base));
-    // For each open bus its bridge, which the root bus lacks, and what lies on it.
-    let mut path = Path::new((0, root));
+    let mut path = Path::new(BusSize { bridge: 0, spares: Spares::NONE, extents: root });
     for (record, function) in (1..).zip(board.functions()) {
         while path.record() != function.parent {
-            close(&mut path, &mut bridges, host.first_bus + numbered);
+            close(&mut path, &mut bridges, &mut last);
         }
-        let (_, bus) = path.bus();
+        let bus = &mut path.bus().extents;
         for bar in bar::bars(function.read_backs) {
             bus[bar.pool as usize].add(bar.item());
         }
         if function.is_bridge() {
-            path.enter(record, (usize::from(numbered), [Extent::EMPTY; 3]));
-            numbered += 1;
-            bridges[usize::from(numbered) - 1].secondary = host.first_bus + numbered;
+            path.enter(record, BusSize { bridge: count, spares: function.spares, extents: [Extent::EMPTY; 3] });
+            last += 1;
+            bridges[count].secondary = last;
+            count += 1;
         }
     }
     while path.record() != 0 {
-        close(&mut path, &mut bridges, host.first_bus + numbered);
+        close(&mut path, &mut bridges, &mut last);
     }
-    let (_, root) = path.bus();
+    let root = &path.bus().extents;
     for (pool, extent) in Pool::ALL.into_iter().zip(root) {
         let range = &host.pools[pool as usize];
         if !extent.is_empty() && (range.is_closed() || extent.end - 1 > range.last) {
@@ -76,14 +88,17 @@ fn size(board: &Board) -> Result<[Bridge; MAX_BRIDGES], u8> {
     Ok(bridges)
 }
 
-/// Leaves a bridge's bus, which is now sized, and lays its windows out on the bus above.
-fn close(path: &mut Path<(usize, PerPool<Extent>)>, bridges: &mut [Bridge], subordinate: u8) {
-    let Some((_, (bridge, extents))) = path.leave() else { return };
+/// Leaves a bridge's bus, which is now sized: its spare buses come after all buses below, its spare memory after all that
+/// lies in its low window. Its windows are laid out on the bus above.
+fn close(path: &mut Path<BusSize>, bridges: &mut [Bridge], last: &mut u8) {
+    let Some((_, BusSize { bridge, spares, extents })) = path.leave() else { return };
     let bridge = &mut bridges[bridge];
-    bridge.subordinate = subordinate;
-    let (_, above) = path.bus();
+    *last += spares.buses;
+    bridge.subordinate = *last;
+    let above = &mut path.bus().extents;
     for pool in Pool::ALL {
-        let window = extents[pool as usize].window(pool);
+        let spare = if pool == Pool::Low { u64::from(spares.memory) * pool.granule() } else { 0 };
+        let window = extents[pool as usize].window(pool, spare);
         bridge.windows[pool as usize] = window;
         if let Some(window) = window {
             above[pool as usize].add(window);

@@ -81,10 +81,11 @@ impl Extent {
         self.align = self.align.max(item.align);
     }
 
-    /// The window around these items, or nothing when it is closed.
-    pub fn window(&self, pool: Pool) -> Option<Item> {
+    /// The window around these items and `spare` bytes of room after their rounded end, or nothing when it is closed.
+    pub fn window(&self, pool: Pool, spare: u64) -> Option<Item> {
         let granule = pool.granule();
-        (!self.is_empty()).then(|| Item { size: align_up(self.end, granule), align: self.align.max(granule) })
+        let size = align_up(self.end, granule).saturating_add(spare);
+        (!self.is_empty() || spare > 0).then_some(Item { size, align: self.align.max(granule) })
     }
 }
 

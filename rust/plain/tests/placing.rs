@@ -1,7 +1,9 @@
-//! The planner against document 01's placing rule written out word for word, by recursion and over 128-bit numbers.
+//! The planner against document 01's placing rule, with document 02's spares (E10), written out word for word, by recursion
+//! and over 128-bit numbers.
 
-use inputs::board::{self, Board, Style};
+use inputs::board::{self, Board, Spares, Style};
 use inputs::random::Random;
+use inputs::trees;
 
 /// A BAR: slot, pool, size and type bits.
 type Bar = (usize, usize, u128, u32);
@@ -36,8 +38,10 @@ fn up(end: u128, align: u128) -> u128 {
 struct Naive<'a> {
     board: &'a Board,
     bus: Vec<u8>,
+    secondary: Vec<u8>,
     subordinate: Vec<u8>,
-    next: u16,
+    /// The last number that was given.
+    last: u32,
 }
 
 impl Naive<'_> {
@@ -50,16 +54,24 @@ impl Naive<'_> {
     }
 
     fn is_bridge(&self, record: u16) -> bool {
-        self.function(record).header_type & 0x7F == 1
+        self.function(record).is_bridge()
     }
 
-    fn number(&mut self, parent: u16, bus: u16) {
+    fn spares(&self, record: u16) -> Spares {
+        self.function(record).spares.unwrap_or_default()
+    }
+
+    /// A bridge's spare buses come right after all buses below it, inside its subordinate.
+    fn number(&mut self, parent: u16, bus: u32) {
         for child in self.children(parent) {
-            self.bus[usize::from(child)] = bus as u8;
+            let at = usize::from(child);
+            self.bus[at] = bus as u8;
             if self.is_bridge(child) {
-                self.next += 1;
-                self.number(child, self.next);
-                self.subordinate[usize::from(child)] = self.next as u8;
+                self.last += 1;
+                self.secondary[at] = self.last as u8;
+                self.number(child, self.last);
+                self.last += u32::from(self.spares(child).buses);
+                self.subordinate[at] = self.last as u8;
             }
         }
     }
@@ -80,11 +92,14 @@ impl Naive<'_> {
         items
     }
 
+    /// Spare memory is added to the rounded end of the low window, which is then open even with nothing below.
     fn window(&self, bridge: u16, pool: usize) -> Option<(u128, u128)> {
         let items = self.items(bridge, pool);
         let end = items.iter().fold(0, |end, item| up(end, item.1) + item.0);
-        let largest = items.iter().map(|item| item.1).max()?;
-        Some((up(end, GRANULE[pool]), largest.max(GRANULE[pool])))
+        let largest = items.iter().map(|item| item.1).max().unwrap_or(0);
+        let spare = if pool == 0 { u128::from(self.spares(bridge).memory) << 20 } else { 0 };
+        let size = up(end, GRANULE[pool]) + spare;
+        (size > 0).then_some((size, largest.max(GRANULE[pool])))
     }
 
     /// Every BAR and window with its address, in order; and the end of the last item of this bus.
@@ -104,10 +119,11 @@ impl Naive<'_> {
 
 fn naive(board: &Board) -> Result<Vec<u8>, u8> {
     let count = board.functions.len();
-    let mut naive =
-        Naive { board, bus: vec![0; count + 1], subordinate: vec![0; count + 1], next: board.buses.0.into() };
+    let none = vec![0; count + 1];
+    let (bus, secondary, subordinate) = (none.clone(), none.clone(), none);
+    let mut naive = Naive { board, bus, secondary, subordinate, last: board.buses.0.into() };
     naive.number(0, board.buses.0.into());
-    if naive.next > board.buses.1.into() {
+    if naive.last > board.buses.1.into() {
         return Err(30);
     }
     let pools: [(u128, u128); 3] = [
@@ -123,7 +139,6 @@ fn naive(board: &Board) -> Result<Vec<u8>, u8> {
         }
     }
     let mut sheet = vec![1];
-    let mut secondary = board.buses.0;
     for record in 1..=count as u16 {
         let function = naive.function(record);
         let mut registers = [0; 64];
@@ -148,9 +163,8 @@ fn naive(board: &Board) -> Result<Vec<u8>, u8> {
             }
         }
         if naive.is_bridge(record) {
-            secondary += 1;
             let at = usize::from(record);
-            registers[0x18..0x1B].copy_from_slice(&[naive.bus[at], secondary, naive.subordinate[at]]);
+            registers[0x18..0x1B].copy_from_slice(&[naive.bus[at], naive.secondary[at], naive.subordinate[at]]);
             let (base, limit) = windows[2].unwrap_or((0xF000, 0));
             registers[0x1C] = (base >> 12 << 4) as u8;
             registers[0x1D] = (limit >> 12 << 4) as u8;
@@ -256,4 +270,43 @@ fn huge_boards_agree() {
         }
         let _ = agree(&board);
     }
+}
+
+/// Boards of both versions, with spares of every size: planned, and each number that the placing can give.
+#[test]
+fn boards_of_both_versions_agree() {
+    let mut numbers = Random::new(3);
+    let (mut planned, mut refused) = ([0; 2], [[0; 4]; 2]);
+    for _ in 0..12_000 {
+        let board = trees::lawful(&mut numbers);
+        let version = usize::from(board.version - 1);
+        match agree(&board) {
+            Ok(_) => planned[version] += 1,
+            Err(number) => refused[version][usize::from(number) - 30] += 1,
+        }
+    }
+    let all = refused.iter().flatten().chain(&planned);
+    assert!(all.into_iter().all(|&count| count > 50), "{planned:?} {refused:?}");
+}
+
+/// Version 1 means zero spares: the same sheet, byte for byte.
+#[test]
+fn zero_spares_are_version_1() {
+    let mut numbers = Random::new(4);
+    let mut rooms = [vec![0xA5; plain::FULL_SHEET], vec![0xA5; plain::FULL_SHEET]];
+    let mut planned = 0;
+    for _ in 0..4_000 {
+        let mut board = trees::lawful(&mut numbers);
+        board.version = 1;
+        board.functions.iter_mut().for_each(|function| function.spares = None);
+        let answers = [board.bytes(), board.without_spares().bytes()]
+            .iter()
+            .zip(&mut rooms)
+            .map(|(bytes, room)| plain::plan(bytes, room))
+            .collect::<Vec<_>>();
+        assert_eq!(answers[0], answers[1]);
+        assert!(rooms[0] == rooms[1]);
+        planned += u32::from(answers[0].is_ok());
+    }
+    assert!(planned > 1_000, "{planned}");
 }

@@ -30,7 +30,7 @@ fn board_20_21_22() {
         assert_eq!(refusal(&good[..length]), if whole { 0 } else { 20 }, "{length}");
     }
     assert_eq!(refusal(&[]), 20);
-    assert_eq!(refusal(&[2]), 21);
+    assert_eq!([refusal(&[1]), refusal(&[2]), refusal(&[3])], [20, 20, 21]);
     assert_eq!(board_with(|board| board.tail = vec![0]), 20);
     assert_eq!(board_with(|board| board.tail = vec![0, 5, 0, 0, 0, 9, 0]), 20);
     assert_eq!(board_with(|board| board.version = 0), 21);
