@@ -13,6 +13,7 @@ mod planning;
 mod plans;
 mod routing;
 mod script;
+mod spares;
 mod tags;
 mod traces;
 

@@ -1,6 +1,7 @@
 //! The planner's script: every shape of board, every pool to its last byte, every refusal.
 
 use crate::script::Script;
+use crate::spares;
 use inputs::board::*;
 use inputs::random::Random;
 
@@ -27,11 +28,12 @@ pub fn script() -> String {
     two_faults(&mut script);
     random_boards(&mut script);
     long_boards(&mut script);
+    spares::boards(&mut script);
     script.0
 }
 
 /// Notes what the board shows and writes it.
-fn put(script: &mut Script, why: &str, board: &Board) {
+pub fn put(script: &mut Script, why: &str, board: &Board) {
     script.note(why);
     script.board(&board.bytes());
 }
@@ -573,9 +575,9 @@ fn refused_20_21(script: &mut Script) {
             bytes
         }),
         ("21: version 0", changed(0, 0)),
-        ("21: version 2 alone", vec![2]),
+        ("21: version 3 alone", vec![3]),
         ("21: version 255 before a stray byte", [&[0xFF], &good[1..], &[0]].concat()),
-        ("21: version 2 before a host of 29", [&[2, 0, 29], &good[4..33]].concat()),
+        ("21: version 3 before a host of 29", [&[3, 0, 29], &good[4..33]].concat()),
         ("20: a host of 29 bytes, whole", [&[1, 0, 29], &good[4..33]].concat()),
     ];
     for (why, bytes) in boards {
@@ -726,7 +728,7 @@ fn random_boards(script: &mut Script) {
         for style in &styles {
             let mut board = random(&mut random_numbers, style);
             let spread = 1 + random_numbers.below(200) as u8;
-            let bridges = board.functions.iter().filter(|function| function.header_type & 0x7F == 1).count() as u8;
+            let bridges = board.bus_numbers() as u8;
             board.buses = (spread, spread.saturating_add(bridges));
             let why = format!("random, round {round}, {} functions", board.functions.len());
             put(script, &why, &tighten(&mut random_numbers, &board));
@@ -754,7 +756,7 @@ fn long_boards(script: &mut Script) {
     let mut board = longest.clone();
     board.tail = vec![0];
     put(script, "20: a byte after 512 functions of 30 bytes", &board);
-    board.version = 2;
+    board.version = 3;
     put(script, "21: the same of another version", &board);
     let mut board = longest.clone();
     board.end(0, 8, &[]);
@@ -768,7 +770,7 @@ fn long_boards(script: &mut Script) {
 }
 
 /// Moves each pool's base and takes the least last address with which the board is planned.
-fn tighten(random: &mut Random, board: &Board) -> Board {
+pub fn tighten(random: &mut Random, board: &Board) -> Board {
     let mut tight = board.clone();
     let low = (random.below(64) as u32) << 20;
     let high = (4096 + random.below(4096)) << 20;

@@ -4,7 +4,7 @@ use crate::traces::Run;
 use inputs::board::*;
 
 pub fn runs() -> Vec<Run> {
-    [planned(), refused(), edges(), long()].concat()
+    [planned(), refused(), edges(), spares(), long()].concat()
 }
 
 /// What the program `plan` prints for its whole standard input.
@@ -102,6 +102,48 @@ fn edges() -> Vec<Run> {
     ]
 }
 
+/// Boards of version 2, with spares and without (document 02, E10).
+fn spares() -> Vec<Run> {
+    // Two bridges in a row, a card below the second, and a card behind them.
+    let tree = |outer: (u8, u16), inner: (u8, u16)| {
+        let mut board = Board { buses: (0, 7), low: (0xF900_0000, 0xF97F_FFFF), ..Board::version_2() };
+        let bridge = board.spare_bridge(0, 0x00, outer.0, outer.1);
+        let below = board.spare_bridge(bridge, 0x00, inner.0, inner.1);
+        board.end(below, 0x00, &[memory(12)]);
+        board.end(0, 0x08, &[memory(12)]);
+        board
+    };
+    let alone = of(Board::version_2(), |board| {
+        let bridge = board.spare_bridge(0, 0x00, 0, 0);
+        board.spare_bridge(bridge, 0x00, 1, 1);
+    });
+    let deep = of(Board::version_2(), |board| {
+        let last = (0..32).fold(0, |above, _| board.spare_bridge(above, 0x00, 1, 1));
+        board.end(last, 0x00, &[memory(12)]);
+    });
+    let most = of(Board::version_2(), |board| {
+        (0..512u16).for_each(|at| _ = board.add(if at < 256 { 0 } else { 256 }, at as u8, 0x81, &[]));
+        board.functions.iter_mut().for_each(|bridge| bridge.spares = Some(Spares { buses: 255, memory: 65_535 }));
+    });
+    vec![
+        ("p10-version-2", p10().without_spares().bytes()),
+        ("tree-001-version-2", document_001().without_spares().bytes()),
+        ("spares", tree((2, 3), (3, 2)).bytes()),
+        ("spares-none", tree((0, 0), (0, 0)).bytes()),
+        ("spares-alone", alone),
+        ("spares-32-bridges-above", deep),
+        ("512-functions-version-2", full(&[memory(12)]).without_spares().bytes()),
+        ("spares-version-2-bridge-14-refused-24", of(tree((2, 3), (3, 2)), |board| board.functions[1].spares = None)),
+        ("spares-version-1-bridge-17-refused-24", of(tree((2, 3), (3, 2)), |board| board.version = 1)),
+        ("spares-version-3-refused-21", of(tree((2, 3), (3, 2)), |board| board.version = 3)),
+        ("spares-refused-30", tree((2, 3), (4, 2)).bytes()),
+        ("spares-most-refused-30", most),
+        ("spares-refused-31", tree((2, 3), (3, 4)).bytes()),
+        ("spares-most-refused-31", tree((2, 3), (3, 65_535)).bytes()),
+        ("spares-closed-pool-refused-31", of(tree((0, 0), (0, 1)), |board| board.low = CLOSED_LOW)),
+    ]
+}
+
 /// The longest input that is kept whole, of 16,417 bytes, and longer ones.
 fn long() -> Vec<Run> {
     let ends = |count| {
@@ -118,7 +160,7 @@ fn long() -> Vec<Run> {
         ("longest-refused-23", longest.clone()),
         ("longest-and-a-byte-refused-20", [&longest[..], &[0]].concat()),
         ("long-refused-20", [&long[..], &[0]].concat()),
-        ("long-refused-21", [&[2], &long[1..]].concat()),
+        ("long-refused-21", [&[3], &long[1..]].concat()),
         ("long-refused-22", long),
         ("long-refused-24", record),
     ]

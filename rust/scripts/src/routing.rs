@@ -1,9 +1,10 @@
 //! The router's script: planned sheets at their edges, command words, sheets that no planner wrote, refusals,
-//! messages, tags of ten bits, and card to card last.
+//! messages, tags of ten bits, spare room, and card to card last.
 
 use crate::cards;
 use crate::messages;
 use crate::script::Script;
+use crate::spares;
 use crate::tags;
 use inputs::board::{self, memory, wide, Board, Style};
 use inputs::foreign::*;
@@ -31,6 +32,7 @@ pub fn script() -> String {
     full_sheets(&mut script);
     messages::groups(&mut script);
     tags::groups(&mut script);
+    spares::routes(&mut script);
     cards::groups(&mut script);
     script.0
 }
