@@ -189,6 +189,7 @@ uint32_t cartsundial_write(const uint64_t *packet, size_t packet_len, uint8_t *r
 
 /*
  * Plans a board: numbers its buses, places every BAR and window, and writes the register sheet at the front of sheet, nothing past it.
+ * A board of version 2 says of each bridge how many buses and how many MiB of low memory are to stay free below it; version 1 has none.
  * written: the sheet's length, at most CARTSUNDIAL_SHEET_BYTES.
  * Refused: 20 to 26 (the board), 30 to 33 (what runs out), then 11 for a short sheet, or a written slice of no numbers.
  * Which record finds no room, at 31, 32 or 33: plan the board's fronts, each cut after a whole record, with a sheet_len of 0. The shortest
