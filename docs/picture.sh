@@ -1,7 +1,8 @@
 #!/usr/bin/env bash
 # Draws the documents' pictures. docs/crates.svg: what each crate of crates.txt is built on. docs/plan.svg: the plan that
-# the proved program prints for docs/example/board; the stored plan must be what it prints, and board.txt must spell the
-# board's bytes. With --check nothing is written, and a picture that is not up to date gives exit status 1.
+# the proved program prints for docs/example/board, with what the board keeps free; the stored plan must be what it prints,
+# and board.txt must spell the board's bytes. With --check nothing is written, and a picture that is not up to date gives
+# exit status 1.
 set -euo pipefail
 cd "$(dirname "$0")/.."
 
@@ -21,9 +22,9 @@ plan=$(mktemp)
 picture=$(mktemp)
 trap 'rm -f "$plan" "$picture"' EXIT
 
-# draw NAME: the text on standard input as docs/NAME.svg.
+# draw NAME [BOARD]: the text on standard input as docs/NAME.svg.
 draw() {
-    cargo run -q --release --offline --manifest-path rust/picture/Cargo.toml -- "$1" >"$picture"
+    cargo run -q --release --offline --manifest-path rust/picture/Cargo.toml -- "$@" >"$picture"
     if [ $check = yes ]; then
         cmp -s "$picture" "docs/$1.svg" || fail "docs/$1.svg is not up to date: run docs/picture.sh"
     else
@@ -40,4 +41,4 @@ text=$(sed 's/#.*//' docs/example/board.txt | tr -d ' \n' | tr 'A-F' 'a-f')
 [ -x target/bin/plan ] || fail 'target/bin/plan is not there: rt check plan writes it'
 target/bin/plan <docs/example/board >"$plan"
 diff -u docs/example/plan.txt "$plan" >&2 || fail 'docs/example/plan.txt is not the plan of docs/example/board'
-draw plan <"$plan"
+draw plan docs/example/board <"$plan"

@@ -20,6 +20,7 @@
 //! | a packet's fields, and a packet or a header of fields | [`Packet::fields`], [`Packet::new`], [`Fields::write`] |
 //! | a board as a register sheet | [`plan`] |
 //! | the record of a board that finds no room | [`what_does_not_fit`] |
+//! | a board's bridges, and the buses and memory that each keeps free | [`bridges`] |
 //! | a sheet: is it lawful, a function's registers, its command word | [`check`], [`registers`], [`set_command`] |
 //! | is a sheet that other firmware left in order, for a host | [`audit`] |
 //! | its functions one by one, or from a record to its ID | [`functions()`], [`id_of`] |
@@ -57,6 +58,7 @@ extern crate std;
 
 mod annotator;
 mod arrival;
+mod board;
 pub mod calls;
 mod cards;
 mod fields;
@@ -75,6 +77,7 @@ mod unfit;
 
 pub use annotator::{Annotator, LONGEST_LINE};
 pub use arrival::{route, Arrival, Delivery};
+pub use board::{bridges, Bridge, Spares};
 pub use cards::{route_from, Sending};
 pub use fields::{Body, Enables, Fields};
 pub use functions::{functions, Function};

@@ -33,7 +33,7 @@ pub enum Refusal {
     ShortRoom = 11,
     /// Empty; lengths not ending at the end; no host record, or host not 30; function under 6; sheet record not 90.
     Frame = 20,
-    /// Version not 1.
+    /// Version not 1; of a board, neither 1 nor 2.
     Version = 21,
     /// Over 512 functions.
     TooManyFunctions = 22,
@@ -51,7 +51,7 @@ pub enum Refusal {
     IdTwice = 28,
     /// Sheet: window nibbles.
     WindowNibbles = 29,
-    /// First bus + bridges > last bus.
+    /// First bus + bridges + spare buses > last bus.
     NoBuses = 30,
     /// A low item ends past its pool.
     NoLowRoom = 31,
@@ -151,7 +151,7 @@ impl Refusal {
             Refusal::TooWide => "a value that its field does not take",
             Refusal::ShortRoom => "short room",
             Refusal::Frame => "empty, or lengths of records",
-            Refusal::Version => "version not 1",
+            Refusal::Version => "version not 1, of a board neither 1 nor 2",
             Refusal::TooManyFunctions => "over 512 functions",
             Refusal::Tree => "parent, order, depth or function 0",
             Refusal::HeaderType => "header type, or wrong length for it",
@@ -160,7 +160,7 @@ impl Refusal {
             Refusal::BusRange => "not own bus = primary < secondary <= subordinate",
             Refusal::IdTwice => "ID twice",
             Refusal::WindowNibbles => "window nibbles",
-            Refusal::NoBuses => "first bus + bridges > last bus",
+            Refusal::NoBuses => "first bus + bridges + spare buses > last bus",
             Refusal::NoLowRoom => "low item ends past its pool",
             Refusal::NoHighRoom => "high item ends past its pool",
             Refusal::NoIoRoom => "I/O item ends past its pool",

@@ -1,6 +1,7 @@
 //! The record of a board that finds no room.
 
-use crate::{plan, Refusal};
+use crate::board::{number_of, records};
+use crate::Refusal;
 
 /// Where a BAR's addresses are taken from.
 #[derive(Clone, Copy, Debug, PartialEq, Eq, Hash)]
@@ -37,9 +38,10 @@ pub struct Unfit {
 /// The first record of `board` that finds no room, where the board is refused with 31, 32 or 33. `None` where it is
 /// planned, or refused with another number.
 ///
-/// A BAR of that record, or a window above it that has to grow for it, ends past the pool. Earlier records took the
-/// room, so a larger pool helps, or another order, as well as leaving the record out. Where two pools run out, this is
-/// about the one that [`plan`] names; the other one is named when that is mended.
+/// A BAR of that record, or a window that has to grow for it, ends past the pool: one above it, or of a bridge with
+/// [spare memory](crate::Spares) its own. Earlier records took the room, so a larger pool helps, or another order, as
+/// well as leaving the record out. Where two pools run out, this is about the one that [`plan`](crate::plan) names; the
+/// other one is named when that is mended.
 ///
 /// ```
 /// use cartsundial::{what_does_not_fit, Pool, Unfit};
@@ -58,23 +60,6 @@ pub fn what_does_not_fit(board: &[u8]) -> Option<Unfit> {
     let pool = Pool::short_by(refusal)?;
     // Every front of a lawful board is lawful: what is asked of a record looks at it and at earlier ones. A record more
     // never takes less of a pool, so the fronts that are refused with this number are those from the wanted record on.
-    let mut end = record_end(board, 1)?;
-    for record in 1.. {
-        end = record_end(board, end)?;
-        if number_of(board.get(..end)?) == Some(refusal) {
-            return Some(Unfit { record, pool });
-        }
-    }
-    None
-}
-
-/// What the board is refused with in no room at all. Short room comes last, so 31 to 33 are the same in any room.
-fn number_of(board: &[u8]) -> Option<Refusal> {
-    plan(board, &mut []).err()
-}
-
-/// Where the record ends that starts here: a length in two bytes, then so many bytes.
-fn record_end(board: &[u8], start: usize) -> Option<usize> {
-    let length = board.get(start..)?.first_chunk()?;
-    Some(start + 2 + usize::from(u16::from_be_bytes(*length)))
+    let mut fronts = (0..).zip(records(board)).skip(1);
+    fronts.find(|(_, (_, end))| number_of(&board[..*end]) == Some(refusal)).map(|(record, _)| Unfit { record, pool })
 }

@@ -1,7 +1,7 @@
 //! The record that finds no room: one pool short, two of them, and against the search from the other end.
 
 use cartsundial::{plan, what_does_not_fit, Pool, Refusal, Unfit, FULL_SHEET};
-use inputs::board::{high, io, memory, prefetchable, wide, Board, CLOSED_HIGH, CLOSED_IO};
+use inputs::board::{high, io, memory, prefetchable, wide, Board, Spares, CLOSED_HIGH, CLOSED_IO};
 use inputs::random::Random;
 use inputs::trees;
 
@@ -59,6 +59,22 @@ fn behind_bridges() {
     assert_eq!(unfit(&board), Some((6, Pool::Low)));
 }
 
+/// Spare memory makes the low windows larger: the bridge that keeps it finds no room, or what is behind its window.
+#[test]
+fn with_spares() {
+    let mut board = Board { version: 2, low: (0xF900_0000, 0xF92F_FFFF), ..small() };
+    board.spare_bridge(0, 0x00, 3, 1);
+    let bridge = board.spare_bridge(0, 0x08, 0, 1);
+    board.end(0, 0x10, &[memory(12)]);
+    assert_eq!(unfit(&board), None);
+    board.functions[1].spares = Some(Spares { buses: 0, memory: 3 });
+    assert_eq!(unfit(&board), Some((bridge, Pool::Low)));
+    board.functions[1].spares = Some(Spares { buses: 0, memory: 2 });
+    assert_eq!(unfit(&board), Some((3, Pool::Low)));
+    board.buses = (0, 4);
+    assert_eq!((planned(&board), unfit(&board)), (Err(Refusal::NoBuses), None));
+}
+
 /// High memory runs out at record 1, low memory at record 3, I/O at record 2. The board's number is of the low pool, so
 /// the record is that pool's, and not the one without which the board would be planned.
 #[test]
@@ -82,7 +98,7 @@ fn refused_for_another_reason() {
     let mut board = Board { buses: (0, 0), high: CLOSED_HIGH, ..small() };
     board.add(0, 0x00, 1, &high(20));
     assert_eq!((planned(&board), unfit(&board)), (Err(Refusal::NoBuses), None));
-    board.version = 2;
+    board.version = 3;
     assert_eq!((planned(&board), unfit(&board)), (Err(Refusal::Version), None));
     assert_eq!(what_does_not_fit(&[]), None);
 }
@@ -91,7 +107,7 @@ fn refused_for_another_reason() {
 #[test]
 fn from_the_other_end() {
     let mut random = Random::new(31);
-    let mut found = [0; 3];
+    let (mut found, mut versions) = ([0; 3], [0; 2]);
     for _ in 0..4000 {
         let board = trees::lawful(&mut random);
         let number = planned(&board);
@@ -110,6 +126,7 @@ fn from_the_other_end() {
         }
         assert_eq!(unfit(&board), Some((fewer.functions.len() as u16 + 1, pool)));
         found[pool as usize] += 1;
+        versions[usize::from(board.version) - 1] += 1;
     }
-    assert!(found.iter().all(|&count| count > 100), "{found:?}");
+    assert!(found.iter().chain(&versions).all(|&count| count > 100), "{found:?} {versions:?}");
 }

@@ -29,6 +29,8 @@ const LABEL: usize = 15;
 const ADDRESS: usize = 72;
 const KIND: usize = 112;
 const LEGEND_HEIGHT: usize = 30;
+/// The style of what is kept free, beside that of a window.
+const SPARE: &str = ".spare { stroke-dasharray: 2.4 1.8 }\n";
 
 /// The picture of a plan, as the text of an SVG file.
 pub fn draw(plan: &Plan) -> String {
@@ -144,6 +146,7 @@ impl Drawing {
             ("high", "high memory", 78),
             ("any", "BAR", 28),
             ("any window", "open window", 80),
+            ("any window spare", "spare room", 68),
         ];
         let baseline = baseline(self.tops[self.tops.len() - 1], LEGEND_HEIGHT);
         let mut left = MARGIN + SIDE;
@@ -158,7 +161,7 @@ impl Drawing {
     fn finish(self, title: &str) -> String {
         let width = self.width() + 2 * MARGIN;
         let height = self.tops[self.tops.len() - 1] + LEGEND_HEIGHT + MARGIN / 2;
-        self.svg.finish(title, [width, height], "")
+        self.svg.finish(title, [width, height], SPARE)
     }
 }
 
@@ -199,6 +202,7 @@ fn width_needed(function: &Function) -> usize {
 #[cfg(test)]
 mod tests {
     use super::*;
+    use crate::spares::Spares;
 
     const P10: &str = "plan 2
 0000 bridge 00000000 00000000 00 01 01 40 40 F900 F900 4001 43F1 00000002 00000002
@@ -229,6 +233,18 @@ mod tests {
             "BAR 1–2", "2_40000000", "64-bit prefetchable",
             "BAR 3", "4000", "I/O",
         ]);
+    }
+
+    #[test]
+    fn spare_room() {
+        let bridge = "0000 bridge 00000000 00000000 00 01 03 F0 00 F900 F930 FFF1 0001 00000000 00000000";
+        let mut plan = Plan::read(&format!("plan 1\n{bridge}\n")).unwrap();
+        let without = draw(&plan);
+        plan.set_spares(&[Spares { buses: 2, memory: 1 }]).unwrap();
+        let svg = draw(&plan);
+        for text in [">F9300000–F93FFFFF<", ">buses 02–03<"] {
+            assert!(svg.contains(text) && !without.contains(text), "{text}");
+        }
     }
 
     #[test]

@@ -1,4 +1,4 @@
-//! The lines in a function's box: a BAR or an open window each, and what they say.
+//! The lines in a function's box: a BAR, an open window or spare room each, and what they say.
 
 use crate::plan::Function;
 use crate::registers::{Bar, Kind, Pool, Window};
@@ -6,24 +6,35 @@ use crate::registers::{Bar, Kind, Pool, Window};
 pub enum Entry<'a> {
     Bar(&'a Bar),
     Window(&'a Window),
+    /// The end of a bridge's low window, which is kept free.
+    SpareMemory(&'a Window),
+    /// The last buses of a bridge's range, first and last, which are kept free.
+    SpareBuses((u8, u8)),
 }
 
 impl<'a> Entry<'a> {
-    /// A function's BARs, then its windows.
+    /// A function's BARs, then its windows and what it keeps free.
     pub fn all(function: &'a Function) -> Vec<Entry<'a>> {
-        let windows = function.bridge.iter().flat_map(|bridge| &bridge.windows);
-        function.bars.iter().map(Entry::Bar).chain(windows.map(Entry::Window)).collect()
+        let mut entries: Vec<Entry> = function.bars.iter().map(Entry::Bar).collect();
+        if let Some(bridge) = &function.bridge {
+            entries.extend(bridge.windows.iter().map(Entry::Window));
+            entries.extend(bridge.spare_memory.iter().map(Entry::SpareMemory));
+            entries.extend(bridge.spare_buses.map(Entry::SpareBuses));
+        }
+        entries
     }
 
-    /// The style of its mark: a colour for the pool, filled for a BAR and open for a window.
+    /// The style of its mark: a colour for the pool, filled for a BAR, open for a window and dashed for spare room.
     pub fn mark(&self) -> &'static str {
         match (self, self.pool()) {
-            (Entry::Bar(_), Pool::Io) => "io",
-            (Entry::Bar(_), Pool::Low) => "low",
-            (Entry::Bar(_), Pool::High) => "high",
-            (Entry::Window(_), Pool::Io) => "io window",
-            (Entry::Window(_), Pool::Low) => "low window",
-            (Entry::Window(_), Pool::High) => "high window",
+            (Entry::Bar(_), Some(Pool::Io)) => "io",
+            (Entry::Bar(_), Some(Pool::Low)) => "low",
+            (Entry::Bar(_), Some(Pool::High)) => "high",
+            (Entry::Window(_), Some(Pool::Io)) => "io window",
+            (Entry::Window(_), Some(Pool::Low)) => "low window",
+            (Entry::Window(_), Some(Pool::High)) => "high window",
+            (Entry::SpareMemory(_), _) => "low window spare",
+            (_, None) | (Entry::SpareBuses(_), _) => "any window spare",
         }
     }
 
@@ -36,19 +47,24 @@ impl<'a> Entry<'a> {
                 Pool::Low => "memory".to_string(),
                 Pool::High => "high".to_string(),
             },
+            Entry::SpareMemory(_) | Entry::SpareBuses(_) => "spare".to_string(),
         }
     }
 
-    /// Where a BAR starts, or a window's first and last address.
+    /// Where a BAR starts, or the first and last address of a window or of spare memory; or spare buses.
     pub fn addresses(&self) -> String {
-        let spell = |address| hexadecimal(self.pool(), address);
         match self {
-            Entry::Bar(bar) => spell(bar.address),
-            Entry::Window(window) => format!("{}–{}", spell(window.base), spell(window.last)),
+            Entry::Bar(bar) => hexadecimal(bar.pool(), bar.address),
+            Entry::Window(window) | Entry::SpareMemory(window) => {
+                let spell = |address| hexadecimal(window.pool, address);
+                format!("{}–{}", spell(window.base), spell(window.last))
+            }
+            Entry::SpareBuses((first, last)) if first == last => format!("bus {first:02X}"),
+            Entry::SpareBuses((first, last)) => format!("buses {first:02X}–{last:02X}"),
         }
     }
 
-    /// What a BAR's type bits say; nothing for a window.
+    /// What a BAR's type bits say; nothing for anything else.
     pub fn kind(&self) -> Option<&'static str> {
         let Entry::Bar(bar) = self else { return None };
         Some(match bar.kind {
@@ -60,10 +76,11 @@ impl<'a> Entry<'a> {
         })
     }
 
-    fn pool(&self) -> Pool {
+    fn pool(&self) -> Option<Pool> {
         match self {
-            Entry::Bar(bar) => bar.pool(),
-            Entry::Window(window) => window.pool,
+            Entry::Bar(bar) => Some(bar.pool()),
+            Entry::Window(window) | Entry::SpareMemory(window) => Some(window.pool),
+            Entry::SpareBuses(_) => None,
         }
     }
 }

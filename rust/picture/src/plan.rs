@@ -1,7 +1,8 @@
 //! The text of a plan, as document 01 prints it: `plan N`, then one line for each function. What is not printed in this
 //! way is no plan.
 
-use crate::registers::{Bar, Window};
+use crate::registers::{Bar, Pool, Window};
+use crate::spares::Spares;
 use std::collections::HashSet;
 use std::fmt;
 use std::str::FromStr;
@@ -54,6 +55,9 @@ pub struct Bridge {
     pub subordinate: u8,
     /// The open ones: I/O, low, high.
     pub windows: Vec<Window>,
+    /// The last buses of its range, first and last, and the end of its low window, where they are kept free.
+    pub spare_buses: Option<(u8, u8)>,
+    pub spare_memory: Option<Window>,
 }
 
 /// The functions in the plan's order. Each is on the first one's bus or on the secondary bus of a bridge before it.
@@ -75,6 +79,19 @@ impl Plan {
         }
         check_buses(&functions).map_err(|(k, why)| at(k + 2)(why))?;
         Ok(Plan { functions })
+    }
+
+    /// Takes what each function of the plan's board keeps free.
+    pub fn set_spares(&mut self, all: &[Spares]) -> Result<(), &'static str> {
+        if all.len() != self.functions.len() {
+            return Err("it has other functions than the plan");
+        }
+        for (function, spares) in self.functions.iter_mut().zip(all) {
+            if let Some(bridge) = &mut function.bridge {
+                bridge.set_spares(spares).ok_or("the plan has no room for its spares")?;
+            }
+        }
+        Ok(())
     }
 }
 
@@ -120,7 +137,22 @@ impl Bridge {
         let low = Window::low(fields.number(4)? as u16, fields.number(4)? as u16)?;
         let high =
             Window::high(fields.number(4)? as u16, fields.number(4)? as u16, fields.number(8)?, fields.number(8)?)?;
-        Ok(Bridge { secondary, subordinate, windows: [io, low, high].into_iter().flatten().collect() })
+        let windows = [io, low, high].into_iter().flatten().collect();
+        Ok(Bridge { secondary, subordinate, windows, spare_buses: None, spare_memory: None })
+    }
+
+    /// Spare buses are the last ones of the range, behind the secondary; spare memory is the end of the low window.
+    fn set_spares(&mut self, spares: &Spares) -> Option<()> {
+        if spares.buses > 0 {
+            let before = self.subordinate.checked_sub(spares.buses).filter(|last| *last >= self.secondary)?;
+            self.spare_buses = Some((before + 1, self.subordinate));
+        }
+        if spares.memory > 0 {
+            let low = self.windows.iter().find(|window| window.pool == Pool::Low)?;
+            let base = (low.last + 1).checked_sub(u64::from(spares.memory) << 20).filter(|base| *base >= low.base)?;
+            self.spare_memory = Some(Window { base, ..*low });
+        }
+        Some(())
     }
 }
 
@@ -175,7 +207,7 @@ impl<'a> Fields<'a> {
 #[cfg(test)]
 mod tests {
     use super::*;
-    use crate::registers::{Kind, Pool};
+    use crate::registers::Kind;
 
     const BRIDGE: &str = "0000 bridge 00000000 00000000 00 01 01 40 40 F900 F900 4001 43F1 00000002 00000002";
     const END: &str = "0100 end F9000000 4000000C 00000002 00004001 00000000 00000000";
@@ -192,7 +224,7 @@ mod tests {
             Window { pool: Pool::Low, base: 0xF900_0000, last: 0xF90F_FFFF },
             Window { pool: Pool::High, base: 0x2_4000_0000, last: 0x2_43FF_FFFF },
         ];
-        let bridge = Bridge { secondary: 1, subordinate: 1, windows };
+        let bridge = Bridge { secondary: 1, subordinate: 1, windows, spare_buses: None, spare_memory: None };
         assert_eq!(function, Function { id: Id(0), bars: vec![], bridge: Some(bridge) });
     }
 
@@ -224,6 +256,21 @@ mod tests {
     fn closed_windows_are_left_out() {
         let line = "0010 bridge 00000000 00000000 00 01 01 F0 00 FFF0 0000 FFF1 0001 00000000 00000000";
         assert_eq!(Function::read(line).unwrap().bridge.unwrap().windows, []);
+    }
+
+    #[test]
+    fn spares_at_the_end() {
+        let line = "0000 bridge 00000000 00000000 00 01 05 F0 00 F900 F930 FFF1 0001 00000000 00000000";
+        let mut plan = Plan::read(&format!("plan 1\n{line}\n")).unwrap();
+        assert_eq!(plan.set_spares(&[Spares { buses: 2, memory: 3 }]), Ok(()));
+        let bridge = plan.functions[0].bridge.clone().unwrap();
+        assert_eq!(bridge.spare_buses, Some((4, 5)));
+        let memory = Window { pool: Pool::Low, base: 0xF910_0000, last: 0xF93F_FFFF };
+        assert_eq!(bridge.spare_memory, Some(memory));
+        for other in [vec![], vec![Spares { buses: 5, memory: 0 }], vec![Spares { buses: 0, memory: 5 }]] {
+            assert!(plan.set_spares(&other).is_err());
+        }
+        assert_eq!(plan.set_spares(&[Spares { buses: 4, memory: 4 }]), Ok(()));
     }
 
     #[test]
