@@ -40,6 +40,9 @@ pub fn plan(board: &[u8], random: &mut Random, tally: &mut Tally) {
     let (number, written_then) = written.expected(&length);
     let returned = calls::plan(given.slice(), room.slice(), written.slice());
     tally.count(Call::Plan, returned);
+    if let Some(&version) = board.first() {
+        tally.board(version, returned);
+    }
     if let (0, Ok(length)) = (returned, answer) {
         tally.planned((length - 1) / RECORD);
     }

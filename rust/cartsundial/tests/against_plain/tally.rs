@@ -43,6 +43,9 @@ const CALLS: [Call; 14] = [
 /// One more than the greatest number.
 const NUMBERS: usize = 53;
 
+/// A version that is not known.
+const VERSION: usize = 21;
+
 impl Call {
     /// The numbers that the call can give, by documents 01 and 02 and, for 11, by the boundary's answer slices.
     fn numbers(self) -> &'static [usize] {
@@ -70,6 +73,8 @@ const LABELS: [&str; 8] =
 
 pub struct Tally {
     numbers: [[u64; NUMBERS]; CALLS.len()],
+    /// Boards of version 1 and of version 2, by the number that they got.
+    boards: [[u64; NUMBERS]; 2],
     /// Boards planned, by their functions.
     functions: [u64; MOST_FUNCTIONS + 1],
     /// Packets delivered, by the bridges that they crossed.
@@ -90,6 +95,7 @@ impl Default for Tally {
     fn default() -> Tally {
         Tally {
             numbers: [[0; NUMBERS]; CALLS.len()],
+            boards: [[0; NUMBERS]; 2],
             functions: [0; MOST_FUNCTIONS + 1],
             bridges: [0; 256],
             cards: [0; 256],
@@ -106,6 +112,13 @@ impl Tally {
         match self.numbers[call as usize].get_mut(number as usize) {
             Some(count) => *count += 1,
             None => panic!("{call:?} gave {number}, which is no number of documents 01 and 02"),
+        }
+    }
+
+    /// The number of a board that starts with this byte.
+    pub fn board(&mut self, version: u8, number: u32) {
+        if let 1 | 2 = version {
+            self.boards[usize::from(version) - 1][number as usize] += 1;
         }
     }
 
@@ -157,6 +170,12 @@ impl Tally {
                     (true, false) => faults.push(format!("{call:?} gave {number}")),
                     _ => {}
                 }
+            }
+        }
+        for (version, boards) in (1..).zip(&self.boards) {
+            // Both are known, so neither is 21.
+            for number in Call::Plan.numbers().iter().filter(|&&number| number != VERSION && boards[number] == 0) {
+                faults.push(format!("no board of version {version} got {number}"));
             }
         }
         if self.functions[MOST_FUNCTIONS] == 0 {
@@ -214,6 +233,11 @@ impl fmt::Display for Tally {
             write!(f, " {:>8}", self.numbers[call as usize].iter().sum::<u64>())?;
         }
         writeln!(f)?;
+        for (version, boards) in (1..).zip(&self.boards) {
+            let planned = boards[0];
+            let refused = boards.iter().sum::<u64>() - planned;
+            writeln!(f, "boards of version {version}: {planned} planned, {refused} refused")?;
+        }
         writeln!(f, "boards planned, by functions: {}", by_size(&self.functions))?;
         writeln!(f, "packets delivered, by bridges crossed: {}", by_size(&self.bridges))?;
         writeln!(f, "requests from card to card, by bridges crossed: {}", by_size(&self.cards))?;
