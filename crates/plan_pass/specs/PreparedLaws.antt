@@ -49,7 +49,7 @@ pub prepared-of-accepted : (b : List ℕ) (first : ℕ) (counts memo : List ℕ)
     → 2 * length (functionsOf b) + 2 ≤ length counts
     → ((k : ℕ) → k ≤ length (functionsOf b) → getD counts (2 * k) 0 ≡ bridges (take k (toPlacing (functionsOf b))) % 256)
     → ((k : ℕ) → k ≤ length (functionsOf b) → getD counts (2 * k + 1) 0 ≡ over (toPlacing (functionsOf b)) k % 256)
-    → 8 * length (functionsOf b) ≤ length memo
+    → 7 * length (functionsOf b) ≤ length memo
     → ((i : ℕ) (f : Function) → RecordAt (functionsOf b) i f → isBridge f ≡ true → laidAt memo i
     ≡ below (toPlacing (functionsOf b)) i (spareLow f))
     → Prepared first (functionsOf b) counts memo

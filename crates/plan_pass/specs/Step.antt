@@ -128,6 +128,6 @@ pub record Placeable (first : ℕ) (counts c : List ℕ) (f : Function) : Type 0
 pub record Bridged (first : ℕ) (counts memo c : List ℕ) (i p : ℕ) : Type 0 where
   pub numbered : NumberFits first counts (suc i) (suc i)
   pub room : 3 * suc i + 3 ≤ length c
-  pub stored : 8 * i + 8 ≤ length memo
+  pub stored : 7 * i + 7 ≤ length memo
   pub last-numbered : NumberFits first counts (laidAt memo i .next) p
   pub aligned : (q : Pool) → PowerOfTwo (max (granule q) (extentIn (extentsIn (laidAt memo i)) q .align))

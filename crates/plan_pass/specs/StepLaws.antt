@@ -169,7 +169,7 @@ pub record Prepared (first : ℕ) (fs : List Function) (counts memo : List ℕ) 
   pub counts-room : 2 * length fs + 2 ≤ length counts
   pub counted : (k : ℕ) → k ≤ length fs → getD counts (2 * k) 0 ≡ bridges (take k (toPlacing fs))
   pub spared : (k : ℕ) → k ≤ length fs → getD counts (2 * k + 1) 0 ≡ over (toPlacing fs) k
-  pub memo-room : 8 * length fs ≤ length memo
+  pub memo-room : 7 * length fs ≤ length memo
   pub stored : (i : ℕ) (f : Function) → RecordAt fs i f → isBridge f ≡ true → laidAt memo i
       ≡ below (toPlacing fs) i (spareLow f)
 

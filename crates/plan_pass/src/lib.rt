@@ -126,7 +126,7 @@ fn store_cursors(cursors: &mut [u64], b: usize, c: Cursors)
 
 // The record after which the bus below record i + 1 ends.
 fn last_below(memo: &[u64], i: usize) -> usize
-    requires { ⌜ 8 * i + 8 ≤ length (now memo) ⌝ }
+    requires { ⌜ 7 * i + 7 ≤ length (now memo) ⌝ }
     ensures { λ r. ⌜ r ≡ laidAt (now (memo .entry)) i .next ⌝ }
 {
     let l = plan_sizing::stored_at(memo, i);
@@ -135,7 +135,7 @@ fn last_below(memo: &[u64], i: usize) -> usize
 
 // What sizing stored of the bus below record i + 1.
 fn extents_at(memo: &[u64], i: usize) -> Extents
-    requires { ⌜ 8 * i + 8 ≤ length (now memo) ⌝ }
+    requires { ⌜ 7 * i + 7 ≤ length (now memo) ⌝ }
     ensures { λ r. ⌜ r ≡ extentsIn (laidAt (now (memo .entry)) i) ⌝ }
 {
     let l = plan_sizing::stored_at(memo, i);
@@ -220,7 +220,7 @@ fn place_leaf(
 // A bridge's windows follow its BARs.
 fn own_windows(i: usize, memo: &[u64], cursors: &[u64], after: Cursors) -> WindowsPlaced
     requires { ⌜
-        (8 * i + 8 ≤ length (now memo))
+        (7 * i + 7 ≤ length (now memo))
         × (3 * suc i + 3 ≤ length (now cursors))
         × ((q : PoolName) → PowerOfTwo (windowAlign q (extentIn (extentsIn (laidAt (now memo) i)) q .align)))
         ⌝ }

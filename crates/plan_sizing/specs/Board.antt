@@ -43,7 +43,7 @@ isChild ps i b = ltb i (length ps) && eqb (getD ps i 0) b
 -- the walk over bus b stands at l, and buses may lie d bridges below it
 pub record Standing (ps hs ss memo : List ℕ) (b d : ℕ) (l : Laid) : Type 0 where
   pub board : Board ps hs ss
-  pub room : 8 * length ps ≤ length memo
+  pub room : 7 * length ps ≤ length memo
   pub whole : Whole l
   pub within : l .next ≤ length ps
   pub deep : mostAbove < length (aboveBus (functionsIn ps hs ss) b) + d
@@ -52,7 +52,7 @@ pub record Standing (ps hs ss memo : List ℕ) (b d : ℕ) (l : Laid) : Type 0 w
 -- from l the walk has come to r, which is what is kept of m, and has stored the numbers of the records that it passed
 pub record Walked (fs : List Function) (memo memo' : List ℕ) (l : Laid) (m : placing.Laid) (r : Laid) : Type 0 where
   pub laid : r ≡ cut m
-  pub stored : memo' ≡ sets memo (8 * l .next) (memoBetween fs (l .next) (r .next))
+  pub stored : memo' ≡ sets memo (7 * l .next) (memoBetween fs (l .next) (r .next))
 
 abbrev pub BusSized : List ℕ → List ℕ → List ℕ → List ℕ → List ℕ → ℕ → Laid → Laid → Type 0
 BusSized ps hs ss memo memo' b l r = Walked (functionsIn ps hs ss) memo memo' l (busLaid (functionsIn ps hs ss) b (says l)) r
@@ -66,7 +66,7 @@ pub record OnBus (ps hs ss memo memo' : List ℕ) (b d : ℕ) (start l : Laid) :
   pub standing : Standing ps hs ss memo' b d l
   pub from : start .next ≤ l .next
   pub same : cut (busLaid (functionsIn ps hs ss) b (says l)) ≡ cut (busLaid (functionsIn ps hs ss) b (says start))
-  pub stored : memo' ≡ sets memo (8 * start .next) (memoBetween (functionsIn ps hs ss) (start .next) (l .next))
+  pub stored : memo' ≡ sets memo (7 * start .next) (memoBetween (functionsIn ps hs ss) (start .next) (l .next))
 
 -- ## The whole board
 

@@ -44,7 +44,7 @@ root-next gs bases = omega (arith, run-root gs)
 
 -- the walk over the root bus, from a depth that is enough for every bus
 pub root-standing : {ps hs ss : List ℕ} (memo : List ℕ) (bases : Pool → ℕ) {d : ℕ} {start : Laid} → Board ps hs ss
-    → 8 * length ps ≤ length memo → mostAbove < d → start ≡ cut (rootFrom bases) → Standing ps hs ss memo 0 d start
+    → 7 * length ps ≤ length memo → mostAbove < d → start ≡ cut (rootFrom bases) → Standing ps hs ss memo 0 d start
 root-standing {ps} {hs} {ss} memo bases b room deep e =
     rw e
     (record {
@@ -76,7 +76,7 @@ board-sized ps hs ss {memo} {memo'} bases {start} {r} e w = record { laid = laid
     stored : memo' ≡ sets memo 0 (memoFrom (functionsIn ps hs ss) 0 (functionsIn ps hs ss))
     stored =
         w .stored
-        ∙ ap₂ (λ (i j : ℕ). sets memo (8 * i) (memoBetween (functionsIn ps hs ss) i j)) first last
+        ∙ ap₂ (λ (i j : ℕ). sets memo (7 * i) (memoBetween (functionsIn ps hs ss) i j)) first last
         ∙ ap (sets memo 0) (memo-between-all (functionsIn ps hs ss) memo)
 
 -- ## What the planner cites
@@ -92,7 +92,7 @@ out-of-pool-sized fs h bases memo memo' r lawful same b q l =
     ∙ ap (λ (x : placing.Laid). endsPast (h .last q) (x .extent q)) (sym (says-of-cut r (busLaid fs 0 (rootFrom bases)) (b .laid)))
 
 -- what lies below each bridge can be read back
-pub stored-below : (ps hs ss memo memo' : List ℕ) (bases : Pool → ℕ) (r : Laid) → 8 * length ps ≤ length memo
+pub stored-below : (ps hs ss memo memo' : List ℕ) (bases : Pool → ℕ) (r : Laid) → 7 * length ps ≤ length memo
     → BoardSized (functionsIn ps hs ss) bases memo memo' r → (i : ℕ) → i < length ps → isBridge (headerIn (getD hs i 0)) ≡ true
     → laidAt memo' i ≡ below (functionsIn ps hs ss) i (functionAt ps hs ss i .spareLow)
 stored-below ps hs ss memo memo' bases r room b i h e =

@@ -90,13 +90,13 @@ module _ {ps hs ss memo : List ℕ} {d : ℕ} {l : Laid} (s : Standing ps hs ss 
 
   -- a function that is no bridge
   pub leaf-walked : {own : Laid} {memo' : List ℕ} → isBridge (headerIn (getD hs (l .next) 0)) ≡ false → own ≡ cut (barsLaid f (says l))
-      → memo' ≡ sets memo (8 * l .next) (numbersOf (cut (laidFrom 0))) → FunctionSized ps hs ss memo memo' l own
+      → memo' ≡ sets memo (7 * l .next) (numbersOf (cut (laidFrom 0))) → FunctionSized ps hs ss memo memo' l own
   leaf-walked e g p =
       record {
         laid = g ∙ ap cut (sym (function-laid-leaf fs f (says l) e));
         stored =
             memo-leaf fs memo (l .next) f at e p
-            ∙ ap (λ (k : ℕ). sets memo (8 * l .next) (memoBetween fs (l .next) k)) (sym (ap (λ (x : Laid). x .next) g));
+            ∙ ap (λ (k : ℕ). sets memo (7 * l .next) (memoBetween fs (l .next) k)) (sym (ap (λ (x : Laid). x .next) g));
       }
 
   module _ {inside : Laid} (fresh : inside ≡ cut (laidFrom (l .next + 1))) where
@@ -146,8 +146,9 @@ module _ {ps hs ss memo : List ℕ} {d : ℕ} {l : Laid} (s : Standing ps hs ss 
             each Io = window-align-power fs (lawful .sized) (suc (l .next)) (suc (l .next)) (f .spareLow) Io
 
         -- a bridge: its own BARs, then its windows
-        pub bridge-walked : {own r : Laid} {memo₂ : List ℕ} → isBridge (headerIn (getD hs (l .next) 0)) ≡ true → own ≡ cut (barsLaid f (says l))
-            → memo₂ ≡ sets memo₁ (8 * l .next) (numbersOf inner) → r ≡ cut (windowLaid (says own) (says inner))
+        pub bridge-walked : {own r : Laid} {memo₂ : List ℕ} → isBridge (headerIn (getD hs (l .next) 0)) ≡ true
+            → own ≡ cut (barsLaid f (says l))
+            → memo₂ ≡ sets memo₁ (7 * l .next) (numbersOf inner) → r ≡ cut (windowLaid (says own) (says inner))
             → FunctionSized ps hs ss memo memo₂ l r
         bridge-walked {own} {r} e g p h =
             record {
@@ -158,9 +159,9 @@ module _ {ps hs ss memo : List ℕ} {d : ℕ} {l : Laid} (s : Standing ps hs ss 
                   (says-of-cut inner (spared (f .spareLow) (busLaid fs (suc (l .next)) (laidFrom (suc (l .next))))) inner-laid));
               stored =
                   memo-bridge fs memo (l .next) (inner .next) f inner at e later inner-laid
-                  (w .stored ∙ ap₂ (λ (k j : ℕ). sets memo (8 * k) (memoBetween fs k j)) (ap (λ (x : Laid). x .next) fresh) (sym next-is))
+                  (w .stored ∙ ap₂ (λ (k j : ℕ). sets memo (7 * k) (memoBetween fs k j)) (ap (λ (x : Laid). x .next) fresh) (sym next-is))
                   p
-                  ∙ ap (λ (k : ℕ). sets memo (8 * l .next) (memoBetween fs (l .next) k)) (sym (ap (λ (x : Laid). x .next) h));
+                  ∙ ap (λ (k : ℕ). sets memo (7 * l .next) (memoBetween fs (l .next) k)) (sym (ap (λ (x : Laid). x .next) h));
             }
           where
             later : l .next < inner .next

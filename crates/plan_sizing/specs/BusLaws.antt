@@ -42,7 +42,7 @@ on-bus-start {ps} {hs} {ss} {memo} {b} {d} {l} s =
       standing = s;
       from = omega arith;
       same = refl;
-      stored = ap (sets memo (8 * l .next)) (sym (memo-between-none (functionsIn ps hs ss) (l .next)));
+      stored = ap (sets memo (7 * l .next)) (sym (memo-between-none (functionsIn ps hs ss) (l .next)));
     }
 
 module _ {ps hs ss memo memo' : List ℕ} {b d : ℕ} {start l : Laid} (on : OnBus ps hs ss memo memo' b d start l) where
@@ -59,7 +59,7 @@ module _ {ps hs ss memo memo' : List ℕ} {b d : ℕ} {start l : Laid} (on : OnB
   count = length-functions ps hs ss
 
   pub on-bus-length : length memo' ≡ length memo
-  on-bus-length = ap length (on .stored) ∙ length-sets memo (8 * start .next) (memoBetween fs (start .next) (l .next))
+  on-bus-length = ap length (on .stored) ∙ length-sets memo (7 * start .next) (memoBetween fs (start .next) (l .next))
 
   -- where no child comes next, the bus is done
   pub on-bus-end : isChild ps (l .next) b ≡ false → BusSized ps hs ss memo memo' b start l
@@ -104,7 +104,7 @@ module _ {ps hs ss memo memo' : List ℕ} {b d : ℕ} {start l : Laid} (on : OnB
                     arith,
                     on .standing .room,
                     ap length (w .stored)
-                        ∙ length-sets memo' (8 * l .next) (memoBetween fs (l .next) (r .next)),
+                        ∙ length-sets memo' (7 * l .next) (memoBetween fs (l .next) (r .next)),
                   );
                   whole = whole-of-cut r (functionLaid fs f (says l)) (w .laid);
                   within = omega (arith, next, function-next-le fs lawful (says l) f (omega (arith, child-within, count)), count);

@@ -1,5 +1,5 @@
--- Worked examples: what sizing comes to and stores, for document 01's P10, for a bridge that has a BAR of its own and no room to spare, and
--- for sizes that pass 2^62. Assumes nothing.
+-- Worked examples: what sizing comes to and stores, for document 01's P10, for the same with spares, for a bridge that has a BAR of its own
+-- and no room to spare, and for sizes that pass 2^62. Assumes nothing.
 use mathlib.Core.Path.{_≡_, refl}
 use mathlib.Core.List.{List, [], _∷_, map}
 use Prim.Native.Nat.{ℕ}
@@ -40,8 +40,20 @@ rows =
       low = 4177526784;
       high = 9663676416;
       io = 16384;
-      sized = 2 ∷ 4178575360 ∷ 1048576 ∷ 9730785280 ∷ 67108864 ∷ 20480 ∷ 4096 ∷ 0 ∷ [];
-      stored = 2 ∷ 4096 ∷ 4096 ∷ 67108864 ∷ 67108864 ∷ 256 ∷ 256 ∷ 0 ∷ 0 ∷ 0 ∷ 0 ∷ 0 ∷ 0 ∷ 0 ∷ 0 ∷ 0 ∷ [];
+      sized = 2 ∷ 4178575360 ∷ 1048576 ∷ 9730785280 ∷ 67108864 ∷ 20480 ∷ 4096 ∷ [];
+      stored = 2 ∷ 4096 ∷ 4096 ∷ 67108864 ∷ 67108864 ∷ 256 ∷ 256 ∷ 0 ∷ 0 ∷ 0 ∷ 0 ∷ 0 ∷ 0 ∷ 0 ∷ [];
+    }
+    -- the same, the bridge with 2 spare buses and 3 MiB: they follow the rounded end of its low window. A second bridge has 1 MiB and nothing
+    -- below it: that window is open too
+    ∷ record {
+      parents = 0 ∷ 1 ∷ 0 ∷ [];
+      heads = 33555201 ∷ 0 ∷ 257 ∷ [];
+      readbacks = 0 ∷ 0 ∷ 0 ∷ 0 ∷ 0 ∷ 0 ∷ 4294963200 ∷ 4227858444 ∷ 4294967295 ∷ 4294967041 ∷ 0 ∷ 0 ∷ 0 ∷ 0 ∷ 0 ∷ 0 ∷ 0 ∷ 0 ∷ [];
+      low = 4177526784;
+      high = 9663676416;
+      io = 16384;
+      sized = 3 ∷ 4182769664 ∷ 1048576 ∷ 9730785280 ∷ 67108864 ∷ 20480 ∷ 4096 ∷ [];
+      stored = 2 ∷ 4194304 ∷ 1048576 ∷ 67108864 ∷ 67108864 ∷ 256 ∷ 256 ∷ 0 ∷ 0 ∷ 0 ∷ 0 ∷ 0 ∷ 0 ∷ 0 ∷ 3 ∷ 1048576 ∷ 1048576 ∷ 0 ∷ 0 ∷ 0 ∷ 0 ∷ [];
     }
     -- a bridge with a BAR of 1 MiB of its own, and behind it 2 MiB: the BAR, a gap of 1 MiB, the window; then a function of 128 bytes
     ∷ record {
@@ -51,8 +63,8 @@ rows =
       low = 0;
       high = 4294967296;
       io = 0;
-      sized = 3 ∷ 4194432 ∷ 2097152 ∷ 4294967296 ∷ 0 ∷ 0 ∷ 0 ∷ 0 ∷ [];
-      stored = 2 ∷ 2097152 ∷ 2097152 ∷ 0 ∷ 0 ∷ 0 ∷ 0 ∷ 0 ∷ 0 ∷ 0 ∷ 0 ∷ 0 ∷ 0 ∷ 0 ∷ 0 ∷ 0 ∷ 0 ∷ 0 ∷ 0 ∷ 0 ∷ 0 ∷ 0 ∷ 0 ∷ 0 ∷ [];
+      sized = 3 ∷ 4194432 ∷ 2097152 ∷ 4294967296 ∷ 0 ∷ 0 ∷ 0 ∷ [];
+      stored = 2 ∷ 2097152 ∷ 2097152 ∷ 0 ∷ 0 ∷ 0 ∷ 0 ∷ 0 ∷ 0 ∷ 0 ∷ 0 ∷ 0 ∷ 0 ∷ 0 ∷ 0 ∷ 0 ∷ 0 ∷ 0 ∷ 0 ∷ 0 ∷ 0 ∷ [];
     }
     -- two BARs of 2^63 behind a bridge: the end is kept as 2^62, the alignment whole
     ∷ record {
@@ -62,8 +74,8 @@ rows =
       low = 0;
       high = 4294967296;
       io = 0;
-      sized = 2 ∷ 0 ∷ 0 ∷ 4611686018427387904 ∷ 9223372036854775808 ∷ 0 ∷ 0 ∷ 0 ∷ [];
-      stored = 2 ∷ 0 ∷ 0 ∷ 4611686018427387904 ∷ 9223372036854775808 ∷ 0 ∷ 0 ∷ 0 ∷ 0 ∷ 0 ∷ 0 ∷ 0 ∷ 0 ∷ 0 ∷ 0 ∷ 0 ∷ [];
+      sized = 2 ∷ 0 ∷ 0 ∷ 4611686018427387904 ∷ 9223372036854775808 ∷ 0 ∷ 0 ∷ [];
+      stored = 2 ∷ 0 ∷ 0 ∷ 4611686018427387904 ∷ 9223372036854775808 ∷ 0 ∷ 0 ∷ 0 ∷ 0 ∷ 0 ∷ 0 ∷ 0 ∷ 0 ∷ 0 ∷ [];
     }
     ∷ []
 

@@ -1,5 +1,5 @@
--- A board's functions, as three arrays say them: the parent record of each, its head, which is its header type byte and above it its spares,
--- and its set of six read-backs. Assumes nothing.
+-- A board's functions, as three arrays say them: the parent record of each, its head and its set of six read-backs. A head is a header
+-- type byte and, above it, a bridge's spares: a byte of buses and two of low memory in MiB. Assumes nothing.
 use Prim.Native.Nat.{ℕ, _*_, _/_, _%_}
 use mathlib.Core.List.{List, [], _∷_}
 use lib.ListN.{getD, take, drop}
@@ -20,14 +20,20 @@ headerIn head = head % 256
 abbrev pub sparesIn : ℕ → ℕ
 sparesIn head = head / 256
 
+abbrev pub spareLowIn : ℕ → ℕ
+spareLowIn head = sparesIn head % 65536
+
+abbrev pub spareBusesIn : ℕ → ℕ
+spareBusesIn head = sparesIn head / 65536
+
 abbrev pub functionIn : ℕ → ℕ → List ℕ → Function
 functionIn parent head set =
     record {
       parent = parent;
       bridge = isBridge (headerIn head);
       bars = barsFrom 0 (slotsIn (headerIn head) set);
-      spareLow = sparesIn head % 65536;
-      spareBuses = sparesIn head / 65536;
+      spareLow = spareLowIn head;
+      spareBuses = spareBusesIn head;
     }
 
 -- all of them, as many as there are parents

@@ -1,4 +1,4 @@
--- What sizing stores on the way: eight numbers for each record, what its own bus comes to if it is a bridge, and zeros if not.
+-- What sizing stores on the way: seven numbers for each record, what its own bus comes to if it is a bridge, and zeros if not.
 -- Assumes nothing.
 use mathlib.Core.Bool.{cond}
 use mathlib.Core.List.{List, [], _∷_, _++_}
@@ -9,22 +9,22 @@ use Rattle.plan_rule.specs.Sizing.{busLaid, laidFrom, spared}
 use Rattle.plan_sizing.specs.declared.Laid.{Laid}
 use Rattle.plan_sizing.specs.Cut.{cut}
 
--- next, then end and largest alignment in the low, high and I/O pool, and one spare
+-- next, then the end and largest alignment in the low, high and I/O pool
 abbrev pub numbersOf : Laid → List ℕ
 numbersOf l =
-    l .next ∷ l .low .end ∷ l .low .align ∷ l .high .end ∷ l .high .align ∷ l .io .end ∷ l .io .align ∷ 0 ∷ []
+    l .next ∷ l .low .end ∷ l .low .align ∷ l .high .end ∷ l .high .align ∷ l .io .end ∷ l .io .align ∷ []
 
 abbrev pub noNumbers : List ℕ
-noNumbers = 0 ∷ 0 ∷ 0 ∷ 0 ∷ 0 ∷ 0 ∷ 0 ∷ 0 ∷ []
+noNumbers = 0 ∷ 0 ∷ 0 ∷ 0 ∷ 0 ∷ 0 ∷ 0 ∷ []
 
--- what the eight numbers of record i say
+-- what the seven numbers of record i say
 abbrev pub laidAt : List ℕ → ℕ → Laid
 laidAt m i =
     record {
-      next = getD m (8 * i) 0;
-      low = record { end = getD m (8 * i + 1) 0; align = getD m (8 * i + 2) 0 };
-      high = record { end = getD m (8 * i + 3) 0; align = getD m (8 * i + 4) 0 };
-      io = record { end = getD m (8 * i + 5) 0; align = getD m (8 * i + 6) 0 };
+      next = getD m (7 * i) 0;
+      low = record { end = getD m (7 * i + 1) 0; align = getD m (7 * i + 2) 0 };
+      high = record { end = getD m (7 * i + 3) 0; align = getD m (7 * i + 4) 0 };
+      io = record { end = getD m (7 * i + 5) 0; align = getD m (7 * i + 6) 0 };
     }
 
 -- the bus below the bridge at index i, with n MiB of spare room

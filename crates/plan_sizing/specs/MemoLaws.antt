@@ -32,14 +32,14 @@ sets-before o i (v ∷ vs) j ws h =
 
 -- ## The numbers of a run of records
 
-pub length-memo-of : (fs : List Function) (i : ℕ) (f : Function) → length (memoOf fs i f) ≡ 8
+pub length-memo-of : (fs : List Function) (i : ℕ) (f : Function) → length (memoOf fs i f) ≡ 7
 length-memo-of fs i f = go (f .bridge)
   where
-    go : (t : Bool) → length (cond t (numbersOf (below fs i (f .spareLow))) noNumbers) ≡ 8
+    go : (t : Bool) → length (cond t (numbersOf (below fs i (f .spareLow))) noNumbers) ≡ 7
     go true = refl
     go false = refl
 
-pub length-memo-from : (fs : List Function) (i : ℕ) (gs : List Function) → length (memoFrom fs i gs) ≡ 8 * length gs
+pub length-memo-from : (fs : List Function) (i : ℕ) (gs : List Function) → length (memoFrom fs i gs) ≡ 7 * length gs
 unfolding memoFrom
 length-memo-from fs i [] = refl
 length-memo-from fs i (f ∷ gs) =
@@ -58,8 +58,8 @@ module _ (fs : List Function) where
   length-between : (i j : ℕ) → j ≤ length fs → length (take (j - i) (drop i fs)) ≡ j - i
   length-between i j h = omega (arith, length-take (j - i) (drop i fs), length-drop i fs)
 
-  pub length-memo-between : (i j : ℕ) → j ≤ length fs → length (memoBetween fs i j) ≡ 8 * (j - i)
-  length-memo-between i j h = length-memo-from fs i (take (j - i) (drop i fs)) ∙ ap (λ (n : ℕ). 8 * n) (length-between i j h)
+  pub length-memo-between : (i j : ℕ) → j ≤ length fs → length (memoBetween fs i j) ≡ 7 * (j - i)
+  length-memo-between i j h = length-memo-from fs i (take (j - i) (drop i fs)) ∙ ap (λ (n : ℕ). 7 * n) (length-between i j h)
 
   pub memo-between-none : (i : ℕ) → memoBetween fs i i ≡ []
   unfolding memoFrom
@@ -89,34 +89,34 @@ module _ (fs : List Function) where
 module _ (fs : List Function) (o : List ℕ) where
   -- two runs of the walk
   pub memo-walked : {o₁ o₂ : List ℕ} (i j k : ℕ) → i ≤ j → j ≤ k → j ≤ length fs
-      → o₁ ≡ sets o (8 * i) (memoBetween fs i j) → o₂ ≡ sets o₁ (8 * j) (memoBetween fs j k) → o₂ ≡ sets o (8 * i) (memoBetween fs i k)
+      → o₁ ≡ sets o (7 * i) (memoBetween fs i j) → o₂ ≡ sets o₁ (7 * j) (memoBetween fs j k) → o₂ ≡ sets o (7 * i) (memoBetween fs i k)
   memo-walked i j k h l m p q =
-      let s : 8 * i + length (memoBetween fs i j) ≡ 8 * j = omega (arith, length-memo-between fs i j m) in
+      let s : 7 * i + length (memoBetween fs i j) ≡ 7 * j = omega (arith, length-memo-between fs i j m) in
       q
       ∙ ap₂ (λ (a : List ℕ) (n : ℕ). sets a n (memoBetween fs j k)) p (sym s)
-      ∙ sets-sets o (8 * i) (memoBetween fs i j) (memoBetween fs j k)
-      ∙ ap (sets o (8 * i)) (sym (memo-between-add fs i j k h l m))
+      ∙ sets-sets o (7 * i) (memoBetween fs i j) (memoBetween fs j k)
+      ∙ ap (sets o (7 * i)) (sym (memo-between-add fs i j k h l m))
 
   -- a function that is no bridge
   pub memo-leaf : {o₁ : List ℕ} (i : ℕ) (f : Function) → IsAt fs i f → f .bridge ≡ false
-      → o₁ ≡ sets o (8 * i) noNumbers → o₁ ≡ sets o (8 * i) (memoBetween fs i (suc i))
+      → o₁ ≡ sets o (7 * i) noNumbers → o₁ ≡ sets o (7 * i) (memoBetween fs i (suc i))
   memo-leaf i f e b p =
       let n : memoOf fs i f ++ memoBetween fs (suc i) (suc i) ≡ noNumbers = rw (b, memo-between-none fs (suc i)) in
-      p ∙ ap (sets o (8 * i)) (sym (memo-between-cons fs i (suc i) f e (omega arith) ∙ n))
+      p ∙ ap (sets o (7 * i)) (sym (memo-between-cons fs i (suc i) f e (omega arith) ∙ n))
 
   -- a bridge, stored after the records below it
   pub memo-bridge : {o₁ o₂ : List ℕ} (i k : ℕ) (f : Function) (inner : Laid) → IsAt fs i f → f .bridge ≡ true → i < k
       → inner ≡ below fs i (f .spareLow)
-      → o₁ ≡ sets o (8 * (i + 1)) (memoBetween fs (i + 1) k) → o₂ ≡ sets o₁ (8 * i) (numbersOf inner) → o₂
-      ≡ sets o (8 * i) (memoBetween fs i k)
+      → o₁ ≡ sets o (7 * (i + 1)) (memoBetween fs (i + 1) k) → o₂ ≡ sets o₁ (7 * i) (numbersOf inner) → o₂
+      ≡ sets o (7 * i) (memoBetween fs i k)
   memo-bridge i k f inner e b h g p q =
-      let s : 8 * i + 8 ≡ 8 * (i + 1) = omega arith in
+      let s : 7 * i + 7 ≡ 7 * (i + 1) = omega arith in
       q
-      ∙ ap (λ (a : List ℕ). sets a (8 * i) (numbersOf inner)) p
-      ∙ sets-before o (8 * i) (numbersOf inner) (8 * (i + 1)) (memoBetween fs (i + 1) k) (omega arith)
-      ∙ ap (λ (n : ℕ). sets (sets o (8 * i) (numbersOf inner)) n (memoBetween fs (i + 1) k)) (sym s)
-      ∙ sets-sets o (8 * i) (numbersOf inner) (memoBetween fs (i + 1) k)
-      ∙ ap (sets o (8 * i))
+      ∙ ap (λ (a : List ℕ). sets a (7 * i) (numbersOf inner)) p
+      ∙ sets-before o (7 * i) (numbersOf inner) (7 * (i + 1)) (memoBetween fs (i + 1) k) (omega arith)
+      ∙ ap (λ (n : ℕ). sets (sets o (7 * i) (numbersOf inner)) n (memoBetween fs (i + 1) k)) (sym s)
+      ∙ sets-sets o (7 * i) (numbersOf inner) (memoBetween fs (i + 1) k)
+      ∙ ap (sets o (7 * i))
       (ap₂ (λ (l : Laid) (n : ℕ). numbersOf l ++ memoBetween fs n k) g (add-one i) ∙ sym (memo-between-cons fs i k f e h ∙ rw b))
 
   -- ## What then stands at each record
@@ -125,15 +125,15 @@ module _ (fs : List Function) (o : List ℕ) where
   pub memo-between-all : memoBetween fs 0 (length fs) ≡ memoFrom fs 0 fs
   memo-between-all = let e : length fs - 0 ≡ length fs = omega arith in ap (memoFrom fs 0) (ap (λ (n : ℕ). take n fs) e ∙ take-length fs)
 
-  module _ (room : 8 * length fs ≤ length o) (i : ℕ) (f : Function) (e : IsAt fs i f) (h : i < length fs) where
-    pub memo-at : (k : ℕ) → k < 8 → getD (sets o 0 (memoFrom fs 0 fs)) (8 * i + k) 0 ≡ getD (memoOf fs i f) k 0
+  module _ (room : 7 * length fs ≤ length o) (i : ℕ) (f : Function) (e : IsAt fs i f) (h : i < length fs) where
+    pub memo-at : (k : ℕ) → k < 7 → getD (sets o 0 (memoFrom fs 0 fs)) (7 * i + k) 0 ≡ getD (memoOf fs i f) k 0
     memo-at k l =
         let n : ℕ = length fs in
-        let z : 0 + (8 * i + k) ≡ 8 * i + k = omega arith in
-        let m : length (memoBetween fs 0 i) ≡ 8 * i = length-memo-between fs 0 i (omega arith) ∙ omega arith in
+        let z : 0 + (7 * i + k) ≡ 7 * i + k = omega arith in
+        let m : length (memoBetween fs 0 i) ≡ 7 * i = length-memo-between fs 0 i (omega arith) ∙ omega arith in
         ap (λ (x : ℕ). getD (sets o 0 (memoFrom fs 0 fs)) x 0) (sym z)
-        ∙ getD-sets-at o 0 (memoFrom fs 0 fs) (8 * i + k) 0 (omega (arith, length-memo-from fs 0 fs)) (omega arith)
-        ∙ ap (λ (v : List ℕ). getD v (8 * i + k) 0)
+        ∙ getD-sets-at o 0 (memoFrom fs 0 fs) (7 * i + k) 0 (omega (arith, length-memo-from fs 0 fs)) (omega arith)
+        ∙ ap (λ (v : List ℕ). getD v (7 * i + k) 0)
         (sym memo-between-all
         ∙ memo-between-add fs 0 i n (omega arith) (omega arith) (omega arith)
         ∙ ap (λ (v : List ℕ). memoBetween fs 0 i ++ v) (memo-between-cons fs i n f e h))
@@ -152,8 +152,8 @@ module _ (fs : List Function) (o : List ℕ) where
           io = record { end = each 5 (omega arith) j; align = each 6 (omega arith) j };
         }
       where
-        each : (k : ℕ) → k < 8 → getD (sets o 0 (memoFrom fs 0 fs)) (8 * i + k) 0 ≡ getD (numbersOf (below fs i (f .spareLow))) k 0
+        each : (k : ℕ) → k < 7 → getD (sets o 0 (memoFrom fs 0 fs)) (7 * i + k) 0 ≡ getD (numbersOf (below fs i (f .spareLow))) k 0
         each k l = memo-at k l ∙ ap (λ (t : Bool). getD (cond t (numbersOf (below fs i (f .spareLow))) noNumbers) k 0) b
 
-        first : getD (sets o 0 (memoFrom fs 0 fs)) (8 * i) 0 ≡ below fs i (f .spareLow) .next
-        first = rw (add-zero (8 * i)) at (each 0 (omega arith))
+        first : getD (sets o 0 (memoFrom fs 0 fs)) (7 * i) 0 ≡ below fs i (f .spareLow) .next
+        first = rw (add-zero (7 * i)) at (each 0 (omega arith))

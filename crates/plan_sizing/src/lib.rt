@@ -2,7 +2,7 @@
 // what lies below each bridge is stored on the way, so that the placing pass sizes nothing again.
 ghost use mathlib.Core.Path.{_≡_};
 ghost use mathlib.Core.Bool.{false};
-ghost use Prim.Native.Nat.{_+_, _*_, _%_, _≤_, _<_};
+ghost use Prim.Native.Nat.{_+_, _*_, _≤_, _<_};
 ghost use lib.ListN.{length, getD, take};
 ghost use lib.Seq.{sets};
 ghost use Rattle.pools.specs.declared.Pool.{Pool as PoolName};
@@ -12,7 +12,7 @@ ghost use Rattle.plan_rule.specs.Align.{PowerOfTwo};
 ghost use Rattle.plan_rule.specs.Cap.{capped};
 ghost use Rattle.plan_rule.specs.Pieces.{windowAlign};
 ghost use Rattle.plan_rule.specs.Sizing.{grow as growOf, withWindow, barsLaid, windowLaid, spared, laidFrom, endsPast};
-ghost use Rattle.plan_sizing.specs.Functions.{headerIn, sparesIn, functionIn, functionsIn, setAt};
+ghost use Rattle.plan_sizing.specs.Functions.{headerIn, spareLowIn, functionIn, functionsIn, setAt};
 ghost use Rattle.plan_sizing.specs.Cut.{extentIn, says, cut, Whole, addBar, addSlot, addBars};
 ghost use Rattle.plan_sizing.specs.Memo.{numbersOf, laidAt};
 ghost use Rattle.plan_sizing.specs.Board.{Board, OwnBars, isChild, Standing, BusSized, FunctionSized, basesOf, rootFrom, BoardSized};
@@ -31,9 +31,12 @@ pub struct Laid {
 // How deep a bus can lie: below one more bridge than may stand above a function.
 const DEEPEST: usize = records::MOST_ABOVE + 1;
 
-// Every bus of the board, in one pass: what the root bus comes to from the pools' bases, and in `memo`, eight numbers for each function,
-// what lies below each bridge. Function i has its parent record and its head at i, its six read-backs at 6 * i, its numbers at 8 * i. A head
-// is a header type byte and, above it, the spares of a bridge.
+// Spare room is told in MiB.
+const MIB: u64 = 1048576;
+
+// Every bus of the board, in one pass: what the root bus comes to from the pools' bases, and in `memo`, seven numbers for each function,
+// what lies below each bridge. Function i has its parent record and its head at i, its six read-backs at 6 * i, its numbers at 7 * i. A
+// head is a header type byte and, above it, a bridge's spares: a byte of buses and two of low memory in MiB.
 pub fn size_board(
     parents: &[u16],
     heads: &[u32],
@@ -43,7 +46,7 @@ pub fn size_board(
     base_high: u64,
     base_io: u64,
 ) -> Laid
-    requires { ⌜ Board (now parents) (now heads) (now readbacks) × (8 * length (now parents) ≤ length (now memo)) ⌝ }
+    requires { ⌜ Board (now parents) (now heads) (now readbacks) × (7 * length (now parents) ≤ length (now memo)) ⌝ }
     ensures { λ r. ⌜
         BoardSized (functionsIn (now (parents .entry)) (now (heads .entry)) (now (readbacks .entry)))
         (basesOf «base_low» «base_high» «base_io») (now (memo .entry)) (now (memo .exit)) r
@@ -55,10 +58,10 @@ pub fn size_board(
 
 // What was stored of the function at index i.
 pub fn stored_at(memo: &[u64], i: usize) -> Laid
-    requires { ⌜ 8 * i + 8 ≤ length (now memo) ⌝ }
+    requires { ⌜ 7 * i + 7 ≤ length (now memo) ⌝ }
     ensures { λ r. ⌜ r ≡ laidAt (now (memo .entry)) i ⌝ }
 {
-    let at = 8 * i;
+    let at = 7 * i;
     Laid {
         next: memo[at] as usize,
         low: Extent {
@@ -233,7 +236,7 @@ fn with_windows(l: Laid, inner: Laid) -> Laid
     }
 }
 
-// With so many MiB of spare room at the end of the low pool.
+// With so many MiB of spare room, which are the last item in the low pool.
 fn with_spare(l: Laid, spare: u64) -> Laid
     requires { ⌜ Whole l × (spare < 65536) ⌝ }
     ensures { λ r. ⌜ r ≡ cut (spared spare (says l)) ⌝ }
@@ -246,7 +249,7 @@ fn with_spare(l: Laid, spare: u64) -> Laid
     let io = l.io;
     Laid {
         next: l.next,
-        low: grow(low, spare * 1048576, 1048576),
+        low: grow(low, spare * MIB, MIB),
         high: high,
         io: io,
     }
@@ -300,7 +303,7 @@ fn header_at(heads: &[u32], i: usize) -> u8
 
 fn spare_at(heads: &[u32], i: usize) -> u64
     requires { ⌜ i < length (now heads) ⌝ }
-    ensures { λ r. ⌜ (r ≡ sparesIn (getD (now (heads .entry)) i 0) % 65536) × (r < 65536) ⌝ }
+    ensures { λ r. ⌜ (r ≡ spareLowIn (getD (now (heads .entry)) i 0)) × (r < 65536) ⌝ }
 {
     (heads[i] / 256 % 65536) as u64
 }
@@ -357,10 +360,10 @@ fn laid_from(i: usize) -> Laid
 }
 
 fn store(memo: &mut [u64], i: usize, l: Laid)
-    requires { ⌜ 8 * i + 8 ≤ length (now memo) ⌝ }
-    ensures { λ _. ⌜ now (memo .exit) ≡ sets (now (memo .entry)) (8 * i) (numbersOf l) ⌝ }
+    requires { ⌜ 7 * i + 7 ≤ length (now memo) ⌝ }
+    ensures { λ _. ⌜ now (memo .exit) ≡ sets (now (memo .entry)) (7 * i) (numbersOf l) ⌝ }
 {
-    let at = 8 * i;
+    let at = 7 * i;
     let low = l.low;
     let high = l.high;
     let io = l.io;
@@ -371,5 +374,4 @@ fn store(memo: &mut [u64], i: usize, l: Laid)
     memo[at + 4] = high.align;
     memo[at + 5] = io.end;
     memo[at + 6] = io.align;
-    memo[at + 7] = 0;
 }

@@ -53,7 +53,7 @@ root-from-bases h = laid-ext _ _ refl each
 
 module _ {ps hs ss ps' hs' ss' : List ℕ} {n : ℕ} (b : List ℕ) (e : boardNumber b ≡ 0) (room : Room mostFunctions ps hs ss)
     (filled : Filled (functionsOf b) ps hs ss ps' hs' ss' n) (counts memo : List ℕ) (counts-room : 2 * mostFunctions + 2 ≤ length counts)
-    (memo-room : 8 * mostFunctions ≤ length memo) where
+    (memo-room : 7 * mostFunctions ≤ length memo) where
   pub measurable : Measurable ps' hs' ss' n counts memo
   measurable =
       let few = filled-few b e room filled in

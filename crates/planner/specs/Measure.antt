@@ -41,7 +41,7 @@ pub record Measurable (ps hs ss : List ℕ) (n : ℕ) (counts memo : List ℕ) :
   pub few : n ≤ mostFunctions
   pub board : Board (take n ps) (take n hs) (take (6 * n) ss)
   pub countable : Countable (take n ps) (take n hs) counts
-  pub memo-room : 8 * n ≤ length memo
+  pub memo-room : 7 * n ≤ length memo
 
 -- what counting and sizing them leaves
 pub record CountedAndSized (ps hs ss : List ℕ) (n : ℕ) (h : Host) (counts memo counts' memo' : List ℕ) (m : Measured) : Type 0 where
@@ -61,6 +61,6 @@ pub record IsMeasured (b counts memo : List ℕ) (m : Measured) : Type 0 where
   pub few-buses : m .bridges ≤ 131072
   pub counts-room : 2 * length (functionsOf b) + 2 ≤ length counts
   pub counted : Counted (toPlacing (functionsOf b)) counts (length (functionsOf b))
-  pub memo-room : 8 * length (functionsOf b) ≤ length memo
+  pub memo-room : 7 * length (functionsOf b) ≤ length memo
   pub stored : (i : ℕ) (f : Function) → RecordAt (functionsOf b) i f → isBridge f ≡ true → laidAt memo i
       ≡ below (toPlacing (functionsOf b)) i (spareLow f)

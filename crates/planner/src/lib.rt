@@ -47,7 +47,7 @@ fn plan_lawful(board: &[u8], sheet: &mut [u8]) -> Planning
         ⌝ }
 {
     let mut counts = [0u8; 2 + 2 * MOST_FUNCTIONS];
-    let mut memo = [0u64; 8 * MOST_FUNCTIONS];
+    let mut memo = [0u64; 7 * MOST_FUNCTIONS];
     let host = board_record::host_of(records::part_at(board, 1, 30));
     let m = measure(board, host, &mut counts, &mut memo);
     let n = refusal(host, m);
@@ -65,7 +65,7 @@ fn plan_lawful(board: &[u8], sheet: &mut [u8]) -> Planning
 // One pass fills the arrays, one counts the bus numbers that the functions take, one sizes every bus.
 fn measure(board: &[u8], host: Host, counts: &mut [u8], memo: &mut [u64]) -> Measured
     requires { ⌜ (boardNumber (now board) ≡ 0) × (host ≡ hostOf (now board)) ⌝ }
-    requires { ⌜ (2 * mostFunctions + 2 ≤ length (now counts)) × (8 * mostFunctions ≤ length (now memo)) ⌝ }
+    requires { ⌜ (2 * mostFunctions + 2 ≤ length (now counts)) × (7 * mostFunctions ≤ length (now memo)) ⌝ }
     ensures { λ r. ⌜ IsMeasured (now (board .entry)) (now (counts .exit)) (now (memo .exit)) r ⌝ }
 {
     let mut parents = [0u16; MOST_FUNCTIONS];

@@ -256,7 +256,7 @@ function-size-returns-2 t c =
     let is-bridge = at-if1 .before .is-bridge in
     let own-bars = at-if1 .before .before .before .own-bars in
     let start = at-if1 .before .before .before .before .before .before .before .before in
-    let none = ap (λ (x : Laid). sets (start .args .memo .now) (8 * start .args .l .next) (numbersOf x))
+    let none = ap (λ (x : Laid). sets (start .args .memo .now) (7 * start .args .l .next) (numbersOf x))
     (c .before .before .before .laid-from2 .ensures) in
     leaf-walked (start .pre .1 .0) (start .pre .1 .1)
     (ap isBridge (sym (at-if1 .before .before .header-at .ensures)) ∙ sym (is-bridge .ensures) ∙ if1 .left) (own-bars .ensures)

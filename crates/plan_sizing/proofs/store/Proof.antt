@@ -1,10 +1,10 @@
--- `plan_sizing::store` meets its contract: eight stores are `sets` of the eight numbers, by computation. Assumes nothing.
+-- `plan_sizing::store` meets its contract: seven stores are `sets` of the seven numbers, by computation. Assumes nothing.
 use borrow.Author.Needs.{needs}
 use Rattle.plan_sizing.proofs.store.Statement.{statement}
 use Rattle.plan_sizing.proofs.store.Tie as tie
 use native.Mathlib.Omega.{arith}
 use lib.ListN.{length-set}
-use native.Mathlib.Numerals.{add-one, add-two, add-three, add-four, add-five, add-six, add-seven}
+use native.Mathlib.Numerals.{add-one, add-two, add-three, add-four, add-five, add-six}
 use Prim.Native.Nat.{_*_}
 
 mul-at : tie.Need-mul-at
@@ -70,22 +70,13 @@ mul-memo-7 c = search needs
 slice-write-memo-7 : tie.Need-slice-write-memo-7
 slice-write-memo-7 c = simp length-set (omega arith)
 
-add-memo-7 : tie.Need-add-memo-7
-add-memo-7 c = search needs
-
-mul-memo-8 : tie.Need-mul-memo-8
-mul-memo-8 c = search needs
-
-slice-write-memo-8 : tie.Need-slice-write-memo-8
-slice-write-memo-8 c = simp length-set (omega arith)
-
 same-length : tie.Need-same-length
 same-length c = simp length-set
 
 returns : tie.Need-returns
 returns c =
-    let at = 8 * c .before .before .before .args .i in rw
-    (add-one at, add-two at, add-three at, add-four at, add-five at, add-six at, add-seven at)
+    let at = 7 * c .before .before .before .args .i in rw
+    (add-one at, add-two at, add-three at, add-four at, add-five at, add-six at)
 
 pub store-spec : {M : Type 1} → statement M
 store-spec =
@@ -112,8 +103,5 @@ store-spec =
     add-memo-6
     mul-memo-7
     slice-write-memo-7
-    add-memo-7
-    mul-memo-8
-    slice-write-memo-8
     same-length
     returns)
