@@ -43,8 +43,8 @@ use Rattle.plan_function.specs.JoinLaws.{Room, insideOf, parent-lt}
 use Rattle.plan_function.specs.LoopLaws.{Agrees, values-planned, window-planned, agrees-leaf, agrees-bridge, align-power}
 use Rattle.sheet_bytes.specs.Layout.{plannedOf}
 use Rattle.plan_answer.specs.Plan.{slotsOf, entryFor}
-use Rattle.plan_pass.specs.Step.{cursorsIn, endsList, extentsIn, numberIn, busIn, NumberFits, barsIn, windowsIn, leafRegisters, bridgeRegisters}
-use Rattle.plan_pass.specs.Step.{registersOf, leafNext, bridgeNext, cursorsNext, Placeable, Bridged}
+use Rattle.plan_pass.specs.Step.{cursorsIn, endsList, extentsIn, numberIn, busIn, NumberFits, barsIn, windowsIn}
+use Rattle.plan_pass.specs.Step.{leafRegisters, bridgeRegisters, registersOf, leafNext, bridgeNext, cursorsNext, Placeable, Bridged}
 
 -- ## The cursors' array as a function of bus and pool
 

@@ -9,14 +9,18 @@ use Rattle.bar.specs.Header.{isBridge}
 use Rattle.records.specs.Limits.{mostFunctions}
 use Rattle.plan_rule.specs.Records.{Function}
 use Rattle.plan_rule.specs.Numbering.{bridges, over}
-use Rattle.plan_sizing.specs.Functions.{headerIn, sparesIn}
+use Rattle.plan_sizing.specs.Functions.{headerIn, spareBusesIn}
 
 -- a bridge takes its own number and its spares
 abbrev pub spareOf : ℕ → ℕ
-spareOf head = cond (isBridge (headerIn head)) (sparesIn head / 65536) 0
+spareOf head = cond (isBridge (headerIn head)) (spareBusesIn head) 0
 
 abbrev pub weightOf : ℕ → ℕ
-weightOf head = cond (isBridge (headerIn head)) (suc (sparesIn head / 65536)) 0
+weightOf head = cond (isBridge (headerIn head)) (suc (spareBusesIn head)) 0
+
+-- and so at most these
+abbrev pub mostTaken : ℕ
+mostTaken = 256
 
 -- of record k, or of the host: the numbers that the first k functions take, and the spares of the record and of the bridges above it
 pub record CountedAt (fs : List Function) (counts : List ℕ) (k : ℕ) : Type 0 where

@@ -82,7 +82,8 @@ module _ (ps hs ss : List ℕ) {c : List ℕ} {i t : ℕ} (s : Counting (functio
   at = functions-at ps hs ss i inside
 
   -- o is what was read of the parent, w and z what the function's head says
-  pub counting-turn : {c' : List ℕ} (o w z : ℕ) → o ≡ getD c (2 * getD ps i 0 + 1) 0 → w ≡ weightOf (getD hs i 0) → z ≡ spareOf (getD hs i 0)
+  pub counting-turn : {c' : List ℕ} (o w z : ℕ) → o ≡ getD c (2 * getD ps i 0 + 1) 0 → w ≡ weightOf (getD hs i 0)
+      → z ≡ spareOf (getD hs i 0)
       → c' ≡ sets c (2 * (i + 1)) ((t + w) % 256 ∷ (o + z) % 256 ∷ []) → 2 * (i + 1) + 2 ≤ length c → Counting fs c' (i + 1) (t + w)
   counting-turn o w z read weighs spares e room =
       record {

@@ -103,7 +103,8 @@ readable-of (f ∷ fs) s e zero h =
 readable-of (f ∷ fs) s e (suc i) h =
     let past : 6 * suc i ≡ length (f .readbacks) + 6 * i = omega (arith, s .0) in
     ap (λ (k : ℕ). anyBad (slotsIn (headerIn (getD (headsOf fs) i 0)) (take 6 (drop k (f .readbacks ++ readbacksOf fs))))) past
-    ∙ ap (λ (l : List ℕ). anyBad (slotsIn (headerIn (getD (headsOf fs) i 0)) (take 6 l))) (drop-append-add (f .readbacks) (readbacksOf fs) (6 * i))
+    ∙ ap (λ (l : List ℕ). anyBad (slotsIn (headerIn (getD (headsOf fs) i 0)) (take 6 l)))
+    (drop-append-add (f .readbacks) (readbacksOf fs) (6 * i))
     ∙ readable-of fs (s .1) (false-of-or (readbacksWrong f) (any readbacksWrong fs) e .1) i (omega arith)
 
 pub board-of-lists : (b : List ℕ) → boardNumber b ≡ 0

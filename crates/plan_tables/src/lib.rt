@@ -12,7 +12,7 @@ ghost use Rattle.board_record.specs.Function.{functionOfPart, headerWrong};
 ghost use Rattle.board.specs.Board.{boardNumber, functionsOf};
 ghost use Rattle.plan_sizing.specs.Functions.{headerIn, functionsIn};
 ghost use Rattle.plan_tables.specs.Tables.{headOf, Room, Put, Filled};
-ghost use Rattle.plan_tables.specs.Counts.{spareOf, weightOf, Countable, AllCounted};
+ghost use Rattle.plan_tables.specs.Counts.{spareOf, weightOf, mostTaken, Countable, AllCounted};
 use records::Next;
 
 // How many functions the board has. Function i has its parent record and its head at i, its six read-backs at 6 * i.
@@ -50,7 +50,7 @@ pub fn count_buses(parents: &[u16], heads: &[u32], counts: &mut [u8]) -> u32
     ensures { λ r. ⌜
         ((ss : List ℕ) → AllCounted (functionsIn (now (parents .entry)) (now (heads .entry)) ss) (now (counts .exit))
         (length (now (parents .entry))) r)
-        × (r ≤ 131072)
+        × (r ≤ mostTaken * mostFunctions)
         ⌝ }
 {
     put_counts(counts, 0, 0, 0);
@@ -100,9 +100,9 @@ fn head_of(part: &[u8]) -> u32
 
 // ---- the numbers that a function takes
 
-// A bridge's own and its spares.
+// A bridge's own and its spares, which are the uppermost byte of its head.
 fn weight(head: u32) -> u32
-    ensures { λ r. ⌜ (r ≡ weightOf head) × (r ≤ 256) ⌝ }
+    ensures { λ r. ⌜ (r ≡ weightOf head) × (r ≤ mostTaken) ⌝ }
 {
     if is_bridge(head) {
         1 + head / 256 / 65536

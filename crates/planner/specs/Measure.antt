@@ -20,7 +20,7 @@ use Rattle.plan_sizing.specs.Functions.{functionsIn}
 use Rattle.plan_sizing.specs.Memo.{laidAt, below}
 use Rattle.plan_sizing.specs.Board.{Board, basesOf, BoardSized}
 use Rattle.plan_tables.specs.Tables.{Room}
-use Rattle.plan_tables.specs.Counts.{Counted, Countable, AllCounted}
+use Rattle.plan_tables.specs.Counts.{mostTaken, Counted, Countable, AllCounted}
 use Rattle.plan_pass.specs.StepLaws.{RecordAt}
 use Rattle.planner.specs.declared.Measured.{Measured}
 
@@ -47,7 +47,7 @@ pub record Measurable (ps hs ss : List ℕ) (n : ℕ) (counts memo : List ℕ) :
 pub record CountedAndSized (ps hs ss : List ℕ) (n : ℕ) (h : Host) (counts memo counts' memo' : List ℕ) (m : Measured) : Type 0 where
   pub functions : m .functions ≡ n
   pub counted : (xs : List ℕ) → AllCounted (functionsIn (take n ps) (take n hs) xs) counts' (length (take n ps)) (m .bridges)
-  pub few-buses : m .bridges ≤ 131072
+  pub few-buses : m .bridges ≤ mostTaken * mostFunctions
   pub counts-kept : length counts' ≡ length counts
   pub sized : BoardSized (functionsIn (take n ps) (take n hs) (take (6 * n) ss)) (basesOf (h .low .base) (h .high .base) (h .io .base))
       memo memo' (m .root)
@@ -58,7 +58,7 @@ pub record IsMeasured (b counts memo : List ℕ) (m : Measured) : Type 0 where
   pub functions : m .functions ≡ length (functionsOf b)
   pub bridges-are : m .bridges ≡ bridges (toPlacing (functionsOf b))
   pub root : m .root ≡ cut (busLaid (toPlacing (functionsOf b)) 0 (rootLaid (toHost (hostOf b))))
-  pub few-buses : m .bridges ≤ 131072
+  pub few-buses : m .bridges ≤ mostTaken * mostFunctions
   pub counts-room : 2 * length (functionsOf b) + 2 ≤ length counts
   pub counted : Counted (toPlacing (functionsOf b)) counts (length (functionsOf b))
   pub memo-room : 7 * length (functionsOf b) ≤ length memo

@@ -6,6 +6,7 @@ ghost use lib.ListN.{length};
 ghost use Rattle.records.specs.Limits.{mostFunctions};
 ghost use Rattle.board.specs.Board.{boardNumber, hostOf, functionsOf};
 ghost use Rattle.plan_answer.specs.Plan.{onBoard, planning, sheetAs, sheetAfter};
+ghost use Rattle.plan_tables.specs.Counts.{mostTaken};
 ghost use Rattle.planner.specs.Measure.{runsOut, refusalBy, Measurable, CountedAndSized, IsMeasured};
 use board_record::Host;
 use board_record::Span;
@@ -108,7 +109,7 @@ fn count_and_size(
 
 // The number of what runs out first: bus numbers, then the low, high and I/O pool. 0 where nothing does.
 fn refusal(host: Host, m: Measured) -> u8
-    requires { ⌜ m .bridges ≤ 131072 ⌝ }
+    requires { ⌜ m .bridges ≤ mostTaken * mostFunctions ⌝ }
     ensures { λ r. ⌜ r ≡ refusalBy host m ⌝ }
 {
     if (host.last_bus as u32) < host.first_bus as u32 + m.bridges {

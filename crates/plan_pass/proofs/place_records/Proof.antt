@@ -88,7 +88,9 @@ write-next-requires c κs =
       (
         subst (λ (f : Function). Placeable (args .first) (args .counts .now) (loop .cursors) f) (sym (function-at .ensures))
             (turn-placeable pre (loop .inv) _ e),
-        subst (λ (f : Function). isBridge f ≡ true → Bridged (args .first) (args .counts .now) (args .memo .now) (loop .cursors) (loop .i) (f .parent))
+        subst
+            (λ (f : Function). isBridge f ≡ true
+            → Bridged (args .first) (args .counts .now) (args .memo .now) (loop .cursors) (loop .i) (f .parent))
             (sym (function-at .ensures)) (turn-bridged pre (loop .inv) _ e),
       ),
       turn-room

@@ -1,29 +1,23 @@
+-- `plan_tables::over_at` meets its contract. Assumes nothing.
 use borrow.Author.Needs.{needs}
 use Rattle.plan_tables.proofs.over_at.Statement.{statement}
 use Rattle.plan_tables.proofs.over_at.Tie as tie
-use Rattle.plan_tables.proofs.over_at.Reads as reads
-use Rattle.plan_tables.proofs.over_at.Lts as lts
 use mathlib.Core.Path.{refl}
 use Prim.Native.Nat.{_+_, _*_}
 use native.Mathlib.Omega.{arith}
 
--- src/lib.rt:128:12
 mul-result : tie.Need-mul-result
 mul-result c = search needs
 
--- src/lib.rt:128:12
 add-result : tie.Need-add-result
 add-result c = search needs
 
--- src/lib.rt:128:5
 shared-slice-read-result : tie.Need-shared-slice-read-result
 shared-slice-read-result c = search needs
 
--- src/lib.rt:128:5
 cast-result : tie.Need-cast-result
 cast-result c = omega (arith, c .shared-slice-known .given (2 * c .before .args .k + 1))
 
--- src/lib.rt:124:1
 returns : tie.Need-returns
 returns c = (refl, omega (arith, c .shared-slice-known .given (2 * c .before .args .k + 1)))
 

@@ -1,25 +1,19 @@
+-- `plan_tables::weight` meets its contract. Assumes nothing.
 use borrow.Author.Needs.{needs}
 use Rattle.plan_tables.proofs.weight.Statement.{statement}
 use Rattle.plan_tables.proofs.weight.Tie as tie
-use Rattle.plan_tables.proofs.weight.Reads as reads
-use Rattle.plan_tables.proofs.weight.Lts as lts
-use Rattle.plan_tables.proofs.is_bridge.Reads as is-bridge-reads
 use mathlib.Core.Path.{sym, _∙_}
 use native.Mathlib.Omega.{arith}
 
--- src/lib.rt:107:8
 is-bridge-requires : tie.Need-is-bridge-requires
 is-bridge-requires c κs = search needs
 
--- src/lib.rt:107:26
 add-result : tie.Need-add-result
 add-result c = search needs
 
--- src/lib.rt:104:1
 returns : tie.Need-returns
 returns c = (rw (sym (c .before .is-bridge .ensures) ∙ c .if1 .taken) (omega arith), omega arith)
 
--- src/lib.rt:104:1
 returns-2 : tie.Need-returns-2
 returns-2 c = (rw (sym (c .before .is-bridge .ensures) ∙ c .if1 .left), omega arith)
 
