@@ -18,6 +18,8 @@ pub mod AboveLaws
 pub mod DeliveryLaws
 pub mod NestedAndApart
 pub mod RefusedExactly
+pub mod SpareBuses
+pub mod SpareBusesLaws
 pub mod SpareRoom
 pub mod SpareRoomLaws
 pub mod Ids

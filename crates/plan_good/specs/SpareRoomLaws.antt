@@ -3,8 +3,8 @@
 use mathlib.Core.Path.{_≡_, refl, sym, ap, subst, _∙_}
 use mathlib.Core.Logic.{_⊎_, inl, inr, ⊎-elim}
 use mathlib.Core.Bool.{Bool, true, false, cond, true≢false}
-use mathlib.Core.List.{List, [], _∷_, _++_, map, append-nil, Memᴰ·map, Memᴰ·of-map}
-use Prim.Native.Nat.{ℕ, zero, suc, _+_, _-_, _*_, _≤_, _<_}
+use mathlib.Core.List.{List, [], _∷_, _++_, map, append-nil, cons≢nil, Memᴰ·map, Memᴰ·of-map}
+use Prim.Native.Nat.{ℕ, zero, suc, _+_, _-_, _*_, _≤_, _<_, max}
 use native.Mathlib.Nat.{add-zero, mul-mod-left}
 use native.Mathlib.Omega.{arith}
 use lib.Dec.{eqb}
@@ -24,9 +24,11 @@ use Rattle.plan_rule.specs.PoolLaws.{granule-power, is-on-of-on}
 use Rattle.plan_rule.specs.Records.{Host, Function, DepthFirst, Sized, Lawful}
 use Rattle.plan_rule.specs.RecordLaws.{IsAt, ordered-from}
 use Rattle.plan_rule.specs.Layout.{Piece, Placed, endOf, isWindow, isOn, isPlacedOn, select, selectPlaced, layout, layoutEnd}
+use Rattle.plan_rule.specs.Layout.{largestAlign}
 use Rattle.plan_rule.specs.LayoutLaws.{Within, shift, HasAlign, layout-within, layout-end-append}
-use Rattle.plan_rule.specs.Pieces.{windowSize, windowOver, spareIf, sparePieces, contentOf, barPieces, windowPieces, ownPieces, pieces}
-use Rattle.plan_rule.specs.PieceLaws.{WindowOf, Own, BarsSized, own-pieces, Shaped, has-align, pieces-shaped}
+use Rattle.plan_rule.specs.Pieces.{windowSize, windowAlign, windowOver, sparePiece, spareIf, sparePieces, contentOf, barPieces}
+use Rattle.plan_rule.specs.Pieces.{windowPieces, ownPieces, pieces}
+use Rattle.plan_rule.specs.PieceLaws.{WindowOf, SizedBy, Own, BarsSized, own-pieces, Shaped, has-align, pieces-shaped}
 use Rattle.plan_rule.specs.Placing.{placed}
 use Rattle.plan_rule.specs.Placed.{Holds, WellPlaced, well-placed}
 use Rattle.plan_rule.specs.ExtentLaws.{select-skip}
@@ -42,7 +44,8 @@ use Rattle.plan_rule.specs.Numbering.{busNumber}
 use Rattle.plan_good.specs.Boards.{Board}
 use Rattle.plan_good.specs.Delivery.{BarHolds}
 use Rattle.plan_good.specs.NestedAndApart.{Siblings, NestedAndApart, planned-nested-and-apart}
-use Rattle.plan_good.specs.SpareRoom.{roomOf, LowWindow, contentEnd, RoomKept, InSpareRoom, NobodyThere}
+use Rattle.plan_good.specs.SpareRoom.{roomOf, LowWindow, onBus, contentEnd, OpenExactly, RoomKept, InSpareRoom, InGap}
+use Rattle.plan_good.specs.SpareRoom.{NobodyAt}
 
 -- ---- a window over a content and spare room: the room is added to the rounded end
 
@@ -70,6 +73,38 @@ window-size-spare k n rest = go (eqb n 0) refl
         ap (alignUp (granule low)) (layout-end-append 0 xs (spareIf false k n))
         ∙ align-up-of-multiple (granule low) (pos-of-power (granule-power low))
         (alignUp (granule low) (layoutEnd 0 xs) + n * granule low) (rounded-multiple (layoutEnd 0 xs) n)
+
+-- and it changes no alignment
+largest-align-append : (xs : List Piece) (p : Piece) → largestAlign (xs ++ (p ∷ [])) ≡ max (largestAlign xs) (p .align)
+unfolding largestAlign
+largest-align-append [] p = omega arith
+largest-align-append (x ∷ xs) p = omega (arith, largest-align-append xs p)
+
+window-align-spare : (k n : ℕ) (rest : List Piece)
+    → windowAlign low (largestAlign (contentOf k n low rest)) ≡ windowAlign low (largestAlign (select k low rest))
+window-align-spare k n rest = go (eqb n 0)
+  where
+    xs : List Piece
+    xs = select k low rest
+
+    go : (t : Bool) → windowAlign low (largestAlign (xs ++ spareIf t k n)) ≡ windowAlign low (largestAlign xs)
+    go true = ap (λ (l : List Piece). windowAlign low (largestAlign l)) (append-nil xs)
+    go false = omega (arith, largest-align-append xs (sparePiece k n))
+
+-- there is something where there is spare room or content, and nothing else
+none-of-append : (xs ys : List Piece) → xs ++ ys ≡ [] → (xs ≡ []) × (ys ≡ [])
+none-of-append [] ys e = (refl, e)
+none-of-append (x ∷ xs) ys e = absurd (cons≢nil e)
+
+spare-of-none : (k n : ℕ) → sparePieces k n low ≡ [] → n ≡ 0
+spare-of-none k n = go (eqb n 0) refl
+  where
+    go : (t : Bool) → eqb n 0 ≡ t → spareIf t k n ≡ [] → n ≡ 0
+    go true e h = eqb-true n 0 e
+    go false e h = absurd (cons≢nil h)
+
+content-of-none : (k n : ℕ) (rest : List Piece) → n ≡ 0 → select k low rest ≡ [] → contentOf k n low rest ≡ []
+content-of-none k n rest z e = ap (λ (m : ℕ). contentOf k m low rest) z ∙ append-nil (select k low rest) ∙ e
 
 -- ---- what is on a bridge's bus comes after it
 
@@ -131,14 +166,25 @@ module _ (h : Host) (fs : List Function) (lawful : Lawful fs) (i : ℕ) (f : Fun
       subst (λ (l : List Piece). w .piece ∈ l) mine-are (Memᴰ·map (λ (x : Placed). x .piece) kept) in
       all-elim (Own (suc i) f rest) (ownPieces (suc i) f rest) owned among
 
-  added : (w : Placed) → w ∈ placed h fs → LowWindow (suc i) w
-      → w .piece .size ≡ alignUp (granule low) (contentEnd fs (suc i)) + roomOf f
-  added w m v =
-      let o = own-of w m (v .owner-is) in
-      o .window-sized (v .is-window) .size-is
-      ∙ ap (λ (q : Pool). windowSize q (layoutEnd 0 (contentOf (suc i) (f .spareLow) q rest))) (v .pool-is)
-      ∙ window-size-spare (suc i) (f .spareLow) rest
-      ∙ ap (λ (l : List Piece). alignUp (granule low) (layoutEnd 0 l) + roomOf f) (sym on-bus)
+  module _ (w : Placed) (mw : w ∈ placed h fs) (v : LowWindow (suc i) w) where
+    sized-by : SizedBy (contentOf (suc i) (f .spareLow) low rest) (w .piece)
+    sized-by =
+        subst (λ (q : Pool). SizedBy (contentOf (suc i) (f .spareLow) q rest) (w .piece)) (v .pool-is)
+        (own-of w mw (v .owner-is) .window-sized (v .is-window))
+
+    added : w .piece .size ≡ alignUp (granule low) (contentEnd fs (suc i)) + roomOf f
+    added =
+        sized-by .size-is
+        ∙ ap (λ (q : Pool). windowSize q (layoutEnd 0 (contentOf (suc i) (f .spareLow) low rest))) (v .pool-is)
+        ∙ window-size-spare (suc i) (f .spareLow) rest
+        ∙ ap (λ (l : List Piece). alignUp (granule low) (layoutEnd 0 l) + roomOf f) (sym on-bus)
+
+    align-kept : w .piece .align ≡ windowAlign low (largestAlign (onBus fs (suc i)))
+    align-kept =
+        sized-by .align-is
+        ∙ ap (λ (q : Pool). windowAlign q (largestAlign (contentOf (suc i) (f .spareLow) low rest))) (v .pool-is)
+        ∙ window-align-spare (suc i) (f .spareLow) rest
+        ∙ ap (λ (l : List Piece). windowAlign low (largestAlign l)) (sym on-bus)
 
   -- ---- and nothing lies in it
 
@@ -170,38 +216,46 @@ module _ (h : Host) (fs : List Function) (lawful : Lawful fs) (i : ℕ) (f : Fun
         le-align-up (granule low) (pos-of-power (granule-power low)) (layoutEnd 0 content),
       )
 
+  pub room-kept : (w : Placed) → w ∈ placed h fs → LowWindow (suc i) w → RoomKept h fs (suc i) f w
+  room-kept w mw v =
+      record { added = added w mw v; align-kept = align-kept w mw v; free = λ x mx held. free w x mw mx v held }
+
   -- ---- it opens the window
 
-  window-there : (b : ℕ) (xs : List Piece) (p : Piece) → Some (WindowOf (suc i) low) (windowOver (suc i) b low (xs ++ (p ∷ [])))
-  window-there b [] p = inl (record { is-window = refl; owner-is = refl; pool-is = refl })
-  window-there b (x ∷ xs) p = inl (record { is-window = refl; owner-is = refl; pool-is = refl })
+  window-there : (b : ℕ) (xs : List Piece) → (xs ≡ [] → ⊥) → Some (WindowOf (suc i) low) (windowOver (suc i) b low xs)
+  window-there b [] some = absurd (some refl)
+  window-there b (x ∷ xs) some = inl (record { is-window = refl; owner-is = refl; pool-is = refl })
 
-  own-window : (f .spareLow ≡ 0 → ⊥) → Some (WindowOf (suc i) low) (ownPieces (suc i) f rest)
+  own-window : (contentOf (suc i) (f .spareLow) low rest ≡ [] → ⊥) → Some (WindowOf (suc i) low) (ownPieces (suc i) f rest)
   unfolding ownPieces windowPieces
   own-window some =
       some-right (WindowOf (suc i) low) (barPieces (suc i) (f .parent) (f .bars)) _
       (rw bridge
       (some-left (WindowOf (suc i) low) (windowOver (suc i) (f .parent) low (contentOf (suc i) (f .spareLow) low rest)) _
-      (go (eqb (f .spareLow) 0) refl)))
-    where
-      go : (t : Bool) → eqb (f .spareLow) 0 ≡ t
-          → Some (WindowOf (suc i) low) (windowOver (suc i) (f .parent) low (select (suc i) low rest ++ spareIf t (suc i) (f .spareLow)))
-      go true e = absurd (some (eqb-true (f .spareLow) 0 e))
-      go false e = window-there (f .parent) (select (suc i) low rest) _
+      (window-there (f .parent) (contentOf (suc i) (f .spareLow) low rest) some)))
 
-  opens : (f .spareLow ≡ 0 → ⊥) → Some (LowWindow (suc i)) (placed h fs)
+  placed-window : Some (WindowOf (suc i) low) (ownPieces (suc i) f rest) → Some (LowWindow (suc i)) (placed h fs)
   unfolding mine
-  opens some =
-      let (p, m, v) = member-of-some (WindowOf (suc i) low) (ownPieces (suc i) f rest) (own-window some) in
+  placed-window own =
+      let (p, m, v) = member-of-some (WindowOf (suc i) low) (ownPieces (suc i) f rest) own in
       let (x, kept, e) = Memᴰ·of-map (λ (y : Placed). y .piece) mine (subst (λ (l : List Piece). p ∈ l) (sym mine-are) m) in
       some-of-member (LowWindow (suc i)) (placed h fs)
       (keep-elim (λ y. eqb (y .piece .owner) (suc i)) (placed h fs) kept .0)
       (subst (WindowOf (suc i) low) (sym e) v)
 
-  pub room-kept : RoomKept h fs (suc i) f
-  room-kept = record { opens = opens; added = added; free = free }
+  pub open-exactly : OpenExactly h fs (suc i) f
+  open-exactly = (
+    λ s.
+        let (w, mw, v) = member-of-some (LowWindow (suc i)) (placed h fs) s in
+        ⊎-elim (λ (z : f .spareLow ≡ 0). inr (λ e. sized-by w mw v .filled (content-of-none (suc i) (f .spareLow) rest z (sym on-bus ∙ e))))
+        (λ n. inl n) (eq-or-ne (f .spareLow) 0),
+    λ s.
+        placed-window (own-window (λ e.
+        let both = none-of-append (select (suc i) low rest) (sparePieces (suc i) (f .spareLow) low) e in
+        ⊎-elim (λ n. n (spare-of-none (suc i) (f .spareLow) (both .1))) (λ n. n (on-bus ∙ both .0)) s)),
+  )
 
--- ---- no function has a BAR in it
+-- ---- no function has a BAR in a gap
 
 -- x holds the address
 record Has (a : ℕ) (x : Placed) : Type 0 where
@@ -319,26 +373,36 @@ module _ (h : Host) (fs : List Function) (board : Board h fs) (planned : refusal
           (⊎-elim (λ s. absurd (omega (arith, s .1, owner))) (λ s. inr (inr (s .0, omega (arith, s .1, v .falls)))))
           (before y (v .window) p (v .item) (omega (arith, v .falls)))
 
--- No function has a BAR in the spare room of a planned board's bridge
-pub nobody-there : (h : Host) (fs : List Function) → Board h fs → refusalOf h fs ≡ 0 → (i : ℕ) (f : Function) → IsAt fs i f → f .bridge ≡ true
-    → NobodyThere h fs (suc i) f
+-- A window's address that nothing on its bus holds is nobody's
+pub nobody-in-gap : (h : Host) (fs : List Function) → Board h fs → refusalOf h fs ≡ 0 → (k : ℕ) (w : Placed) → w ∈ placed h fs → LowWindow k w
+    → (a : ℕ) → InGap (placed h fs) w a → NobodyAt h fs a
 unfolding Related
-nobody-there h fs board planned i f at bridge w mw v a spare j held =
+nobody-in-gap h fs board planned k w mw v a gap j held =
     let (x, mx, b) = member-of-some (BarHolds memorySpace j a) (placed h fs) held in
-    let kept = room-kept h fs (board .lawful) i f at bridge in
     let bar : Item h fs board planned a x =
     record { among = mx; in-memory = b .in-space; has = record { from-start = b .from-start; before-end = b .before-end } } in
     let window : Item h fs board planned a w =
     record {
       among = mw;
       in-memory = ap (inSpace memorySpace) (v .pool-is);
-      has = record { from-start = spare .from-window; before-end = spare .in-window };
+      has = record { from-start = gap .from-start; before-end = gap .in-window };
     } in
     ⊎-elim
     (λ e. true≢false (sym (v .is-window) ∙ ap (λ (y : Placed). isWindow (y .piece .part)) (sym e) ∙ b .is-bar))
     (⊎-elim
     (λ s.
     let z = s .0 in
-    omega (arith, kept .free w (z .item) mw (z .among) v (z .holds), z .has .before-end, spare .from-content))
+    omega (arith, gap .not-held (z .item) (z .among) (z .holds) (z .has .from-start), z .has .before-end))
     (λ s. true≢false (sym (s .0 .holds .window .is-window) ∙ b .is-bar)))
     (related h fs board planned a (suc (x .piece .bus + w .piece .bus)) x w bar window (omega arith))
+
+-- Spare room is such a gap
+pub gap-of-spare : (h : Host) (fs : List Function) → Lawful fs → (i : ℕ) (f : Function) → IsAt fs i f → f .bridge ≡ true
+    → (w : Placed) → w ∈ placed h fs → LowWindow (suc i) w → (a : ℕ) → InSpareRoom f w a → InGap (placed h fs) w a
+gap-of-spare h fs lawful i f at bridge w mw v a spare =
+    let kept = room-kept h fs lawful i f at bridge w mw v in
+    record {
+      from-start = omega (arith, kept .added, spare .from-content);
+      in-window = spare .in-window;
+      not-held = λ x mx held l. omega (arith, kept .free x mx held, spare .from-content);
+    }
