@@ -86,6 +86,8 @@ enum cartsundial_number {
     CARTSUNDIAL_CONTESTED = 41,        /* two claims to it on one bus */
     CARTSUNDIAL_CONFIG_TYPE = 42,      /* configuration type 0 for another bus than the root bus, or type 1 for the root bus */
     CARTSUNDIAL_UPWARD = 43,           /* a message that only travels up: routing 0, to the root complex, or 5, gathered on the way there */
+    CARTSUNDIAL_NOT_MASTER = 44,       /* from a card: it, or a bridge on its way up, is no bus master (command bit 2) */
+    CARTSUNDIAL_NO_START = 45,         /* from a card: no type 0 function's record, or no memory or I/O request */
     CARTSUNDIAL_BUS_TREE = 50,         /* audit: first record not on the host's first bus; not one bridge to a bus; a bridge's buses */
     CARTSUNDIAL_PLACE = 51,            /* audit: a BAR or open window outside the window above, or the pool, of its kind */
     CARTSUNDIAL_OVERLAP = 52           /* audit: two BARs or open windows of one space overlap on a bus */
@@ -254,6 +256,27 @@ uint32_t cartsundial_command(uint8_t *sheet, size_t sheet_len, uint32_t id, uint
  */
 uint32_t cartsundial_route(const uint8_t *header, size_t header_len, const uint8_t *sheet, size_t sheet_len,
                            uint64_t *answer, size_t answer_len);
+
+/*
+ * Walks a memory or I/O request that starts at a type 0 function of the sheet, a card that writes or reads by itself. record: that
+ * function's record, from 1 on. The answer has CARTSUNDIAL_ROUTE_NUMBERS numbers, the packet unchanged.
+ *
+ *     goes to                      answer[0]            answer[1]
+ *     one function                 its record, from 1   bridges crossed, up and down together
+ *     the host                     0                    bridges crossed upward
+ *
+ * On each bus BARs and windows claim the address as for cartsundial_route; where none does, the request goes up through the bridge whose
+ * secondary bus it is on, and from the root bus, which is the first record's, to the host.
+ * Refused, in this order: the header's number, 1 to 9, before the sheet is read; the sheet's number, 20 to 29; 45 for a record that is no
+ * type 0 function of the sheet (0, and any above its functions) or a packet that is no memory or I/O request, messages too; 44 where the
+ * function is no bus master; 40 for an address in one of its own BARs; then on the way 41 for two claims on a bus or two bridges above
+ * it, 40 where no bridge is above or one of its windows holds the address, enabled or not, 44 where that bridge is no bus master; 40 or
+ * 41 on the way down; and 11 for fewer numbers than the answer has.
+ * Over a sheet that cartsundial_audit accepts, and so over a planned one, it is never 41, and over a planned one at most 64 bridges are
+ * crossed. Both are proved.
+ */
+uint32_t cartsundial_route_from(uint32_t record, const uint8_t *header, size_t header_len, const uint8_t *sheet, size_t sheet_len,
+                                uint64_t *answer, size_t answer_len);
 
 /* ---- routing by an index ---- */
 
