@@ -2,7 +2,7 @@
 -- capi_answers). Assumes nothing.
 use Prim.Native.Nat.{ℕ, zero, suc, _+_, _*_, _<_}
 use native.Mathlib.Omega.{arith}
-use mathlib.Core.Path.{_≡_, refl}
+use mathlib.Core.Path.{_≡_, refl, subst}
 use mathlib.Core.Bool.{Bool, true, false, cond, _||_}
 use mathlib.Core.List.{List, [], _∷_}
 use lib.ListN.{length, getD}
@@ -32,9 +32,7 @@ use Rattle.tlp.specs.Reading.{judged, readAs, readPair, readOf}
 use Rattle.tlp.specs.declared.Writing.the-variants.{Written, Refused as NotWritten}
 use Rattle.tlp_layout.specs.Layout.{size}
 use Rattle.tlp.specs.Writing.{writeAs, writeOf}
-use Rattle.walk.specs.Registers.{bar, window}
-use Rattle.walk.specs.Tally.{Tally, none, one, several}
-use Rattle.walk.specs.Walk.{Outcome, delivered, refused, noOwner, settle, walkOver, walkFrom}
+use Rattle.walk.specs.Walk.{Outcome, delivered, refused, noOwner, walkFrom}
 use Rattle.sheet.specs.declared.Found.{Found}
 use Rattle.sheet.specs.declared.Found.the-variants.{At, Nothing}
 use Rattle.sheet.specs.declared.RecordId.{RecordId}
@@ -73,6 +71,8 @@ use Rattle.trace_numbers.specs.NumbersLaws.{NumberedParsed as NumberedParsedSta
 use Rattle.capi_answers.specs.Answers.{refuses, gives}
 use Rattle.capi_answers.specs.AnswersLaws.{Numbered}
 use Rattle.capi_trace.specs.Calls.{onLines, pieceOn, pieceAnswer, endOn, endAnswer}
+use Rattle.capi_cards.specs.Calls.{sendAnswer}
+use Rattle.capi_cards.specs.Numbered.{NumberedOutcome, numbered-walk, numbered-sending}
 use Rattle.capi.specs.Calls.{onReading, readAnswer, onWriting, onParsed, writeAnswer, onLookup, lookupAnswer}
 use Rattle.capi_find.specs.Calls.{onRouting, findAnswer}
 use Rattle.capi.specs.Calls.{onRecordId, idAnswer, routeAnswer}
@@ -242,18 +242,9 @@ abbrev NumberedRouting : (ℕ → List ℕ) → Routing → Type 0
 NumberedRouting list r = Numbered (onRouting r list)
 
 module _ (list : ℕ → List ℕ) where
-  numbered-walk : (n : ℕ) (p : Packet) (tally : ℕ → Tally) (bus crossed : ℕ)
-      → NumberedRouting list (answer p (walkOver n tally bus crossed))
-  unfolding walkOver
-  numbered-walk zero p tally bus crossed = omega arith
-  numbered-walk (suc n) p tally bus crossed = go (tally bus) (λ b. numbered-walk n p tally b (crossed + 1))
-    where
-      go : (t : Tally) → ((b : ℕ) → NumberedRouting list (answer p (walkOver n tally b (crossed + 1))))
-          → NumberedRouting list (answer p (settle t crossed (λ b. walkOver n tally b (crossed + 1))))
-      go none h = omega arith
-      go several h = omega arith
-      go (one (bar k)) h = tt
-      go (one (window k secondary)) h = h secondary
+  numbered-outcome : (p : Packet) (o : Outcome) → NumberedOutcome o → NumberedRouting list (answer p o)
+  numbered-outcome p (delivered number count) h = tt
+  numbered-outcome p (refused n) h = h
 
   module _ (functions bus : ℕ) (outcome : Aim → Outcome) (p : Packet)
       (aimed : (aim : Aim) → NumberedRouting list (answer p (outcome aim))) where
@@ -275,7 +266,7 @@ unfolding fromSheet routePacket from42 walkFrom
 numbered-from-sheet p s =
     let list : ℕ → List ℕ = λ n. listOf s in
     let walks : (aim : Aim) → NumberedRouting list (answer p (walked aim s (root s) 0)) =
-    λ aim. numbered-walk list 256 p (tallyFor aim s) (root s) 0 in
+    λ aim. numbered-outcome list p (walked aim s (root s) 0) (numbered-walk 256 (tallyFor aim s) (root s) 0) in
     let routed = numbered-over list (length (nodesOf s)) (root s) (λ aim. walked aim s (root s) 0) p walks in
     unless-zero (NumberedRouting list) (sheetNumber s) (routePacket p s) (NotDelivered (sheetNumber s)) routed (λ h. h)
 
@@ -316,6 +307,12 @@ numbered-find header ix = go (readOf header) (numbered-read header)
     go : (r : Reading) → NumberedReading r → NumberedRouting (counted 1) (searchReading r ix)
     go (Accepted p) h = numbered-search p ix
     go (NotRead n) h = h
+
+-- ## Card to card
+
+pub numbered-route-from : (number : ℕ) (header sheet : List ℕ) → Numbered (sendAnswer number header sheet)
+numbered-route-from number header sheet =
+    numbered-sending number header sheet (λ n e. subst NumberedReading e (numbered-read header))
 
 -- ## Planning
 

@@ -12,6 +12,7 @@ ghost use Rattle.trace_line.specs.declared.Engine.the-variants.{Index};
 ghost use Rattle.trace_line.specs.Line.{lineOver};
 ghost use Rattle.trace_line.specs.Engine.{lineBy};
 ghost use Rattle.capi_answers.specs.Answers.{returned, filled, leftBeside};
+ghost use Rattle.capi_cards.specs.Calls.{sendAnswer};
 ghost use Rattle.capi_find.specs.Calls.{findAnswer};
 ghost use Rattle.capi_trace.specs.Calls.{pieceAnswer, stateLeft, linesLeft, endAnswer, endLeft};
 ghost use Rattle.capi.specs.Calls.{readAnswer, onWriting, writeAnswer, roomLeft, lookupAnswer, idAnswer, unownedOf};
@@ -142,6 +143,21 @@ pub extern "C" fn cartsundial_route(header: &[u8], sheet: &[u8], answer: &mut [u
         Routing::Port(p) => capi_answers::give_delivery(0, 0, p, answer),
         Routing::Refused(n) => n as u32,
     }
+}
+
+// Walks a request that starts at a function of the sheet, by its record number: the answer is that of a route, with the bridges crossed up
+// and down. What goes to the host has record 0 and the bridges crossed upward. A number that is no record, of any size, is 45.
+#[no_mangle]
+pub extern "C" fn cartsundial_route_from(
+    number: u32,
+    header: &[u8],
+    sheet: &[u8],
+    answer: &mut [u64],
+) -> u32
+    ensures { λ r. ⌜ r ≡ returned (sendAnswer number (now (header .entry)) (now (sheet .entry))) (now (answer .entry)) ⌝ }
+    ensures { λ _. ⌜ now (answer .exit) ≡ filled (sendAnswer number (now (header .entry)) (now (sheet .entry))) (now (answer .entry)) ⌝ }
+{
+    capi_cards::route_from(number, header, sheet, answer)
 }
 
 // Builds the index of a sheet that is accepted for a host record: the audit's number, then 11 where the slice is shorter than 1,024 bytes
