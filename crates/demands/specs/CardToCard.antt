@@ -102,6 +102,7 @@ pub record CardRouted (b : Board) (most : ℕ) (t header : List ℕ) (p : Packet
   -- "any other request gets 44, 40 or the host by these rules, never 41"
   pub halts-exactly : (sendNumber k header t ≡ 44) ↔ Unmastered b k
   pub else-no-owner : (sendNumber k header t ≡ 40) ↔ (((j : ℕ) → ¬ Sends b k j) × ¬ Leaves b k × ¬ Unmastered b k)
+  pub never-contested : ¬ (sendNumber k header t ≡ 41)
   pub nothing-else : ((j : ℕ) × SentTo k header t j)
       ⊎ (SentToHost k header t ⊎ ((sendNumber k header t ≡ 44) ⊎ (sendNumber k header t ≡ 40)))
 

@@ -157,6 +157,10 @@ module _ (b : Board) (depth most : ℕ) (t header : List ℕ) (p : Packet) (k : 
       go (inl same) = inr (inr (inr (ap sendingNumber (is ∙ ap (answer p) e) ∙ same)))
       go (inr same) = inr (inr (inl (ap sendingNumber (is ∙ ap (answer p) e) ∙ same)))
 
+  other-number : (_≡_ {A = ℕ} 41 noOwner) ⊎ (_≡_ {A = ℕ} 41 notMaster) → ⊥
+  other-number (inl e) = omega (arith, e)
+  other-number (inr e) = omega (arith, e)
+
   card-routed : CardRouted b most t header p sp address k
   card-routed =
       record {
@@ -180,6 +184,7 @@ module _ (b : Board) (depth most : ℕ) (t header : List ℕ) (p : Packet) (k : 
           λ e. unowned (number-iff 40 (omega arith) .0 e),
           λ (no-owner, no-host, no-halt). number-iff 40 (omega arith) .1 (a .else-no-owner no-owner no-host no-halt),
         );
+        never-contested = λ e. other-number (a .no-other-number 41 (number-iff 41 (omega arith) .0 e));
         nothing-else = one-of-four o refl;
       }
 

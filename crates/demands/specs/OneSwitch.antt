@@ -1,15 +1,17 @@
--- Document 02, E13, "One card's switch", in the request's sentences, over what the router and `sendingOf` answer on bytes. `one-switch` of
--- OneSwitchLaws proves it. Assumes nothing.
+-- Document 02, E13, "One card's switch", in the request's sentences, over what router, card-to-card router, annotator and index answer on
+-- bytes. `one-switch` of OneSwitchLaws proves it. Assumes nothing.
 use mathlib.Core.Path.{_≡_}
 use mathlib.Core.Logic.{_⊎_}
 use mathlib.Core.Bool.{true}
-use mathlib.Core.List.{List}
+use mathlib.Core.List.{List, _∷_, flatten}
 use Prim.Native.Nat.{ℕ, suc}
 use lib.ListN.{getD}
+use Rattle.endian.specs.Endian.{Bytes}
 use Rattle.packet.specs.declared.Packet.{Packet}
 use Rattle.tlp.specs.declared.Reading.the-variants.{Accepted as Read}
 use Rattle.tlp.specs.Reading.{readOf}
-use Rattle.lists.specs.Lists.{_∈_, Some}
+use Rattle.lists.specs.Lists.{_∈_, All, Some}
+use Rattle.records.specs.Records.{partsOf}
 use Rattle.pools.specs.declared.Space.{Space}
 use Rattle.walk.specs.Ranges.{Holds}
 use Rattle.walk.specs.Registers.{Registers}
@@ -20,8 +22,12 @@ use Rattle.sheet.specs.Commands.{SameButCommands}
 use Rattle.route.specs.Route.{root, routeOf}
 use Rattle.route_cards.specs.Sending.{masterOf, sendingOf}
 use Rattle.route_cards.specs.Search.{functionAt}
+use Rattle.index_search.specs.Search.{searchOf}
+use Rattle.index_build.specs.Build.{indexAfter}
 use Rattle.demands.specs.Demand3.{IsRequest}
 use Rattle.demands.specs.ById.{GoesById}
+use Rattle.demands.specs.Trace.{told}
+use Rattle.demands.specs.FastLabels.{IsBuilt}
 use Rattle.demands.specs.CardToCard.{IsCardRequest}
 
 -- "any two sheets that pass checks 20 to 29 and differ only in one function's command word": function k's, numbered from 1
@@ -37,6 +43,11 @@ pub record LiesIn (s : List ℕ) (sp : Space) (address k : ℕ) : Type 0 where
   pub number-is : function .node .number ≡ k
   pub holds-it : Some (λ r. Holds r address) (function .bars)
       ⊎ ((function .node .bridge ≡ true) × Some (λ r. Holds r address) (function .windows))
+
+-- a header stays clear of function k: it is no host request, a memory or I/O request or a message by address, for such an address
+abbrev pub StaysClear : List ℕ → ℕ → List ℕ → Type 0
+StaysClear s k header =
+    (p : Packet) (sp : Space) (address : ℕ) → readOf header ≡ Read p → IsRequest p sp address → ¬ LiesIn s sp address k
 
 -- the bridges that a request from function j goes up through on a sheet
 abbrev pub wentUp : List ℕ → Space → ℕ → ℕ → List ℕ
@@ -56,6 +67,15 @@ pub record OneSwitch : Type 0 where
   pub others-agree : (k : ℕ) (s t : List ℕ) → DifferAt k s t
       → (header : List ℕ) → ((p : Packet) (sp : Space) (address : ℕ) → readOf header ≡ Read p → ¬ IsRequest p sp address)
       → routeOf header t ≡ routeOf header s
+  -- so the annotator's lines agree for a trace whose headers all stay clear, in whatever pieces it comes
+  pub lines-agree : (k : ℕ) (s t : List ℕ) → DifferAt k s t
+      → (pieces : List (List ℕ)) → ((records : List ℕ) → flatten pieces ≡ 1 ∷ records → All (StaysClear s k) (partsOf records .parts))
+      → told t pieces ≡ told s pieces
+  -- and so do the searches by an index of each, for two sheets that the audit accepts
+  pub searches-agree : (k : ℕ) (s t : List ℕ) → DifferAt k s t → Bytes s → Bytes t
+      → (host host′ room room′ : List ℕ) → Bytes host → Bytes host′ → IsBuilt host s room → IsBuilt host′ t room′
+      → (header : List ℕ) → StaysClear s k header
+      → searchOf header (indexAfter host′ t room′) ≡ searchOf header (indexAfter host s room)
   -- "For E11, also exclude requests that start at that function or go up through it under either sheet."
   pub cards-agree : (k : ℕ) (s t : List ℕ) → DifferAt k s t
       → (j : ℕ) → ¬ (j ≡ k) → (header : List ℕ)

@@ -1,23 +1,26 @@
 -- Document 02, E13, is proved: no check and no register looks at a command word, so both sheets have the same registers; and by these only
 -- the bits of one function differ. Assumes nothing.
-use mathlib.Core.Path.{_≡_, refl, sym, ap, subst, _∙_}
+use mathlib.Core.Path.{_≡_, refl, sym, ap, ap₂, subst, _∙_}
 use mathlib.Core.Logic.{_⊎_, inl, inr}
-use mathlib.Core.Bool.{Bool, false, cond}
-use mathlib.Core.List.{List, map}
+use mathlib.Core.Bool.{Bool, true, false, cond}
+use mathlib.Core.List.{List, [], _∷_, _++_, map, flatten}
 use Prim.Native.Nat.{ℕ, suc, _-_, _/_, _%_}
 use native.Mathlib.Nat.{suc-ne-zero}
 use native.Mathlib.Omega.{arith}
 use lib.Dec.{eqb}
 use lib.ListN.{length, getD, List·getD-map}
-use borrow.Author.Tests.{eq-eqb}
+use borrow.Author.Tests.{eq-eqb, eqb-true, eqb-false}
+use Rattle.endian.specs.Endian.{Bytes}
+use Rattle.text.specs.Text.{ascii, decimal}
 use Rattle.pairs.specs.declared.MessageRouting.the-variants.{ToRoot, ByAddress, ById, Broadcast, Local, Gathered}
 use Rattle.packet.specs.declared.Packet.{Packet}
 use Rattle.packet.specs.declared.Packet.the-variants.{Memory, Io, Config, Completion, Message}
 use Rattle.tlp.specs.declared.Reading.{Reading}
 use Rattle.tlp.specs.declared.Reading.the-variants.{Accepted as Read, Refused as NotRead}
 use Rattle.tlp.specs.Reading.{readOf}
-use Rattle.lists.specs.Lists.{_∈_}
+use Rattle.lists.specs.Lists.{_∈_, All}
 use Rattle.lists.specs.ListLaws.{some-of-member}
+use Rattle.records.specs.Records.{partsOf}
 use Rattle.pools.specs.declared.Space.{Space}
 use Rattle.pools.specs.declared.Space.the-variants.{Memory as memorySpace, Io as ioSpace}
 use Rattle.walk.specs.Registers.{Node, Registers, rootOf, enabledIn}
@@ -48,10 +51,18 @@ use Rattle.route_cards.specs.Sending as sending
 use Rattle.route_cards.specs.Search.{functionAt, IsEnd}
 use Rattle.route_cards.specs.RecordLaws.{function-mem, function-elim, end-bridge, start-of-end}
 use Rattle.route_cards.specs.RequestLaws.{end-or-nowhere}
+use Rattle.trace.specs.Annotated.{numberAfter}
+use Rattle.trace_line.specs.Line.{labelOf, labelWith, lineWith, lineOver}
+use Rattle.index_search.specs.Search.{searchOf}
+use Rattle.index_build.specs.Build.{indexAfter}
 use Rattle.demands.specs.Demand3.{IsRequest}
 use Rattle.demands.specs.ById.{GoesById}
+use Rattle.demands.specs.Trace.{linesAfter, told, Annotates}
+use Rattle.demands.specs.TraceLaws.{trace-annotated}
+use Rattle.demands.specs.FastLabels.{IsBuilt}
+use Rattle.demands.specs.FastLabelsLaws.{fast-labels}
 use Rattle.demands.specs.CardToCard.{IsCardRequest}
-use Rattle.demands.specs.OneSwitch.{DifferAt, LiesIn, wentUp, OneSwitch}
+use Rattle.demands.specs.OneSwitch.{DifferAt, LiesIn, StaysClear, wentUp, OneSwitch}
 
 -- ## What goes by an address
 
@@ -185,11 +196,10 @@ module _ (k : ℕ) (s t : List ℕ) (d : DifferAt k s t) where
       go Every e = refl
       go Port e = refl
 
-  routes-agree : (header : List ℕ)
-      → ((p : Packet) → readOf header ≡ Read p → (sp : Space) (address : ℕ) → IsRequest p sp address → ¬ LiesIn s sp address k)
-      → routeOf header t ≡ routeOf header s
+  -- what stays clear gets one answer: the law that all others come from
+  routes-agree : (header : List ℕ) → StaysClear s k header → routeOf header t ≡ routeOf header s
   unfolding routeOf fromSheet
-  routes-agree header outside = go (readOf header) refl
+  routes-agree header clear = go (readOf header) refl
     where
       go : (r : Reading) → readOf header ≡ r → fromReading r t ≡ fromReading r s
       go (NotRead n) e = refl
@@ -197,26 +207,76 @@ module _ (k : ℕ) (s t : List ℕ) (d : DifferAt k s t) where
           rw (eq-eqb (sheetNumber t) 0 passes, eq-eqb (sheetNumber s) 0 (d .passes)) (packet-agree p aimed)
         where
           aimed : (aim : Aim) → headingOf p ≡ Aimed aim → walked aim t (root t) 0 ≡ walked aim s (root s) 0
-          aimed (Address sp address) q = by-address sp address (outside p e sp address (request-of-aim p sp address q))
+          aimed (Address sp address) q = by-address sp address (clear p sp address e (request-of-aim p sp address q))
           aimed (Id id) q = by-id id
 
   host-agrees : (header : List ℕ) (p : Packet) → readOf header ≡ Read p → (sp : Space) (address : ℕ) → IsRequest p sp address
       → ¬ LiesIn s sp address k → routeOf header t ≡ routeOf header s
   host-agrees header p read sp address is outside =
-      routes-agree header (λ q e sp′ address′ is′ lies.
+      routes-agree header (λ q sp′ address′ e is′ lies.
       let same : p ≡ q = let x : Read p ≡ Read q = sym read ∙ e in cc in
       let one = one-address p sp sp′ address address′ is (subst (λ (z : Packet). IsRequest z sp′ address′) (sym same) is′) in
       outside (rw (one .0, one .1) lies))
 
   others-agree : (header : List ℕ) → ((p : Packet) (sp : Space) (address : ℕ) → readOf header ≡ Read p → ¬ IsRequest p sp address)
       → routeOf header t ≡ routeOf header s
-  others-agree header never = routes-agree header (λ p e sp address is lies. never p sp address e is)
+  others-agree header never = routes-agree header (λ p sp address e is lies. never p sp address e is)
 
   ids-agree : (header : List ℕ) (p : Packet) → readOf header ≡ Read p → (id : ℕ) → GoesById p id → routeOf header t ≡ routeOf header s
   ids-agree header p read id by =
       others-agree header (λ q sp address e is.
       let same : p ≡ q = let x : Read p ≡ Read q = sym read ∙ e in cc in
       not-by-both p id by sp address (subst (λ (z : Packet). IsRequest z sp address) (sym same) is))
+
+  -- ## The annotator and the index
+
+  line-agrees : (n : ℕ) (header : List ℕ) → routeOf header t ≡ routeOf header s → lineOver t n header ≡ lineOver s n header
+  unfolding lineOver lineWith labelWith
+  line-agrees n header e = ap (λ (r : Routing). decimal n ++ (labelOf (readOf header) r ++ ascii "\n")) e
+
+  records-agree : (n : ℕ) (headers : List (List ℕ)) → All (StaysClear s k) headers → linesAfter t n headers ≡ linesAfter s n headers
+  unfolding linesAfter
+  records-agree n [] clear = refl
+  records-agree n (header ∷ headers) (here, later) =
+      ap₂ _++_ (line-agrees (numberAfter n) header (routes-agree header here)) (records-agree (numberAfter n) headers later)
+
+  lines-agree : (pieces : List (List ℕ))
+      → ((records : List ℕ) → flatten pieces ≡ 1 ∷ records → All (StaysClear s k) (partsOf records .parts))
+      → told t pieces ≡ told s pieces
+  lines-agree pieces clear = go (flatten pieces) refl
+    where
+      over-t : Annotates t pieces
+      over-t = trace-annotated .annotates t pieces
+
+      over-s : Annotates s pieces
+      over-s = trace-annotated .annotates s pieces
+
+      framed : (records : List ℕ) → flatten pieces ≡ 1 ∷ records → (w : Bool) → partsOf records .whole ≡ w → told t pieces ≡ told s pieces
+      framed records e true w =
+          over-t .whole-trace records e w ∙ records-agree 0 (partsOf records .parts) (clear records e)
+          ∙ sym (over-s .whole-trace records e w)
+      framed records e false w =
+          over-t .cut-trace records e w
+          ∙ ap (λ (lines : List ℕ). lines ++ ascii "cut\n") (records-agree 0 (partsOf records .parts) (clear records e))
+          ∙ sym (over-s .cut-trace records e w)
+
+      by-version : (v : ℕ) (records : List ℕ) → flatten pieces ≡ v ∷ records → (b : Bool) → eqb v 1 ≡ b → told t pieces ≡ told s pieces
+      by-version v records e true q =
+          framed records (e ∙ ap (λ (n : ℕ). n ∷ records) (eqb-true v 1 q)) (partsOf records .whole) refl
+      by-version v records e false q =
+          over-t .other-version v records e (eqb-false v 1 q) ∙ sym (over-s .other-version v records e (eqb-false v 1 q))
+
+      go : (trace : List ℕ) → flatten pieces ≡ trace → told t pieces ≡ told s pieces
+      go [] e = over-t .no-trace e ∙ sym (over-s .no-trace e)
+      go (v ∷ records) e = by-version v records e (eqb v 1) refl
+
+  searches-agree : Bytes s → Bytes t → (host host′ room room′ : List ℕ) → Bytes host → Bytes host′ → IsBuilt host s room
+      → IsBuilt host′ t room′ → (header : List ℕ) → StaysClear s k header
+      → searchOf header (indexAfter host′ t room′) ≡ searchOf header (indexAfter host s room)
+  searches-agree bytes bytes′ host host′ room room′ host-bytes host-bytes′ built built′ header clear =
+      fast-labels .answers-equal host′ t room′ host-bytes′ bytes′ built′ header
+      ∙ routes-agree header clear
+      ∙ sym (fast-labels .answers-equal host s room host-bytes bytes built header)
 
   -- ## From a card
 
@@ -286,5 +346,7 @@ one-switch =
       host-agrees = host-agrees;
       ids-agree = ids-agree;
       others-agree = others-agree;
+      lines-agree = lines-agree;
+      searches-agree = searches-agree;
       cards-agree = cards-agree;
     }
