@@ -24,6 +24,8 @@ use Rattle.capi_answers.specs.Answers.{Answer, returned, filled}
 use Rattle.capi_answers.specs.AnswersLaws.{one-given, refused-keeps-slice}
 use Rattle.capi_trace.specs.Calls.{pieceAnswer, stateLeft, linesLeft, endAnswer, endLeft}
 use Rattle.capi_trace.specs.Refused.{refused-keeps-state, refused-keeps-lines, refused-keeps-last}
+use Rattle.capi_ledger.specs.Calls.{openAnswer, openLeft, completeAnswer, completeLeft}
+use Rattle.capi_ledger.specs.Refused.{refused-open-keeps, refused-complete-keeps}
 use Rattle.capi.specs.Calls.{onWriting, onParsed, writeAnswer, roomOf, roomLeft, word, commandNumber, commandLeft}
 use Rattle.capi.specs.Calls.{onPlanning, planAnswer, sheetLeft}
 
@@ -47,6 +49,9 @@ pub record RefusedKeeps : Type 0 where
       → ¬ (returned (pieceAnswer line state piece (length lines)) written ≡ 0) → linesLeft line state piece lines written ≡ lines
   pub end-lines : (state lines written : List ℕ) → ¬ (returned (endAnswer state (length lines)) written ≡ 0)
       → endLeft state lines written ≡ lines
+  -- the ledger of an opening and of a completion
+  pub opened-ledger : (header ledger : List ℕ) → ¬ (openAnswer header ledger ≡ 0) → openLeft header ledger ≡ ledger
+  pub completed-ledger : (header ledger : List ℕ) → ¬ (completeAnswer header ledger ≡ 0) → completeLeft header ledger ≡ ledger
 
 room-as : (p : Packet) (room : List ℕ) → roomAfter p room ≡ roomAs (writeOf p (length room)) p room
 unfolding roomAfter
@@ -109,4 +114,6 @@ refused-keeps =
       trace-state = refused-keeps-state;
       trace-lines = refused-keeps-lines;
       end-lines = refused-keeps-last;
+      opened-ledger = refused-open-keeps;
+      completed-ledger = refused-complete-keeps;
     }

@@ -15,6 +15,7 @@ ghost use Rattle.capi_answers.specs.Answers.{returned, filled, leftBeside};
 ghost use Rattle.capi_cards.specs.Calls.{sendAnswer};
 ghost use Rattle.capi_find.specs.Calls.{findAnswer};
 ghost use Rattle.capi_trace.specs.Calls.{pieceAnswer, stateLeft, linesLeft, endAnswer, endLeft};
+ghost use Rattle.capi_ledger.specs.Calls.{openAnswer, openLeft, completeAnswer, completeLeft, countAnswer};
 ghost use Rattle.capi.specs.Calls.{readAnswer, onWriting, writeAnswer, roomLeft, lookupAnswer, idAnswer, unownedOf};
 ghost use Rattle.capi.specs.Calls.{commandNumber, commandLeft, routeAnswer, planAnswer, sheetLeft};
 use packet::Packet;
@@ -255,6 +256,34 @@ pub extern "C" fn cartsundial_annotate_end(
     ensures { λ _. ⌜ now (written .exit) ≡ filled (endAnswer (now (state .entry)) (length (now (lines .entry)))) (now (written .entry)) ⌝ }
 {
     capi_trace::finish(state, lines, written)
+}
+
+// Opens the request of a header in a ledger, 256 numbers that the caller keeps, all zero at first: fewer are 11, tried first; any numbers
+// are a ledger. Then the header's number, 60, 61 or 62.
+#[no_mangle]
+pub extern "C" fn cartsundial_ledger_open(ledger: &mut [u64], header: &[u8]) -> u32
+    ensures { λ r. ⌜ r ≡ openAnswer (now (header .entry)) (now (ledger .entry)) ⌝ }
+    ensures { λ _. ⌜ now (ledger .exit) ≡ openLeft (now (header .entry)) (now (ledger .entry)) ⌝ }
+{
+    capi_ledger::open_request(ledger, header)
+}
+
+// Completes a request of a ledger by a header: 11 as above, then the header's number, 60, 63, 64 or 65.
+#[no_mangle]
+pub extern "C" fn cartsundial_ledger_complete(ledger: &mut [u64], header: &[u8]) -> u32
+    ensures { λ r. ⌜ r ≡ completeAnswer (now (header .entry)) (now (ledger .entry)) ⌝ }
+    ensures { λ _. ⌜ now (ledger .exit) ≡ completeLeft (now (header .entry)) (now (ledger .entry)) ⌝ }
+{
+    capi_ledger::complete_request(ledger, header)
+}
+
+// How many requests of a ledger are open.
+#[no_mangle]
+pub extern "C" fn cartsundial_ledger_count(ledger: &[u64], count: &mut [u64]) -> u32
+    ensures { λ r. ⌜ r ≡ returned (countAnswer (now (ledger .entry))) (now (count .entry)) ⌝ }
+    ensures { λ _. ⌜ now (count .exit) ≡ filled (countAnswer (now (ledger .entry))) (now (count .entry)) ⌝ }
+{
+    capi_ledger::count(ledger, count)
 }
 
 // ---- what the calls are made of

@@ -1,5 +1,6 @@
 -- Document 01's examples, the user's demands, what becomes of a packet that goes by ID, and of document 02 messages (E1), traces (E4),
--- the audit (E6), the index (E8), empty slots (E10), card to card (E11) and one card's switch (E13).
+-- the audit (E6), the index (E8), empty slots (E10), card to card (E11), open requests (E12) and one card's
+-- switch (E13).
 pub mod Examples
 pub mod Demand2
 pub mod Demand3
@@ -19,5 +20,7 @@ pub mod EmptySlots
 pub mod EmptySlotsLaws
 pub mod CardToCard
 pub mod CardToCardLaws
+pub mod OpenRequests
+pub mod OpenRequestsLaws
 pub mod OneSwitch
 pub mod OneSwitchLaws

@@ -30,7 +30,7 @@ use Rattle.ledger.specs.PlacesLaws.{key-in-less, left-in-less, is-read-l
 use Rattle.ledger.specs.Ledger.{classOf, keyFor, wordsAfter}
 use Rattle.ledger.specs.History.{Call, verdictOf, after, isOpened, isClosed, opened, closed}
 use Rattle.ledger.specs.History.{keyIs, keyBy}
-use Rattle.ledger.specs.OpenRequests.{Holds}
+use Rattle.ledger.specs.Standing.{Holds}
 use Rattle.ledger.specs.StepLaws.{Opens, Completes, Keeps, Step, opening, keeping, closing, refusing, step-of}
 
 -- ## Length and keys

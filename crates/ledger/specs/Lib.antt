@@ -1,4 +1,4 @@
--- The ledger of open requests, document 02's E12: words and places, the two calls, histories, and the request's sentences.
+-- The ledger of open requests, document 02's E12: words and places, the two calls, histories, and what stands open after them.
 pub mod Words
 pub mod WordsLaws
 pub mod PlacesLaws
@@ -6,9 +6,9 @@ pub mod Ledger
 pub mod LedgerLaws
 pub mod History
 pub mod Kinds
-pub mod OpenRequests
+pub mod Standing
 pub mod StepLaws
 pub mod HistoryLaws
 pub mod StandingLaws
-pub mod OpenRequestsLaws
+pub mod SentencesLaws
 pub mod Examples

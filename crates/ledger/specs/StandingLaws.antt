@@ -20,7 +20,7 @@ use Rattle.ledger.specs.PlacesLaws.{place-none}
 use Rattle.ledger.specs.Ledger.{wordsAfter}
 use Rattle.ledger.specs.History.{Call, opens, completes, headerOf, verdictOf, after, keyIs, keyBy, dwordsBy, succeedsBy}
 use Rattle.ledger.specs.History.{openerBy, deliveredBy, openerOf, delivered}
-use Rattle.ledger.specs.OpenRequests.{Holds}
+use Rattle.ledger.specs.Standing.{Holds}
 use Rattle.ledger.specs.StepLaws.{Opens, Completes, Keeps, Step, opening, keeping, closing, refusing, step-of}
 use Rattle.ledger.specs.HistoryLaws.{opens-holds, opens-key, key-not-zero, completes-key, completes-used, keeps-open}
 

@@ -1,9 +1,9 @@
-// The ledger of open requests, document 02's E12: 256 places, a word each, in an array that the caller keeps. A place is free, or holds a
-// non-posted request by its requester ID and tag until completions close it. Any 256 words are a ledger; 256 zeros are an empty one.
+// The ledger of open requests, document 02's E12: 256 places, a word each, that the caller keeps. A place is free, or holds a non-posted
+// request by its requester ID and tag until completions close it. Any 256 words are a ledger; 256 zeros are an empty one.
 ghost use mathlib.Core.Path.{_≡_};
 ghost use Prim.Native.Nat.{_<_, _≤_};
 ghost use lib.ListN.{length};
-ghost use Rattle.ledger.specs.Words.{keyOf, wordOf, leftIn, isRead, isConfig, isLocked, placeOf, inUse, usedBy, empty};
+ghost use Rattle.ledger.specs.Words.{keyOf, wordOf, keyIn, leftIn, isRead, isConfig, isLocked, placeOf, inUse, usedBy, empty};
 ghost use Rattle.ledger.specs.Ledger.{classOf, hasData, inLockedForm, differ, disagrees, onSuccess, settled, onCompletion, onRequest};
 ghost use Rattle.ledger.specs.Ledger.{Inside, openingOf, completingOf, numberOf, wordsAfter};
 ghost use Rattle.ledger.specs.Ledger.{openNumber, openAfter, completeNumber, completeAfter};
@@ -31,6 +31,7 @@ pub enum Class {
     Other,
 }
 
+// A ledger with no request open.
 pub fn start() -> [u64; 256]
     ensures { λ r. ⌜ r ≡ empty ⌝ }
 {
@@ -64,7 +65,9 @@ pub fn in_use(ledger: &[u64; 256]) -> usize
     count(ledger)
 }
 
-fn open_in(words: &mut [u64], header: &[u8]) -> u8
+// ---- the same on the words of a slice, which has as many places as words
+
+pub fn open_in(words: &mut [u64], header: &[u8]) -> u8
     ensures { λ r. ⌜
         (r ≡ openNumber (now (header .entry)) (now (words .entry)))
         × (now (words .exit) ≡ openAfter (now (header .entry)) (now (words .entry)))
@@ -74,7 +77,7 @@ fn open_in(words: &mut [u64], header: &[u8]) -> u8
     perform(words, v)
 }
 
-fn complete_in(words: &mut [u64], header: &[u8]) -> u8
+pub fn complete_in(words: &mut [u64], header: &[u8]) -> u8
     ensures { λ r. ⌜
         (r ≡ completeNumber (now (header .entry)) (now (words .entry)))
         × (now (words .exit) ≡ completeAfter (now (header .entry)) (now (words .entry)))
@@ -82,6 +85,18 @@ fn complete_in(words: &mut [u64], header: &[u8]) -> u8
 {
     let v = completing(words, header);
     perform(words, v)
+}
+
+pub fn count(words: &[u64]) -> usize
+    ensures { λ r. ⌜ r ≡ inUse (now (words .entry)) ⌝ }
+{
+    let mut n: usize = 0;
+    let mut i: usize = 0;
+    while i < words.len() {
+        n += used_by(words[i]);
+        i += 1;
+    }
+    n
 }
 
 // ---- verdicts
@@ -105,7 +120,7 @@ fn opening(words: &[u64], header: &[u8]) -> Verdict
 }
 
 // 61, then 62.
-fn open_word(words: &[u64], key: u64, word: u64) -> Verdict
+fn open_word(words: &[u64], key: u32, word: u64) -> Verdict
     ensures { λ r. ⌜ r ≡ onRequest key word (now (words .entry)) ⌝ }
 {
     if find(words, key) < words.len() {
@@ -138,7 +153,7 @@ fn completing(words: &[u64], header: &[u8]) -> Verdict
 }
 
 // 63, then what the word says.
-fn complete_word(words: &[u64], key: u64, k: CompletionKind, dwords: u16, status: u8) -> Verdict
+fn complete_word(words: &[u64], key: u32, k: CompletionKind, dwords: u16, status: u8) -> Verdict
     ensures { λ r. ⌜ r ≡ onCompletion key k dwords status (now (words .entry)) ⌝ }
 {
     let place = find(words, key);
@@ -258,21 +273,27 @@ fn in_locked_form(k: CompletionKind) -> bool
 
 // ---- words
 
-// A word is the key times this, and what is kept of the request: dwords to come in bits 13:3, its class in bits 2:0.
+// A word is the key times this, and what is kept of the request: dwords to come from bit 3 on, its class in bits 2:0.
 const HALF: u64 = 4294967296;
 
 // Requester ID and tag as one number, from 1 on: free places have the key 0.
-fn key_of(requester: u16, tag: u16) -> u64
-    ensures { λ r. ⌜ (r ≡ keyOf requester tag) × (r < 134217728) ⌝ }
+fn key_of(requester: u16, tag: u16) -> u32
+    ensures { λ r. ⌜ r ≡ keyOf requester tag ⌝ }
 {
-    (requester as u64) * 1024 + (tag as u64) + 1
+    (requester as u32) * 1024 + (tag as u32) + 1
 }
 
-fn word_of(key: u64, dwords: u16, class: u8) -> u64
-    requires { ⌜ key < 134217728 ⌝ }
+fn word_of(key: u32, dwords: u16, class: u8) -> u64
     ensures { λ r. ⌜ r ≡ wordOf key dwords class ⌝ }
 {
-    key * HALF + (dwords as u64) * 8 + (class as u64)
+    (key as u64) * HALF + (dwords as u64) * 8 + (class as u64)
+}
+
+// In 32 bits, as the search compares it.
+fn key_in(word: u64) -> u32
+    ensures { λ r. ⌜ r ≡ keyIn word ⌝ }
+{
+    (word / HALF) as u32
 }
 
 fn left_in(word: u64) -> u64
@@ -306,12 +327,12 @@ fn differ(a: bool, b: bool) -> bool
 }
 
 // The first place with the key, or how many places there are.
-fn find(words: &[u64], key: u64) -> usize
+fn find(words: &[u64], key: u32) -> usize
     ensures { λ r. ⌜ r ≡ placeOf key (now (words .entry)) ⌝ }
 {
     let mut i: usize = 0;
     while i < words.len() {
-        if words[i] / HALF == key {
+        if key_in(words[i]) == key {
             return i;
         }
         i += 1;
@@ -319,22 +340,10 @@ fn find(words: &[u64], key: u64) -> usize
     i
 }
 
-fn count(words: &[u64]) -> usize
-    ensures { λ r. ⌜ r ≡ inUse (now (words .entry)) ⌝ }
-{
-    let mut n: usize = 0;
-    let mut i: usize = 0;
-    while i < words.len() {
-        n += used_by(words[i]);
-        i += 1;
-    }
-    n
-}
-
 fn used_by(word: u64) -> usize
     ensures { λ r. ⌜ (r ≡ usedBy word) × (r ≤ 1) ⌝ }
 {
-    if word / HALF == 0 {
+    if key_in(word) == 0 {
         return 0;
     }
     1

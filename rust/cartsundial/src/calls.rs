@@ -1,4 +1,4 @@
-//! The library's thirteen calls as it has them: slices in, numbers out.
+//! The library's calls as it has them: slices in, numbers out.
 //!
 //! Each returns 0 or document 01's number. A refused call changes nothing that it was lent. An answer slice that is too
 //! short is 11, tried last; numbers past the answer's own are left as they were.
@@ -20,6 +20,10 @@ pub const ANY_ROUTE: usize = ROUTE + 512;
 /// How many numbers the state of a trace has, in [`annotate`] and [`annotate_end`]. All zero is a trace of which nothing
 /// was read yet.
 pub const TRACE: usize = 6;
+
+/// How many numbers a ledger of open requests has, in [`ledger_open`], [`ledger_complete`] and [`ledger_count`]. All zero is
+/// an empty one, and any numbers are a ledger.
+pub const LEDGER: usize = 256;
 
 /// What a call answers where its answer does not fit the slice for it: tried last, so it would have been accepted.
 pub const SHORT: u32 = 11;
@@ -106,6 +110,24 @@ mod c {
             lines_len: usize,
             written: *mut u64,
             written_len: usize,
+        ) -> u32;
+        pub fn cartsundial_ledger_open(
+            ledger: *mut u64,
+            ledger_len: usize,
+            header: *const u8,
+            header_len: usize,
+        ) -> u32;
+        pub fn cartsundial_ledger_complete(
+            ledger: *mut u64,
+            ledger_len: usize,
+            header: *const u8,
+            header_len: usize,
+        ) -> u32;
+        pub fn cartsundial_ledger_count(
+            ledger: *const u64,
+            ledger_len: usize,
+            count: *mut u64,
+            count_len: usize,
         ) -> u32;
     }
 }
@@ -276,4 +298,21 @@ pub fn annotate_end(state: &[u64], lines: &mut [u8], written: &mut [u64]) -> u32
             written.len(),
         )
     }
+}
+
+/// Opens the request of a header in the first [`LEDGER`] numbers of `ledger`. Fewer are 11, before anything else; then the
+/// header's number, 60, 61 or 62.
+pub fn ledger_open(ledger: &mut [u64], header: &[u8]) -> u32 {
+    unsafe { c::cartsundial_ledger_open(ledger.as_mut_ptr(), ledger.len(), header.as_ptr(), header.len()) }
+}
+
+/// Completes a request by a header, in the first [`LEDGER`] numbers of `ledger`. Fewer are 11, before anything else; then the
+/// header's number, 60, 63, 64 or 65.
+pub fn ledger_complete(ledger: &mut [u64], header: &[u8]) -> u32 {
+    unsafe { c::cartsundial_ledger_complete(ledger.as_mut_ptr(), ledger.len(), header.as_ptr(), header.len()) }
+}
+
+/// Writes to `count` how many requests are open in the first [`LEDGER`] numbers of `ledger`. Fewer are 11.
+pub fn ledger_count(ledger: &[u64], count: &mut [u64]) -> u32 {
+    unsafe { c::cartsundial_ledger_count(ledger.as_ptr(), ledger.len(), count.as_mut_ptr(), count.len()) }
 }

@@ -28,6 +28,7 @@
 //! | the same for many headers over one sheet | [`Index`] |
 //! | where a request goes that starts at a function: another function, the host | [`route_from`] |
 //! | a line for each header of a trace: in pieces, of a whole one | [`Annotator`], [`lines()`] |
+//! | which requests wait for completions, and what a completion belongs to | [`Ledger`] |
 //! | the same calls with numbers in place of types | [`calls`] |
 //!
 //! With the feature `std`, which is off unless asked for, `Labeller` is an annotator that implements `std::io::Write`, and
@@ -70,6 +71,7 @@ mod kind;
 mod label;
 #[cfg(feature = "std")]
 mod labeller;
+mod ledger;
 mod lines;
 mod packet;
 mod refusal;
@@ -88,6 +90,7 @@ pub use kind::{CompletionKind, ConfigurationKind, Form, IoKind, Kind, MemoryKind
 pub use label::{Label, Owner};
 #[cfg(feature = "std")]
 pub use labeller::Labeller;
+pub use ledger::{Asked, Completed, Ledger, OpenRequest};
 pub use lines::{lines, Line, Lines};
 pub use packet::{read, write, Packet};
 pub use refusal::Refusal;

@@ -90,7 +90,7 @@ impl Packet {
 
     /// The packet of a header that the library's reader accepted: its first 12 or 16 bytes.
     #[inline]
-    fn of_accepted(header: &[u8]) -> Packet {
+    pub(crate) fn of_accepted(header: &[u8]) -> Packet {
         let front = match header.first_chunk() {
             Some(&front) => front,
             // Under 16 bytes only the shorter form is accepted.

@@ -78,11 +78,24 @@ pub enum Refusal {
     Place = 51,
     /// Audit: two BARs or open windows of one space overlap on a bus.
     Overlap = 52,
+    /// Ledger: opened with anything but a non-posted request, or completed with anything but a completion.
+    LedgerKind = 60,
+    /// Ledger: a request with this requester and tag is open already.
+    AlreadyOpen = 61,
+    /// Ledger: 256 requests are open.
+    LedgerFull = 62,
+    /// Ledger: no request with this requester and tag is open.
+    NotOpen = 63,
+    /// Ledger: retry for a request that is not configuration; or a success with data for a write, without for a read, in the
+    /// locked form for any but MRdLk, or not in it for MRdLk.
+    Mismatch = 64,
+    /// Ledger: a success with more dwords than are still to come.
+    TooMuchData = 65,
 }
 
 impl Refusal {
     /// Every refusal, by rising number.
-    pub const ALL: [Refusal; 34] = [
+    pub const ALL: [Refusal; 40] = [
         Refusal::ShortHeader,
         Refusal::UnknownPair,
         Refusal::NotCarried,
@@ -117,6 +130,12 @@ impl Refusal {
         Refusal::BusTree,
         Refusal::Place,
         Refusal::Overlap,
+        Refusal::LedgerKind,
+        Refusal::AlreadyOpen,
+        Refusal::LedgerFull,
+        Refusal::NotOpen,
+        Refusal::Mismatch,
+        Refusal::TooMuchData,
     ];
 
     /// Document 01's number.
@@ -173,6 +192,12 @@ impl Refusal {
             Refusal::BusTree => "first record's bus, the bridge to a bus, or a bridge's buses",
             Refusal::Place => "a BAR or window outside the window or pool above",
             Refusal::Overlap => "two BARs or windows overlap on a bus",
+            Refusal::LedgerKind => "no non-posted request to open, or no completion",
+            Refusal::AlreadyOpen => "a request with this requester and tag is open",
+            Refusal::LedgerFull => "256 requests are open",
+            Refusal::NotOpen => "no request with this requester and tag is open",
+            Refusal::Mismatch => "a completion that the open request does not get",
+            Refusal::TooMuchData => "more dwords than are still to come",
         }
     }
 }

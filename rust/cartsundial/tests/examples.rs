@@ -189,7 +189,7 @@ fn refusals() {
     for refusal in Refusal::ALL {
         assert_eq!(Refusal::from_number(refusal.number().into()), Some(refusal));
     }
-    for number in [0, 12, 19, 34, 39, 44, 256 + 40] {
+    for number in [0, 12, 19, 34, 39, 49, 53, 66, 256 + 40] {
         assert_eq!(Refusal::from_number(number), None);
     }
     assert!(Refusal::ALL.is_sorted());

@@ -14,6 +14,7 @@ mod board;
 mod cards;
 mod index;
 mod label;
+pub mod ledger;
 mod packet;
 mod plan;
 mod pool;

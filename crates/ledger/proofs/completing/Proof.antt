@@ -61,7 +61,7 @@ returns-5 c =
     let told = c .before .before .before in
     let accepted = told .before .before .before in
     completing-accepted _ _ _ (accepted .before .before .read .ensures) _ (accepted .reading .given .1) _
-    (rw (told .p .given .1, ← c .before .key-of .ensures .0) (c .complete-word .ensures))
+    (rw (told .p .given .1, ← c .before .key-of .ensures) (c .complete-word .ensures))
 
 returns-6 : tie.Need-returns-6
 returns-6 c =

@@ -3,8 +3,9 @@
 use Rattle.ledger.proofs.find.Statement.{statement}
 use Rattle.ledger.proofs.find.Tie as tie
 use Prim.Native.Nat.{_+_, _-_, _≤_}
-use mathlib.Core.Path.{_≡_}
+use mathlib.Core.Path.{_≡_, sym, _∙_}
 use native.Mathlib.Omega.{arith}
+use borrow.Author.Needs.{needs}
 use lib.ListN.{length, drop}
 use Rattle.ledger.specs.Words.{placeOf}
 use Rattle.ledger.specs.WordsLaws.{find-hit, find-miss, find-end}
@@ -18,16 +19,19 @@ abbrev μ-loop : tie.MeasureT-loop
 loop-holds : tie.Need-loop-holds Inv-loop μ-loop
 loop-holds c = (omega arith, omega arith)
 
-mul-if1 : tie.Need-mul-if1 Inv-loop μ-loop
-mul-if1 c = omega arith
+mul-key-in : tie.Need-mul-key-in Inv-loop μ-loop
+mul-key-in c = omega arith
 
-shared-slice-read-if1 : tie.Need-shared-slice-read-if1 Inv-loop μ-loop
-shared-slice-read-if1 c = omega arith
+shared-slice-read-key-in : tie.Need-shared-slice-read-key-in Inv-loop μ-loop
+shared-slice-read-key-in c = omega arith
+
+key-in-requires : tie.Need-key-in-requires Inv-loop μ-loop
+key-in-requires c κs = search needs
 
 returns : tie.Need-returns Inv-loop μ-loop
 returns c =
-    let turn = c .before .before .before in
-    find-hit _ _ _ (turn .before .args .words .now) (omega arith) (turn .loop .inv .1) (c .if1 .taken)
+    let turn = c .before .before .before .before in
+    find-hit _ _ _ (turn .before .before .args .words .now) (omega arith) (turn .loop .inv .1) (sym (c .before .key-in .ensures) ∙ c .if1 .taken)
 
 add-i : tie.Need-add-i Inv-loop μ-loop
 add-i c = omega arith
@@ -37,11 +41,14 @@ loop-less c = omega arith
 
 loop-again : tie.Need-loop-again Inv-loop μ-loop
 loop-again c =
-    let turn = c .before .before .before in
-    (omega arith, find-miss _ _ _ (turn .before .args .words .now) (omega arith) (turn .loop .inv .1) (c .if1 .left))
+    let turn = c .before .before .before .before in (
+      omega arith,
+      find-miss _ _ _ (turn .before .before .args .words .now) (omega arith) (turn .loop .inv .1)
+          (λ same. c .if1 .left (c .before .key-in .ensures ∙ same)),
+    )
 
 returns-2 : tie.Need-returns-2 Inv-loop μ-loop
-returns-2 c = find-end _ _ _ (c .before .before .args .words .now) (omega arith) (c .before .loop .inv .1)
+returns-2 c = find-end _ _ _ (c .before .before .before .args .words .now) (omega arith) (c .before .loop .inv .1)
 
 pub find-spec : {M : Type 1} → statement M
 find-spec =
@@ -50,8 +57,9 @@ find-spec =
     Inv-loop
     μ-loop
     loop-holds
-    mul-if1
-    shared-slice-read-if1
+    mul-key-in
+    shared-slice-read-key-in
+    key-in-requires
     returns
     add-i
     loop-less

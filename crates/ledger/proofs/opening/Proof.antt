@@ -52,7 +52,7 @@ returns-2 c =
     let accepted = at-head .before .before in
     opening-accepted _ _ _ (accepted .before .before .read .ensures) _ (accepted .reading .given .1) _ _ _ _ (at-head .head-of .ensures)
     (at-class .before .kind-of .ensures) (at-class .class-of .ensures)
-    (rw (told .class .given .1, ← at-key .key-of .ensures .0, ← c .before .word-of .ensures) (c .open-word .ensures))
+    (rw (told .class .given .1, ← at-key .key-of .ensures, ← c .before .word-of .ensures) (c .open-word .ensures))
 
 returns-3 : tie.Need-returns-3
 returns-3 c =

@@ -1,91 +1,45 @@
 -- Document 02, E12, "Open request ledger", in the request's sentences, over the numbers and the words of the two calls. A history is a list
 -- of calls from empty on, the latest first; bytes are what a slice of u8 holds. That the numbers are "tried in that order" is the text of
--- Ledger.antt, and that the two calls do what it says on any words their contracts. `open-requests` of OpenRequestsLaws proves the rest.
--- Assumes nothing.
+-- ledger's Ledger.antt, and that the two calls do what it says on any words their contracts. `open-requests` of OpenRequestsLaws proves the
+-- rest. Assumes nothing.
 use mathlib.Core.Path.{_≡_}
 use mathlib.Core.Logic.{_↔_}
-use mathlib.Core.Bool.{Bool, true, false}
+use mathlib.Core.Bool.{true, false}
 use mathlib.Core.List.{List, _∷_}
 use Prim.Native.Nat.{ℕ, _+_, _≤_, _<_}
 use lib.ListN.{getD}
 use Rattle.endian.specs.Endian.{Bytes}
-use Rattle.lists.specs.Lists.{All}
-use Rattle.pairs.specs.declared.Kind.{Kind}
 use Rattle.pairs.specs.declared.CompletionKind.{CompletionKind as Completing}
 use Rattle.packet.specs.declared.Head.{Head}
 use Rattle.packet.specs.declared.Outcome.{Outcome}
 use Rattle.packet.specs.declared.Packet.{Packet}
-use Rattle.packet.specs.declared.Packet.the-variants.{Completion}
 use Rattle.packet.specs.Fields.{kindOf, headOf}
-use Rattle.tlp.specs.declared.Reading.the-variants.{Accepted, Refused as Unread}
+use Rattle.tlp.specs.declared.Reading.the-variants.{Accepted, Refused as NotRead}
 use Rattle.tlp.specs.Reading.{readOf}
-use Rattle.ledger.specs.declared.Class.the-variants.{NonPosted, Other}
+use Rattle.ledger.specs.declared.Class.the-variants.{Other}
 use Rattle.ledger.specs.declared.Verdict.the-variants.{Opened, Closed}
-use Rattle.ledger.specs.Kinds.{kindCompletes, kindReads, kindConfigures, kindLocks}
-use Rattle.ledger.specs.Words.{keyIn, leftIn, isRead, isConfig, isLocked, placeOf, inUse}
-use Rattle.ledger.specs.Ledger.{numberOf, wordsAfter, classOf, keyFor, mismatch, openingOf, completingOf}
+use Rattle.ledger.specs.Kinds.{kindCompletes, kindReads}
+use Rattle.ledger.specs.Words.{keyIn, leftIn, inUse}
+use Rattle.ledger.specs.Ledger.{numberOf, wordsAfter, classOf, keyFor, openingOf, completingOf}
 use Rattle.ledger.specs.Ledger.{openNumber, completeNumber, completeAfter}
-use Rattle.ledger.specs.History.{Call, completes, headerOf, verdictOf, after, opened, closed, openerOf, delivered, keyIs}
-
-abbrev pub Headers : List Call → Type 0
-Headers cs = All (λ c. Bytes (headerOf c)) cs
-
-abbrev pub IsUsed : List ℕ → ℕ → Type 0
-IsUsed ws i = keyIn (getD ws i 0) ≡ 0 → ⊥
-
--- some place holds the key
-abbrev pub IsOpen : ℕ → List ℕ → Type 0
-IsOpen key ws = (i : ℕ) × (keyIn (getD ws i 0) ≡ key)
-
-abbrev pub IsNew : ℕ → List ℕ → Type 0
-IsNew key ws = IsOpen key ws → ⊥
-
--- the header is a non-posted request
-pub record Asks (s : List ℕ) (p : Packet) : Type 0 where
-  pub class : ℕ
-  pub read : readOf s ≡ Accepted p
-  pub non-posted : classOf (kindOf p) ≡ NonPosted class
-
--- the header is a completion
-abbrev pub Answers : List ℕ → Completing → Head → Outcome → Type 0
-Answers s k h o = readOf s ≡ Accepted (Completion k h o)
-
--- an open request's word: it says what the header asked for by which it was opened, and of its Length what has not been delivered since
-pub record Holds (w : ℕ) (opener : List ℕ) (given : ℕ) : Type 0 where
-  pub packet : Packet
-  pub read : readOf opener ≡ Accepted packet
-  pub key : keyIn w ≡ keyIs packet
-  pub reads : isRead w ≡ kindReads (kindOf packet)
-  pub configures : isConfig w ≡ kindConfigures (kindOf packet)
-  pub locks : isLocked w ≡ kindLocks (kindOf packet)
-  pub left : leftIn w + given ≡ headOf packet .length
-  pub some : 1 ≤ leftIn w
-
--- after the history the key is open, for the packet
-pub record OpenFor (key : ℕ) (p : Packet) (cs : List Call) : Type 0 where
-  pub is-open : IsOpen key (after cs)
-  pub opener : readOf (openerOf key cs) ≡ Accepted p
-
--- 64, by the kind of the request
-abbrev pub mismatchFor : Kind → Completing → ℕ → Bool
-mismatchFor kind k status = mismatch (kindReads kind) (kindConfigures kind) (kindLocks kind) k status
-
--- the completion closes the request of its key: the place is free afterwards
-abbrev pub Closes : List ℕ → Head → List ℕ → Type 0
-Closes s h ws = completingOf s ws ≡ Closed (placeOf (keyFor h) ws)
+use Rattle.ledger.specs.History.{Call, completes, headerOf, verdictOf, after, opened, closed, openerOf, delivered, keyIs, dwordsBy}
+use Rattle.ledger.specs.Standing.{Headers, IsUsed, IsOpen, IsNew, Asks, Answers, Holds, OpenFor, mismatchFor, Closes}
 
 pub record OpenRequests : Type 0 where
   -- "holds up to 256 open non-posted requests"
   pub at-most-256 : (cs : List Call) → inUse (after cs) ≤ 256
   pub each-as-opened : (cs : List Call) → Headers cs → (i : ℕ) → IsUsed (after cs) i
       → let w = getD (after cs) i 0 in Holds w (openerOf (keyIn w) cs) (delivered (keyIn w) cs)
+  -- what is left of it, and what was delivered since it was opened, are its Length
+  pub left-and-delivered : (cs : List Call) → Headers cs → (i : ℕ) → IsUsed (after cs) i
+      → let w = getD (after cs) i 0 in leftIn w + delivered (keyIn w) cs ≡ dwordsBy (readOf (openerOf (keyIn w) cs))
   -- ", keyed by requester ID and tag"
   pub keys-apart : (s t : List ℕ) (p q : Packet) → Bytes s → Bytes t → readOf s ≡ Accepted p → readOf t ≡ Accepted q
       → keyIs p ≡ keyIs q → (headOf p .requester ≡ headOf q .requester) × (headOf p .tag ≡ headOf q .tag)
   pub one-place-a-key : (cs : List Call) → Headers cs → (i j : ℕ) → IsUsed (after cs) i
       → keyIn (getD (after cs) i 0) ≡ keyIn (getD (after cs) j 0) → i ≡ j
   -- "the reader's number comes first"
-  pub reader-first : (c : Call) (ws : List ℕ) (n : ℕ) → readOf (headerOf c) ≡ Unread n → numberOf (verdictOf c ws) ≡ n
+  pub reader-first : (c : Call) (ws : List ℕ) (n : ℕ) → readOf (headerOf c) ≡ NotRead n → numberOf (verdictOf c ws) ≡ n
   -- "Opening anything but a non-posted request, or completing with anything but a completion, is 60"
   pub no-request-exactly : (ws s : List ℕ) (p : Packet) → readOf s ≡ Accepted p → (openNumber s ws ≡ 60) ↔ (classOf (kindOf p) ≡ Other)
   pub no-completion-exactly : (ws s : List ℕ) (p : Packet) → readOf s ≡ Accepted p
@@ -99,7 +53,8 @@ pub record OpenRequests : Type 0 where
   -- "completing a key not open 63"
   pub missing-exactly : (cs : List Call) (s : List ℕ) (k : Completing) (h : Head) (o : Outcome) → Answers s k h o
       → (completeNumber s (after cs) ≡ 63) ↔ IsNew (keyFor h) (after cs)
-  -- "Then 64: retry status for a request that is not configuration, or success with data for a write, .."
+  -- "Then 64: retry status for a request that is not configuration, or success with data for a write, without data for a read, or in the
+  -- locked form for any but MRdLk, or the reverse."
   pub mismatch-exactly : (cs : List Call) → Headers cs → (s : List ℕ) (k : Completing) (h : Head) (o : Outcome) (p : Packet)
       → Answers s k h o → OpenFor (keyFor h) p cs → (completeNumber s (after cs) ≡ 64) ↔ (mismatchFor (kindOf p) k (o .status) ≡ true)
   -- "Then 65: a success with more dwords than remain."
@@ -119,6 +74,9 @@ pub record OpenRequests : Type 0 where
   -- "An accepted status other than success closes either."
   pub other-status-closes : (ws s : List ℕ) (k : Completing) (h : Head) (o : Outcome)
       → Answers s k h o → (o .status ≡ 0 → ⊥) → completeNumber s ws ≡ 0 → Closes s h ws
+  -- to close is that the key is open no more
+  pub closes-exactly : (cs : List Call) → Headers cs → (s : List ℕ) (k : Completing) (h : Head) (o : Outcome) → Answers s k h o
+      → completeNumber s (after cs) ≡ 0 → Closes s h (after cs) ↔ IsNew (keyFor h) (after (completes s ∷ cs))
   -- "After any sequence from empty, opened equal closed plus open, counted from the history"
   pub counted : (cs : List Call) → opened cs ≡ closed cs + inUse (after cs)
   -- ", and freed places are used again": after a place is freed no request finds the ledger full, and the next is put there, or before it

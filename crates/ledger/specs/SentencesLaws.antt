@@ -1,14 +1,14 @@
--- E12's sentences hold. Assumes nothing.
+-- The numbers of the two calls and what they close, by the keys that are open and the headers that opened them. Assumes nothing.
 use mathlib.Core.Path.{_≡_, refl, sym, ap, _∙_}
 use mathlib.Core.Logic.{_↔_}
 use mathlib.Core.Bool.{Bool, true, false, true≢false}
 use mathlib.Core.List.{List, _∷_}
-use Prim.Native.Nat.{ℕ, _+_, _≤_, _<_}
+use Prim.Native.Nat.{ℕ, _+_, _*_, _-_, _≤_, _<_}
 use native.Mathlib.Omega.{arith}
 use lib.ListN.{length, getD, set, length-set}
-use lib.Seq.{getD-set-same}
+use lib.Seq.{getD-set-same, getD-set-other}
 use lib.Dec.{eqb, ltb}
-use borrow.Author.Tests.{eq-eqb, eqb-true, ltb-true, ltb-false}
+use borrow.Author.Tests.{eq-eqb, eqb-true, eqb-false, ltb-true, ltb-false}
 use Rattle.endian.specs.Endian.{Bytes}
 use Rattle.pairs.specs.declared.CompletionKind.{CompletionKind as Completing}
 use Rattle.packet.specs.declared.Head.{Head}
@@ -26,17 +26,17 @@ use Rattle.ledger.specs.declared.Verdict.{Verdict}
 use Rattle.ledger.specs.declared.Verdict.the-variants.{Opened, Kept, Closed, Refused}
 use Rattle.ledger.specs.Kinds.{kindCompletes, kindReads, kindConfigures, kindLocks}
 use Rattle.ledger.specs.Words.{wordOf, keyIn, leftIn, isRead, isConfig, isLocked, placeOf, inUse}
-use Rattle.ledger.specs.PlacesLaws.{place-holds, place-before, place-none, place-of-key, in-use-le, full-of-none, none-of-full}
+use Rattle.ledger.specs.PlacesLaws.{place-holds, place-before, place-none, place-of-key, full-of-none, none-of-full, key-in-less}
 use Rattle.ledger.specs.Ledger.{classOf, keyFor, onRequest, onClass, openingOf, onPacket, disagrees, onCompletion, completingOf}
 use Rattle.ledger.specs.Ledger.{openNumber, completeNumber, completeAfter, numberOf, wordsAfter}
 use Rattle.ledger.specs.LedgerLaws.{opening-unread, completing-unread, opening-accepted, completing-accepted}
 use Rattle.ledger.specs.History.{Call, opens, completes, headerOf, verdictOf, after, keyIs, keyBy, dwordsBy, succeedsBy}
 use Rattle.ledger.specs.History.{deliveredBy, openerOf, delivered}
-use Rattle.ledger.specs.OpenRequests.{Headers, IsOpen, IsNew, Asks, Answers, OpenFor, mismatchFor, Closes, OpenRequests}
+use Rattle.ledger.specs.Standing.{Headers, IsOpen, IsNew, Asks, Answers, OpenFor, mismatchFor, Closes}
 use Rattle.ledger.specs.StepLaws.{Requested, held, full, placed, requested}
 use Rattle.ledger.specs.StepLaws.{Completed, missing, wrong, more, part, whole, other, completed, wordAt}
 use Rattle.ledger.specs.StepLaws.{Opens, Completes, Step, opening, closing, step-of}
-use Rattle.ledger.specs.HistoryLaws.{length-after, counted, key-not-zero}
+use Rattle.ledger.specs.HistoryLaws.{key-not-zero}
 use Rattle.ledger.specs.StandingLaws.{standing}
 
 class-not-other : {n : ℕ} → NonPosted n ≡ Other → ⊥
@@ -44,7 +44,7 @@ class-not-other e = let z : _≡_ {A = ℕ} 0 1 = cc in omega arith
 
 -- ## The reader's number, and 60
 
-unread-first : (c : Call) (ws : List ℕ) (n : ℕ) → readOf (headerOf c) ≡ Unread n → numberOf (verdictOf c ws) ≡ n
+pub unread-first : (c : Call) (ws : List ℕ) (n : ℕ) → readOf (headerOf c) ≡ Unread n → numberOf (verdictOf c ws) ≡ n
 unread-first (opens s) ws n e = sym (ap numberOf (opening-unread s ws (Unread n) (sym e) n n refl refl))
 unread-first (completes s) ws n e = sym (ap numberOf (completing-unread s ws (Unread n) (sym e) n n refl refl))
 
@@ -52,7 +52,7 @@ module _ (ws s : List ℕ) (p : Packet) (read : readOf s ≡ Accepted p) where
   opening-read : openingOf s ws ≡ onClass (classOf (kindOf p)) (headOf p) ws
   opening-read = sym (opening-accepted s ws (readOf s) refl p read (headOf p) (kindOf p) (classOf (kindOf p)) _ refl refl refl refl)
 
-  no-request : (openNumber s ws ≡ 60) ↔ (classOf (kindOf p) ≡ Other)
+  pub no-request : (openNumber s ws ≡ 60) ↔ (classOf (kindOf p) ≡ Other)
   no-request = rw opening-read (by-class (classOf (kindOf p)))
     where
       by-place : (key word n : ℕ) (v : Verdict) → Requested key word ws v → (numberOf v ≡ 60) ↔ (NonPosted n ≡ Other)
@@ -64,7 +64,7 @@ module _ (ws s : List ℕ) (p : Packet) (read : readOf s ≡ Accepted p) where
       by-class (NonPosted n) = by-place (keyIs p) _ n _ (requested (keyIs p) (wordOf (keyIs p) (headOf p .length) n) ws)
       by-class Other = (λ e. refl, λ e. refl)
 
-  no-completion : (completeNumber s ws ≡ 60) ↔ (kindCompletes (kindOf p) ≡ false)
+  pub no-completion : (completeNumber s ws ≡ 60) ↔ (kindCompletes (kindOf p) ≡ false)
   no-completion = rw (sym (completing-accepted s ws (readOf s) refl p read _ refl)) (by-packet p)
     where
       by-place : (key : ℕ) (k : Completing) (dwords status : ℕ) (v : Verdict) → Completed key k dwords status ws v
@@ -89,11 +89,11 @@ module _ (ws s : List ℕ) (p : Packet) (a : Asks s p) where
   abbrev word : ℕ
   word = wordOf (keyIs p) (headOf p .length) (a .class)
 
-  pub opening-asks : openingOf s ws ≡ onRequest (keyIs p) word ws
+  opening-asks : openingOf s ws ≡ onRequest (keyIs p) word ws
   opening-asks =
       sym (opening-accepted s ws (readOf s) refl p (a .read) (headOf p) (kindOf p) _ _ refl refl (sym (a .non-posted)) refl)
 
-  held-iff : (openNumber s ws ≡ 61) ↔ IsOpen (keyIs p) ws
+  pub held-iff : (openNumber s ws ≡ 61) ↔ IsOpen (keyIs p) ws
   held-iff = rw opening-asks (go _ (requested (keyIs p) word ws))
     where
       go : (v : Verdict) → Requested (keyIs p) word ws v → (numberOf v ≡ 61) ↔ IsOpen (keyIs p) ws
@@ -101,7 +101,7 @@ module _ (ws s : List ℕ) (p : Packet) (a : Asks s p) where
       go v (full n f) = (λ e. absurd (omega arith), λ i. absurd (place-none (keyIs p) ws n (key-not-zero p) (i .0) (i .1)))
       go v (placed n f) = (λ e. absurd (omega arith), λ i. absurd (place-none (keyIs p) ws n (key-not-zero p) (i .0) (i .1)))
 
-  full-iff : (openNumber s ws ≡ 62) ↔ (IsNew (keyIs p) ws × (inUse ws ≡ length ws))
+  pub full-iff : (openNumber s ws ≡ 62) ↔ (IsNew (keyIs p) ws × (inUse ws ≡ length ws))
   full-iff = rw opening-asks (go _ (requested (keyIs p) word ws))
     where
       go : (v : Verdict) → Requested (keyIs p) word ws v
@@ -111,7 +111,7 @@ module _ (ws s : List ℕ) (p : Packet) (a : Asks s p) where
           (λ e. (λ i. place-none (keyIs p) ws n (key-not-zero p) (i .0) (i .1), full-of-none ws f), λ i. refl)
       go v (placed n f) = (λ e. absurd (omega arith), λ i. absurd (omega (arith, none-of-full ws (i .1), f)))
 
-  opened-else : IsNew (keyIs p) ws → inUse ws < length ws → openNumber s ws ≡ 0
+  pub opened-else : IsNew (keyIs p) ws → inUse ws < length ws → openNumber s ws ≡ 0
   opened-else new room = rw opening-asks (go _ (requested (keyIs p) word ws))
     where
       go : (v : Verdict) → Requested (keyIs p) word ws v → numberOf v ≡ 0
@@ -159,7 +159,7 @@ module _ (ws s : List ℕ) (k : Completing) (h : Head) (o : Outcome) (a : Answer
   completing-answers : completingOf s ws ≡ onCompletion (keyFor h) k (h .length) (o .status) ws
   completing-answers = sym (completing-accepted s ws (readOf s) refl (Completion k h o) a _ refl)
 
-  missing-iff : (completeNumber s ws ≡ 63) ↔ IsNew (keyFor h) ws
+  pub missing-iff : (completeNumber s ws ≡ 63) ↔ IsNew (keyFor h) ws
   missing-iff = rw completing-answers (go _ (completed (keyFor h) k (h .length) (o .status) ws))
     where
       there : {X : Type 0} → placeOf (keyFor h) ws < length ws → IsNew (keyFor h) ws → X
@@ -173,7 +173,7 @@ module _ (ws s : List ℕ) (k : Completing) (h : Head) (o : Outcome) (a : Answer
       go v (whole i d t m r) = (λ e. absurd (omega arith), there i)
       go v (other i d t) = (λ e. absurd (omega arith), there i)
 
-  other-closes : (o .status ≡ 0 → ⊥) → completeNumber s ws ≡ 0 → Closes s h ws
+  pub other-closes : (o .status ≡ 0 → ⊥) → completeNumber s ws ≡ 0 → Closes s h ws
   other-closes failed = rw completing-answers (go _ (completed (keyFor h) k (h .length) (o .status) ws))
     where
       go : (v : Verdict) → Completed (keyFor h) k (h .length) (o .status) ws v → numberOf v ≡ 0 → v ≡ Closed (placeOf (keyFor h) ws)
@@ -202,7 +202,7 @@ module _ (cs : List Call) (headers : Headers cs) (s : List ℕ) (k : Completing)
   not-missing : {X : Type 0} → length ws ≤ placeOf (keyFor h) ws → X
   not-missing n = absurd (place-none (keyFor h) ws n (key-some h) (f .is-open .0) (f .is-open .1))
 
-  mismatch-iff : (completeNumber s ws ≡ 64) ↔ (mismatchFor (kindOf p) k (o .status) ≡ true)
+  pub mismatch-iff : (completeNumber s ws ≡ 64) ↔ (mismatchFor (kindOf p) k (o .status) ≡ true)
   mismatch-iff = rw (completing-answers ws s k h o a, ← disagrees-for) (go _ (completed (keyFor h) k (h .length) (o .status) ws))
     where
       agreed : {X : Type 0} → disagrees (wordAt (keyFor h) ws) k (o .status) ≡ false
@@ -218,7 +218,7 @@ module _ (cs : List Call) (headers : Headers cs) (s : List ℕ) (k : Completing)
       go v (whole i d t m r) = (λ e. absurd (omega arith), agreed d)
       go v (other i d t) = (λ e. absurd (omega arith), agreed d)
 
-  more-iff : mismatchFor (kindOf p) k (o .status) ≡ false
+  pub more-iff : mismatchFor (kindOf p) k (o .status) ≡ false
       → (completeNumber s ws ≡ 65) ↔ ((o .status ≡ 0) × (headOf p .length < delivered (keyFor h) cs + h .length))
   more-iff agrees = rw (completing-answers ws s k h o a) (go _ (completed (keyFor h) k (h .length) (o .status) ws))
     where
@@ -231,7 +231,7 @@ module _ (cs : List Call) (headers : Headers cs) (s : List ℕ) (k : Completing)
       go v (whole i d t m r) = (λ e. absurd (omega arith), λ e. absurd (omega (arith, e .1, m, holds .left)))
       go v (other i d t) = (λ e. absurd (omega arith), λ e. absurd (true≢false (sym (eq-eqb (o .status) 0 (e .0)) ∙ t)))
 
-  write-closes : kindReads (kindOf p) ≡ false → o .status ≡ 0 → completeNumber s ws ≡ 0 → Closes s h ws
+  pub write-closes : kindReads (kindOf p) ≡ false → o .status ≡ 0 → completeNumber s ws ≡ 0 → Closes s h ws
   write-closes write success = rw (completing-answers ws s k h o a) (go _ (completed (keyFor h) k (h .length) (o .status) ws))
     where
       go : (v : Verdict) → Completed (keyFor h) k (h .length) (o .status) ws v → numberOf v ≡ 0 → v ≡ Closed (placeOf (keyFor h) ws)
@@ -242,7 +242,7 @@ module _ (cs : List Call) (headers : Headers cs) (s : List ℕ) (k : Completing)
       go v (whole i d t m r) e = refl
       go v (other i d t) e = refl
 
-  read-closes : kindReads (kindOf p) ≡ true → o .status ≡ 0 → completeNumber s ws ≡ 0
+  pub read-closes : kindReads (kindOf p) ≡ true → o .status ≡ 0 → completeNumber s ws ≡ 0
       → Closes s h ws ↔ (delivered (keyFor h) (completes s ∷ cs) ≡ headOf p .length)
   unfolding delivered
   read-closes reads success = rw (completing-answers ws s k h o a) (go _ (completed (keyFor h) k (h .length) (o .status) ws))
@@ -266,13 +266,59 @@ module _ (cs : List Call) (headers : Headers cs) (s : List ℕ) (k : Completing)
       go v (whole i d t m r) e = rw (here, taken) (λ q. omega (arith, m, r (holds .reads ∙ reads), holds .left, dwords), λ q. refl)
       go v (other i d t) e = absurd (true≢false (sym (eq-eqb (o .status) 0 success) ∙ t))
 
+-- ## What a completion closes
+
+module _ (cs : List Call) (headers : Headers cs) (h : Head) (inside : placeOf (keyFor h) (after cs) < length (after cs)) where
+  abbrev there : ℕ
+  there = placeOf (keyFor h) (after cs)
+
+  key-there : keyIn (getD (after cs) there 0) ≡ keyFor h
+  key-there = place-holds (keyFor h) (after cs) inside
+
+  -- the place freed, its key is open no more: it had no other
+  freed-new : IsNew (keyFor h) (set (after cs) there 0)
+  freed-new (j, e) = go (eqb j there) refl
+    where
+      go : (b : Bool) → eqb j there ≡ b → ⊥
+      go true x =
+          let same : getD (set (after cs) there 0) j 0 ≡ getD (set (after cs) there 0) there 0 =
+          ap (λ (n : ℕ). getD (set (after cs) there 0) n 0) (eqb-true j there x) in
+          key-some h (sym e ∙ ap keyIn (same ∙ getD-set-same (after cs) there 0 0 inside))
+      go false x =
+          let key : keyIn (getD (after cs) j 0) ≡ keyFor h =
+          sym (ap keyIn (getD-set-other (after cs) there j 0 0 (eqb-false j there x))) ∙ e in
+          eqb-false j there x (sym (standing cs headers .one there j (λ z. key-some h (sym key-there ∙ z)) (key-there ∙ sym key)))
+
+  -- a part of a read taken, its key is still open
+  kept-open : (dwords : ℕ) → dwords ≤ leftIn (getD (after cs) there 0)
+      → IsOpen (keyFor h) (set (after cs) there (getD (after cs) there 0 - 8 * dwords))
+  kept-open dwords enough =
+      let w = getD (after cs) there 0 in
+      (there, ap keyIn (getD-set-same (after cs) there (w - 8 * dwords) 0 inside) ∙ key-in-less w dwords enough ∙ key-there)
+
+pub closes-iff : (cs : List Call) → Headers cs → (s : List ℕ) (k : Completing) (h : Head) (o : Outcome) → Answers s k h o
+    → completeNumber s (after cs) ≡ 0 → Closes s h (after cs) ↔ IsNew (keyFor h) (after (completes s ∷ cs))
+unfolding after
+closes-iff cs headers s k h o a =
+    rw (completing-answers (after cs) s k h o a) (go _ (completed (keyFor h) k (h .length) (o .status) (after cs)))
+  where
+    go : (v : Verdict) → Completed (keyFor h) k (h .length) (o .status) (after cs) v → numberOf v ≡ 0
+        → (v ≡ Closed (placeOf (keyFor h) (after cs))) ↔ IsNew (keyFor h) (wordsAfter v (after cs))
+    go v (missing n) e = absurd (omega arith)
+    go v (wrong i d) e = absurd (omega arith)
+    go v (more i d t m) e = absurd (omega arith)
+    go v (part i d t r m) e =
+        (λ q. absurd (kept-not-closed q), λ new. absurd (new (kept-open cs headers h i (h .length) (omega (arith, m)))))
+    go v (whole i d t m r) e = (λ q. freed-new cs headers h i, λ q. refl)
+    go v (other i d t) e = (λ q. freed-new cs headers h i, λ q. refl)
+
+-- ## Places that were freed
+
 completes-of : {s ws : List ℕ} {i : ℕ} → Step ws (completes s) (Closed i) → Completes s ws i
 completes-of (closing t) = t
 
 opens-of : {s ws : List ℕ} {i w : ℕ} → Step ws (opens s) (Opened i w) → Opens s ws i w
 opens-of (opening o) = o
-
--- ## Places that were freed
 
 module _ (ws s t : List ℕ) (i : ℕ) (e : completingOf s ws ≡ Closed i) where
   freed : completeAfter s ws ≡ set ws i 0
@@ -284,12 +330,12 @@ module _ (ws s t : List ℕ) (i : ℕ) (e : completingOf s ws ≡ Closed i) wher
   free-there : keyIn (getD (set ws i 0) i 0) ≡ 0
   free-there = ap keyIn (getD-set-same ws i 0 0 freed-inside)
 
-  freed-room : (p : Packet) → Asks t p → openNumber t (completeAfter s ws) ≡ 62 → ⊥
+  pub freed-room : (p : Packet) → Asks t p → openNumber t (completeAfter s ws) ≡ 62 → ⊥
   freed-room p a q =
       let full = none-of-full (set ws i 0) (full-iff (set ws i 0) t p a .0 (rw freed at q) .1) in
       place-before 0 (set ws i 0) i (omega (arith, full, freed-inside, length-set ws i 0)) free-there
 
-  freed-again : (j w : ℕ) → openingOf t (completeAfter s ws) ≡ Opened j w → j ≤ i
+  pub freed-again : (j w : ℕ) → openingOf t (completeAfter s ws) ≡ Opened j w → j ≤ i
   freed-again j w q =
       let o = opens-of (rw (rw freed at q) at (step-of (opens t) (set ws i 0))) in
       go (ltb i j) refl (o .first)
@@ -298,9 +344,9 @@ module _ (ws s t : List ℕ) (i : ℕ) (e : completingOf s ws ≡ Closed i) wher
       go true h first = absurd (place-before 0 (set ws i 0) i (omega (arith, ltb-true i j h, first)) free-there)
       go false h first = ltb-false i j h
 
--- ## All of it
+-- ## Keys, and what a refused call leaves
 
-keys-differ : (s t : List ℕ) (p q : Packet) → Bytes s → Bytes t → readOf s ≡ Accepted p → readOf t ≡ Accepted q
+pub keys-differ : (s t : List ℕ) (p q : Packet) → Bytes s → Bytes t → readOf s ≡ Accepted p → readOf t ≡ Accepted q
     → keyIs p ≡ keyIs q → (headOf p .requester ≡ headOf q .requester) × (headOf p .tag ≡ headOf q .tag)
 keys-differ s t p q bs bt rs rt same =
     let l = read-lawful s p bs rs in
@@ -309,33 +355,8 @@ keys-differ s t p q bs bt rs rt same =
     let b = head-of-lawful (m .0) q (m .1) in
     (omega (arith, a .tag, b .tag, same), omega (arith, a .tag, b .tag, same))
 
-refused-same : (v : Verdict) (ws : List ℕ) → (numberOf v ≡ 0 → ⊥) → wordsAfter v ws ≡ ws
+pub refused-same : (v : Verdict) (ws : List ℕ) → (numberOf v ≡ 0 → ⊥) → wordsAfter v ws ≡ ws
 refused-same (Opened i w) ws h = absurd (h refl)
 refused-same (Kept i w) ws h = absurd (h refl)
 refused-same (Closed i) ws h = absurd (h refl)
 refused-same (Refused n) ws h = refl
-
-pub open-requests : OpenRequests
-open-requests =
-    record {
-      at-most-256 = λ cs. omega (arith, in-use-le (after cs), length-after cs);
-      each-as-opened = λ cs headers i used. standing cs headers .each i used;
-      keys-apart = keys-differ;
-      one-place-a-key = λ cs headers i j used same. standing cs headers .one i j used same;
-      reader-first = unread-first;
-      no-request-exactly = no-request;
-      no-completion-exactly = no-completion;
-      held-exactly = λ cs s p a. held-iff (after cs) s p a;
-      full-exactly = λ cs s p a. rw (length-after cs) at (full-iff (after cs) s p a);
-      else-opened = λ cs s p a new room. opened-else (after cs) s p a new (omega (arith, room, length-after cs));
-      missing-exactly = λ cs s k h o a. missing-iff (after cs) s k h o a;
-      mismatch-exactly = mismatch-iff;
-      more-exactly = more-iff;
-      refused-changes-nothing = λ c ws h. refused-same (verdictOf c ws) ws h;
-      read-closes-exactly = read-closes;
-      write-closes-at-first-success = write-closes;
-      other-status-closes = other-closes;
-      counted = counted;
-      freed-has-room = λ ws s t i p e a q. freed-room ws s t i e p a q;
-      freed-used-again = λ ws s t i j w e q. freed-again ws s t i e j w q;
-    }
