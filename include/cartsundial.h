@@ -1,6 +1,6 @@
 /*
  * Cartsundial for C: read and write PCI Express headers, plan a board's register sheet, look functions up in it, judge a sheet that other
- * firmware left, route packets over it or by an index of it, and label the headers of a trace.
+ * firmware left, route packets over it or by an index of it, label the headers of a trace, and match completions with open requests.
  *
  * Build:  rt staticlib capi          proves everything, then writes target/staticlib/libcapi.a
  *         gcc -Iinclude main.c target/staticlib/libcapi.a
@@ -22,8 +22,8 @@
  * checks:
  *   - the pointer is not null, is aligned for its type, and the elements are there, also for a length of 0;
  *   - a slice that a call may write overlaps no other slice of that call, and nobody else touches it until the call returns.
- * Nothing is kept after a call returns: how far a trace was read is in numbers that the caller lends. There is no allocation and no I/O,
- * so calls on different slices may run at the same time.
+ * Nothing is kept after a call returns: how far a trace was read, and which requests are open, is in numbers that the caller lends. There
+ * is no allocation and no I/O, so calls on different slices may run at the same time.
  *
  * Stack to allow, measured and not proved: 64 KiB for any call. cartsundial_plan 60 KiB, of which a board with few bridges in a row needs
  * 50; cartsundial_route and cartsundial_annotate 12 KiB over a planned sheet, which has at most 32 bridges above a function, and 62 KiB
@@ -38,7 +38,7 @@
  * interrupt on the one stack that there is, as UEFI usually does, must turn it off for the call. The code uses XMM registers too: SSE must
  * be enabled, and a handler that calls it has to save them.
  *
- * Answer slices (packet of cartsundial_read, answer, written, offset, id). The call writes the numbers that it names, and leaves the
+ * Answer slices (packet of cartsundial_read, answer, written, offset, id, count). The call writes the numbers that it names, and leaves the
  * numbers past them as they were. A slice too short for them is CARTSUNDIAL_SHORT, tried last: a header, board or sheet that is refused
  * gets its own number first.
  */
@@ -90,7 +90,13 @@ enum cartsundial_number {
     CARTSUNDIAL_NO_START = 45,         /* from a card: no type 0 function's record, or no memory or I/O request */
     CARTSUNDIAL_BUS_TREE = 50,         /* audit: first record not on the host's first bus; not one bridge to a bus; a bridge's buses */
     CARTSUNDIAL_PLACE = 51,            /* audit: a BAR or open window outside the window above, or the pool, of its kind */
-    CARTSUNDIAL_OVERLAP = 52           /* audit: two BARs or open windows of one space overlap on a bus */
+    CARTSUNDIAL_OVERLAP = 52,          /* audit: two BARs or open windows of one space overlap on a bus */
+    CARTSUNDIAL_LEDGER_KIND = 60,      /* ledger: no non-posted request to open, or no completion */
+    CARTSUNDIAL_ALREADY_OPEN = 61,     /* ledger: a request with this requester and tag is open */
+    CARTSUNDIAL_LEDGER_FULL = 62,      /* ledger: 256 requests are open */
+    CARTSUNDIAL_NOT_OPEN = 63,         /* ledger: no request with this requester and tag is open */
+    CARTSUNDIAL_MISMATCH = 64,         /* ledger: retry for other than configuration, or a success in a form that is not the request's */
+    CARTSUNDIAL_TOO_MUCH_DATA = 65     /* ledger: a success with more dwords than are still to come */
 };
 
 /* ---- a packet as twenty numbers ---- */
@@ -161,7 +167,8 @@ enum cartsundial_size {
     CARTSUNDIAL_ANY_ROUTE_NUMBERS = 534, /* any route: a broadcast's has the records of up to 512 functions after it */
     CARTSUNDIAL_INDEX_BYTES = 132096,  /* the index of a sheet of 512 functions: 1,024, and 256 a function */
     CARTSUNDIAL_TRACE_NUMBERS = 6,     /* the state of a trace */
-    CARTSUNDIAL_LINE_BYTES = 40        /* a line of a trace, with its newline */
+    CARTSUNDIAL_LINE_BYTES = 40,       /* a line of a trace, with its newline */
+    CARTSUNDIAL_LEDGER_NUMBERS = 256   /* a ledger of open requests */
 };
 
 /* ---- headers ---- */
@@ -362,6 +369,36 @@ uint32_t cartsundial_label(uint64_t *state, size_t state_len, const uint8_t *ind
  */
 uint32_t cartsundial_annotate_end(const uint64_t *state, size_t state_len, uint8_t *lines, size_t lines_len,
                                   uint64_t *written, size_t written_len);
+
+/* ---- open requests ---- */
+
+/*
+ * A ledger holds up to 256 non-posted requests, by requester ID and tag, from their opening until completions close them: a read when all
+ * its dwords were delivered, a write at its first success, either at another status. ledger: CARTSUNDIAL_LEDGER_NUMBERS numbers that the
+ * caller keeps, all zero at first. Any numbers are a ledger; docs/FORMATS.md has their meaning. A free place has a number below 2^32.
+ * From empty on, after any calls, requests opened are those closed and those open together, and a key has one place. That is proved.
+ */
+
+/*
+ * Opens the request of a header: MRd, MRdLk, IORd, IOWr, CfgRd0, CfgWr0, CfgRd1 or CfgWr1.
+ * Refused: 11 for fewer than 256 numbers, tried first; then the header's number, 1 to 9; 60 for any other kind; 61 where its requester and
+ * tag are open already; 62 where 256 requests are open.
+ */
+uint32_t cartsundial_ledger_open(uint64_t *ledger, size_t ledger_len, const uint8_t *header, size_t header_len);
+
+/*
+ * Completes the request with the requester and the tag of a completion.
+ * Refused: 11 for fewer than 256 numbers, tried first; then the header's number, 1 to 9; 60 for any other kind; 63 where no such request is
+ * open; 64 for retry (status 010) where it is not configuration, and for a success with data for a write, without data for a read, in the
+ * locked form for any but MRdLk, or not in it for MRdLk; 65 for a success with more dwords than are still to come.
+ */
+uint32_t cartsundial_ledger_complete(uint64_t *ledger, size_t ledger_len, const uint8_t *header, size_t header_len);
+
+/*
+ * count: how many requests are open.
+ * Refused: 11 for fewer than 256 numbers, or a count slice of no numbers.
+ */
+uint32_t cartsundial_ledger_count(const uint64_t *ledger, size_t ledger_len, uint64_t *count, size_t count_len);
 
 #ifdef __cplusplus
 }

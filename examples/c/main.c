@@ -1,6 +1,6 @@
 /*
- * Plans document 01's board P10, looks its functions up, routes memory reads over the sheet, labels a trace that comes in two pieces, and
- * judges the sheet as another firmware's.
+ * Plans document 01's board P10, looks its functions up, routes memory reads over the sheet, labels a trace that comes in two pieces,
+ * judges the sheet as another firmware's, and matches completions with an open request.
  * examples/c/run builds it and compares what it prints.
  */
 #include <inttypes.h>
@@ -120,6 +120,23 @@ static void annotate_end(const uint64_t *state)
     print_lines(number, lines, written);
 }
 
+/* A read of two dwords, and a completion with one of them, given three times. */
+static void match(void)
+{
+    static const uint8_t request[] = { 0x00, 0x00, 0x00, 0x02, 0x00, 0x00, 0x07, 0xFF, 0xF9, 0x00, 0x00, 0x00 };
+    static const uint8_t completion[] = { 0x4A, 0x00, 0x00, 0x01, 0x01, 0x00, 0x00, 0x08, 0x00, 0x00, 0x07, 0x00 };
+    uint64_t ledger[CARTSUNDIAL_LEDGER_NUMBERS] = { 0 }, open[1] = { 0 };
+    uint32_t number = cartsundial_ledger_open(ledger, CARTSUNDIAL_LEDGER_NUMBERS, request, sizeof request);
+    int i;
+
+    printf("opened: %" PRIu32 "\n", number);
+    for (i = 0; i < 3; i++) {
+        number = cartsundial_ledger_complete(ledger, CARTSUNDIAL_LEDGER_NUMBERS, completion, sizeof completion);
+        cartsundial_ledger_count(ledger, CARTSUNDIAL_LEDGER_NUMBERS, open, 1);
+        printf("completed: %" PRIu32 ", open %" PRIu64 "\n", number, open[0]);
+    }
+}
+
 int main(void)
 {
     uint64_t written[1], state[CARTSUNDIAL_TRACE_NUMBERS] = { 0 };
@@ -153,5 +170,7 @@ int main(void)
     audit("as planned");
     sheet[97 + 0x12] = 0x10;
     audit("a BAR moved");
+
+    match();
     return 0;
 }

@@ -13,7 +13,8 @@ use Rattle.capi_ledger.specs.Calls.{places, openAnswer, openLeft, comple
 keeps : (numbers : List ℕ) (v : Verdict) (short : Bool) → ¬ (cond short 11 (numberOf v) ≡ 0)
     → cond short numbers (wordsAfter v (take places numbers) ++ drop places numbers) ≡ numbers
 keeps numbers v true h = refl
-keeps numbers v false h = ap (λ (ws : List ℕ). ws ++ drop places numbers) (refused-same v (take places numbers) h) ∙ take-append-drop places numbers
+keeps numbers v false h =
+    ap (λ (ws : List ℕ). ws ++ drop places numbers) (refused-same v (take places numbers) h) ∙ take-append-drop places numbers
 
 pub refused-open-keeps : (header numbers : List ℕ) → ¬ (openAnswer header numbers ≡ 0) → openLeft header numbers ≡ numbers
 unfolding openAnswer openLeft

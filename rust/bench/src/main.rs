@@ -1,11 +1,12 @@
 //! Times the proved library and the plain implementation side by side, and prints a table.
 //!
 //! `cargo run --release --offline -p bench` prints all of it, names after `--` only those parts: `calls`, `ids`, `audits`,
-//! `traces`, `labels`.
+//! `traces`, `labels`, `ledgers`.
 
 mod audits;
 mod ids;
 mod labels;
+mod ledgers;
 mod measure;
 mod subjects;
 mod traces;
@@ -38,12 +39,13 @@ const REUSED: &str = "reused, not cleared";
 const FRESH: &str = "new and zeroed, within the time";
 
 /// What is printed, and can be asked for by name.
-const PARTS: [(&str, fn()); 5] = [
+const PARTS: [(&str, fn()); 6] = [
     ("calls", calls),
     ("ids", ids::print),
     ("audits", audits::print),
     ("traces", traces::print),
     ("labels", labels::print),
+    ("ledgers", ledgers::print),
 ];
 
 fn main() {

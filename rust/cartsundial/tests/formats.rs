@@ -1,6 +1,10 @@
 //! docs/FORMATS.md shows a whole sheet under its board. It must be the sheet that the library leaves, byte for byte. (The
 //! other examples there go to the proved programs: docs/formats.sh.) docs/example has a board, its sheet, a trace and its
-//! labels, which must belong together.
+//! labels, which must belong together, and a trace of requests with what the example `ledger` says of it.
+
+#[allow(dead_code)]
+#[path = "../examples/ledger.rs"]
+mod ledger;
 
 use cartsundial::{lines, plan, FULL_SHEET};
 
@@ -12,6 +16,9 @@ const SHEET: &[u8] = include_bytes!("../../../docs/example/sheet");
 const TRACE: &[u8] = include_bytes!("../../../docs/example/trace");
 const TRACE_TEXT: &str = include_str!("../../../docs/example/trace.txt");
 const LABELS: &str = include_str!("../../../docs/example/labels.txt");
+const REQUESTS: &[u8] = include_bytes!("../../../docs/example/requests");
+const REQUESTS_TEXT: &str = include_str!("../../../docs/example/requests.txt");
+const UNANSWERED: &str = include_str!("../../../docs/example/unanswered.txt");
 
 /// The bytes that the lines spell, each without its comment.
 fn bytes<'a>(lines: impl Iterator<Item = &'a str>) -> Vec<u8> {
@@ -40,4 +47,10 @@ fn the_example() {
     assert!(TRACE == bytes(TRACE_TEXT.lines()));
     let labels: String = lines(&room[..length], TRACE).map(|line| format!("{line}\n")).collect();
     assert_eq!(labels, LABELS);
+}
+
+#[test]
+fn the_requests() {
+    assert!(REQUESTS == bytes(REQUESTS_TEXT.lines()));
+    assert_eq!(ledger::report(REQUESTS), UNANSWERED);
 }

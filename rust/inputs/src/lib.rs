@@ -10,6 +10,7 @@ pub mod damage;
 pub mod foreign;
 pub mod header;
 pub mod labels;
+pub mod ledger;
 pub mod numbers;
 pub mod random;
 pub mod registers;

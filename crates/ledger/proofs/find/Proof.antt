@@ -31,7 +31,8 @@ key-in-requires c κs = search needs
 returns : tie.Need-returns Inv-loop μ-loop
 returns c =
     let turn = c .before .before .before .before in
-    find-hit _ _ _ (turn .before .before .args .words .now) (omega arith) (turn .loop .inv .1) (sym (c .before .key-in .ensures) ∙ c .if1 .taken)
+    find-hit _ _ _ (turn .before .before .args .words .now) (omega arith) (turn .loop .inv .1)
+    (sym (c .before .key-in .ensures) ∙ c .if1 .taken)
 
 add-i : tie.Need-add-i Inv-loop μ-loop
 add-i c = omega arith

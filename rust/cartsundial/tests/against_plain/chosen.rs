@@ -1,7 +1,7 @@
 //! The chosen cases of the scripts, the runs of the annotator and of the audit, and full indexes, once, whatever the rounds.
 
 use crate::tally::Tally;
-use crate::{audits, boards, cards, headers, indexes, routes, sheets, traces};
+use crate::{audits, boards, cards, headers, indexes, ledgers, routes, sheets, traces};
 use inputs::random::Random;
 
 pub fn compare(random: &mut Random, _: u64, tally: &mut Tally) {
@@ -20,6 +20,7 @@ pub fn compare(random: &mut Random, _: u64, tally: &mut Tally) {
     audits::chosen(random, tally);
     indexes::chosen(random, tally);
     cards::chosen(random, tally);
+    ledgers::chosen(random, tally);
 }
 
 /// One line. A board that is planned, and a sheet, become the current sheet.

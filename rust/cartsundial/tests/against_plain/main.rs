@@ -12,6 +12,7 @@ mod cards;
 mod chosen;
 mod headers;
 mod indexes;
+mod ledgers;
 mod lent;
 mod routes;
 mod sheets;
@@ -33,7 +34,7 @@ fn main() -> ExitCode {
     let rounds = setting("CARTSUNDIAL_ROUNDS", 1);
     println!("against plain: seed {seed}, rounds {rounds}");
     let mut tally = Tally::default();
-    let parts: [(&str, Part); 9] = [
+    let parts: [(&str, Part); 10] = [
         ("chosen", chosen::compare),
         ("headers", headers::compare),
         ("boards", boards::compare),
@@ -43,6 +44,7 @@ fn main() -> ExitCode {
         ("audits", audits::compare),
         ("indexes", indexes::compare),
         ("cards", cards::compare),
+        ("ledgers", ledgers::compare),
     ];
     for (number, (name, compare)) in (0..).zip(parts) {
         let before = tally.total();

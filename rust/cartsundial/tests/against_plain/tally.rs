@@ -21,9 +21,12 @@ pub enum Call {
     Find,
     Annotate,
     End,
+    Open,
+    Complete,
+    Count,
 }
 
-const CALLS: [Call; 14] = [
+const CALLS: [Call; 17] = [
     Call::Read,
     Call::Write,
     Call::Plan,
@@ -38,10 +41,13 @@ const CALLS: [Call; 14] = [
     Call::Find,
     Call::Annotate,
     Call::End,
+    Call::Open,
+    Call::Complete,
+    Call::Count,
 ];
 
 /// One more than the greatest number.
-const NUMBERS: usize = 53;
+const NUMBERS: usize = 66;
 
 /// A version that is not known.
 const VERSION: usize = 21;
@@ -63,6 +69,9 @@ impl Call {
             Call::Index => &[0, 11, 20, 21, 22, 24, 25, 26, 27, 28, 29, 50, 51, 52],
             Call::Find => &[0, 1, 2, 3, 4, 5, 6, 7, 8, 9, 11, 40, 42, 43],
             Call::Annotate | Call::End => &[0, 10, 11],
+            Call::Open => &[0, 1, 2, 3, 4, 5, 6, 7, 8, 9, 11, 60, 61, 62],
+            Call::Complete => &[0, 1, 2, 3, 4, 5, 6, 7, 8, 9, 11, 60, 63, 64, 65],
+            Call::Count => &[0, 11],
         }
     }
 }
