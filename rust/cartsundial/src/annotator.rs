@@ -1,19 +1,26 @@
 //! A trace annotated in pieces.
 
 use crate::calls::{self, TRACE};
-use crate::{accepted, Refusal};
+use crate::{accepted, Engine, Refusal};
 
 /// No line of an annotated trace is longer, with its newline: a number of 20 digits, a kind of 6 letters, and a refusal.
 pub const LONGEST_LINE: usize = 40;
 
-/// Where the state has the number of the last whole record.
+/// Where the state has its stage, and the number of the last whole record.
+const STAGE: usize = 0;
 const RECORD_NUMBER: usize = 2;
+
+/// The stage after a first byte that is another version's.
+const OTHER_VERSION: u64 = 1;
 
 /// How far a trace was read. The trace goes in piece by piece; out comes a line for each record, with the record's last
 /// byte.
 ///
 /// Wherever the cuts fall, the lines of the pieces together, and the state after them, are those of the trace in one
-/// piece, given the same sheet throughout; that is proved. Two annotators that were fed the same bytes are equal.
+/// piece, given the same sheet throughout, or its index; that is proved. Two annotators that were fed the same bytes are equal.
+///
+/// Each piece is fed together with what it is labelled by, an [`Engine`]: a reference to a sheet or to an
+/// [`Index`](crate::Index). A sheet is checked for each piece, so feed some KiB at a time.
 ///
 /// [`lines()`](crate::lines()) takes a whole trace. With the feature `std`, `Labeller` is an `io::Write`.
 ///
@@ -73,9 +80,9 @@ impl Annotator {
     ///
     /// Only [`Refusal::ShortRoom`] comes back, where they do not fit. Then the piece is not taken, and may be fed again with
     /// more room, or in smaller pieces. A sheet that fails its checks is in the lines: `1 MRd refused 27`.
-    pub fn feed(&mut self, sheet: &[u8], piece: &[u8], lines: &mut [u8]) -> Result<usize, Refusal> {
+    pub fn feed<'e>(&mut self, by: impl Into<Engine<'e>>, piece: &[u8], lines: &mut [u8]) -> Result<usize, Refusal> {
         let mut written = [0];
-        accepted(calls::annotate(&mut self.state, sheet, piece, lines, &mut written))?;
+        accepted(by.into().feed(&mut self.state, piece, lines, &mut written))?;
         Ok(written[0] as usize)
     }
 
@@ -90,5 +97,10 @@ impl Annotator {
     /// The number of the last record that was read whole, 0 before the first. After 2^64 - 1 comes 0.
     pub const fn record_number(&self) -> u64 {
         self.state[RECORD_NUMBER]
+    }
+
+    /// Whether the trace's first byte was another version's: no line comes after its `refused 21`, whatever is fed.
+    pub const fn is_of_other_version(&self) -> bool {
+        self.state[STAGE] == OTHER_VERSION
     }
 }

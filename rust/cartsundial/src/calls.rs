@@ -17,8 +17,8 @@ pub const ROUTE: usize = 2 + PACKET;
 /// How many numbers are always enough for [`route`], and for [`find`] in an index that was built: a broadcast's answer ends with the record of every function.
 pub const ANY_ROUTE: usize = ROUTE + 512;
 
-/// How many numbers the state of a trace has, in [`annotate`] and [`annotate_end`]. All zero is a trace of which nothing
-/// was read yet.
+/// How many numbers the state of a trace has, in [`annotate`], [`label`] and [`annotate_end`]. All zero is a trace of which
+/// nothing was read yet.
 pub const TRACE: usize = 6;
 
 /// How many numbers a ledger of open requests has, in [`ledger_open`], [`ledger_complete`] and [`ledger_count`]. All zero is
@@ -29,7 +29,8 @@ pub const LEDGER: usize = 256;
 pub const SHORT: u32 = 11;
 
 mod c {
-    extern "C" {
+    // The archive is compiled for the System V convention, whatever the target's own is.
+    extern "sysv64" {
         pub fn cartsundial_read(header: *const u8, header_len: usize, packet: *mut u64, packet_len: usize) -> u32;
         pub fn cartsundial_write(
             packet: *const u64,
@@ -96,6 +97,18 @@ mod c {
             state_len: usize,
             sheet: *const u8,
             sheet_len: usize,
+            piece: *const u8,
+            piece_len: usize,
+            lines: *mut u8,
+            lines_len: usize,
+            written: *mut u64,
+            written_len: usize,
+        ) -> u32;
+        pub fn cartsundial_label(
+            state: *mut u64,
+            state_len: usize,
+            index: *const u8,
+            index_len: usize,
             piece: *const u8,
             piece_len: usize,
             lines: *mut u8,
@@ -285,8 +298,27 @@ pub fn annotate(state: &mut [u64], sheet: &[u8], piece: &[u8], lines: &mut [u8],
     }
 }
 
+/// Takes the next piece of a trace as [`annotate`] does, by an index: over one that was built, the lines are those over its
+/// sheet. On other bytes each header gets what [`find`] answers by them.
+pub fn label(state: &mut [u64], index: &[u8], piece: &[u8], lines: &mut [u8], written: &mut [u64]) -> u32 {
+    unsafe {
+        c::cartsundial_label(
+            state.as_mut_ptr(),
+            state.len(),
+            index.as_ptr(),
+            index.len(),
+            piece.as_ptr(),
+            piece.len(),
+            lines.as_mut_ptr(),
+            lines.len(),
+            written.as_mut_ptr(),
+            written.len(),
+        )
+    }
+}
+
 /// Writes the line that a trace gets if it ends here, if any, to the start of `lines`, and how many bytes it is to
-/// `written`. The numbers are those of [`annotate`].
+/// `written`. The numbers are those of [`annotate`]; ending needs no sheet and no index.
 pub fn annotate_end(state: &[u64], lines: &mut [u8], written: &mut [u64]) -> u32 {
     unsafe {
         c::cartsundial_annotate_end(

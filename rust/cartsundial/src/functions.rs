@@ -5,6 +5,9 @@ use crate::{check, Id, Refusal, REGISTERS};
 /// A record of a sheet with its two-byte length: ID, configuration header, read-backs.
 const RECORD: usize = 92;
 
+/// The most functions that a sheet has.
+pub(crate) const MOST: usize = 512;
+
 /// Where a record's ID and its configuration header start.
 const ID: usize = 2;
 const HEADER: usize = 4;
@@ -36,10 +39,10 @@ pub fn functions(sheet: &[u8]) -> Result<impl ExactSizeIterator<Item = Function<
     }))
 }
 
-/// How many functions a sheet of this length can have.
+/// How many functions a sheet of this length can have, if it passes its checks.
 #[cfg(feature = "std")]
 pub(crate) fn most_in(sheet: &[u8]) -> usize {
-    sheet.len() / RECORD
+    MOST.min(sheet.len() / RECORD)
 }
 
 /// The ID of a record of a sheet that passes its checks, as the answer to a call over it tells.

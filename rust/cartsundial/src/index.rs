@@ -1,27 +1,26 @@
 //! The index of a sheet: a search in place of the walk.
 
-use crate::{accepted, arrival, calls, Arrival, HostRecord, Refusal};
+use crate::{accepted, arrival, calls, functions, Arrival, HostRecord, Refusal};
+use core::fmt;
 #[cfg(feature = "std")]
-use {
-    crate::functions,
-    std::{vec, vec::Vec},
-};
+use std::{vec, vec::Vec};
 
 /// The length of the index of the largest sheet.
-pub const FULL_INDEX: usize = index_length(512);
+pub const FULL_INDEX: usize = index_length(functions::MOST);
 
 /// The length of the index of a sheet with so many functions.
 pub const fn index_length(functions: usize) -> usize {
     1024 + 256 * functions
 }
 
-/// A sheet that [`audit`](crate::audit) accepts, with its index: for many headers over one sheet.
+/// A sheet that [`audit`](crate::audit) accepts, with its index: for many headers over one sheet. A reference to it is an
+/// [`Engine`](crate::Engine), by which traces are labelled.
 ///
 /// The sheet `S` and the bytes `B` that the index is built in are lent or owned: slices, arrays, or vectors. While the index
 /// is there the sheet cannot change. Another, or the same with a command word rewritten, needs another index.
 ///
 /// ```
-/// use cartsundial::{index_length, route, HostRecord, Index, Refusal};
+/// use cartsundial::{index_length, lines, route, HostRecord, Index, Refusal};
 ///
 /// let host = HostRecord {
 ///     buses: (0, 255),
@@ -42,9 +41,12 @@ pub const fn index_length(functions: usize) -> usize {
 /// let header = [0, 0, 0, 1, 0, 0, 0x21, 0x0F, 0xF9, 0, 0x0F, 0xFC];
 /// assert_eq!(index.find(&header)?.delivery().map(|delivery| delivery.record), Some(1));
 /// assert_eq!(index.find(&header), route(&header, &sheet));
+/// // The same header as a trace, which has a version byte, and a length before each header.
+/// let trace = [&[1, 0, 12], &header[..]].concat();
+/// assert_eq!(&*lines(&index, &trace).next().unwrap(), "1 MRd owner 1");
 /// # Ok::<(), Refusal>(())
 /// ```
-#[derive(Clone, Copy, Debug)]
+#[derive(Clone, Copy)]
 pub struct Index<S, B> {
     sheet: S,
     bytes: B,
@@ -61,7 +63,7 @@ impl<S: AsRef<[u8]>, B: AsRef<[u8]> + AsMut<[u8]>> Index<S, B> {
 
 #[cfg(feature = "std")]
 impl<S: AsRef<[u8]>> Index<S, Vec<u8>> {
-    /// Builds the index in a vector of its length.
+    /// Builds the index in a vector of its length, [`FULL_INDEX`] at most, however long the sheet is.
     pub fn new(host: &HostRecord, sheet: S) -> Result<Index<S, Vec<u8>>, Refusal> {
         let bytes = vec![0; index_length(functions::most_in(sheet.as_ref()))];
         Index::build(host, sheet, bytes)
@@ -71,7 +73,7 @@ impl<S: AsRef<[u8]>> Index<S, Vec<u8>> {
 impl<S: AsRef<[u8]>, B: AsRef<[u8]>> Index<S, B> {
     /// Where the header goes: for every header what [`route`](crate::route) answers over the sheet.
     pub fn find(&self, header: &[u8]) -> Result<Arrival, Refusal> {
-        arrival::asked(self.sheet(), |answer| calls::find(header, self.bytes(), answer))
+        arrival::asked(header, self.sheet(), |answer| calls::find(header, self.bytes(), answer))
     }
 
     /// The sheet.
@@ -79,8 +81,15 @@ impl<S: AsRef<[u8]>, B: AsRef<[u8]>> Index<S, B> {
         self.sheet.as_ref()
     }
 
-    /// The bytes that the index was built in, for [`calls::find`].
+    /// The bytes that the index was built in, for [`calls::find`] and [`calls::label`].
     pub fn bytes(&self) -> &[u8] {
         self.bytes.as_ref()
+    }
+}
+
+/// How many bytes the two have.
+impl<S: AsRef<[u8]>, B: AsRef<[u8]>> fmt::Debug for Index<S, B> {
+    fn fmt(&self, f: &mut fmt::Formatter<'_>) -> fmt::Result {
+        write!(f, "Index(sheet of {} bytes, in {} bytes)", self.sheet().len(), self.bytes().len())
     }
 }

@@ -27,7 +27,8 @@
 //! | where a packet goes: a function, every function, the port | [`route`] |
 //! | the same for many headers over one sheet | [`Index`] |
 //! | where a request goes that starts at a function: another function, the host | [`route_from`] |
-//! | a line for each header of a trace: in pieces, of a whole one | [`Annotator`], [`lines()`] |
+//! | a line for each header of a trace, over a sheet or by an index: in pieces, of a whole one | [`Annotator`], [`lines()`] |
+//! | what each of the two costs | [`Engine`] |
 //! | which requests wait for completions, and what a completion belongs to | [`Ledger`] |
 //! | the same calls with numbers in place of types | [`calls`] |
 //!
@@ -62,6 +63,7 @@ mod arrival;
 mod board;
 pub mod calls;
 mod cards;
+mod engine;
 mod fields;
 mod functions;
 mod host;
@@ -81,6 +83,7 @@ pub use annotator::{Annotator, LONGEST_LINE};
 pub use arrival::{route, Arrival, Delivery};
 pub use board::{bridges, Bridge, Spares};
 pub use cards::{route_from, Sending};
+pub use engine::Engine;
 pub use fields::{Body, Enables, Fields};
 pub use functions::{functions, Function};
 pub use host::{audit, HostRecord};

@@ -1,13 +1,15 @@
 //! The lines of a whole trace, one by one.
 
-use crate::{Annotator, Label, LONGEST_LINE};
+use crate::{Annotator, Engine, Label, LONGEST_LINE};
 use core::fmt;
 use core::iter::FusedIterator;
 use core::ops::Deref;
 
-/// How many bytes of the trace are fed at a time. The sheet is checked once for each of these pieces, which have eight
-/// headers or so, and the iterator holds room for any lines of one.
-const PIECE: usize = 128;
+/// How many records of the trace are fed at a time, at most: the iterator holds room for so many lines. A sheet is checked
+/// once for each of these pieces.
+const RECORDS: usize = 64;
+
+const ROOM: usize = RECORDS * LONGEST_LINE;
 
 /// A line of an annotated trace, without its newline: a `str`. [`label`](Line::label) takes it apart.
 #[derive(Clone, Copy, PartialEq, Eq, Hash)]
@@ -56,7 +58,8 @@ impl fmt::Debug for Line {
     }
 }
 
-/// The lines of a whole trace over a sheet, the last one of a trace that is cut or has no bytes among them.
+/// The lines of a whole trace, over a sheet or by an index, the last one of a trace that is cut or has no bytes among them.
+/// [`Engine`] says what each costs; a sheet is checked once for 64 records.
 ///
 /// ```
 /// use cartsundial::{lines, Label, Refusal};
@@ -71,24 +74,41 @@ impl fmt::Debug for Line {
 /// assert_eq!(lines.next().unwrap().label(), Label::Cut);
 /// assert!(lines.next().is_none());
 /// ```
-pub fn lines<'a>(sheet: &'a [u8], trace: &'a [u8]) -> Lines<'a> {
-    Lines { sheet, rest: trace, annotator: Annotator::new(), is_finished: false, room: [0; ROOM], start: 0, end: 0 }
+pub fn lines<'a>(by: impl Into<Engine<'a>>, trace: &'a [u8]) -> Lines<'a> {
+    Lines {
+        by: by.into(),
+        rest: trace,
+        annotator: Annotator::new(),
+        stage: Stage::First,
+        room: [0; ROOM],
+        start: 0,
+        end: 0,
+    }
 }
-
-const ROOM: usize = Annotator::room_for(PIECE);
 
 /// See [`lines()`].
 #[derive(Clone)]
 pub struct Lines<'a> {
-    sheet: &'a [u8],
+    by: Engine<'a>,
     /// What was not fed yet.
     rest: &'a [u8],
     annotator: Annotator,
-    is_finished: bool,
+    stage: Stage,
     /// The lines that were not given yet are from `start` to `end`.
     room: [u8; ROOM],
     start: usize,
     end: usize,
+}
+
+/// What comes when the lines in the room are given.
+#[derive(Clone, Copy)]
+enum Stage {
+    /// The version byte, and the first records.
+    First,
+    /// More records, or the end.
+    Records,
+    /// Nothing.
+    Finished,
 }
 
 impl Lines<'_> {
@@ -99,6 +119,39 @@ impl Lines<'_> {
         self.start += length + 1;
         Some(Line::new(&pending[..length]))
     }
+
+    /// Fills the room with the lines of the next piece, or with the last line.
+    fn fill(&mut self) {
+        let length = if self.rest.is_empty() {
+            self.stage = Stage::Finished;
+            self.annotator.finish(&mut self.room)
+        } else {
+            let version = matches!(self.stage, Stage::First).into();
+            let (piece, rest) = self.rest.split_at(piece_length(self.rest, version));
+            self.rest = rest;
+            self.stage = Stage::Records;
+            self.annotator.feed(self.by, piece, &mut self.room)
+        };
+        if self.annotator.is_of_other_version() {
+            self.stage = Stage::Finished;
+        }
+        (self.start, self.end) = (0, length.expect("there is room for the lines of a piece"));
+    }
+}
+
+/// The length of the next piece, after so many bytes of it: the next [`RECORDS`] records, or all the rest, where it has
+/// fewer that are whole.
+fn piece_length(rest: &[u8], start: usize) -> usize {
+    let mut end = start;
+    for _ in 0..RECORDS {
+        let Some(length) = rest[end..].first_chunk() else { return rest.len() };
+        let after = end + length.len() + usize::from(u16::from_be_bytes(*length));
+        if after > rest.len() {
+            return rest.len();
+        }
+        end = after;
+    }
+    end
 }
 
 impl Iterator for Lines<'_> {
@@ -109,18 +162,10 @@ impl Iterator for Lines<'_> {
             if let Some(line) = self.pending() {
                 return Some(line);
             }
-            if self.is_finished {
+            if matches!(self.stage, Stage::Finished) {
                 return None;
             }
-            let length = if self.rest.is_empty() {
-                self.is_finished = true;
-                self.annotator.finish(&mut self.room)
-            } else {
-                let (piece, rest) = self.rest.split_at(self.rest.len().min(PIECE));
-                self.rest = rest;
-                self.annotator.feed(self.sheet, piece, &mut self.room)
-            };
-            (self.start, self.end) = (0, length.expect("there is room for the lines of a piece"));
+            self.fill();
         }
     }
 }
@@ -130,6 +175,7 @@ impl FusedIterator for Lines<'_> {}
 impl fmt::Debug for Lines<'_> {
     fn fmt(&self, f: &mut fmt::Formatter<'_>) -> fmt::Result {
         f.debug_struct("Lines")
+            .field("by", &self.by)
             .field("rest", &self.rest.len())
             .field("annotator", &self.annotator)
             .finish_non_exhaustive()

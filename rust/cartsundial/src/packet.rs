@@ -1,12 +1,14 @@
 //! A lawful header.
 //!
 //! A [`Packet`] keeps a header's 12 or 16 bytes. They come from two places only: from a header that the library's reader
-//! accepted, or from its writer. What is proved of the library makes that enough:
+//! accepted, as it is or as it arrives, or from its writer. What is proved of the library makes that enough:
 //!
 //! - A header that is read is written back to its own first 12 or 16 bytes, and what the writer wrote is read back as the
 //!   same packet (crates/demands/specs/Demand2.antt). So [`write()`] copies the bytes and asks nothing again.
 //! - Lawful packets with the same bytes are one packet (`layout-unique` in crates/tlp/specs/RoundTrip.antt). So packets
 //!   are equal exactly when their bytes are.
+//! - A packet arrives as it was read, but for a configuration request of type 1, which becomes type 0: one bit, and no rule
+//!   tells the two types apart.
 //!
 //! A field is taken from the bytes where it is asked for. No proof covers that: tests/against_plain holds each field of
 //! each header that it reads against the library's own number.
@@ -18,6 +20,10 @@ use core::fmt;
 
 /// The longest header.
 const LONGEST: usize = Form::FourDwords.bytes();
+
+/// Byte 0 of a configuration request of type 1.
+const CFG_RD1: u8 = 0b000_00101;
+const CFG_WR1: u8 = 0b010_00101;
 
 /// A lawful packet's header. The fields that every kind has are methods; [`body`](Packet::body) has the others, to match
 /// on, and [`fields`](Packet::fields) has all of them, to change and make another packet of.
@@ -107,6 +113,14 @@ impl Packet {
             Form::FourDwords => number,
         };
         Packet { bytes: kept.to_le_bytes() }
+    }
+
+    /// The packet as it arrives at a function: configuration type 1 becomes type 0, which is bit 0 of byte 0.
+    #[inline]
+    pub(crate) fn arrived(mut self) -> Packet {
+        let is_type1 = matches!(self.bytes[0], CFG_RD1 | CFG_WR1);
+        self.bytes[0] &= !u8::from(is_type1);
+        self
     }
 
     /// The header's 12 or 16 bytes.

@@ -72,8 +72,7 @@ fn numbers_wrap() {
     let lines = "18446744073709551614 CfgRd1 refused 20\n18446744073709551615 CfgRd1 refused 20\n0 CfgRd1 refused 20\n";
     assert_eq!(&room[..written[0] as usize], lines.as_bytes());
     assert!(lines.lines().all(|line| line.len() < LONGEST_LINE));
-    assert_eq!(state[..4], [2, 0, 0, 12]);
-    assert_eq!([state[4].to_be_bytes(), state[5].to_be_bytes()].concat(), [&header[..], &[0; 4]].concat());
+    assert_eq!(state, [2, 0, 0, 0, 0, 0]);
 }
 
 #[test]
@@ -90,6 +89,10 @@ fn empty_slices() {
     assert_eq!(calls::annotate(&mut [5, 0, 0, 0, 0], &[], &[], &mut [], &mut []), 11);
     assert_eq!(calls::annotate(&mut [5, 0, 0, 0, 0, 0], &[], &[], &mut [], &mut []), 10);
     assert_eq!(calls::annotate(&mut [0; 6], &[], &[], &mut [], &mut []), 11);
+    for (numbers, number) in [(&mut [][..], 11), (&mut [5; 5], 11), (&mut [5; 6], 10), (&mut [0; 6], 11)] {
+        assert_eq!(calls::label(numbers, &[], &[], &mut [], &mut []), number);
+    }
+    assert_eq!(calls::label(&mut [0; 6], &[], &[], &mut [], &mut [7]), 0);
     assert_eq!(calls::annotate_end(&[], &mut [], &mut []), 11);
     assert_eq!(calls::annotate_end(&[4, 0, 0, 0, 0, 0], &mut [], &mut []), 10);
     assert_eq!(calls::annotate_end(&[2, 0, 0, 0, 0, 0], &mut [], &mut []), 11);
@@ -122,4 +125,31 @@ fn deep_on_a_small_stack() {
     let line = move || lines(&sheet, &trace).next().map(|line| line.to_string());
     let line = thread::Builder::new().stack_size(128 << 10).spawn(line).unwrap().join().unwrap();
     assert_eq!(line.as_deref(), Some("1 MRd owner 256"));
+}
+
+/// `lines` feeds as many records as it has room for: at every count around that, with records of every length, cut anywhere.
+#[test]
+fn pieces_of_whole_records() {
+    for count in [0, 1, 63, 64, 65, 127, 128, 129, 200] {
+        let headers: Vec<Vec<u8>> = (0..count).map(|number| vec![0; number * 7 % 41]).collect();
+        let trace = trace::of(&headers);
+        for cut in 0..trace.len().min(100) {
+            let trace = &trace[..trace.len() - cut];
+            let expected = plain::annotate(&[1], trace);
+            assert!(lines(&[1], trace).map(|line| line.to_string()).eq(expected.lines()), "{count} less {cut}");
+        }
+    }
+    let long = trace::of(&[vec![0; 65_535], vec![0; 65_535], vec![]]);
+    assert!(lines(&[1], &long).map(|line| line.to_string()).eq(plain::annotate(&[1], &long).lines()));
+}
+
+/// After `refused 21` nothing of a trace is read, however long it is: a GiB of it takes no time.
+#[test]
+fn nothing_after_another_version() {
+    let mut trace = vec![0; 1 << 30];
+    trace[0] = 7;
+    let mut lines = lines(&[1], &trace);
+    assert_eq!(&*lines.next().unwrap(), "refused 21");
+    assert!(lines.next().is_none());
+    assert!(format!("{lines:?}").len() < 300);
 }

@@ -193,14 +193,15 @@ pub fn find(header: &[u8], index: &[u8]) -> Result<Arrival, u8> {
 }
 
 /// Bytes, taken as an index.
-struct Index<'a> {
+#[derive(Clone, Copy)]
+pub(crate) struct Index<'a> {
     bytes: &'a [u8],
     layout: Layout,
 }
 
 impl<'a> Index<'a> {
     /// Of no functions, where the bytes are too few for as many as they say.
-    fn new(bytes: &'a [u8]) -> Index<'a> {
+    pub(crate) fn new(bytes: &'a [u8]) -> Index<'a> {
         let said = bytes.first_chunk().map_or(0, |bytes| u16::from_le_bytes(*bytes));
         let layout = Layout { functions: said.into() };
         let layout = if bytes.len() < layout.size() { Layout { functions: 0 } } else { layout };

@@ -32,4 +32,4 @@ pub use plan::plan;
 pub use route::{route, Arrival};
 pub use script::{program as script_program, script};
 pub use sheet::{check, id_of, listing, lookup, set_command, Sheet, FULL_SHEET};
-pub use trace::{annotate, program, Annotator};
+pub use trace::{annotate, label, program, Annotator};

@@ -1,9 +1,11 @@
-//! The trace annotator (request E4 of document 02): a line for each header of a trace, whole or fed in pieces.
+//! The trace annotator (request E4 of document 02): a line for each header of a trace, whole or fed in pieces, over a sheet
+//! or by an index (E8).
 //!
 //! A trace is version byte 1, then records of a two-byte length and as many header bytes.
 
 use std::mem;
 
+use crate::index::Index;
 use crate::packet;
 use crate::route::{Arrival, Owners};
 use crate::sheet::{Sheet, FULL_SHEET};
@@ -12,18 +14,27 @@ const VERSION: u8 = 1;
 /// The longest header. What a record has beyond it is not looked at.
 const FRONT: usize = 16;
 
-/// The lines of a whole trace.
+/// The lines of a whole trace over a sheet.
 pub fn annotate(sheet: &[u8], trace: &[u8]) -> String {
+    whole(Sheet::new(sheet), trace)
+}
+
+/// The lines of a whole trace by an index that was built, or by any bytes.
+pub fn label(index: &[u8], trace: &[u8]) -> String {
+    whole(Ok(Index::new(index)), trace)
+}
+
+/// By what answers for a header, or with the number that refuses all of them.
+fn whole(owners: Result<impl Owners + Copy, u8>, trace: &[u8]) -> String {
     let Some((&version, mut rest)) = trace.split_first() else { return refused(20) };
     if version != VERSION {
         return refused(21);
     }
-    let sheet = Sheet::new(sheet);
     let mut lines = String::new();
     let mut number: u64 = 1;
     while let Some((&length, after)) = rest.split_first_chunk() {
         let Some((header, after)) = after.split_at_checked(u16::from_be_bytes(length).into()) else { break };
-        lines += &label(number, header, sheet);
+        lines += &line(number, header, owners);
         number = number.wrapping_add(1);
         rest = after;
     }
@@ -60,14 +71,14 @@ pub(crate) fn refused(number: u8) -> String {
 }
 
 /// A record's line: `1 MRd owner 2`, `2 IOWr refused 40`, `3 - refused 4`, `4 Msg owner all` or `5 Msg owner port`.
-fn label(number: u64, header: &[u8], sheet: Result<Sheet<'_>, u8>) -> String {
+fn line(number: u64, header: &[u8], owners: Result<impl Owners, u8>) -> String {
     let packet = match packet::read(header) {
         Ok(packet) => packet,
         Err(refusal) => return format!("{number} - refused {refusal}\n"),
     };
     // As read: a configuration request of type 1 arrives as type 0.
     let kind = packet.kind;
-    match sheet.and_then(|sheet| sheet.route(packet)) {
+    match owners.and_then(|owners| owners.route(packet)) {
         Ok(Arrival::Function { record, .. }) => format!("{number} {kind:?} owner {record}\n"),
         Ok(Arrival::Every { .. }) => format!("{number} {kind:?} owner all\n"),
         Ok(Arrival::Port { .. }) => format!("{number} {kind:?} owner port\n"),
@@ -117,11 +128,19 @@ impl Annotator {
     /// Reads the trace's next piece and writes its lines at the start of `room`; how many bytes they are. In short room
     /// (11) the piece is not taken and nothing is written.
     pub fn feed(&mut self, sheet: &[u8], piece: &[u8], room: &mut [u8]) -> Result<usize, u8> {
-        let sheet = Sheet::new(sheet);
+        self.feed_by(Sheet::new(sheet), piece, room)
+    }
+
+    /// The same by an index that was built, or by any bytes.
+    pub fn feed_index(&mut self, index: &[u8], piece: &[u8], room: &mut [u8]) -> Result<usize, u8> {
+        self.feed_by(Ok(Index::new(index)), piece, room)
+    }
+
+    fn feed_by(&mut self, owners: Result<impl Owners + Copy, u8>, piece: &[u8], room: &mut [u8]) -> Result<usize, u8> {
         let mut then = self.clone();
         let mut lines = String::new();
         for &byte in piece {
-            then.take(byte, sheet, &mut lines);
+            then.take(byte, owners, &mut lines);
         }
         let length = put(&lines, room)?;
         *self = then;
@@ -137,7 +156,7 @@ impl Annotator {
         }
     }
 
-    fn take(&mut self, byte: u8, sheet: Result<Sheet<'_>, u8>, lines: &mut String) {
+    fn take(&mut self, byte: u8, owners: Result<impl Owners, u8>, lines: &mut String) {
         self.stage = match mem::replace(&mut self.stage, Stage::Between) {
             Stage::Fresh if byte == VERSION => Stage::Between,
             Stage::Fresh => {
@@ -146,23 +165,23 @@ impl Annotator {
             }
             Stage::OtherVersion => Stage::OtherVersion,
             Stage::Between => Stage::HalfLength(byte),
-            Stage::HalfLength(high) => self.inside(u16::from_be_bytes([high, byte]), Vec::new(), sheet, lines),
+            Stage::HalfLength(high) => self.inside(u16::from_be_bytes([high, byte]), Vec::new(), owners, lines),
             Stage::Inside { left, mut front } => {
                 if front.len() < FRONT {
                     front.push(byte);
                 }
-                self.inside(left - 1, front, sheet, lines)
+                self.inside(left - 1, front, owners, lines)
             }
         };
     }
 
     /// A record of which so many bytes are to come. With none left it is whole, and its line is written.
-    fn inside(&mut self, left: u16, front: Vec<u8>, sheet: Result<Sheet<'_>, u8>, lines: &mut String) -> Stage {
+    fn inside(&mut self, left: u16, front: Vec<u8>, owners: Result<impl Owners, u8>, lines: &mut String) -> Stage {
         if left > 0 {
             return Stage::Inside { left, front };
         }
         self.records = self.records.wrapping_add(1);
-        *lines += &label(self.records, &front, sheet);
+        *lines += &line(self.records, &front, owners);
         Stage::Between
     }
 }

@@ -1,4 +1,5 @@
-//! The chosen cases of the scripts, the runs of the annotator and of the audit, and full indexes, once, whatever the rounds.
+//! The chosen cases of the scripts, the runs of the annotator, the labeller and the audit, and full indexes, once, whatever
+//! the rounds.
 
 use crate::tally::Tally;
 use crate::{audits, boards, cards, headers, indexes, ledgers, routes, sheets, traces};
@@ -17,10 +18,23 @@ pub fn compare(random: &mut Random, _: u64, tally: &mut Tally) {
             traces::annotate(sheet, trace, random, tally);
         }
     }
+    for (_, input) in scripts::labels() {
+        labelled(&input, random, tally);
+    }
     audits::chosen(random, tally);
     indexes::chosen(random, tally);
     cards::chosen(random, tally);
     ledgers::chosen(random, tally);
+}
+
+/// A run of the program `label`, if its sheet is accepted.
+fn labelled(input: &[u8], random: &mut Random, tally: &mut Tally) {
+    let Some((host, rest)) = input.split_first_chunk::<30>() else { return };
+    let Some((length, rest)) = rest.split_first_chunk() else { return };
+    let Some((sheet, trace)) = rest.split_at_checked(u16::from_be_bytes(*length).into()) else { return };
+    if plain::audit(host, sheet) == 0 {
+        traces::label(host, sheet, trace, random, tally);
+    }
 }
 
 /// One line. A board that is planned, and a sheet, become the current sheet.

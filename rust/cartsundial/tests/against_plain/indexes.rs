@@ -57,7 +57,7 @@ pub fn chosen(random: &mut Random, tally: &mut Tally) {
     }
 }
 
-fn plan(board: &[u8]) -> Option<Vec<u8>> {
+pub fn plan(board: &[u8]) -> Option<Vec<u8>> {
     let mut room = vec![0; plain::FULL_SHEET];
     let length = plain::plan(board, &mut room).ok()?;
     room.truncate(length);
@@ -65,7 +65,7 @@ fn plan(board: &[u8]) -> Option<Vec<u8>> {
 }
 
 /// The index of an accepted sheet, in lent bytes and then in a vector of its own.
-fn typed<'a>(host: &[u8], sheet: &'a [u8]) -> Index<&'a [u8], Vec<u8>> {
+pub fn typed<'a>(host: &[u8], sheet: &'a [u8]) -> Index<&'a [u8], Vec<u8>> {
     let host = HostRecord::from_bytes(host.try_into().unwrap());
     let mut bytes = vec![0xA5; index_length(sheet.len() / RECORD)];
     let lent = Index::build(&host, sheet, &mut bytes[..]).unwrap();
@@ -75,7 +75,7 @@ fn typed<'a>(host: &[u8], sheet: &'a [u8]) -> Index<&'a [u8], Vec<u8>> {
 }
 
 /// Other bytes in place of an index's, and often as many functions as they have room for, or one more.
-fn damaged(mut index: Vec<u8>, random: &mut Random) -> Vec<u8> {
+pub fn damaged(mut index: Vec<u8>, random: &mut Random) -> Vec<u8> {
     match random.below(4) {
         0 => index = (0..random.below(5000)).map(|_| random.word() as u8).collect(),
         1 => damage::bytes(&mut index, random),
@@ -120,8 +120,12 @@ fn over(header: &[u8], index: &Index<&[u8], Vec<u8>>, random: &mut Random, tally
     let numbers = (calls::find(header, bytes, &mut found), calls::route(header, sheet, &mut routed));
     assert!(numbers.0 == numbers.1 && found == routed, "find {} over {}: {numbers:?}", hex(header), hex(sheet));
 
+    // The types take the packet from the header: it is the one that the numbers are.
+    let typed = index.find(header).map_err(|refusal| refusal.number());
+    let packet = typed.map(|arrival| arrival.packet().to_numbers());
+    let expected = if numbers.0 == 0 { Ok(*found[2..].first_chunk().unwrap()) } else { Err(numbers.0 as u8) };
+    assert_eq!(packet, expected, "find {} over {}", hex(header), hex(sheet));
     if random.chance(1, 4) {
-        let typed = index.find(header).map_err(|refusal| refusal.number());
         let same = match (typed, answer) {
             (Ok(typed), Ok(answer)) => typed::same(&typed, &answer, sheet),
             (typed, answer) => typed.err() == answer.err(),

@@ -20,13 +20,14 @@ pub enum Call {
     Index,
     Find,
     Annotate,
+    Label,
     End,
     Open,
     Complete,
     Count,
 }
 
-const CALLS: [Call; 17] = [
+const CALLS: [Call; 18] = [
     Call::Read,
     Call::Write,
     Call::Plan,
@@ -40,6 +41,7 @@ const CALLS: [Call; 17] = [
     Call::Index,
     Call::Find,
     Call::Annotate,
+    Call::Label,
     Call::End,
     Call::Open,
     Call::Complete,
@@ -68,7 +70,7 @@ impl Call {
             Call::RouteFrom => &[0, 1, 2, 3, 4, 5, 6, 7, 8, 9, 11, 20, 21, 22, 24, 25, 27, 28, 29, 40, 41, 44, 45],
             Call::Index => &[0, 11, 20, 21, 22, 24, 25, 26, 27, 28, 29, 50, 51, 52],
             Call::Find => &[0, 1, 2, 3, 4, 5, 6, 7, 8, 9, 11, 40, 42, 43],
-            Call::Annotate | Call::End => &[0, 10, 11],
+            Call::Annotate | Call::Label | Call::End => &[0, 10, 11],
             Call::Open => &[0, 1, 2, 3, 4, 5, 6, 7, 8, 9, 11, 60, 61, 62],
             Call::Complete => &[0, 1, 2, 3, 4, 5, 6, 7, 8, 9, 11, 60, 63, 64, 65],
             Call::Count => &[0, 11],

@@ -1,11 +1,12 @@
-//! Traces annotated, in pieces.
+//! Traces labelled in pieces, over sheets and by indexes.
 
+use crate::indexes;
 use crate::lent::{hex, Lent};
 use crate::sheets;
 use crate::tally::{Call, Tally};
-use cartsundial::{calls, Annotator, Refusal};
+use cartsundial::{calls, Annotator, Engine, Refusal};
 use inputs::random::Random;
-use inputs::trace;
+use inputs::{audit, trace};
 
 type State = [u64; calls::TRACE];
 
@@ -15,61 +16,138 @@ pub fn compare(random: &mut Random, rounds: u64, tally: &mut Tally) {
         let trace = trace::any(&sheet, random);
         annotate(&sheet, &trace, random, tally);
         for _ in 0..4 {
-            from_any_state(&sheet, random, tally);
-            from_no_state(&sheet, random, tally);
+            from_any_state(By::Sheet(&sheet), &sheet, random, tally);
+            from_no_state(By::Sheet(&sheet), &sheet, random, tally);
+        }
+    }
+    for _ in 0..5_000 * rounds {
+        let (host, sheet) = accepted(random);
+        let trace = trace::any(&sheet, random);
+        label(&host, &sheet, &trace, random, tally);
+        // Bytes that no build left.
+        let built = indexes::typed(&host, &sheet);
+        let other = indexes::damaged(built.bytes().to_vec(), random);
+        in_pieces(By::Index(&other), None, &trace, random, tally);
+        for bytes in [built.bytes(), &other] {
+            from_any_state(By::Index(bytes), &sheet, random, tally);
+            from_no_state(By::Index(bytes), &sheet, random, tally);
         }
     }
 }
 
-/// A trace from its first byte to its end, by the call, by the types, and by plain.
+/// A host record and a sheet that the audit accepts for it.
+fn accepted(random: &mut Random) -> (Vec<u8>, Vec<u8>) {
+    loop {
+        let (host, sheet) = audit::any(random, indexes::plan);
+        if plain::audit(&host, &sheet) == 0 {
+            return (host, sheet);
+        }
+    }
+}
+
+/// What the headers of a trace are labelled by.
+#[derive(Clone, Copy)]
+enum By<'a> {
+    Sheet(&'a [u8]),
+    /// That was built, or any bytes.
+    Index(&'a [u8]),
+}
+
+impl<'a> By<'a> {
+    fn bytes(self) -> &'a [u8] {
+        match self {
+            By::Sheet(bytes) | By::Index(bytes) => bytes,
+        }
+    }
+
+    /// The call to the library, and what it returns, with the bytes at another place.
+    fn call(self) -> (Call, fn(&mut [u64], &[u8], &[u8], &mut [u8], &mut [u64]) -> u32) {
+        match self {
+            By::Sheet(_) => (Call::Annotate, calls::annotate),
+            By::Index(_) => (Call::Label, calls::label),
+        }
+    }
+
+    /// What plain writes for a piece, in room enough.
+    fn lines(self, annotator: &mut plain::Annotator, piece: &[u8]) -> String {
+        let mut room = vec![0; Annotator::room_for(piece.len())];
+        let fed = match self {
+            By::Sheet(sheet) => annotator.feed(sheet, piece, &mut room),
+            By::Index(index) => annotator.feed_index(index, piece, &mut room),
+        };
+        room.truncate(fed.unwrap());
+        String::from_utf8(room).unwrap()
+    }
+
+    /// What plain writes for a whole trace.
+    fn whole(self, trace: &[u8]) -> String {
+        match self {
+            By::Sheet(sheet) => plain::annotate(sheet, trace),
+            By::Index(index) => plain::label(index, trace),
+        }
+    }
+}
+
+/// A trace over a sheet.
 pub fn annotate(sheet: &[u8], trace: &[u8], random: &mut Random, tally: &mut Tally) {
+    let lines = in_pieces(By::Sheet(sheet), Some(sheet.into()), trace, random, tally);
+    whole(sheet.into(), trace, &lines, tally);
+}
+
+/// A trace by the index of an accepted sheet: its lines are those over the sheet.
+pub fn label(host: &[u8], sheet: &[u8], trace: &[u8], random: &mut Random, tally: &mut Tally) {
+    let index = indexes::typed(host, sheet);
+    let lines = in_pieces(By::Index(index.bytes()), Some((&index).into()), trace, random, tally);
+    assert_eq!(lines, plain::annotate(sheet, trace), "{} by the index of {}", hex(trace), hex(sheet));
+    whole((&index).into(), trace, &lines, tally);
+}
+
+/// A trace from its first byte to its end, by the call, by the types, and by plain. Returns the lines.
+fn in_pieces(by: By<'_>, engine: Option<Engine<'_>>, trace: &[u8], random: &mut Random, tally: &mut Tally) -> String {
     let mut annotator = plain::Annotator::new();
     let mut typed = Annotator::new();
     let mut state = [0; calls::TRACE];
     let mut lines = String::new();
     for piece in trace::pieces(trace, random) {
-        let fed = lines_of(&mut annotator, sheet, piece);
-        typed_piece(&mut typed, sheet, piece, &fed);
-        state = Asked { state, sheet, piece, lines: &fed }.until_taken(random, tally);
-        assert_eq!(typed.record_number(), state[2]);
+        let fed = by.lines(&mut annotator, piece);
+        state = Asked { state, by, piece, lines: &fed }.until_taken(random, tally);
+        if let Some(engine) = engine {
+            typed_piece(&mut typed, engine, piece, &fed);
+            assert_eq!(typed.record_number(), state[2]);
+            assert_eq!(typed.is_of_other_version(), state[0] == OTHER);
+        }
         end(&annotator, state, random, tally);
         lines += &fed;
     }
     let last = end(&annotator, state, random, tally);
-    let mut room = vec![0; last.len()];
-    assert_eq!(typed.finish(&mut room), Ok(last.len()));
-    assert_eq!(room, last.as_bytes());
+    if engine.is_some() {
+        let mut room = vec![0; last.len()];
+        assert_eq!(typed.finish(&mut room), Ok(last.len()));
+        assert_eq!(room, last.as_bytes());
+    }
     lines += &last;
-    assert_eq!(lines, plain::annotate(sheet, trace), "{} over {}", hex(trace), hex(sheet));
-    whole(sheet, trace, &lines, tally);
-}
-
-/// What plain writes for a piece, in room enough.
-fn lines_of(annotator: &mut plain::Annotator, sheet: &[u8], piece: &[u8]) -> String {
-    let mut room = vec![0; Annotator::room_for(piece.len())];
-    let length = annotator.feed(sheet, piece, &mut room).unwrap();
-    room.truncate(length);
-    String::from_utf8(room).unwrap()
+    assert_eq!(lines, by.whole(trace), "{} by {}", hex(trace), hex(by.bytes()));
+    lines
 }
 
 /// By the types: in room that is one short, unless there is no line, and then in as much as the lines need.
-fn typed_piece(typed: &mut Annotator, sheet: &[u8], piece: &[u8], lines: &str) {
+fn typed_piece(typed: &mut Annotator, engine: Engine<'_>, piece: &[u8], lines: &str) {
     let before = typed.clone();
     let mut room = vec![0; lines.len()];
     if let Some((_, short)) = room.split_last_mut() {
-        assert_eq!(typed.feed(sheet, piece, short), Err(Refusal::ShortRoom));
+        assert_eq!(typed.feed(engine, piece, short), Err(Refusal::ShortRoom));
         assert!(*typed == before && room.iter().all(|&byte| byte == 0));
     }
-    assert_eq!(typed.feed(sheet, piece, &mut room), Ok(lines.len()));
+    assert_eq!(typed.feed(engine, piece, &mut room), Ok(lines.len()));
     assert_eq!(room, lines.as_bytes());
 }
 
 /// The whole trace, line by line, and what each says.
-fn whole(sheet: &[u8], trace: &[u8], lines: &str, tally: &mut Tally) {
-    let mut rest = cartsundial::lines(sheet, trace);
+fn whole(engine: Engine<'_>, trace: &[u8], lines: &str, tally: &mut Tally) {
+    let mut rest = cartsundial::lines(engine, trace);
     for line in lines.lines() {
-        let typed = rest.next().unwrap_or_else(|| panic!("{line} of {} over {}", hex(trace), hex(sheet)));
-        assert_eq!(&*typed, line, "{} over {}", hex(trace), hex(sheet));
+        let typed = rest.next().unwrap_or_else(|| panic!("{line} of {} by {engine:?}", hex(trace)));
+        assert_eq!(&*typed, line, "{} by {engine:?}", hex(trace));
         assert_eq!(typed.label().to_string(), line);
         tally.labelled(&typed.label());
     }
@@ -79,7 +157,7 @@ fn whole(sheet: &[u8], trace: &[u8], lines: &str, tally: &mut Tally) {
 /// A state, a piece of a trace, and the lines that plain has for it.
 struct Asked<'a> {
     state: State,
-    sheet: &'a [u8],
+    by: By<'a>,
     piece: &'a [u8],
     lines: &'a str,
 }
@@ -103,29 +181,31 @@ impl Asked<'_> {
     /// Asks the library, and returns its number.
     fn call(&self, room: usize, mut written: Lent<u64>, random: &mut Random, tally: &mut Tally) -> u32 {
         let mut state = Lent::numbers(calls::TRACE + random.below(3) as usize, random).with(&self.state);
-        let mut sheet = Lent::holding(self.sheet, random);
+        let mut bytes = Lent::holding(self.by.bytes(), random);
         let mut piece = Lent::holding(self.piece, random);
         let mut lines = Lent::bytes(room, random);
-        let (sheet_before, piece_before) = (sheet.clone(), piece.clone());
+        let (bytes_before, piece_before) = (bytes.clone(), piece.clone());
         let answer = if self.lines.len() <= room { Ok([self.lines.len() as u64]) } else { Err(11) };
         let (number, written_then) = written.expected(&answer);
         let (state_then, lines_then) = match number {
             0 => (state.with(&after(self.state, self.piece)), lines.with(self.lines.as_bytes())),
             _ => (state.clone(), lines.clone()),
         };
-        let returned = calls::annotate(state.slice(), sheet.slice(), piece.slice(), lines.slice(), written.slice());
-        tally.count(Call::Annotate, returned);
+        let (call, asked) = self.by.call();
+        let returned = asked(state.slice(), bytes.slice(), piece.slice(), lines.slice(), written.slice());
+        tally.count(call, returned);
         assert_eq!(returned, number, "{self}");
         assert!(lines == lines_then, "{self}: the lines");
         assert!(state == state_then, "{self}: the state");
-        assert!(written == written_then && sheet == sheet_before && piece == piece_before, "{self}: what was lent");
+        assert!(written == written_then && bytes == bytes_before && piece == piece_before, "{self}: what was lent");
         returned
     }
 }
 
 impl std::fmt::Display for Asked<'_> {
     fn fmt(&self, f: &mut std::fmt::Formatter<'_>) -> std::fmt::Result {
-        write!(f, "annotate {} at {:X?} over {}", hex(self.piece), self.state, hex(self.sheet))
+        let call = self.by.call().0;
+        write!(f, "{call:?} {} at {:X?} by {}", hex(self.piece), self.state, hex(self.by.bytes()))
     }
 }
 
@@ -206,18 +286,18 @@ const LENGTH: u64 = 3;
 const INSIDE: u64 = 4;
 
 /// From a state that a trace need not have led to: any record number, and any bytes kept.
-fn from_any_state(sheet: &[u8], random: &mut Random, tally: &mut Tally) {
+fn from_any_state(by: By<'_>, sheet: &[u8], random: &mut Random, tally: &mut Tally) {
     let state = any_state(random);
     let trace = trace::any(sheet, random);
     let bytes = if state[0] == START { &trace[..] } else { trace.get(1..).unwrap_or_default() };
     let piece = trace::pieces(bytes, random).first().copied().unwrap_or_default();
     let lines = match (state[0], piece) {
         // Plain starts with record 1 only.
-        (START, [1, rest @ ..]) => lines_of(&mut plain::Annotator::after(state[2]), sheet, rest),
-        _ => lines_of(&mut at(state), sheet, piece),
+        (START, [1, rest @ ..]) => by.lines(&mut plain::Annotator::after(state[2]), rest),
+        _ => by.lines(&mut at(state), piece),
     };
     end(&at(state), state, random, tally);
-    Asked { state, sheet, piece, lines: &lines }.until_taken(random, tally);
+    Asked { state, by, piece, lines: &lines }.until_taken(random, tally);
 }
 
 fn any_state(random: &mut Random) -> State {
@@ -258,7 +338,7 @@ fn at(state: State) -> plain::Annotator {
 }
 
 /// Numbers that are no state, 10, and fewer than a state has, 11, whatever the rooms.
-fn from_no_state(sheet: &[u8], random: &mut Random, tally: &mut Tally) {
+fn from_no_state(by: By<'_>, sheet: &[u8], random: &mut Random, tally: &mut Tally) {
     let piece = &trace::any(sheet, random);
     let mut numbers = any_state(random).to_vec();
     let number = if random.chance(1, 3) {
@@ -272,10 +352,11 @@ fn from_no_state(sheet: &[u8], random: &mut Random, tally: &mut Tally) {
     let mut lines = Lent::bytes(random.below(100) as usize, random);
     let mut written = Lent::answer(1, random);
     let before = (state.clone(), lines.clone(), written.clone());
-    let returned = calls::annotate(state.slice(), sheet, piece, lines.slice(), written.slice());
-    tally.count(Call::Annotate, returned);
-    assert_eq!(returned, number, "annotate {} at {numbers:X?}", hex(piece));
-    assert!((&state, &lines, &written) == (&before.0, &before.1, &before.2), "annotate at {numbers:X?}: what was lent");
+    let (call, asked) = by.call();
+    let returned = asked(state.slice(), by.bytes(), piece, lines.slice(), written.slice());
+    tally.count(call, returned);
+    assert_eq!(returned, number, "{call:?} {} at {numbers:X?}", hex(piece));
+    assert!((&state, &lines, &written) == (&before.0, &before.1, &before.2), "{call:?} at {numbers:X?}: what was lent");
     let returned = calls::annotate_end(state.slice(), lines.slice(), written.slice());
     tally.count(Call::End, returned);
     assert_eq!(returned, number, "end at {numbers:X?}");
