@@ -36,6 +36,12 @@ pub fn print() {
     subjects.iter().for_each(row);
     row(&skewed);
     println!();
+    println!("By the types: `Index::find` beside `calls::find`, nanoseconds a header.");
+    println!();
+    println!("| sheet | calls | types | types/calls |");
+    println!("|---|---:|---:|---:|");
+    subjects.iter().for_each(by_types);
+    println!();
     println!("An index built, microseconds a call.");
     println!();
     println!("| sheet | plain | proved | proved/plain |");
@@ -67,6 +73,26 @@ impl Subject {
     fn room(&self) -> Vec<u8> {
         vec![0; 1024 + 256 * (self.sheet.len() / 92)]
     }
+}
+
+/// Each answer is looked at where it lies, as its caller would find it.
+fn by_types(subject: &Subject) {
+    let Subject { name, host, sheet } = subject;
+    let headers = labels::headers(sheet, 1 << 16);
+    let host = cartsundial::HostRecord::from_bytes(host[..].try_into().expect("30 bytes"));
+    let index = cartsundial::Index::build(&host, sheet, subject.room()).expect("the sheet is accepted");
+    let mut answer = [0; ANSWER];
+    let mut turns = (headers.iter().cycle(), headers.iter().cycle());
+    let times = compare(
+        || {
+            turns
+                .0
+                .next()
+                .map(|header| black_box(cartsundial::calls::find(header, index.bytes(), black_box(&mut answer))))
+        },
+        || turns.1.next().map(|header| black_box(&index.find(header)).is_ok()),
+    );
+    println!("| {name} | {:.1} | {:.1} | {:.2} |", times.plain, times.proved, times.proved / times.plain);
 }
 
 fn build(subject: &Subject) {

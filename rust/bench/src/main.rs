@@ -1,18 +1,21 @@
 //! Times the proved library and the plain implementation side by side, and prints a table.
 //!
-//! `cargo run --release --offline -p bench` prints all of it, names after `--` only those parts: `calls`, `ids`, `audits`,
-//! `traces`, `labels`, `ledgers`.
+//! `cargo run --release --offline -p bench` prints all of it but `programs`, names after `--` only those parts: `calls`,
+//! `ids`, `audits`, `traces`, `labels`, `ledgers`, `programs`.
 
 mod audits;
 mod ids;
 mod labels;
 mod ledgers;
 mod measure;
+mod programs;
 mod subjects;
+mod through;
 mod traces;
 
 use measure::{compare, Times, ROUNDS};
 use std::env;
+use std::error::Error;
 use std::hint::black_box;
 use subjects::{plain_calls, proved_calls, Backplane, Mixed};
 
@@ -39,22 +42,32 @@ const REUSED: &str = "reused, not cleared";
 const FRESH: &str = "new and zeroed, within the time";
 
 /// What is printed, and can be asked for by name.
-const PARTS: [(&str, fn()); 6] = [
+const PARTS: [(&str, fn()); 7] = [
     ("calls", calls),
     ("ids", ids::print),
     ("audits", audits::print),
     ("traces", traces::print),
     ("labels", labels::print),
     ("ledgers", ledgers::print),
+    (PROGRAMS, programs::print),
 ];
 
-fn main() {
+/// Only if asked for: it needs what is not built with this program.
+const PROGRAMS: &str = "programs";
+
+fn main() -> Result<(), Box<dyn Error>> {
     let asked: Vec<String> = env::args().skip(1).collect();
+    match &asked[..] {
+        [name] if name == programs::BY_CALL => return through::call(),
+        [name] if name == programs::BY_LABELLER => return through::labeller(),
+        _ => {}
+    }
     if let Some(other) = asked.iter().find(|name| !PARTS.iter().any(|(part, _)| part == name)) {
         panic!("no part is called {other}");
     }
-    let is_asked = |part: &str| asked.is_empty() || asked.iter().any(|name| name == part);
+    let is_asked = |part: &str| asked.iter().any(|name| name == part) || asked.is_empty() && part != PROGRAMS;
     PARTS.iter().filter(|(part, _)| is_asked(part)).for_each(|(_, print)| print());
+    Ok(())
 }
 
 fn calls() {

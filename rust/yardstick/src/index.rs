@@ -1,6 +1,6 @@
 //! The owners of a sheet in sorted order, and the search.
 
-use crate::packet::{self, Aim};
+use crate::packet::{self, Aim, NAMES};
 
 /// How many numbers an answer has: record, bridges, and the packet as it arrives.
 pub const ANSWER: usize = 22;
@@ -20,6 +20,13 @@ struct Owner {
     last: u64,
     record: u16,
     bridges: u8,
+}
+
+/// Where a packet goes.
+enum Found {
+    Function(Owner),
+    Every,
+    Port,
 }
 
 /// What functions own in one space: first numbers in order, and whose each is.
@@ -94,7 +101,19 @@ impl Index {
     #[inline]
     fn answer(&self, header: &[u8], answer: &mut [u64; ANSWER]) -> Result<(), u8> {
         let [record, bridges, packet @ ..] = answer;
-        let aim = packet::decode(header, packet)?;
+        let (_, aim) = packet::decode(header, packet)?;
+        // It arrives as type 0.
+        packet[0] -= 2 * u64::from(matches!(aim, Aim::Target(_, true)));
+        (*record, *bridges) = match self.owner(aim)? {
+            Found::Function(owner) => (owner.record.into(), owner.bridges.into()),
+            Found::Every => (0, self.functions),
+            Found::Port => (0, 0),
+        };
+        Ok(())
+    }
+
+    #[inline]
+    fn owner(&self, aim: Aim) -> Result<Found, u8> {
         let root = self.root.ok_or(40)?;
         let owner = match aim {
             Aim::Memory(address) => self.memory.owner(address)?,
@@ -104,23 +123,59 @@ impl Index {
                 if is_type1 == (id.to_be_bytes()[0] == root) {
                     return Err(42);
                 }
-                // It arrives as type 0.
-                packet[0] -= 2 * u64::from(is_type1);
                 self.ids.owner(id.into())?
             }
-            Aim::Every => {
-                (*record, *bridges) = (0, self.functions);
-                return Ok(());
-            }
-            Aim::Port => {
-                (*record, *bridges) = (0, 0);
-                return Ok(());
-            }
+            Aim::Every => return Ok(Found::Every),
+            Aim::Port => return Ok(Found::Port),
             Aim::Up => return Err(43),
         };
-        (*record, *bridges) = (owner.record.into(), owner.bridges.into());
-        Ok(())
+        Ok(Found::Function(owner))
     }
+
+    /// Puts the line of a header at the end of `lines`, as the program `label` prints it.
+    #[inline]
+    pub fn put_line(&self, number: u64, header: &[u8], lines: &mut Vec<u8>) {
+        put_decimal(number, lines);
+        match packet::decode(header, &mut ()) {
+            Ok((kind, aim)) => {
+                lines.push(b' ');
+                lines.extend_from_slice(NAMES[usize::from(kind)].as_bytes());
+                match self.owner(aim) {
+                    Ok(Found::Function(owner)) => {
+                        lines.extend_from_slice(b" owner ");
+                        put_decimal(owner.record.into(), lines);
+                    }
+                    Ok(Found::Every) => lines.extend_from_slice(b" owner all"),
+                    Ok(Found::Port) => lines.extend_from_slice(b" owner port"),
+                    Err(refusal) => put_refused(refusal, lines),
+                }
+            }
+            Err(refusal) => {
+                lines.extend_from_slice(b" -");
+                put_refused(refusal, lines);
+            }
+        }
+        lines.push(b'\n');
+    }
+}
+
+fn put_refused(number: u8, lines: &mut Vec<u8>) {
+    lines.extend_from_slice(b" refused ");
+    put_decimal(number.into(), lines);
+}
+
+fn put_decimal(mut number: u64, lines: &mut Vec<u8>) {
+    let mut digits = [0; 20];
+    let mut start = digits.len();
+    loop {
+        start -= 1;
+        digits[start] = b'0' + (number % 10) as u8;
+        number /= 10;
+        if number == 0 {
+            break;
+        }
+    }
+    lines.extend_from_slice(&digits[start..]);
 }
 
 /// The bridges above a bus: how many, and the command bits that all of them have.

@@ -4,6 +4,30 @@
 /// completer, status, BCM, byte count, lower address. In place of enables and address a message has routing, code and tail.
 pub type Numbers = [u64; 20];
 
+/// Where a packet's numbers are put, if they are wanted.
+pub trait Keep {
+    fn keep(&mut self, numbers: impl FnOnce() -> Numbers);
+}
+
+impl Keep for Numbers {
+    #[inline]
+    fn keep(&mut self, numbers: impl FnOnce() -> Numbers) {
+        *self = numbers();
+    }
+}
+
+/// For a line of a trace, which has the kind and the owner only.
+impl Keep for () {
+    #[inline]
+    fn keep(&mut self, _: impl FnOnce() -> Numbers) {}
+}
+
+/// A kind as it is named in a line, by its number.
+pub const NAMES: [&str; 15] = [
+    "MRd", "MRdLk", "MWr", "IORd", "IOWr", "CfgRd0", "CfgWr0", "CfgRd1", "CfgWr1", "Cpl", "CplD", "CplLk", "CplDLk",
+    "Msg", "MsgD",
+];
+
 /// What a packet goes by.
 #[derive(Clone, Copy)]
 pub enum Aim {
@@ -59,14 +83,15 @@ static PAIRS: [(Class, u8); 256] = {
     pairs
 };
 
-/// Reads the header at the start of `header`, or gives the number of the first check that it fails.
+/// Reads the header at the start of `header`: the number of its kind, and its aim; or the number of the first check that it
+/// fails.
 #[inline]
-pub fn decode(header: &[u8], packet: &mut Numbers) -> Result<Aim, u8> {
+pub fn decode(header: &[u8], packet: &mut impl Keep) -> Result<(u8, Aim), u8> {
     let bytes: &[u8; 12] = header.first_chunk().ok_or(1)?;
     let (class, kind) = PAIRS[usize::from(bytes[0])];
     let [first, second, third] = std::array::from_fn(|n| u32::from_be_bytes(bytes.as_chunks().0[n]));
     let head = Head { kind, first, second, third };
-    match class {
+    let aim = match class {
         Class::Memory => head.memory(header, packet),
         Class::Io => head.io(packet),
         Class::Configuration => head.configuration(packet),
@@ -74,7 +99,8 @@ pub fn decode(header: &[u8], packet: &mut Numbers) -> Result<Aim, u8> {
         Class::Message => head.message(header, packet),
         Class::NotCarried => Err(3),
         Class::Unknown => Err(2),
-    }
+    }?;
+    Ok((kind, aim))
 }
 
 /// Bytes 8 to 15, which a header of four dwords has.
@@ -91,7 +117,7 @@ struct Head {
 }
 
 impl Head {
-    fn memory(&self, header: &[u8], packet: &mut Numbers) -> Result<Aim, u8> {
+    fn memory(&self, header: &[u8], packet: &mut impl Keep) -> Result<Aim, u8> {
         let has_four = self.first & 1 << 29 != 0;
         let address = if has_four { tail(header)? } else { self.third.into() };
         let has_stray_tag = (self.kind == MWR) & (self.tag_high() != 0);
@@ -116,32 +142,32 @@ impl Head {
             return Err(8);
         }
         let own = [last, first, address, 0, 0, 0, 0, 0, 0, 0];
-        *packet = self.numbers(3 + u64::from(has_four), length, self.transaction(), own);
+        packet.keep(|| self.numbers(3 + u64::from(has_four), length, self.transaction(), own));
         Ok(Aim::Memory(address))
     }
 
-    fn io(&self, packet: &mut Numbers) -> Result<Aim, u8> {
+    fn io(&self, packet: &mut impl Keep) -> Result<Aim, u8> {
         if self.has_stray_bits() || self.third & 3 != 0 {
             return Err(4);
         }
         let first = self.single()?;
         let address = self.third.into();
-        *packet = self.numbers(3, 1, self.transaction(), [0, first, address, 0, 0, 0, 0, 0, 0, 0]);
+        packet.keep(|| self.numbers(3, 1, self.transaction(), [0, first, address, 0, 0, 0, 0, 0, 0, 0]));
         Ok(Aim::Io(address))
     }
 
-    fn configuration(&self, packet: &mut Numbers) -> Result<Aim, u8> {
+    fn configuration(&self, packet: &mut impl Keep) -> Result<Aim, u8> {
         if self.has_stray_bits() || self.third & 0xF003 != 0 {
             return Err(4);
         }
         let first = self.single()?;
         let target = (self.third >> 16) as u16;
         let register = u64::from(self.third >> 2 & 0x3FF);
-        *packet = self.numbers(3, 1, self.transaction(), [0, first, 0, target.into(), register, 0, 0, 0, 0, 0]);
+        packet.keep(|| self.numbers(3, 1, self.transaction(), [0, first, 0, target.into(), register, 0, 0, 0, 0, 0]));
         Ok(Aim::Target(target, self.kind >= 7))
     }
 
-    fn completion(&self, packet: &mut Numbers) -> Result<Aim, u8> {
+    fn completion(&self, packet: &mut impl Keep) -> Result<Aim, u8> {
         if self.has_stray_bits() || self.third & 0x80 != 0 || self.at() != 0 {
             return Err(4);
         }
@@ -156,11 +182,11 @@ impl Head {
         let count = u64::from(self.second & 0xFFF);
         let lower = u64::from(self.third & 0x7F);
         let own = [0, 0, 0, 0, 0, completer, status.into(), bcm, count, lower];
-        *packet = self.numbers(3, length, (requester.into(), self.tag(self.third)), own);
+        packet.keep(|| self.numbers(3, length, (requester.into(), self.tag(self.third)), own));
         Ok(Aim::Id(requester))
     }
 
-    fn message(&self, header: &[u8], packet: &mut Numbers) -> Result<Aim, u8> {
+    fn message(&self, header: &[u8], packet: &mut impl Keep) -> Result<Aim, u8> {
         let tail = tail(header)?;
         let routing = self.first >> 24 & 7;
         let by_address = routing == 0b001;
@@ -169,7 +195,7 @@ impl Head {
         }
         let length = self.length_if(self.kind == 14)?;
         let own = [routing.into(), u64::from(self.second & 0xFF), tail, 0, 0, 0, 0, 0, 0, 0];
-        *packet = self.numbers(4, length, self.transaction(), own);
+        packet.keep(|| self.numbers(4, length, self.transaction(), own));
         Ok(match routing {
             0b001 => Aim::Memory(tail),
             0b010 => Aim::Id((tail >> 48) as u16),

@@ -1,7 +1,7 @@
 //! Every answer is plain's router's.
 
 use inputs::random::Random;
-use inputs::{aim, audit, header, labels};
+use inputs::{aim, audit, header, labels, trace};
 use yardstick::{Index, ANSWER};
 
 fn plan(board: &[u8]) -> Option<Vec<u8>> {
@@ -78,4 +78,35 @@ fn accepted_sheets() {
     let all = (1..=9).chain([40, 42, 43]);
     assert!(all.clone().all(|number| refused[number] > 0), "{refused:?}");
     assert_eq!(refused.iter().sum::<u32>(), all.map(|number| refused[number]).sum::<u32>(), "{refused:?}");
+}
+
+/// What the program prints is what plain's does, for an accepted sheet and any trace, whole or not, however it is read.
+#[test]
+fn program() {
+    let mut random = Random::new(12);
+    let mut labelled = 0;
+    while labelled < 2000 {
+        let (host, sheet) = audit::any(&mut random, plan);
+        if plain::audit(&host, &sheet) != 0 {
+            continue;
+        }
+        labelled += 1;
+        let trace = trace::any(&sheet, &mut random);
+        let whole = [&host[..], &trace::input(&sheet, &trace)].concat();
+        let cut = random.below(4 * whole.len() as u64) as usize;
+        let input = &whole[..cut.min(whole.len())];
+        let mut lines = Vec::new();
+        yardstick::label(&mut &input[..], &mut lines).unwrap();
+        assert!(lines == plain::label_program(input), "{input:02X?}");
+    }
+    // Longer than a piece, with records that lie across its end.
+    let board = labels::board(16, 8);
+    let sheet = plan(&board.bytes()).unwrap();
+    let mut headers: Vec<Vec<u8>> = labels::headers(&sheet, 40_000).iter().map(|header| header.to_vec()).collect();
+    headers.insert(7, vec![0; 65_535]);
+    headers.insert(9000, vec![0; 65_535]);
+    let input = [&board.host()[..], &trace::input(&sheet, &trace::of(&headers))].concat();
+    let mut lines = Vec::new();
+    yardstick::label(&mut &input[..], &mut lines).unwrap();
+    assert!(lines == plain::label_program(&input));
 }
