@@ -14,7 +14,8 @@ use trace::Trace;
 use trace_line::Engine;
 
 // Where bytes are held: the sheet, a piece of the trace, its lines; 8,192 bytes in which the sheet's check marks IDs, 4,096 in which `io`
-// goes on after a short write, 40 for a line that is measured. With a full sheet of 47,105 bytes that is 65,481 of the 65,536 allowed.
+// goes on after a short write, 40 for a line that is measured; 16 kept of a record, 16 that clear them and 8 for a kind's name. With a full
+// sheet of 47,105 bytes that is 65,521 of the 65,536 allowed.
 // A piece of ordinary records, each 12 bytes after its length, has lines that fit by their count, so that none is routed twice.
 pub const MOST_LINES: usize = 112;
 

@@ -11,15 +11,15 @@ use Rattle.endian.specs.Endian.{Bytes}
 use Rattle.records.specs.Limits.{mostFunctions}
 use Rattle.sheet.specs.Sheet.{entriesOf}
 use Rattle.sheet.specs.SheetLaws.{checked-of-zero}
-use Rattle.route.specs.Route.{routeOf}
 use Rattle.audit_rule.specs.Audit.{auditNumber}
 use Rattle.audit_rule.specs.AuditLaws.{audit-iff}
 use Rattle.index_slots.specs.Slots.{indexSize}
 use Rattle.index_build.specs.Build.{from11, buildNumber, indexAfter}
 use Rattle.index_build.specs.BuiltLaws.{search-is-route}
 use Rattle.trace_line.specs.declared.Engine.the-variants.{Index}
-use Rattle.trace_line.specs.Line.{lineWith, lineOver}
-use Rattle.trace_line.specs.Engine.{routingBy, lineBy}
+use Rattle.trace_line.specs.Line.{lineOver}
+use Rattle.trace_line.specs.Engine.{lineBy}
+use Rattle.trace_line.specs.LineLaws.{lines-agree}
 
 pub record Indexed (host s : List ℕ) (number : ℕ) (index : List ℕ) : Type 0 where
   pub number-is : number ≡ auditNumber host s
@@ -39,8 +39,7 @@ module _ (host s o : List ℕ) (host-bytes : Bytes host) (bytes : Bytes s) (room
       go false e = refl
 
   by-index : buildNumber host s (length o) ≡ 0 → lineBy Index (indexAfter host s o) ≡ lineOver s
-  unfolding lineOver routingBy
-  by-index done = ap lineWith (λ z header. search-is-route host s o host-bytes bytes done header z)
+  by-index done = lines-agree (indexAfter host s o) s (search-is-route host s o host-bytes bytes done)
 
   pub indexed : (number : ℕ) (index : List ℕ) → number ≡ buildNumber host s (length o) → index ≡ indexAfter host s o
       → Indexed host s number index

@@ -24,7 +24,7 @@ use Rattle.trace.specs.Annotated.{frontLength, numberAfter, versionLine,
 use Rattle.trace.specs.Trace.{noBytes, fresh, Account, accountOf}
 use Rattle.trace.specs.Trace.{emittedBy, numberBy, heardBy, stateOf, headerBy, Told, textOf, toldBy}
 use Rattle.trace.specs.Trace.{lineAt, linesOf, nextIn, countOn, countBy, lineCount, endLine}
-use Rattle.trace.specs.TraceLaws.{line-suc, heard-related, stateAll, linesAll, pieces-told}
+use Rattle.trace.specs.TraceLaws.{line-suc, heard-related, stateAll, linesAll, pieces-told, between-elim}
 use Rattle.trace.specs.Feed.{textPut, takenFed, refusedFed, fedOf}
 
 -- ## A text at the front of a room
@@ -174,15 +174,13 @@ part-counted n (b ∷ q) =
 
 pub count-whole : (g : Stage) (n : ℕ) (p : List ℕ) (i size : ℕ) → nextIn g (drop i p) ≡ Record size
     → heardOf countBy g n (drop i p) ≡ heardOf countBy g (n + 1) (drop (i + 2 + size) p)
-count-whole Start n p i size is = absurd (let z : _≡_ {A = ℕ} 0 1 = cc in omega arith)
-count-whole Other n p i size is = absurd (let z : _≡_ {A = ℕ} 0 1 = cc in omega arith)
-count-whole Between n p i size is =
+count-whole g n p i size is =
+    between-elim (λ (g : Stage). heardOf countBy g n (drop i p) ≡ heardOf countBy g (n + 1) (drop (i + 2 + size) p)) g (drop i p) size is
+    (λ whole.
     let e : i + (2 + size) ≡ i + 2 + size = omega arith in
-    heard-record countBy (λ a b. refl) (drop i p) size is n
+    heard-record countBy (λ a b. refl) (drop i p) size whole n
     ∙ ap₂ (heardOf countBy Between) (part-counted n (take size (drop 2 (drop i p))))
-    (drop-drop (2 + size) i p ∙ ap (λ (j : ℕ). drop j p) e)
-count-whole (Length high) n p i size is = absurd (let z : _≡_ {A = ℕ} 0 1 = cc in omega arith)
-count-whole (Inside left) n p i size is = absurd (let z : _≡_ {A = ℕ} 0 1 = cc in omega arith)
+    (drop-drop (2 + size) i p ∙ ap (λ (j : ℕ). drop j p) e))
 
 -- a state's number stays one of 64 bits
 pub state-sound : (t : Trace) (piece : List ℕ) → Sound (t .number) → Sound (stateOf t piece .number)

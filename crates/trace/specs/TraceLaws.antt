@@ -257,6 +257,15 @@ length-settled Nothing head l = l
 length-settled Refusal head l = l
 length-settled Line head l = refl
 
+-- a record starts only between records
+pub between-elim : (P : Stage → Type 0) (g : Stage) (s : List ℕ) (size : ℕ) → nextIn g s ≡ Record size
+    → (nextOf s ≡ Record size → P Between) → P g
+between-elim P Start s size is at = absurd (let z : _≡_ {A = ℕ} 0 1 = cc in omega arith)
+between-elim P Other s size is at = absurd (let z : _≡_ {A = ℕ} 0 1 = cc in omega arith)
+between-elim P Between s size is at = at is
+between-elim P (Length high) s size is at = absurd (let z : _≡_ {A = ℕ} 0 1 = cc in omega arith)
+between-elim P (Inside left) s size is at = absurd (let z : _≡_ {A = ℕ} 0 1 = cc in omega arith)
+
 -- the front of the record at a place
 abbrev pub headerAt : List ℕ → ℕ → ℕ → List ℕ
 headerAt p i size = frontOf (take size (drop (i + 2) p))
@@ -327,20 +336,16 @@ module _ (line : ℕ → List ℕ → List ℕ) where
               ∙ told-account line Between (lined line n [] header) (drop (i + 2 + size) p));
         }
 
-  turn-next : (g : Stage) (n k : ℕ) (h p : List ℕ) (i size : ℕ) → length h ≡ frontLength → nextIn g (drop i p) ≡ Record size
-      → Turn (tracing g n k h) p i (line (numberAfter n) (headerAt p i size)) (tracing g (numberAfter n) 0 noBytes) (i + 2 + size)
-  turn-next Start n k h p i size l is = absurd (let z : _≡_ {A = ℕ} 0 1 = cc in omega arith)
-  turn-next Other n k h p i size l is = absurd (let z : _≡_ {A = ℕ} 0 1 = cc in omega arith)
-  turn-next Between n k h p i size l is = turn-record n k h p i size l is
-  turn-next (Length high) n k h p i size l is = absurd (let z : _≡_ {A = ℕ} 0 1 = cc in omega arith)
-  turn-next (Inside left) n k h p i size l is = absurd (let z : _≡_ {A = ℕ} 0 1 = cc in omega arith)
-
   -- in the words of the code
   pub turn-whole : (t : Trace) (p : List ℕ) (i size : ℕ) → length (t .head) ≡ frontLength → nextIn (t .stage) (drop i p) ≡ Record size
       → (n : ℕ) (header part : List ℕ) → n ≡ numberAfter (t .number) → part ≡ take size (drop (i + 2) p) → header ≡ frontOf part
       → Turn t p i (line n header) (tracing (t .stage) n 0 noBytes) (i + 2 + size)
   turn-whole t p i size l is n header part n-is part-is header-is =
-      rw (header-is, part-is, n-is) (turn-next (t .stage) (t .number) (t .kept) (t .head) p i size l is)
+      rw (header-is, part-is, n-is)
+      (between-elim
+      (λ (g : Stage). Turn (tracing g (t .number) (t .kept) (t .head)) p i (line (numberAfter (t .number)) (headerAt p i size))
+      (tracing g (numberAfter (t .number)) 0 noBytes) (i + 2 + size))
+      (t .stage) (drop i p) size is (turn-record (t .number) (t .kept) (t .head) p i size l))
 
   module _ (t : Trace) (p : List ℕ) (i : ℕ) where
     pub lines-past : length p ≤ i → linesOf line t (drop i p) ≡ []
@@ -352,8 +357,4 @@ module _ (line : ℕ → List ℕ → List ℕ) where
     state-past h = rw (drop-of-length-le p h)
 
 pub whole-fits : (g : Stage) (p : List ℕ) (i size : ℕ) → nextIn g (drop i p) ≡ Record size → i + 2 + size ≤ length p
-whole-fits Start p i size is = absurd (let z : _≡_ {A = ℕ} 0 1 = cc in omega arith)
-whole-fits Other p i size is = absurd (let z : _≡_ {A = ℕ} 0 1 = cc in omega arith)
-whole-fits Between p i size is = fits-at p i size is
-whole-fits (Length high) p i size is = absurd (let z : _≡_ {A = ℕ} 0 1 = cc in omega arith)
-whole-fits (Inside left) p i size is = absurd (let z : _≡_ {A = ℕ} 0 1 = cc in omega arith)
+whole-fits g p i size is = between-elim (λ (g : Stage). i + 2 + size ≤ length p) g (drop i p) size is (fits-at p i size)

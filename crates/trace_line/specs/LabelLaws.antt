@@ -43,7 +43,7 @@ module _ (engine : Engine) (bytes header : List ℕ) (reading : Reading) (is-rea
       }
 
   pub labels-refused : (n : ℕ) → reading ≡ NotRead n
-      → Labels (record { name = 2318509383165673474; way = 1; number = n }) (labelBy engine bytes header)
+      → Labels (record { name = 0x202d000000000002; way = 1; number = n }) (labelBy engine bytes header)
   unfolding nameIn wayText beBytes ascii
   labels-refused n e = record { is = sym (label-refused engine bytes header reading is-reading n e); few = omega arith }
 

@@ -170,3 +170,11 @@ route-front header sheet = ap (λ (r : Reading). fromReading r sheet) (read-fron
 pub line-front : (sheet : List ℕ) (n : ℕ) (header : List ℕ) → lineOver sheet n (take 16 header) ≡ lineOver sheet n header
 unfolding lineOver lineWith labelWith
 line-front sheet n header = rw (read-front header, route-front header sheet)
+
+-- ## By an index
+
+-- whose search answers as the router does over a sheet: the sheet's lines
+pub lines-agree : (index sheet : List ℕ) → ((header : List ℕ) → searchOf header index ≡ routeOf header sheet)
+    → lineBy Index index ≡ lineOver sheet
+unfolding lineOver routingBy
+lines-agree index sheet same = ap lineWith (λ z header. same header z)

@@ -29,13 +29,22 @@ pub enum Engine {
     Index,
 }
 
-// A space and the kind's name or `-` in a word, where the packet goes, and whose number that is: 0 an owner's, 1 a refusal's, 2 to all, 3
-// to the port.
+// What a header is labelled with, made before its line is begun: a space and the kind's name or `-` in a word, where the packet goes, and
+// the owner's number or the refusal's.
 struct Label {
     name: u64,
     way: u8,
     number: u16,
 }
+
+// Where a packet goes. As plain numbers a label is quicker than as an enum (docs/PROVING.md).
+const OWNER: u8 = 0;
+
+const REFUSED: u8 = 1;
+
+const ALL: u8 = 2;
+
+const PORT: u8 = 3;
 
 // The name of a header that is refused: ` -`.
 const NONE: u64 = 0x202d000000000002;
@@ -59,7 +68,7 @@ pub fn put_line(
     put_text(out, at, b"\n")
 }
 
-// What a header is labelled with: the name is in a word, so that it is stored at once. The packet is let go.
+// The name is in a word, so that it is stored at once. The packet is let go.
 fn label_of(header: &[u8], engine: Engine, bytes: &[u8]) -> Label
     requires { ⌜ Knows engine (now bytes) ⌝ }
     ensures { λ r. ⌜ Labels r (labelBy engine (now (bytes .entry)) (now (header .entry))) ⌝ }
@@ -68,7 +77,7 @@ fn label_of(header: &[u8], engine: Engine, bytes: &[u8]) -> Label
         Reading::Accepted(p) => way_of(name_of(p), route_by(p, engine, bytes)),
         Reading::Refused(n) => Label {
             name: NONE,
-            way: 1,
+            way: REFUSED,
             number: n as u16,
         },
     }
@@ -80,22 +89,22 @@ fn way_of(name: u64, routing: Routing) -> Label
     match routing {
         Routing::Delivered(d) => Label {
             name,
-            way: 0,
+            way: OWNER,
             number: d.owner,
         },
         Routing::Broadcast(_, _) => Label {
             name,
-            way: 2,
+            way: ALL,
             number: 0,
         },
         Routing::Port(_) => Label {
             name,
-            way: 3,
+            way: PORT,
             number: 0,
         },
         Routing::Refused(n) => Label {
             name,
-            way: 1,
+            way: REFUSED,
             number: n as u16,
         },
     }
@@ -180,13 +189,13 @@ fn put_short(out: &mut [u8], at: usize, name: u64) -> usize
 fn put_way(out: &mut [u8], at: usize, way: u8, number: u16) -> usize
     ensures { λ r. ⌜ Put (now (out .entry)) at (wayText way number) (now (out .exit)) r ⌝ }
 {
-    if way == 0 {
+    if way == OWNER {
         return put_named(out, at, b" owner ", number as u64);
     }
-    if way == 1 {
+    if way == REFUSED {
         return put_named(out, at, b" refused ", number as u64);
     }
-    if way == 2 {
+    if way == ALL {
         return put_text(out, at, b" owner all");
     }
     put_text(out, at, b" owner port")
