@@ -73,7 +73,7 @@ enum cartsundial_number {
     CARTSUNDIAL_FUNCTIONS = 22,        /* over 512 functions */
     CARTSUNDIAL_ORDER = 23,            /* parent, order, depth or function 0 */
     CARTSUNDIAL_HEADER_TYPE = 24,      /* header type not 0 or 1, or a wrong length for it */
-    CARTSUNDIAL_READBACK = 25,         /* read-back; on a sheet also a BAR value */
+    CARTSUNDIAL_READBACK = 25,         /* read-back, of memory also one under 128 bytes; on a sheet also a BAR value */
     CARTSUNDIAL_HOST = 26,             /* first bus above last, or a pool's edges */
     CARTSUNDIAL_BUSES = 27,            /* sheet: not own bus = primary < secondary <= subordinate */
     CARTSUNDIAL_ID_TWICE = 28,         /* sheet: an ID twice */

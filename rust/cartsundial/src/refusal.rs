@@ -41,7 +41,7 @@ pub enum Refusal {
     Tree = 23,
     /// Header type's low seven bits not 0 or 1, or wrong length for it.
     HeaderType = 24,
-    /// A read-back; on a sheet also a BAR value that does not fit its read-back.
+    /// A read-back, of memory also one under 128 bytes; on a sheet also a BAR value that does not fit its read-back.
     ReadBack = 25,
     /// First bus above last, or a pool's edges.
     Host = 26,
