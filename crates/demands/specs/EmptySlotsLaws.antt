@@ -2,35 +2,41 @@
 use mathlib.Core.Path.{_≡_, refl, sym, ap, subst, _∙_}
 use mathlib.Core.Bool.{Bool, true, false}
 use mathlib.Core.List.{List, [], _∷_, map}
-use Prim.Native.Nat.{ℕ, suc, _+_, _*_, _/_, _%_, _<_}
+use Prim.Native.Nat.{ℕ, zero, suc, _+_, _*_, _<_}
 use native.Mathlib.Omega.{arith}
-use lib.ListN.{length, getD}
+use lib.ListN.{length, getD, take}
 use Rattle.endian.specs.Endian.{Bytes, be}
 use Rattle.endian.specs.EndianLaws.{be-lt}
-use Rattle.lists.specs.Lists.{All}
+use Rattle.lists.specs.Lists.{_∈_, All}
+use Rattle.lists.specs.ListLaws.{all-elim}
 use Rattle.pools.specs.declared.Space.the-variants.{Memory as memorySpace}
 use Rattle.records.specs.Records.{partsFrom, anyPart}
 use Rattle.records.specs.RecordsLaws.{false-of-or}
 use Rattle.bar.specs.Header.{isBridge as isBridgeHeader}
 use Rattle.plan_rule.specs.Records.{Function}
-use Rattle.plan_rule.specs.NoSpares.{NoSpares, bridges-counted, bus-number-counted, subordinate-counted}
+use Rattle.plan_rule.specs.Layout.{Placed}
+use Rattle.plan_rule.specs.Pieces.{contentOf}
+use Rattle.plan_rule.specs.Placing.{placed}
+use Rattle.plan_rule.specs.Numbering.{bridges, bridgeCount}
 use Rattle.plan_rule.specs.NumberingLaws.{bridges-and-spares}
-use Rattle.plan_rule.specs.Numbered.{subordinate-after}
+use Rattle.plan_rule.specs.NoSpares.{NoSpare, NoSpares, bridges-counted, bus-number-counted, content-alone}
 use Rattle.board_record.specs.Function.{functionOfPart, bridgeLength, wrongIn}
 use Rattle.board_record.specs.FunctionLaws.{length-of-version, spares-none, spares-bytes, spares-of-bridge, spares-of-end}
 use Rattle.board.specs.Board.{hostOf, functionsOf}
 use Rattle.board.specs.BoardLaws.{accepted-of-zero, other-version}
 use Rattle.board.specs.ToPlacing.{toPlacing}
 use Rattle.board.specs.ToPlacingLaws.{lawful-of-accepted}
-use Rattle.plan_good.specs.SpareRoom.{NobodyThere}
-use Rattle.plan_good.specs.SpareRoomLaws.{room-kept, nobody-there}
+use Rattle.plan_good.specs.SpareBuses.{BridgeAt}
+use Rattle.plan_good.specs.SpareBusesLaws.{spares-last, greatest-below}
+use Rattle.plan_good.specs.SpareRoom.{LowWindow, InSpareRoom, InGap, NobodyAt}
+use Rattle.plan_good.specs.SpareRoomLaws.{room-kept, open-exactly, nobody-in-gap, gap-of-spare}
 use Rattle.plan_answer.specs.declared.Planning.the-variants.{Planned}
 use Rattle.plan_answer.specs.Plan.{planning}
 use Rattle.plan_sheet.specs.Accepted.{fits-of-accepted}
 use Rattle.plan_sheet.specs.Answer.{planned-of-answer}
 use Rattle.demands.specs.Demand3.{Lawful, host, functions}
 use Rattle.demands.specs.Demand3Laws.{demand-3}
-use Rattle.demands.specs.EmptySlots.{versionOf, Spares, AsBefore, BridgeAt, EmptySlots}
+use Rattle.demands.specs.EmptySlots.{versionOf, functionsAt, Spares, AsBefore, EmptySlots}
 
 -- ## Records
 
@@ -71,7 +77,16 @@ none-of-board : (b : List ℕ) → Lawful b → versionOf b ≡ 1 → NoSpares (
 none-of-board b lawful v =
     let a = accepted-of-zero b lawful in
     rw (a .functions-read)
-    (none-of-parts (partsFrom b 33) (subst (λ (n : ℕ). anyPart (wrongIn n) (partsFrom b 33) ≡ false) v (a .of-version)))
+    (none-of-parts (partsFrom b functionsAt) (subst (λ (n : ℕ). anyPart (wrongIn n) (partsFrom b functionsAt) ≡ false) v (a .of-version)))
+
+-- the numbers that a board without spares takes are as many as its bridges
+bridges-of-none : (k : ℕ) (fs : List Function) → NoSpares fs → bridges (take k fs) ≡ bridgeCount (take k fs)
+bridges-of-none k fs none = bridges-counted (take k fs) (all-take k fs none)
+  where
+    all-take : (n : ℕ) (gs : List Function) → NoSpares gs → NoSpares (take n gs)
+    all-take zero gs h = tt
+    all-take (suc n) [] h = tt
+    all-take (suc n) (g ∷ gs) h = (h .0, all-take n gs (h .1))
 
 as-before : (b : List ℕ) → Lawful b → versionOf b ≡ 1 → AsBefore b
 as-before b lawful v =
@@ -79,9 +94,11 @@ as-before b lawful v =
     let none = none-of-board b lawful v in
     record {
       no-spares = none;
-      one-number-each = bridges-counted fs none;
-      bus-numbers = bus-number-counted fs none (host b .firstBus);
-      subordinates = subordinate-counted fs none (host b .firstBus);
+      secondaries = λ k.
+          bus-number-counted fs none (host b .firstBus) k ∙ ap (λ (n : ℕ). host b .firstBus + n) (bridges-of-none k fs none);
+      subordinates = greatest-below (host b .firstBus) fs (lawful-of-accepted b lawful) none;
+      windows = λ f m k q later.
+          ap (λ (n : ℕ). contentOf k n q later) (all-elim NoSpare fs none m .no-room) ∙ content-alone k q later;
     }
 
 -- ## The request
@@ -89,26 +106,43 @@ as-before b lawful v =
 pub empty-slots : EmptySlots
 empty-slots =
     record {
-      bridges-by-version = λ b lawful. lengths (versionOf b) (partsFrom b 33) (accepted-of-zero b lawful .of-version);
+      bridges-by-version = λ b lawful. lengths (versionOf b) (partsFrom b functionsAt) (accepted-of-zero b lawful .of-version);
       spares-read = spares-read;
       versions-known = other-version;
       version-1-as-before = as-before;
-      spare-buses-last = λ b lawful i f at.
-          subordinate-after (host b .firstBus) (functions b) (lawful-of-accepted b lawful) i f (at .stands) (at .is-bridge);
+      spare-buses-last = λ b lawful. spares-last (host b .firstBus) (functions b) (lawful-of-accepted b lawful);
       spare-room-kept = λ b lawful i f at.
           room-kept (host b) (functions b) (lawful-of-accepted b lawful) i f (at .stands) (at .is-bridge);
-      spares-counted = λ b.
+      opened-by-spares = λ b lawful i f at.
+          open-exactly (host b) (functions b) (lawful-of-accepted b lawful) i f (at .stands) (at .is-bridge);
+      spares-counted = λ b room lawful.
           let e = bridges-and-spares (functions b) in
-          (λ l. omega (arith, e, l), λ l. omega (arith, e, l));
-      nobody-in-spare-room = nobody;
+          let exactly = demand-3 .answers-by-number b room lawful .no-buses-left in
+          (λ n. omega (arith, e, exactly .0 n), λ l. exactly .1 (omega (arith, e, l)));
+      spare-room-is-gap = gap;
+      nobody-in-gap = nobody;
+      nobody-in-spare-room = in-spare-room;
       spare-room-refused = λ b room n bytes planned t same header p read a is i f at w m v spare.
           demand-3 .requests-routed b room n bytes planned t same header p read memorySpace a is .else-no-owner .1
-          (λ k o. nobody b room n bytes planned i f at w m v a spare k (o .bar-holds));
+          (λ k o. in-spare-room b room n bytes planned i f at w m v a spare k (o .bar-holds));
     }
   where
+    gap : (b : List ℕ) → Lawful b → (i : ℕ) (f : Function) → BridgeAt (functions b) i f
+        → (w : Placed) → w ∈ placed (host b) (functions b) → LowWindow (suc i) w
+        → (a : ℕ) → InSpareRoom f w a → InGap (placed (host b) (functions b)) w a
+    gap b lawful i f at = gap-of-spare (host b) (functions b) (lawful-of-accepted b lawful) i f (at .stands) (at .is-bridge)
+
     nobody : (b room : List ℕ) (n : ℕ) → Bytes b → planning b (length room) ≡ Planned n
-        → (i : ℕ) (f : Function) → BridgeAt b i f → NobodyThere (host b) (functions b) (suc i) f
-    nobody b room n bytes planned i f at =
+        → (k : ℕ) (w : Placed) → w ∈ placed (host b) (functions b) → LowWindow k w
+        → (a : ℕ) → InGap (placed (host b) (functions b)) w a → NobodyAt (host b) (functions b) a
+    nobody b room n bytes planned =
         let answers = planned-of-answer b (length room) n planned in
-        nobody-there (host b) (functions b) (fits-of-accepted b bytes (answers .accepted) .board) (answers .not-refused) i f (at .stands)
-        (at .is-bridge)
+        nobody-in-gap (host b) (functions b) (fits-of-accepted b bytes (answers .accepted) .board) (answers .not-refused)
+
+    in-spare-room : (b room : List ℕ) (n : ℕ) → Bytes b → planning b (length room) ≡ Planned n
+        → (i : ℕ) (f : Function) → BridgeAt (functions b) i f
+        → (w : Placed) → w ∈ placed (host b) (functions b) → LowWindow (suc i) w
+        → (a : ℕ) → InSpareRoom f w a → NobodyAt (host b) (functions b) a
+    in-spare-room b room n bytes planned i f at w m v a spare =
+        nobody b room n bytes planned (suc i) w m v a
+        (gap b (planned-of-answer b (length room) n planned .accepted) i f at w m v a spare)

@@ -1,4 +1,5 @@
--- Document 01, "Examples (P: to be proved together)": one table of examples under one claim. Assumes nothing.
+-- Document 01, "Examples (P: to be proved together)", and beside them examples of document 02's requests: one table under one claim.
+-- Assumes nothing.
 use Prim.Native.Nat.{ℕ}
 use Prim.Native.String.{String}
 use mathlib.Core.Path.{_≡_, refl}
@@ -31,11 +32,11 @@ use Rattle.board_record.specs.Function.{functionOfPart, wrongIn, readbacksWrong
 use Rattle.board_order.specs.Order.{above, parents, lastSibling, misplaced, anyMisplaced}
 use Rattle.board.specs.Board.{misframed, fromReadbacks, fromOrder, fromEdges, fromHeaders, fromCount, fromFrame, fromVersion, boardNumber}
 use Rattle.board.specs.Board.{hostOf, functionsOf}
-use Rattle.board.specs.Examples.{host, hostWith, row, card, p10}
+use Rattle.board.specs.Examples.{host, hostWith, bridge, bridgeWith, row, card, p10}
 use Rattle.sheet_record.specs.Spaces.{barsFrom as rangesFrom}
 use Rattle.sheet_record.specs.Entry.{dwords, windowOf, entryOf}
 use Rattle.sheet.specs.Sheet.{allSized, isFramed, entriesFrom, commandsOf, allZero, readBacksWrong, breaks, anyBreaks, hasId, idTwice}
-use Rattle.sheet.specs.Sheet.{fullSheet}
+use Rattle.sheet.specs.Sheet.{sheetLength, fullSheet}
 use Rattle.sheet.specs.Sheet.{from29, from25, from28, from27, from24, from22, from20, from21, sheetNumber}
 use Rattle.sheet.specs.Spaces.{functionsFrom, nodesFrom}
 use Rattle.sheet.specs.Examples.{p10 as p10-sheet}
@@ -93,17 +94,18 @@ Holds (prints b text) = boardText b fullSheet ≡ ascii text
 Holds (goes header s k count) = (recordOf (routeOf header s) ≡ k) × (crossed (routeOf header s) ≡ count)
 Holds (refuses header s n) = routingNumber (routeOf header s) ≡ n
 
--- an example of the paper, by its number
-pub record Example : Type 0 where
-  pub paper : ℕ
-  pub claim : Claim
+-- document 01's example P by its number, or one of document 02's request E
+pub data Example : Type 0 where
+  P : ℕ → Claim → Example
+  E : ℕ → Claim → Example
+
+abbrev pub claimOf : Example → Claim
+claimOf (P n c) = c
+claimOf (E n c) = c
 
 abbrev pub All : List Example → Type 0
 All [] = Unit
-All (e ∷ es) = Holds (e .claim) × All es
-
-abbrev pub P : ℕ → Claim → Example
-P n c = record { paper = n; claim = c }
+All (e ∷ es) = Holds (claimOf e) × All es
 
 -- a memory request's twelve bytes: byte 0, Length code, last and first enables in byte 7, the address's low 16 bits
 abbrev pub request : ℕ → ℕ → ℕ → ℕ → ℕ → List ℕ
@@ -117,6 +119,22 @@ request64 byte upper = byte ∷ 0 ∷ 0 ∷ 1 ∷ 0 ∷ 0 ∷ 0 ∷ 0x0f ∷ 0 �
 abbrev pub readAt : ℕ → ℕ → List ℕ
 readAt high low = 0x00 ∷ 0 ∷ 0 ∷ 1 ∷ 0 ∷ 0 ∷ 0 ∷ 0x0F ∷ 0xF9 ∷ 0x00 ∷ high ∷ low ∷ []
 
+-- P10's board in version 2: 2 spare buses and 3 MiB at its bridge, and a second bridge with 1 bus, 1 MiB and nothing below
+abbrev pub spared : List ℕ
+spared =
+    2 ∷ host ++ bridgeWith 0 0 1 2 3
+    ++ 0 ∷ 30 ∷ 0 ∷ 1 ∷ 0 ∷ 0 ∷ 0 ∷ 3
+    ∷ beBytes 4 0xFFFFF000 ++ beBytes 4 0xFC00000C ++ beBytes 4 0xFFFFFFFF ++ beBytes 4 0xFFFFFF01 ++ beBytes 8 0
+    ++ bridgeWith 0 8 1 1 1
+
+-- its sheet, in room of a sheet of three functions
+abbrev pub spared-sheet : List ℕ
+spared-sheet = sheetAfter spared (replicate (sheetLength 3) 0)
+
+-- one dword read in the low memory at the end of the first bridge's window, and in the second's, which is all spare room
+abbrev pub readIn : ℕ → List ℕ
+readIn mib = 0x00 ∷ 0 ∷ 0 ∷ 1 ∷ 0 ∷ 0 ∷ 0 ∷ 0x0F ∷ 0xF9 ∷ mib ∷ 0 ∷ 0 ∷ []
+
 abbrev pub MRd3 : ℕ
 MRd3 = 0x00
 
@@ -125,6 +143,8 @@ MRd4 = 0x20
 
 abbrev pub MWr3 : ℕ
 MWr3 = 0x40
+
+-- ## The examples: P1 to P10, and empty slots
 
 unfoldable pub examples : List Example
 examples =
@@ -161,46 +181,44 @@ examples =
     ∷ P 10 (refuses (readAt 0x10 0x00) p10-sheet 40)
     ∷ []
 
-pub examples-hold : All examples
-unfolding examples ascii words windowText bridgeText endText lineOf countText planText boardText hexadecimal decimalOver decimal readOf
-    pairOf findPair first table judged headAt enablesAt addressAt unnamed be ruleNumber fromRule5 fromRule6 fromRule7 fromRule8 fromRule9
-    reservedSet fixedWrong upperZero enablesWrong crossesPage statusWrong row planning onBoard onRoom boardNumber fromVersion fromFrame
-    fromCount fromHeaders fromEdges fromOrder fromReadbacks misframed above parents lastSibling misplaced anyMisplaced functionOfPart
-    wrongIn readbacksWrong hostOfPart poolWrong hostWrong beBytes nextOf partsOver partsOf anyPart any sizeFrom sized ioSlot
-    narrowSlot
-    wideSlot slotHere slots anyBad hostOf functionsOf refusalOf outOfPool place placed pieces ownPieces windowPieces barPieces layoutEnd
-    largestAlign keep alignUp bridges barsFrom sheetAfter sheetBytes flatMap recordBytes partBytes configBytes commonBytes bodyBytes
-    bridgeBytes endBytes dwordBytes planOf plannedFrom valuesFrom windowFor barStart closed opened busNumber subordinateOf
-    oversFrom over lastBelow front le
-    leBytes routeOf fromSheet routePacket from42 walkFrom walkOver tallyOn join itemsOf items enabledIn sheetNumber from21 from20 from22
-    from24 from27 from28 from25 from29 isFramed allSized entriesFrom commandsOf breaks anyBreaks allZero readBacksWrong hasId
-    idTwice entryOf
-    dwords windowOf rangesFrom functionsFrom nodesFrom start stop isNibbled isBarValue valuesFit
-examples-hold = (
-  refl,
-  (
-    refl,
-    (
-      refl,
-      (
-        refl,
-        (
-          refl,
-          (
-            refl,
-            (
-              refl,
-              (
-                refl,
-                (
-                  refl,
-                  (refl, (refl, (refl, (refl, (refl, (refl, ((refl, refl), (refl, ((refl, refl), (refl, ((refl, refl), (refl, tt)))))))))))),
-                ),
-              ),
-            ),
-          ),
-        ),
-      ),
-    ),
-  ),
-)
+unfoldable pub spares : List Example
+spares =
+    -- the first bridge's spares are buses 2 and 3 and the last 3 MiB of its window; the second bridge is numbered after them, and open
+    E 10 (prints spared "plan 3\n0000 bridge 00000000 00000000 00 01 03 40 40 F900 F930 4001 43F1 00000002 00000002\n0100 end F9000000 4000000C 00000002 00004001 00000000 00000000\n0008 bridge 00000000 00000000 00 04 05 F0 00 F940 F940 FFF1 0001 00000000 00000000\n")
+    -- nobody is in spare room
+    ∷ E 10 (goes (readAt 0x0F 0xFC) spared-sheet 2 1)
+    ∷ E 10 (refuses (readIn 0x30) spared-sheet 40)
+    ∷ E 10 (refuses (readIn 0x40) spared-sheet 40)
+    -- buses 0 to 255: a bridge and 254 spares, and 255; a low pool of 16 MiB: 16 of spares, and 17
+    ∷ E 10 (plans (2 ∷ host ++ bridgeWith 0 0 1 254 0) 0)
+    ∷ E 10 (plans (2 ∷ host ++ bridgeWith 0 0 1 255 0) 30)
+    ∷ E 10 (plans (2 ∷ host ++ bridgeWith 0 0 1 0 16) 0)
+    ∷ E 10 (plans (2 ∷ host ++ bridgeWith 0 0 1 0 17) 31)
+    -- a bridge of version 1 in version 2, and of version 2 in version 1
+    ∷ E 10 (plans (2 ∷ host ++ bridge 0 0 1) 24)
+    ∷ E 10 (plans (1 ∷ host ++ bridgeWith 0 0 1 0 0) 24)
+    ∷ []
+
+-- all of them hold
+pub record Examples : Type 0 where
+  pub P1-to-P10 : All examples
+  pub empty-slots : All spares
+
+pub examples-hold : Examples
+unfolding examples spares ascii words windowText bridgeText endText lineOf countText planText boardText hexadecimal decimalOver decimal
+    readOf pairOf findPair first table judged headAt enablesAt addressAt unnamed be ruleNumber fromRule5 fromRule6 fromRule7 fromRule8
+    fromRule9 reservedSet fixedWrong upperZero enablesWrong crossesPage statusWrong row planning onBoard onRoom boardNumber fromVersion
+    fromFrame fromCount fromHeaders fromEdges fromOrder fromReadbacks misframed above parents lastSibling misplaced anyMisplaced
+    functionOfPart wrongIn readbacksWrong hostOfPart poolWrong hostWrong beBytes nextOf partsOver partsOf anyPart any sizeFrom sized
+    ioSlot narrowSlot wideSlot slotHere slots anyBad hostOf functionsOf refusalOf outOfPool place placed pieces ownPieces windowPieces
+    barPieces layoutEnd largestAlign keep alignUp bridges barsFrom sheetAfter sheetBytes flatMap recordBytes partBytes configBytes
+    commonBytes bodyBytes bridgeBytes endBytes dwordBytes planOf plannedFrom valuesFrom windowFor barStart closed opened busNumber
+    subordinateOf oversFrom over lastBelow front le leBytes routeOf fromSheet routePacket from42 walkFrom walkOver tallyOn join itemsOf
+    items enabledIn sheetNumber from21 from20 from22 from24 from27 from28 from25 from29 isFramed allSized entriesFrom commandsOf breaks
+    anyBreaks allZero readBacksWrong hasId idTwice entryOf dwords windowOf rangesFrom functionsFrom nodesFrom start stop isNibbled
+    isBarValue valuesFit
+examples-hold =
+    record {
+      P1-to-P10 = (refl, (refl, (refl, (refl, (refl, (refl, (refl, (refl, (refl, (refl, (refl, (refl, (refl, (refl, (refl, ((refl, refl), (refl, ((refl, refl), (refl, ((refl, refl), (refl, tt)))))))))))))))))))));
+      empty-slots = (refl, ((refl, refl), (refl, (refl, (refl, (refl, (refl, (refl, (refl, (refl, tt))))))))));
+    }
