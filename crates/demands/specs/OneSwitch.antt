@@ -53,6 +53,13 @@ StaysClear s k header =
 abbrev pub wentUp : List ℕ → Space → ℕ → ℕ → List ℕ
 wentUp s sp address j = goneUp (enabledOf sp s) (masterOf s) (registersOf sp s) address (root s) (functionAt sp s j)
 
+-- "For E11, also exclude requests that start at that function or go up through it under either sheet": a request from function j
+pub record CardStaysClear (k : ℕ) (s t : List ℕ) (sp : Space) (address j : ℕ) : Type 0 where
+  pub lies-elsewhere : ¬ LiesIn s sp address k
+  pub starts-elsewhere : ¬ (j ≡ k)
+  pub goes-beside : ¬ (k ∈ wentUp s sp address j)
+  pub goes-beside-too : ¬ (k ∈ wentUp t sp address j)
+
 pub record OneSwitch : Type 0 where
   -- no check looks at a command word, so that one of the two passes where the other does
   pub pass-alike : (k : ℕ) (s t : List ℕ) → DifferAt k s t → sheetNumber t ≡ 0
@@ -76,9 +83,8 @@ pub record OneSwitch : Type 0 where
       → (host host′ room room′ : List ℕ) → Bytes host → Bytes host′ → IsBuilt host s room → IsBuilt host′ t room′
       → (header : List ℕ) → StaysClear s k header
       → searchOf header (indexAfter host′ t room′) ≡ searchOf header (indexAfter host s room)
-  -- "For E11, also exclude requests that start at that function or go up through it under either sheet."
+  -- from card to card every header agrees but such a request that does not stay clear, whatever record it starts at
   pub cards-agree : (k : ℕ) (s t : List ℕ) → DifferAt k s t
-      → (j : ℕ) → ¬ (j ≡ k) → (header : List ℕ)
-      → ((p : Packet) (sp : Space) (address : ℕ) → readOf header ≡ Read p → IsCardRequest p sp address
-      → ¬ LiesIn s sp address k × ¬ (k ∈ wentUp s sp address j) × ¬ (k ∈ wentUp t sp address j))
+      → (j : ℕ) (header : List ℕ)
+      → ((p : Packet) (sp : Space) (address : ℕ) → readOf header ≡ Read p → IsCardRequest p sp address → CardStaysClear k s t sp address j)
       → sendingOf j header t ≡ sendingOf j header s

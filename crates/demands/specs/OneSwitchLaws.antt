@@ -62,7 +62,7 @@ use Rattle.demands.specs.TraceLaws.{trace-annotated}
 use Rattle.demands.specs.FastLabels.{IsBuilt}
 use Rattle.demands.specs.FastLabelsLaws.{fast-labels}
 use Rattle.demands.specs.CardToCard.{IsCardRequest}
-use Rattle.demands.specs.OneSwitch.{DifferAt, LiesIn, StaysClear, wentUp, OneSwitch}
+use Rattle.demands.specs.OneSwitch.{DifferAt, LiesIn, StaysClear, CardStaysClear, OneSwitch}
 
 -- ## What goes by an address
 
@@ -295,11 +295,10 @@ module _ (k : ℕ) (s t : List ℕ) (d : DifferAt k s t) where
       go (inr none-there) =
           let x : nowhere ≡ starts (functionAt sp s j) = sym (none-there sp) ∙ function-is sp j end in absurd (suc-ne-zero 0 (cc))
 
-  sent-agree : (p : Packet) (sp : Space) (address j : ℕ) → ¬ (j ≡ k) → ¬ LiesIn s sp address k → ¬ (k ∈ wentUp s sp address j)
-      → ¬ (k ∈ wentUp t sp address j)
+  sent-agree : (p : Packet) (sp : Space) (address j : ℕ) → CardStaysClear k s t sp address j
       → sending.sendRequest p t sp address (startAt (registersOf sp t) j)
       ≡ sending.sendRequest p s sp address (startAt (registersOf sp s) j)
-  sent-agree p sp address j other outside up-s up-t = go (end-or-nowhere s checked j)
+  sent-agree p sp address j clear = go (end-or-nowhere s checked j)
     where
       go : IsEnd s j ⊎ ((sp : Space) → startAt (registersOf sp s) j ≡ nowhere)
           → sending.sendRequest p t sp address (startAt (registersOf sp t) j)
@@ -310,29 +309,28 @@ module _ (k : ℕ) (s t : List ℕ) (d : DifferAt k s t) where
       go (inl end) =
           let f = functionAt sp s j in
           let up-t′ : ¬ (k ∈ goneUp (enabledOf sp t) (masterOf t) (registersOf sp s) address (root s) f) = λ m.
-          up-t (rw (function-same sp j end, registers-are sp, nodes-are) m) in
+          clear .goes-beside-too (rw (function-same sp j end, registers-are sp, nodes-are) m) in
           ap (sending.sendRequest p t sp address) (function-is sp j end)
           ∙ ap (λ (fs : List Registers). sending.answer p (sendFrom (enabledOf sp t) (masterOf t) fs address (root t) f)) (registers-are sp)
           ∙ ap (λ (ns : List Node). sending.answer p (sendFrom (enabledOf sp t) (masterOf t) (registersOf sp s) address (rootOf ns) f))
           nodes-are
           ∙ ap (sending.answer p)
           (send-agree (enabledOf sp t) (enabledOf sp s) (masterOf t) (masterOf s) (registersOf sp s) address (root s) k
-          (numbered-functions sp 1 (entriesOf s)) (enabled-agree sp) (bits-agree masters refl sp) (clear-of sp address outside) f
-          (function-mem s checked sp j (end .is-record)) (end-bridge s sp j end) other up-t′ up-s)
+          (numbered-functions sp 1 (entriesOf s)) (enabled-agree sp) (bits-agree masters refl sp) (clear-of sp address (clear .lies-elsewhere)) f
+          (function-mem s checked sp j (end .is-record)) (end-bridge s sp j end) (clear .starts-elsewhere) up-t′ (clear .goes-beside))
           ∙ sym (ap (sending.sendRequest p s sp address) (start-of-end s checked sp j end))
 
-  cards-agree : (j : ℕ) → ¬ (j ≡ k) → (header : List ℕ)
-      → ((p : Packet) (sp : Space) (address : ℕ) → readOf header ≡ Read p → IsCardRequest p sp address
-      → ¬ LiesIn s sp address k × ¬ (k ∈ wentUp s sp address j) × ¬ (k ∈ wentUp t sp address j))
+  cards-agree : (j : ℕ) (header : List ℕ)
+      → ((p : Packet) (sp : Space) (address : ℕ) → readOf header ≡ Read p → IsCardRequest p sp address → CardStaysClear k s t sp address j)
       → sendingOf j header t ≡ sendingOf j header s
   unfolding sendingOf sending.fromSheet sending.sendPacket
-  cards-agree j other header excluded = go (readOf header) refl
+  cards-agree j header clear = go (readOf header) refl
     where
       by-request : (p : Packet) → readOf header ≡ Read p → (r : Request) → requestOf p ≡ r
           → sending.onRequest j p t r ≡ sending.onRequest j p s r
       by-request p e Other q = refl
       by-request p e (At sp address) q =
-          let x = excluded p sp address e (card-request p sp address q) in sent-agree p sp address j other (x .0) (x .1) (x .2)
+          sent-agree p sp address j (clear p sp address e (card-request p sp address q))
 
       go : (r : Reading) → readOf header ≡ r → sending.fromReading j r t ≡ sending.fromReading j r s
       go (NotRead n) e = refl
