@@ -334,6 +334,8 @@ uint32_t cartsundial_find(const uint8_t *header, size_t header_len, const uint8_
  *     state[3]      how many bytes are kept of the record under way, at most 16
  *     state[4..5]   bytes 0 to 7, and 8 to 15, of those kept, each as one number, the first byte highest
  *
+ * Of a record that is finished nothing is kept: from zeros on, all but state[0] and state[2] are 0 between records.
+ *
  * With the same sheet or index throughout, the lines of all pieces together, with that of the end, are those of the trace in one piece,
  * wherever the cuts fall; so is the state. That is proved.
  */

@@ -1,6 +1,6 @@
 /*
- * Plans document 01's board P10, looks its functions up, routes memory reads over the sheet, labels a trace that comes in two pieces,
- * judges the sheet as another firmware's, and matches completions with an open request.
+ * Plans document 01's board P10, looks its functions up, routes memory reads over the sheet, labels a trace that comes in two pieces, over
+ * the sheet and by its index, judges the sheet as another firmware's, and matches completions with an open request.
  * examples/c/run builds it and compares what it prints.
  */
 #include <inttypes.h>
@@ -31,6 +31,7 @@ static const uint8_t trace[] = {
 
 static uint8_t sheet[CARTSUNDIAL_SHEET_BYTES];
 static size_t sheet_len;
+static uint8_t board_index[CARTSUNDIAL_INDEX_BYTES];
 
 /* A four-byte read at an address below 4 GiB, built as numbers and written as a header. */
 static uint32_t read_request(uint64_t address, uint8_t header[CARTSUNDIAL_HEADER_BYTES], size_t *header_len)
@@ -104,6 +105,17 @@ static void annotate(uint64_t *state, const uint8_t *piece, size_t piece_len)
     print_lines(number, lines, written);
 }
 
+/* The same by the index. */
+static void label(uint64_t *state, const uint8_t *piece, size_t piece_len)
+{
+    uint8_t lines[3 * CARTSUNDIAL_LINE_BYTES];
+    uint64_t written[1];
+    uint32_t number = cartsundial_label(state, CARTSUNDIAL_TRACE_NUMBERS, board_index, sizeof board_index, piece, piece_len,
+                                        lines, sizeof lines, written, 1);
+
+    print_lines(number, lines, written);
+}
+
 /* The sheet judged for the board's host record, which stands after the version and its own length. */
 static void audit(const char *when)
 {
@@ -139,7 +151,7 @@ static void match(void)
 
 int main(void)
 {
-    uint64_t written[1], state[CARTSUNDIAL_TRACE_NUMBERS] = { 0 };
+    uint64_t written[1], state[CARTSUNDIAL_TRACE_NUMBERS] = { 0 }, again[CARTSUNDIAL_TRACE_NUMBERS] = { 0 };
     uint32_t number = cartsundial_plan(board, sizeof board, sheet, sizeof sheet, written, 1);
 
     if (number != CARTSUNDIAL_ACCEPTED) {
@@ -160,6 +172,13 @@ int main(void)
     annotate_end(state);
     annotate(state, trace + 20, sizeof trace - 20);
     annotate_end(state);
+
+    /* the same lines by an index of the sheet, built once; another cut */
+    number = cartsundial_index(board + 3, CARTSUNDIAL_HOST_BYTES, sheet, sheet_len, board_index, sizeof board_index);
+    printf("index: %" PRIu32 "\n", number);
+    label(again, trace, 2);
+    label(again, trace + 2, sizeof trace - 2);
+    annotate_end(again);
 
     /* memory switched off at the bridge: nobody below it has an address */
     number = cartsundial_command(sheet, sheet_len, 0x0000, 0x0001);

@@ -16,6 +16,12 @@ use Rattle.audit_rule.specs.Accepted.{Accepted}
 use Rattle.index_slots.specs.Slots.{indexSize}
 use Rattle.index_search.specs.Search.{searchOf, listedAfter}
 use Rattle.index_build.specs.Build.{buildNumber, indexAfter}
+use Rattle.trace.specs.declared.Trace.{Trace}
+use Rattle.trace.specs.Feed.{fedOf, fedPut}
+use Rattle.trace_line.specs.declared.Engine.the-variants.{Index}
+use Rattle.trace_line.specs.Line.{lineOver}
+use Rattle.trace_line.specs.Engine.{lineBy}
+use Rattle.demands.specs.Trace.{told}
 
 -- "The index takes 1,024 bytes and 256 a function"
 abbrev pub indexBytes : List ℕ → ℕ
@@ -32,6 +38,12 @@ ListedAlike header index s list =
     let routed = onRoom (routeOf header s) (length list) in
     (found ≡ routed) × (listedAfter found list ≡ listAfter routed s list)
 
+-- a piece of a trace fed by an index and over a sheet: the same number, bytes of lines and state after it, and the same bytes in the room
+abbrev pub FedAlike : List ℕ → List ℕ → Trace → List ℕ → List ℕ → Type 0
+FedAlike index s t piece out =
+    (fedOf (lineBy Index index) t piece (length out) ≡ fedOf (lineOver s) t piece (length out))
+    × (fedPut (lineBy Index index) t piece out ≡ fedPut (lineOver s) t piece out)
+
 pub record FastLabels : Type 0 where
   -- "an index in a lent slice, built once from a host record and a sheet that E6 accepts": exactly then, in room enough
   pub built-exactly : (host s room : List ℕ) → Bytes s → IsBuilt host s room ↔ (Accepted host s × (indexBytes s ≤ length room))
@@ -41,6 +53,12 @@ pub record FastLabels : Type 0 where
   -- ".. and list together."
   pub lists-equal : (host s room : List ℕ) → Bytes host → Bytes s → IsBuilt host s room
       → (header list : List ℕ) → ListedAlike header (indexAfter host s room) s list
+  -- So a trace is labelled alike, E4's sentences and all: from a fresh state, "wherever the cuts fall", with the end's line ..
+  pub traces-equal : (host s room : List ℕ) → Bytes host → Bytes s → IsBuilt host s room
+      → (pieces : List (List ℕ)) → told (lineBy Index (indexAfter host s room)) pieces ≡ told (lineOver s) pieces
+  -- .. and each piece, fed in any state and any room
+  pub pieces-equal : (host s room : List ℕ) → Bytes host → Bytes s → IsBuilt host s room
+      → (t : Trace) (piece out : List ℕ) → FedAlike (indexAfter host s room) s t piece out
   -- "A sheet that E6 refuses gets E6's number and no index."
   pub refused-by-audit : (host s room : List ℕ) → ¬ (auditNumber host s ≡ 0)
       → (buildNumber host s (length room) ≡ auditNumber host s) × (indexAfter host s room ≡ room)

@@ -1,5 +1,5 @@
 -- Document 02's E8 holds of the definitions. Assumes nothing.
-use mathlib.Core.Path.{_≡_, refl, sym, _∙_}
+use mathlib.Core.Path.{_≡_, refl, sym, ap, _∙_}
 use mathlib.Core.Logic.{_↔_}
 use mathlib.Core.Bool.{Bool, true, false, cond}
 use mathlib.Core.List.{List}
@@ -17,7 +17,14 @@ use Rattle.index_slots.specs.Slots.{indexSize}
 use Rattle.index_build.specs.Build.{from11, buildNumber, indexAfter}
 use Rattle.index_build.specs.BuildLaws.{audit-refused, refused-stays}
 use Rattle.index_build.specs.BuiltLaws.{search-is-route, listed-is-route, length-after, past-stays}
-use Rattle.demands.specs.FastLabels.{indexBytes, IsBuilt, FastLabels}
+use Rattle.trace.specs.declared.Trace.{Trace}
+use Rattle.trace.specs.Feed.{fedOf, fedPut}
+use Rattle.trace_line.specs.declared.Engine.the-variants.{Index}
+use Rattle.trace_line.specs.Line.{lineOver}
+use Rattle.trace_line.specs.Engine.{lineBy}
+use Rattle.trace_line.specs.LineLaws.{lines-agree}
+use Rattle.demands.specs.Trace.{told}
+use Rattle.demands.specs.FastLabels.{indexBytes, IsBuilt, FedAlike, FastLabels}
 
 module _ (host s room : List ℕ) where
   abbrev number : ℕ
@@ -67,12 +74,27 @@ module _ (host s room : List ℕ) where
   unfolding indexAfter
   short-stays eleven = rw eleven
 
+  -- every line by the index is the sheet's
+  same-lines : Bytes host → Bytes s → IsBuilt host s room → lineBy Index (indexAfter host s room) ≡ lineOver s
+  same-lines host-bytes bytes done = lines-agree (indexAfter host s room) s (search-is-route host s room host-bytes bytes done)
+
+  pieces-equal : Bytes host → Bytes s → IsBuilt host s room → (t : Trace) (piece out : List ℕ)
+      → FedAlike (indexAfter host s room) s t piece out
+  pieces-equal host-bytes bytes done t piece out =
+      let same = same-lines host-bytes bytes done in (
+        ap (λ (line : ℕ → List ℕ → List ℕ). fedOf line t piece (length out)) same,
+        ap (λ (line : ℕ → List ℕ → List ℕ). fedPut line t piece out) same,
+      )
+
 pub fast-labels : FastLabels
 fast-labels =
     record {
       built-exactly = built-exactly;
       answers-equal = λ host s room host-bytes bytes done header. search-is-route host s room host-bytes bytes done header;
       lists-equal = λ host s room host-bytes bytes done header list. listed-is-route host s room host-bytes bytes done header list;
+      traces-equal = λ host s room host-bytes bytes done pieces.
+          ap (λ (line : ℕ → List ℕ → List ℕ). told line pieces) (same-lines host s room host-bytes bytes done);
+      pieces-equal = pieces-equal;
       refused-by-audit = λ host s room refused.
           (audit-refused host s room (auditNumber host s) refl refused, refused-stays host s room (auditNumber host s) refl refused);
       short-exactly = short-exactly;

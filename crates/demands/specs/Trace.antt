@@ -1,5 +1,6 @@
--- Document 02, E4, "Trace annotator in pieces", in its sentences, for any sheet. Lines and numbers are bytes of text. `trace-annotated` of
--- TraceLaws proves it. Assumes nothing.
+-- Document 02, E4, "Trace annotator in pieces", in its sentences, for any sheet; what is said of pieces, rooms and the end for any line of a
+-- record, so also of E8's lines by an index. Lines and numbers are bytes of text. `trace-annotated` of TraceLaws proves it. Assumes
+-- nothing.
 use mathlib.Core.Path.{_≡_}
 use mathlib.Core.Bool.{true, false}
 use mathlib.Core.List.{List, [], _∷_, _++_, flatten}
@@ -59,43 +60,40 @@ unfoldable pub linesAfter : List ℕ → ℕ → List (List ℕ) → List ℕ
 linesAfter sheet n [] = []
 linesAfter sheet n (header ∷ headers) = lineOver sheet (numberAfter n) header ++ linesAfter sheet (numberAfter n) headers
 
--- all that comes out of a trace fed in these pieces, and its end, from a fresh state
-abbrev pub told : List ℕ → List (List ℕ) → List ℕ
-told sheet pieces = linesAll (lineOver sheet) fresh pieces ++ endLine (stateAll fresh pieces)
+-- all that comes out of a trace fed in these pieces, and its end, from a fresh state, each record with its `line`
+abbrev pub told : (ℕ → List ℕ → List ℕ) → List (List ℕ) → List ℕ
+told line pieces = linesAll line fresh pieces ++ endLine (stateAll fresh pieces)
 
 -- "From a fresh state, with one sheet throughout, wherever the cuts fall": any pieces, of which some may hold no bytes
 pub record Annotates (sheet : List ℕ) (pieces : List (List ℕ)) : Type 0 where
   -- "the lines are those of document 01's reader and router applied to each record"
   pub whole-trace : (s : List ℕ) → flatten pieces ≡ 1 ∷ s → partsOf s .whole ≡ true
-      → told sheet pieces ≡ linesAfter sheet 0 (partsOf s .parts)
+      → told (lineOver sheet) pieces ≡ linesAfter sheet 0 (partsOf s .parts)
   -- "A trace that ends inside a record gives the lines before it and a last line `cut`."
   pub cut-trace : (s : List ℕ) → flatten pieces ≡ 1 ∷ s → partsOf s .whole ≡ false
-      → told sheet pieces ≡ linesAfter sheet 0 (partsOf s .parts) ++ ascii "cut\n"
+      → told (lineOver sheet) pieces ≡ linesAfter sheet 0 (partsOf s .parts) ++ ascii "cut\n"
   -- "A trace of no bytes gives the one line `refused 20`, .."
-  pub no-trace : flatten pieces ≡ [] → told sheet pieces ≡ ascii "refused 20\n"
+  pub no-trace : flatten pieces ≡ [] → told (lineOver sheet) pieces ≡ ascii "refused 20\n"
   -- ".. another version only `refused 21`"
-  pub other-version : (v : ℕ) (s : List ℕ) → flatten pieces ≡ v ∷ s → ¬ (v ≡ 1) → told sheet pieces ≡ ascii "refused 21\n"
+  pub other-version : (v : ℕ) (s : List ℕ) → flatten pieces ≡ v ∷ s → ¬ (v ≡ 1) → told (lineOver sheet) pieces ≡ ascii "refused 21\n"
   -- "and the end state that of one piece"
   pub end-state : stateAll fresh pieces ≡ stateOf fresh (flatten pieces)
 
 -- ## One call
 
-abbrev pub linesFor : List ℕ → Trace → List ℕ → List ℕ
-linesFor sheet t piece = linesOf (lineOver sheet) t piece
-
 -- what a call answers
 abbrev pub answers : ℕ → ℕ → Trace → Fed
 answers number written state = record { number = number; written = written; state = state }
 
--- a piece fed in any state, with any room
-pub record Feeds (sheet : List ℕ) (t : Trace) (piece out : List ℕ) : Type 0 where
+-- a piece fed in any state, with any room, over a sheet or by an index
+pub record Feeds (line : ℕ → List ℕ → List ℕ) (t : Trace) (piece out : List ℕ) : Type 0 where
   -- "Output room short of a piece's lines is 11 and the piece is not taken"
-  pub short-room : length out < length (linesFor sheet t piece)
-      → (fedOf (lineOver sheet) t piece (length out) ≡ answers 11 0 t) × (fedPut (lineOver sheet) t piece out ≡ out)
+  pub short-room : length out < length (linesOf line t piece)
+      → (fedOf line t piece (length out) ≡ answers 11 0 t) × (fedPut line t piece out ≡ out)
   -- else its lines are put at the front of the room, and nothing past them
-  pub enough-room : length (linesFor sheet t piece) ≤ length out
-      → (fedOf (lineOver sheet) t piece (length out) ≡ answers 0 (length (linesFor sheet t piece)) (stateOf t piece))
-      × (fedPut (lineOver sheet) t piece out ≡ linesFor sheet t piece ++ drop (length (linesFor sheet t piece)) out)
+  pub enough-room : length (linesOf line t piece) ≤ length out
+      → (fedOf line t piece (length out) ≡ answers 0 (length (linesOf line t piece)) (stateOf t piece))
+      × (fedPut line t piece out ≡ linesOf line t piece ++ drop (length (linesOf line t piece)) out)
 
 -- "Ending gives `refused 20`, `cut` or no line, or 11 for short room, and leaves the state as it was.": it answers no state
 pub record Ends (t : Trace) (out : List ℕ) : Type 0 where
@@ -106,17 +104,16 @@ pub record Ends (t : Trace) (out : List ℕ) : Type 0 where
       × (finishedPut t out ≡ endLine t ++ drop (length (endLine t)) out)
 
 -- calls with any pieces and rooms: those that are refused change neither lines nor state
-pub record Calls (sheet : List ℕ) (calls : List Call) : Type 0 where
-  pub lines-of-taken : linesCalled (lineOver sheet) fresh calls ++ endLine (stateCalled (lineOver sheet) fresh calls)
-      ≡ told sheet (taken (lineOver sheet) fresh calls)
-  pub state-of-taken : stateCalled (lineOver sheet) fresh calls ≡ stateAll fresh (taken (lineOver sheet) fresh calls)
+pub record Calls (line : ℕ → List ℕ → List ℕ) (calls : List Call) : Type 0 where
+  pub lines-of-taken : linesCalled line fresh calls ++ endLine (stateCalled line fresh calls) ≡ told line (taken line fresh calls)
+  pub state-of-taken : stateCalled line fresh calls ≡ stateAll fresh (taken line fresh calls)
 
 -- ## The program
 
 -- "The program reads a length-first sheet, then the trace, on standard input": a and b are the bytes of the length
 pub record Prints (a b : ℕ) : Type 0 where
   pub pieces-printed : (sheet : List ℕ) (pieces : List (List ℕ)) → length sheet ≡ be 2 (a ∷ b ∷ []) 0 → length sheet ≤ fullSheet
-      → programOf (a ∷ b ∷ (sheet ++ flatten pieces)) ≡ told sheet pieces
+      → programOf (a ∷ b ∷ (sheet ++ flatten pieces)) ≡ told (lineOver sheet) pieces
   -- "a length above a full sheet's prints at once only `refused 22`": whatever follows
   pub long-sheet : (s : List ℕ) → fullSheet < be 2 (a ∷ b ∷ []) 0 → programOf (a ∷ b ∷ s) ≡ ascii "refused 22\n"
   -- "a sheet cut short only `refused 20`"
@@ -134,8 +131,8 @@ pub record TraceAnnotated : Type 0 where
   pub annotates : (sheet : List ℕ) (pieces : List (List ℕ)) → Annotates sheet pieces
   -- "`refused 21`, at its first byte"
   pub at-first-byte : (sheet : List ℕ) (v : ℕ) → ¬ (v ≡ 1) → linesOf (lineOver sheet) fresh (v ∷ []) ≡ ascii "refused 21\n"
-  pub feeds : (sheet : List ℕ) (t : Trace) (piece out : List ℕ) → Feeds sheet t piece out
+  pub feeds : (line : ℕ → List ℕ → List ℕ) (t : Trace) (piece out : List ℕ) → Feeds line t piece out
   pub ends : (t : Trace) (out : List ℕ) → Ends t out
-  pub calls : (sheet : List ℕ) (cs : List Call) → Calls sheet cs
+  pub calls : (line : ℕ → List ℕ → List ℕ) (cs : List Call) → Calls line cs
   pub prints : (a b : ℕ) → Prints a b
   pub no-length : (s : List ℕ) → length s < 2 → programOf s ≡ ascii "refused 20\n"

@@ -72,7 +72,7 @@ module _ (sheet : List ℕ) where
 
   annotates : (pieces : List (List ℕ)) → Annotates sheet pieces
   annotates pieces =
-      let all : (s : List ℕ) → flatten pieces ≡ s → told sheet pieces ≡ annotated (lineOver sheet) s =
+      let all : (s : List ℕ) → flatten pieces ≡ s → told (lineOver sheet) pieces ≡ annotated (lineOver sheet) s =
       λ s e. pieces-told (lineOver sheet) pieces ∙ ap (annotated (lineOver sheet)) e in
       record {
         whole-trace = λ s e w. all (1 ∷ s) e ∙ framed s true w ∙ append-nil (linesAfter sheet 0 (partsOf s .parts));
@@ -92,10 +92,10 @@ put-whole : (text out : List ℕ) → length text ≤ length out → textPut tex
 unfolding textPut
 put-whole text out h = rw (le-leb (length text) (length out) h)
 
-feeds : (sheet : List ℕ) (t : Trace) (piece out : List ℕ) → Feeds sheet t piece out
+feeds : (line : ℕ → List ℕ → List ℕ) (t : Trace) (piece out : List ℕ) → Feeds line t piece out
 unfolding fedOf
-feeds sheet t piece out =
-    let lines = linesOf (lineOver sheet) t piece in
+feeds line t piece out =
+    let lines = linesOf line t piece in
     record {
       short-room = λ h. (rw (lt-leb (length lines) (length out) h), sym (short-front lines out h));
       enough-room = λ h. (rw (le-leb (length lines) (length out) h), put-whole lines out h);
@@ -109,9 +109,8 @@ ends t out =
       enough-end = λ h. (rw (le-leb (length (endLine t)) (length out) h), put-whole (endLine t) out h);
     }
 
-calls : (sheet : List ℕ) (cs : List Call) → Calls sheet cs
-calls sheet cs =
-    let line = lineOver sheet in
+calls : (line : ℕ → List ℕ → List ℕ) (cs : List Call) → Calls line cs
+calls line cs =
     record {
       lines-of-taken = ap₂ (λ (x : List ℕ) (t : Trace). x ++ endLine t) (called-lines line fresh cs) (called-state line fresh cs);
       state-of-taken = called-state line fresh cs;
