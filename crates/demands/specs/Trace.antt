@@ -8,6 +8,7 @@ use Prim.Native.Nat.{ℕ, _+_, _≤_, _<_}
 use lib.ListN.{length, take, drop}
 use Rattle.text.specs.Text.{ascii, decimal}
 use Rattle.endian.specs.Endian.{be}
+use Rattle.records.specs.declared.frame.Stage.the-variants.{Between}
 use Rattle.records.specs.Records.{partsOf}
 use Rattle.packet.specs.declared.Packet.{Packet}
 use Rattle.packet.specs.Fields.{kindOf}
@@ -22,7 +23,7 @@ use Rattle.trace.specs.declared.Trace.{Trace}
 use Rattle.trace.specs.declared.Fed.{Fed}
 use Rattle.trace.specs.declared.Finished.{Finished}
 use Rattle.trace.specs.Annotated.{numberAfter}
-use Rattle.trace.specs.Trace.{fresh, stateOf, linesOf, endLine}
+use Rattle.trace.specs.Trace.{fresh, between, stateOf, linesOf, endLine}
 use Rattle.trace.specs.TraceLaws.{stateAll, linesAll}
 use Rattle.trace.specs.Feed.{fedOf, fedPut, finishedOf, finishedPut}
 use Rattle.trace.specs.FeedLaws.{Call, taken, stateCalled, linesCalled}
@@ -76,8 +77,9 @@ pub record Annotates (sheet : List ℕ) (pieces : List (List ℕ)) : Type 0 wher
   pub no-trace : flatten pieces ≡ [] → told (lineOver sheet) pieces ≡ ascii "refused 20\n"
   -- ".. another version only `refused 21`"
   pub other-version : (v : ℕ) (s : List ℕ) → flatten pieces ≡ v ∷ s → ¬ (v ≡ 1) → told (lineOver sheet) pieces ≡ ascii "refused 21\n"
-  -- "and the end state that of one piece"
+  -- "and the end state that of one piece"; between records that is the number of the last one, and nothing of its bytes
   pub end-state : stateAll fresh pieces ≡ stateOf fresh (flatten pieces)
+  pub nothing-kept : stateAll fresh pieces .stage ≡ Between → stateAll fresh pieces ≡ between (stateAll fresh pieces .number)
 
 -- ## One call
 

@@ -1,19 +1,25 @@
 -- Document 02, E4, is proved: lines, pieces, calls and the program. Assumes nothing.
-use mathlib.Core.Path.{_≡_, refl, sym, ap, ap₂, _∙_}
+use mathlib.Core.Path.{_≡_, refl, sym, ap, ap₂, subst, _∙_}
 use mathlib.Core.Bool.{Bool, true, false, cond}
 use mathlib.Core.List.{List, [], _∷_, _++_, flatten, append-nil}
-use Prim.Native.Nat.{ℕ, _+_, _≤_, _<_}
+use Prim.Native.Nat.{ℕ, _+_, _-_, _*_, _≤_, _<_, min}
 use native.Mathlib.Omega.{arith}
-use lib.ListN.{length, drop}
+use lib.ListN.{length, drop, set}
+use lib.Dec.{eqb}
 use borrow.Author.Tests.{ne-eqb, le-leb, lt-leb}
 use Rattle.text.specs.Text.{ascii}
 use Rattle.records.specs.Records.{partsOf}
-use Rattle.records.specs.Frame.{versionOf, heardOf}
+use Rattle.records.specs.declared.frame.Stage.{Stage}
+use Rattle.records.specs.declared.frame.Stage.the-variants.{Start, Other, Between, Length, Inside}
+use Rattle.records.specs.declared.frame.Event.the-variants.{Version, Foreign}
+use Rattle.records.specs.Frame.{versionOf, eventOf, insideOf, stageAfter, stageOf, heardOf}
 use Rattle.route.specs.Route.{routeOf}
 use Rattle.trace.specs.declared.Trace.{Trace}
 use Rattle.trace.specs.Annotated.{numberAfter, versionLine, cutLine, recordLines, annotated}
-use Rattle.trace.specs.Trace.{fresh, linesOf, endLine}
-use Rattle.trace.specs.TraceLaws.{state-all, pieces-told}
+use Rattle.trace.specs.declared.Emits.the-variants.{Nothing, Line}
+use Rattle.trace.specs.Trace.{noBytes, fresh, between, Account, accountOf, traceAt, lineAt, numberBy, keptAfter, headAfter, heardBy}
+use Rattle.trace.specs.Trace.{stateOf, linesOf, endLine}
+use Rattle.trace.specs.TraceLaws.{stateAll, state-all, pieces-told}
 use Rattle.trace.specs.Feed.{textPut, fedOf, endedOf}
 use Rattle.trace.specs.FeedLaws.{short-front, Call, called-state, called-lines}
 use Rattle.trace_line.specs.Line.{labelWith, lineWith, lineOver}
@@ -46,6 +52,65 @@ next n h = omega arith
 wraps : numberAfter 18446744073709551615 ≡ 0
 unfolding numberAfter
 wraps = refl
+
+-- ## Between records nothing is kept
+
+abbrev Empty : Account → Type 0
+Empty a = (a .kept ≡ 0) × (a .head ≡ noBytes)
+
+-- nor before the first, nor while a length is read
+abbrev Clear : Stage → Account → Type 0
+Clear Start a = Empty a
+Clear Other a = Unit {0}
+Clear Between a = Empty a
+Clear (Length high) a = Empty a
+Clear (Inside left) a = Unit {0}
+
+record-clear : (left n kept : ℕ) (head : List ℕ)
+    → Clear (insideOf left) (record { number = n; kept = keptAfter (lineAt left) kept; head = headAfter (lineAt left) head })
+unfolding lineAt insideOf
+record-clear left n kept head = go (eqb left 0)
+  where
+    go : (b : Bool)
+        → Clear (cond b Between (Inside left))
+        (record { number = n; kept = keptAfter (cond b Line Nothing) kept; head = headAfter (cond b Line Nothing) head })
+    go true = (refl, refl)
+    go false = tt
+
+byte-clear : (g : Stage) (a : Account) (b : ℕ) → Clear g a → Clear (stageAfter (eventOf g b)) (heardBy a (eventOf g b))
+unfolding versionOf
+byte-clear Start a b c = go (eqb b 1)
+  where
+    go : (t : Bool) → Clear (stageAfter (cond t Version Foreign)) (heardBy a (cond t Version Foreign))
+    go true = c
+    go false = tt
+byte-clear Other a b c = tt
+byte-clear Between a b c = c
+byte-clear (Length high) a b c =
+    record-clear (high * 256 + b) (numberBy (lineAt (high * 256 + b)) (a .number)) 0 (a .head)
+byte-clear (Inside left) a b c =
+    record-clear (left - 1) (numberBy (lineAt (left - 1)) (a .number)) (min (a .kept + 1) (length (a .head))) (set (a .head) (a .kept) b)
+
+heard-clear : (g : Stage) (a : Account) (s : List ℕ) → Clear g a → Clear (stageOf g s) (heardOf heardBy g a s)
+unfolding stageOf heardOf
+heard-clear g a [] c = c
+heard-clear g a (b ∷ s) c = heard-clear (stageAfter (eventOf g b)) (heardBy a (eventOf g b)) s (byte-clear g a b c)
+
+clear-between : (g : Stage) (a : Account) → Clear g a → g ≡ Between → traceAt g a ≡ between (a .number)
+clear-between g a c e = go (subst (λ (g : Stage). Clear g a) e c)
+  where
+    go : Empty a → traceAt g a ≡ between (a .number)
+    go (none, zeros) = λ i. record { stage = e i; number = a .number; kept = none i; head = zeros i }
+
+whole-clear : (s : List ℕ) → stateOf fresh s .stage ≡ Between → stateOf fresh s ≡ between (stateOf fresh s .number)
+unfolding stateOf
+whole-clear s =
+    clear-between (stageOf Start s) (heardOf heardBy Start (accountOf fresh) s) (heard-clear Start (accountOf fresh) s (refl, refl))
+
+nothing-kept : (pieces : List (List ℕ)) → stateAll fresh pieces .stage ≡ Between
+    → stateAll fresh pieces ≡ between (stateAll fresh pieces .number)
+nothing-kept pieces =
+    subst (λ (t : Trace). t .stage ≡ Between → t ≡ between (t .number)) (sym (state-all fresh pieces)) (whole-clear (flatten pieces))
 
 -- ## A trace
 
@@ -80,6 +145,7 @@ module _ (sheet : List ℕ) where
         no-trace = λ e. all [] e ∙ empty;
         other-version = λ v s e h. all (v ∷ s) e ∙ foreign v s h;
         end-state = state-all fresh pieces;
+        nothing-kept = nothing-kept pieces;
       }
 
   at-once : (v : ℕ) → ¬ (v ≡ 1) → linesOf (lineOver sheet) fresh (v ∷ []) ≡ ascii "refused 21\n"
