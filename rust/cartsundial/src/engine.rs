@@ -5,16 +5,16 @@ use crate::Index;
 use core::fmt;
 
 /// What the headers of a trace are labelled by: a sheet, over which each is routed, or an [`Index`], in which each is
-/// searched. Made of a reference to either, so that [`lines()`](crate::lines()), [`Annotator`](crate::Annotator) and
+/// searched. It is made of a reference to either, so that [`lines()`](crate::lines()), [`Annotator`](crate::Annotator) and
 /// `Labeller` take both.
 ///
-/// Over the sheet that an index was built from, the lines are the same, wherever the trace is cut; that is proved. They do not cost the
-/// same:
+/// By an index the lines are those over the sheet that it was built from, wherever the trace is cut; that is proved. They
+/// do not cost the same:
 ///
-/// | by | before the trace | each call | each header |
+/// | by | before | each piece | each header |
 /// |---|---|---|---|
-/// | a sheet | nothing: any bytes, and a sheet that fails its checks has its number in the lines | a check of the sheet, 25 ns a function | the walk, each bus on the way: half a microsecond over 16 functions, 9 over 512 |
-/// | an index | built once: 6 microseconds for 16 functions, 1,000 for 512; only of a sheet that the audit accepts | nothing | 40 to 50 ns |
+/// | an index | built once: 6 µs for 16 functions, 1 ms for 512; the audit must accept the sheet | nothing | 70 to 80 ns |
+/// | a sheet | nothing; it may be any bytes | a check of the sheet, 25 ns a function | the walk: 0.2 µs over 16 functions, 3 over 256, 7 to 9 over 512 |
 #[derive(Clone, Copy)]
 pub struct Engine<'a>(Bytes<'a>);
 
