@@ -13,8 +13,8 @@ use core::fmt;
 ///
 /// | by | before | each piece | each header |
 /// |---|---|---|---|
-/// | an index | built once: 6 µs for 16 functions, 1 ms for 512; the audit must accept the sheet | nothing | 70 to 80 ns |
-/// | a sheet | nothing; it may be any bytes | a check of the sheet, 25 ns a function | the walk: 0.2 µs over 16 functions, 3 over 256, 7 to 9 over 512 |
+/// | an index, of a sheet that the audit accepts | built once: 6 µs for 16 functions, 1 ms for 512 | nothing | 70 to 80 ns |
+/// | a sheet, which may be any bytes | nothing | its check, 25 ns a function | 0.2 µs over 16 functions, 3 over 256, 7 to 9 over 512 |
 #[derive(Clone, Copy)]
 pub struct Engine<'a>(Bytes<'a>);
 
