@@ -43,10 +43,9 @@ fn label_trace(index: &Index, input: &mut impl Read, out: &mut impl Write) -> io
         [] => return writeln!(out, "refused 20"),
         _ => return writeln!(out, "refused 21"),
     }
-    let mut number = 0_u64;
+    let mut labelled = Labelled { index, number: 0, lines: Vec::new() };
     let mut piece = vec![0; PIECE];
     let mut filled = 0;
-    let mut lines = Vec::new();
     loop {
         let read = match input.read(&mut piece[filled..]) {
             Err(error) if error.kind() == io::ErrorKind::Interrupted => continue,
@@ -56,21 +55,35 @@ fn label_trace(index: &Index, input: &mut impl Read, out: &mut impl Write) -> io
             break;
         }
         filled += read;
-        let mut rest = &piece[..filled];
-        while let Some((length, after)) = rest.split_first_chunk() {
-            let Some((header, after)) = after.split_at_checked(u16::from_be_bytes(*length).into()) else { break };
-            number = number.wrapping_add(1);
-            index.put_line(number, header, &mut lines);
-            rest = after;
-        }
-        let left = rest.len();
+        let left = labelled.put_records(&piece[..filled]);
         piece.copy_within(filled - left..filled, 0);
         filled = left;
-        out.write_all(&lines)?;
-        lines.clear();
+        out.write_all(&labelled.lines)?;
+        labelled.lines.clear();
     }
     if filled > 0 {
         out.write_all(b"cut\n")?;
     }
     out.flush()
+}
+
+struct Labelled<'a> {
+    index: &'a Index,
+    /// Of the last record.
+    number: u64,
+    /// That are not written yet.
+    lines: Vec<u8>,
+}
+
+impl Labelled<'_> {
+    /// Puts the lines of the records that are whole. Returns how many bytes are left.
+    fn put_records(&mut self, mut rest: &[u8]) -> usize {
+        while let Some((length, after)) = rest.split_first_chunk() {
+            let Some((header, after)) = after.split_at_checked(u16::from_be_bytes(*length).into()) else { break };
+            self.number = self.number.wrapping_add(1);
+            self.index.put_line(self.number, header, &mut self.lines);
+            rest = after;
+        }
+        rest.len()
+    }
 }
