@@ -10,6 +10,9 @@ use inputs::{audit, trace};
 
 type State = [u64; calls::TRACE];
 
+/// A call that takes a piece: state, sheet or index, piece, lines, and how many bytes they are.
+type Take = fn(&mut [u64], &[u8], &[u8], &mut [u8], &mut [u64]) -> u32;
+
 pub fn compare(random: &mut Random, rounds: u64, tally: &mut Tally) {
     for _ in 0..10_000 * rounds {
         let sheet = sheets::any(random);
@@ -60,8 +63,7 @@ impl<'a> By<'a> {
         }
     }
 
-    /// The call to the library, and what it returns, with the bytes at another place.
-    fn call(self) -> (Call, fn(&mut [u64], &[u8], &[u8], &mut [u8], &mut [u64]) -> u32) {
+    fn call(self) -> (Call, Take) {
         match self {
             By::Sheet(_) => (Call::Annotate, calls::annotate),
             By::Index(_) => (Call::Label, calls::label),
