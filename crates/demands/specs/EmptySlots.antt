@@ -64,8 +64,8 @@ pub record EmptySlots : Type 0 where
   pub bridges-by-version : (b : List ℕ) → Lawful b
       → All (λ p. isBridgeHeader (getD p 3 0) ≡ true → length p ≡ bridgeLength (versionOf b)) (partsFrom b functionsAt)
   pub spares-read : (p : List ℕ) → Bytes p → isBridgeHeader (getD p 3 0) ≡ true → Spares p
-  -- "the new one takes both", and no other
-  pub versions-known : (b : List ℕ) → (length b ≡ 0 → ⊥) → isVersion (versionOf b) ≡ false → boardNumber b ≡ 21
+  -- "the new one takes both", 1 and 2, and no other
+  pub versions-known : (b : List ℕ) → (length b ≡ 0 → ⊥) → (boardNumber b ≡ 21) ↔ (isVersion (versionOf b) ≡ false)
   -- "version 1 meaning zero spares and the old plan"
   pub version-1-as-before : (b : List ℕ) → Lawful b → versionOf b ≡ 1 → AsBefore b
   -- "Spare buses come right after all buses below that bridge, inside its subordinate."

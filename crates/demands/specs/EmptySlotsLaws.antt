@@ -1,16 +1,19 @@
 -- Document 02's E10 holds: where a board's spares are, and that nobody is in them. Assumes nothing.
 use mathlib.Core.Path.{_≡_, refl, sym, ap, subst, _∙_}
-use mathlib.Core.Bool.{Bool, true, false}
+use mathlib.Core.Bool.{Bool, true, false, cond}
 use mathlib.Core.List.{List, [], _∷_, map}
 use Prim.Native.Nat.{ℕ, zero, suc, _+_, _*_, _<_}
 use native.Mathlib.Omega.{arith}
-use lib.ListN.{length, getD, take}
+use lib.Dec.{ltb}
+use lib.ListN.{length, getD, take, drop}
+use borrow.Author.Tests.{ne-eqb}
 use Rattle.endian.specs.Endian.{Bytes, be}
 use Rattle.endian.specs.EndianLaws.{be-lt}
-use Rattle.lists.specs.Lists.{_∈_, All}
+use Rattle.lists.specs.Lists.{_∈_, All, any}
 use Rattle.lists.specs.ListLaws.{all-elim}
 use Rattle.pools.specs.declared.Space.the-variants.{Memory as memorySpace}
-use Rattle.records.specs.Records.{partsFrom, anyPart}
+use Rattle.records.specs.Records.{Parts, partsOf, partsFrom, anyPart}
+use Rattle.records.specs.Limits.{mostFunctions}
 use Rattle.records.specs.RecordsLaws.{false-of-or}
 use Rattle.bar.specs.Header.{isBridge as isBridgeHeader}
 use Rattle.plan_rule.specs.Records.{Function}
@@ -20,9 +23,12 @@ use Rattle.plan_rule.specs.Placing.{placed}
 use Rattle.plan_rule.specs.Numbering.{bridges, bridgeCount}
 use Rattle.plan_rule.specs.NumberingLaws.{bridges-and-spares}
 use Rattle.plan_rule.specs.NoSpares.{NoSpare, NoSpares, bridges-counted, bus-number-counted, content-alone}
-use Rattle.board_record.specs.Function.{functionOfPart, bridgeLength, wrongIn}
+use Rattle.board_record.specs.Host.{hostOfPart, hostWrong}
+use Rattle.board_record.specs.Function.{functionOfPart, bridgeLength, wrongIn, readbacksWrong}
 use Rattle.board_record.specs.FunctionLaws.{length-of-version, spares-none, spares-bytes, spares-of-bridge, spares-of-end}
-use Rattle.board.specs.Board.{hostOf, functionsOf}
+use Rattle.board_order.specs.Order.{anyMisplaced}
+use Rattle.board.specs.Board.{isVersion, misframed, fromReadbacks, fromOrder, fromEdges, fromHeaders, fromCount, fromFrame, fromVersion}
+use Rattle.board.specs.Board.{boardNumber, hostOf, functionsOf}
 use Rattle.board.specs.BoardLaws.{accepted-of-zero, other-version}
 use Rattle.board.specs.ToPlacing.{toPlacing}
 use Rattle.board.specs.ToPlacingLaws.{lawful-of-accepted}
@@ -53,6 +59,34 @@ lengths v [] e = tt
 lengths v (p ∷ ps) e =
     let both = false-of-or (wrongIn v p) (anyPart (wrongIn v) ps) e in
     (λ b. rw b at (length-of-version v p (both .0)), lengths v ps (both .1))
+
+-- ## Versions
+
+-- no other check answers 21
+not-21 : (t : Bool) (n rest : ℕ) → (n ≡ 21 → ⊥) → (rest ≡ 21 → ⊥) → cond t n rest ≡ 21 → ⊥
+not-21 true n rest here later = here
+not-21 false n rest here later = later
+
+frame-not-21 : (v : ℕ) (r : Parts) → fromFrame v r ≡ 21 → ⊥
+unfolding fromFrame fromCount fromHeaders fromEdges fromOrder fromReadbacks
+frame-not-21 v r =
+    let h = hostOfPart (getD (r .parts) 0 []) in
+    let ps = drop 1 (r .parts) in
+    let fs = map functionOfPart ps in
+    not-21 (misframed r) 20 (fromCount v h ps) (λ e. omega (arith, e))
+    (not-21 (ltb mostFunctions (length ps)) 22 (fromHeaders v h ps) (λ e. omega (arith, e))
+    (not-21 (anyPart (wrongIn v) ps) 24 (fromEdges h fs) (λ e. omega (arith, e))
+    (not-21 (hostWrong h) 26 (fromOrder fs) (λ e. omega (arith, e))
+    (not-21 (anyMisplaced 0 [] fs) 23 (fromReadbacks fs) (λ e. omega (arith, e))
+    (not-21 (any readbacksWrong fs) 25 0 (λ e. omega (arith, e)) (λ e. omega (arith, e)))))))
+
+version-of-21 : (b : List ℕ) → (length b ≡ 0 → ⊥) → boardNumber b ≡ 21 → isVersion (versionOf b) ≡ false
+unfolding boardNumber fromVersion
+version-of-21 b some e = go (isVersion (versionOf b)) refl
+  where
+    go : (t : Bool) → isVersion (versionOf b) ≡ t → isVersion (versionOf b) ≡ false
+    go true is = absurd (frame-not-21 (versionOf b) (partsOf (drop 1 b)) (rw (ne-eqb (length b) 0 some, is) at e))
+    go false is = is
 
 -- ## Version 1
 
@@ -108,7 +142,7 @@ empty-slots =
     record {
       bridges-by-version = λ b lawful. lengths (versionOf b) (partsFrom b functionsAt) (accepted-of-zero b lawful .of-version);
       spares-read = spares-read;
-      versions-known = other-version;
+      versions-known = λ b some. (version-of-21 b some, other-version b some);
       version-1-as-before = as-before;
       spare-buses-last = λ b lawful. spares-last (host b .firstBus) (functions b) (lawful-of-accepted b lawful);
       spare-room-kept = λ b lawful i f at.
