@@ -69,7 +69,7 @@ enum cartsundial_number {
     CARTSUNDIAL_WIDTH = 10,            /* a value that its place does not take: too wide, a wrong Length, no such field; a trace's state */
     CARTSUNDIAL_SHORT = 11,            /* a lent slice is too short */
     CARTSUNDIAL_FRAME = 20,            /* empty; lengths not ending at the end; no host of 30; function under 6; sheet record not 90 */
-    CARTSUNDIAL_VERSION = 21,          /* version not 1 */
+    CARTSUNDIAL_VERSION = 21,          /* version not 1, and of a board not 2 either */
     CARTSUNDIAL_FUNCTIONS = 22,        /* over 512 functions */
     CARTSUNDIAL_ORDER = 23,            /* parent, order, depth or function 0 */
     CARTSUNDIAL_HEADER_TYPE = 24,      /* header type not 0 or 1, or a wrong length for it */
@@ -78,7 +78,7 @@ enum cartsundial_number {
     CARTSUNDIAL_BUSES = 27,            /* sheet: not own bus = primary < secondary <= subordinate */
     CARTSUNDIAL_ID_TWICE = 28,         /* sheet: an ID twice */
     CARTSUNDIAL_NIBBLES = 29,          /* sheet: window nibbles */
-    CARTSUNDIAL_OUT_OF_BUSES = 30,     /* bus numbers run out */
+    CARTSUNDIAL_OUT_OF_BUSES = 30,     /* bus numbers run out: bridges and their spare buses */
     CARTSUNDIAL_OUT_OF_LOW = 31,       /* the low memory pool runs out */
     CARTSUNDIAL_OUT_OF_HIGH = 32,      /* the high memory pool runs out */
     CARTSUNDIAL_OUT_OF_IO = 33,        /* the I/O pool runs out */
