@@ -198,7 +198,9 @@ module _ (first : ℕ) (fs : List Function) (lawful : Lawful fs) where
         ⊎-elim (λ (le : parentOf fs (suc j) ≤ i). from-above le)
         (λ lt. from-later (parentOf fs (suc j)) refl lt (λ k. taken-since n k))
         (⊎-elim (λ (e : end-here ≡ j). inl (subst (λ (k : ℕ). parentOf fs (suc k) ≤ i) e (end-parent fs lawful i (omega arith))))
-        (λ ne. past-run fs lawful i j (parentOf fs (suc j)) (omega arith) (omega arith) (step-back fs lawful (parentOf fs (suc j)) j m (at refl)))
+        (λ ne.
+        let p = parentOf fs (suc j) in
+        past-run fs lawful i j p (omega arith) (omega arith) (step-back fs lawful p j m (at refl)))
         (eq-or-ne end-here j))
       where
         from-above : parentOf fs (suc j) ≤ i
@@ -207,8 +209,8 @@ module _ (first : ℕ) (fs : List Function) (lawful : Lawful fs) where
             let p = parentOf fs (suc j) in
             let up = above-here fs lawful i j p (omega arith) (omega arith) le (step-back fs lawful p j m (at refl)) in
             let grown : over fs p ≤ over fs (parentOf fs (suc i)) =
-            ⊎-elim (λ (e : p ≡ suc i). absurd (omega arith)) (λ q. over-grows fs lawful q (omega (arith, parent-le fs lawful (suc i), inside)))
-            (cases fs lawful up) in
+            ⊎-elim (λ (e : p ≡ suc i). absurd (omega arith))
+            (λ q. over-grows fs lawful q (omega (arith, parent-le fs lawful (suc i), inside))) (cases fs lawful up) in
             omega (
               arith,
               grown,

@@ -374,8 +374,8 @@ module _ (h : Host) (fs : List Function) (board : Board h fs) (planned : refusal
           (before y (v .window) p (v .item) (omega (arith, v .falls)))
 
 -- A window's address that nothing on its bus holds is nobody's
-pub nobody-in-gap : (h : Host) (fs : List Function) → Board h fs → refusalOf h fs ≡ 0 → (k : ℕ) (w : Placed) → w ∈ placed h fs → LowWindow k w
-    → (a : ℕ) → InGap (placed h fs) w a → NobodyAt h fs a
+pub nobody-in-gap : (h : Host) (fs : List Function) → Board h fs → refusalOf h fs ≡ 0
+    → (k : ℕ) (w : Placed) → w ∈ placed h fs → LowWindow k w → (a : ℕ) → InGap (placed h fs) w a → NobodyAt h fs a
 unfolding Related
 nobody-in-gap h fs board planned k w mw v a gap j held =
     let (x, mx, b) = member-of-some (BarHolds memorySpace j a) (placed h fs) held in

@@ -43,8 +43,8 @@ rows =
       sized = 2 ∷ 4178575360 ∷ 1048576 ∷ 9730785280 ∷ 67108864 ∷ 20480 ∷ 4096 ∷ [];
       stored = 2 ∷ 4096 ∷ 4096 ∷ 67108864 ∷ 67108864 ∷ 256 ∷ 256 ∷ 0 ∷ 0 ∷ 0 ∷ 0 ∷ 0 ∷ 0 ∷ 0 ∷ [];
     }
-    -- the same, the bridge with 2 spare buses and 3 MiB: they follow the rounded end of its low window. A second bridge has 1 MiB and nothing
-    -- below it: that window is open too
+    -- the same, the bridge with 2 spare buses and 3 MiB, which follow the rounded end of its low window; and a second bridge with 1 MiB and
+    -- nothing below it, whose window is open too
     ∷ record {
       parents = 0 ∷ 1 ∷ 0 ∷ [];
       heads = 33555201 ∷ 0 ∷ 257 ∷ [];
@@ -53,7 +53,8 @@ rows =
       high = 9663676416;
       io = 16384;
       sized = 3 ∷ 4182769664 ∷ 1048576 ∷ 9730785280 ∷ 67108864 ∷ 20480 ∷ 4096 ∷ [];
-      stored = 2 ∷ 4194304 ∷ 1048576 ∷ 67108864 ∷ 67108864 ∷ 256 ∷ 256 ∷ 0 ∷ 0 ∷ 0 ∷ 0 ∷ 0 ∷ 0 ∷ 0 ∷ 3 ∷ 1048576 ∷ 1048576 ∷ 0 ∷ 0 ∷ 0 ∷ 0 ∷ [];
+      stored =
+          2 ∷ 4194304 ∷ 1048576 ∷ 67108864 ∷ 67108864 ∷ 256 ∷ 256 ∷ 0 ∷ 0 ∷ 0 ∷ 0 ∷ 0 ∷ 0 ∷ 0 ∷ 3 ∷ 1048576 ∷ 1048576 ∷ 0 ∷ 0 ∷ 0 ∷ 0 ∷ [];
     }
     -- a bridge with a BAR of 1 MiB of its own, and behind it 2 MiB: the BAR, a gap of 1 MiB, the window; then a function of 128 bytes
     ∷ record {

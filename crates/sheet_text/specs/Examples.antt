@@ -44,12 +44,10 @@ pub record Printed : Type 0 where
 pub examples : Printed
 unfolding p10-text ascii words windowText bridgeText endText lineOf countText planText refusalText sheetText boardText hexadecimal
     decimalOver decimal flatMap planning onBoard onRoom boardNumber fromVersion fromFrame fromCount fromHeaders fromEdges fromOrder
-    fromReadbacks misframed above parents lastSibling misplaced anyMisplaced functionOfPart wrongIn readbacksWrong
-    hostOfPart poolWrong
+    fromReadbacks misframed above parents lastSibling misplaced anyMisplaced functionOfPart wrongIn readbacksWrong hostOfPart poolWrong
     hostWrong be beBytes le nextOf partsOver partsOf anyPart any sizeFrom sized ioSlot narrowSlot wideSlot slotHere slots anyBad hostOf
-    functionsOf refusalOf outOfPool place placed pieces ownPieces windowPieces barPieces layoutEnd largestAlign keep alignUp
-    bridges barsFrom
-    planOf plannedFrom valuesFrom windowFor barStart closed opened busNumber subordinateOf oversFrom over lastBelow front sheetNumber from21 from20 from22
-    from24 from27 from28 from25 from29 isFramed allSized entriesFrom breaks anyBreaks allZero readBacksWrong hasId idTwice entryOf dwords
-    windowOf start stop isNibbled isBarValue valuesFit
+    functionsOf refusalOf outOfPool place placed pieces ownPieces windowPieces barPieces layoutEnd largestAlign keep alignUp bridges
+    barsFrom planOf plannedFrom valuesFrom windowFor barStart closed opened busNumber subordinateOf oversFrom over lastBelow front
+    sheetNumber from21 from20 from22 from24 from27 from28 from25 from29 isFramed allSized entriesFrom breaks anyBreaks allZero
+    readBacksWrong hasId idTwice entryOf dwords windowOf start stop isNibbled isBarValue valuesFit
 examples = record { p10-planned = refl; p10-short-room = refl; p10-sheet = refl; p8-sheet = refl; bad-sheet = refl }

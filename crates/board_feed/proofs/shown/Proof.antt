@@ -1,51 +1,38 @@
+-- `board_feed::shown` meets its contract: only the first byte is a version. Assumes nothing.
 use borrow.Author.Needs.{needs}
 use Rattle.board_feed.proofs.shown.Statement.{statement}
 use Rattle.board_feed.proofs.shown.Tie as tie
-use Rattle.board_feed.proofs.shown.Reads as reads
-use Rattle.board_feed.proofs.shown.Lts as lts
-use Rattle.board_feed.proofs.first_shown.Reads as first-shown-reads
 
--- src/lib.rt:180:25
 enum-told : tie.Need-enum-told
 enum-told c = search needs
 
--- src/lib.rt:180:25
 first-shown-requires : tie.Need-first-shown-requires
 first-shown-requires c κs = search needs
 
--- src/lib.rt:181:25
 enum-told-2 : tie.Need-enum-told-2
 enum-told-2 c = search needs
 
--- src/lib.rt:182:27
 enum-told-3 : tie.Need-enum-told-3
 enum-told-3 c = search needs
 
--- src/lib.rt:183:29
 enum-told-4 : tie.Need-enum-told-4
 enum-told-4 c = search needs
 
--- src/lib.rt:184:29
 enum-told-5 : tie.Need-enum-told-5
 enum-told-5 c = search needs
 
--- src/lib.rt:176:1
 returns : tie.Need-returns
 returns c = rw (c .before .enum-told .given .1) (c .first-shown .ensures)
 
--- src/lib.rt:176:1
 returns-2 : tie.Need-returns-2
 returns-2 c = search needs
 
--- src/lib.rt:176:1
 returns-3 : tie.Need-returns-3
 returns-3 c = search needs
 
--- src/lib.rt:176:1
 returns-4 : tie.Need-returns-4
 returns-4 c = search needs
 
--- src/lib.rt:176:1
 returns-5 : tie.Need-returns-5
 returns-5 c = search needs
 

@@ -20,12 +20,14 @@ mul-sets c = search needs
 
 slice-aggregate-sets : tie.Need-slice-aggregate-sets
 slice-aggregate-sets c =
-    let start = c .before .before .before .before .before .before .before .before .before .before .before .before .before .before .before in
+    let call = c .before .before .before .before .before .before .before in
+    let start = call .before .before .before .before .before .before .before .before in
     sym (length-take-le _ _ (start .pre .arrays .readbacks))
 
 size-board-requires : tie.Need-size-board-requires
 size-board-requires c κs =
-    let start = c .before .before .before .before .before .before .before .before .before .before .before .before .before .before .before .before in
+    let call = c .before .before .before .before .before .before .before .before in
+    let start = call .before .before .before .before .before .before .before .before in
     let pre = start .pre in
     let few = length-take-le (start .args .n) (start .args .parents .now) (pre .arrays .parents) in
     (pre .board, omega (arith, few, pre .memo-room))

@@ -65,8 +65,8 @@ returns c =
     let kept = c .before .before .before in
     let put = kept .put-text .ensures in
     let start = kept .before .before .before in (
-      fed-is (start .args .self) (start .args .kept .now) (start .args .piece .now) _ _ _ (kept .before .put-text-arg .given .0 .1) (put .place)
-          (sym (board-stage-past _ _ _ (c .loop-test .left)) ∙ inv .1)
+      fed-is (start .args .self) (start .args .kept .now) (start .args .piece .now) _ _ _ (kept .before .put-text-arg .given .0 .1)
+          (put .place) (sym (board-stage-past _ _ _ (c .loop-test .left)) ∙ inv .1)
           (sym (board-heard-past _ _ _ _ (c .loop-test .left)) ∙ inv .2),
       put .stored,
     )
