@@ -1,6 +1,6 @@
 -- Document 02, E10: boards of version 2, whose bridges keep spare buses and spare low memory for cards plugged in later. Demand 3 and what
--- the other requests say of planned boards are said of both versions already; this says where the spares are, which demand 3 alone leaves
--- open. `empty-slots` of EmptySlotsLaws proves it. Assumes nothing.
+-- the other requests say of planned boards are said of both versions already, and that a sheet has the numbers and windows of its board
+-- (`sheet-says`); this says where the spares are, which demand 3 leaves open. `empty-slots` of EmptySlotsLaws proves it. Assumes nothing.
 use mathlib.Core.Path.{_≡_}
 use mathlib.Core.Logic.{_↔_}
 use mathlib.Core.Bool.{true, false}
