@@ -25,8 +25,8 @@ pub struct Host {
     pub io: Span,
 }
 
-// A function record. A type 1 function has two read-backs; the last four are 0. Its spares are a byte of buses and two of MiB of low memory,
-// as one number; any other function has none.
+// A function record. A type 1 function has two read-backs; the last four are 0. Its spares are a byte of buses and two of low memory in
+// MiB, as one number; any other function has none.
 pub struct Function {
     pub parent: u16,
     pub devfn: u8,
@@ -47,6 +47,13 @@ pub enum Rule {
 pub const HOST: usize = 1;
 
 pub const FUNCTIONS: usize = 33;
+
+// Lengths of a function record: a bridge's on a board of version 1, and with its spares on one of version 2; any other's.
+const BRIDGE: usize = 14;
+
+const BRIDGE_WITH_SPARES: usize = 17;
+
+const END: usize = 30;
 
 // ---- the host
 
@@ -177,7 +184,7 @@ pub fn spares_of(part: &[u8]) -> u32
     ensures { λ r. ⌜ (r ≡ sparesFor (getD (now (part .entry)) 3 0) (now (part .entry))) × (r < 16777216) ⌝ }
 {
     if bar::is_bridge(part[3]) {
-        if part.len() < 17 {
+        if part.len() < BRIDGE_WITH_SPARES {
             return 0;
         }
         return part[14] as u32 * 65536 + endian::read_be16(part, 15) as u32;
@@ -240,13 +247,17 @@ fn wrong_for(version: u8, n: usize, header: u8) -> bool
     if bar::is_bridge(header) {
         return n != bridge_length(version);
     }
-    (header % 128 != 0) | (n != 30)
+    (header % 128 != 0) | (n != END)
 }
 
 fn bridge_length(version: u8) -> usize
     ensures { λ r. ⌜ r ≡ bridgeLength version ⌝ }
 {
-    if version == 1 { 14 } else { 17 }
+    if version == 1 {
+        BRIDGE
+    } else {
+        BRIDGE_WITH_SPARES
+    }
 }
 
 // 25. One call for two slots and for six, so that the compiler can join it to the loop.

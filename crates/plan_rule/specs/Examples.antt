@@ -1,5 +1,5 @@
 -- Worked examples of the definitions, one table under one claim: P6, P7, P10, source document 001's tree (bridge E on bus 2), edges of the
--- placing rule, and full boards. Assumes nothing.
+-- placing rule, and full boards; and one of spares. Assumes nothing.
 use mathlib.Core.Path.{_≡_, refl}
 use mathlib.Core.Bool.{true, false, false≢true}
 use mathlib.Core.List.{List, [], _∷_, map}
@@ -162,7 +162,11 @@ rows =
     ∷ refused wide (rowFrom 0 256) 30
     ∷ refused wide (cardsFrom 1 128) 0
     ∷ refused narrow (cardsFrom 1 128) 33
-    ∷ numbers 0 with-spares ((1, 5) ∷ (2, 3) ∷ (6, 6) ∷ [])
+    ∷ []
+
+abbrev pub spare-rows : List Row
+spare-rows =
+    numbers 0 with-spares ((1, 5) ∷ (2, 3) ∷ (6, 6) ∷ [])
     ∷ refused (up-to 6) with-spares 0
     ∷ refused (up-to 5) with-spares 30
     ∷ refused from-one-mib (kept 4) 0
@@ -175,7 +179,40 @@ pub examples : All Holds rows
 unfolding
     keep front any alignUp layoutEnd largestAlign barPieces windowPieces ownPieces pieces place placed bridges oversFrom over lastBelow
     busNumber subordinateOf numberedFrom ranges outOfPool refusalOf extend busLaid
-examples = (refl, (refl, (refl, (refl, (refl, (refl, (refl, (refl, (refl, (refl, (refl, (refl, (refl, (refl, (refl, (refl, (refl, (refl, (refl, (refl, (refl, (refl, (refl, (refl, (refl, (refl, (refl, (refl, tt))))))))))))))))))))))))))))
+examples = (
+  refl,
+  (
+    refl,
+    (
+      refl,
+      (
+        refl,
+        (
+          refl,
+          (
+            refl,
+            (
+              refl,
+              (
+                refl,
+                (
+                  refl,
+                  (refl, (refl, (refl, (refl, (refl, (refl, (refl, (refl, (refl, (refl, (refl, (refl, tt)))))))))))),
+                ),
+              ),
+            ),
+          ),
+        ),
+      ),
+    ),
+  ),
+)
+
+pub spare-examples : All Holds spare-rows
+unfolding
+    keep front any alignUp layoutEnd largestAlign barPieces windowPieces ownPieces pieces place placed bridges oversFrom over lastBelow
+    busNumber subordinateOf numberedFrom ranges outOfPool refusalOf extend busLaid
+spare-examples = (refl, (refl, (refl, (refl, (refl, (refl, (refl, tt)))))))
 
 -- P10's functions are lawful. A function below a bridge that a later sibling closed is not in depth-first order
 pub p10-lawful : Lawful p10-functions

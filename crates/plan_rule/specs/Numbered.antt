@@ -13,7 +13,7 @@ use borrow.Author.Tests.{eqb-true, eq-eqb, leb-true, leb-false}
 use Rattle.plan_rule.specs.Order.{le-or-lt, eq-or-ne, true-or-false}
 use Rattle.lists.specs.Lists.{All, Some, Pairwise, front}
 use Rattle.lists.specs.ListLaws.{all-imp, all-imp₂, all-and, drop-suc}
-use Rattle.lists.specs.KeepLaws.{front-yes, front-no}
+use Rattle.lists.specs.KeepLaws.{front-yes, front-no, take-front}
 use Rattle.plan_rule.specs.Records.{Function, DepthFirst, parentsAfter, onlyHost, Lawful, run}
 use Rattle.plan_rule.specs.Preorder.{noFunction, parentOf}
 use Rattle.plan_rule.specs.Pieces.{pieces}
@@ -23,7 +23,7 @@ use Rattle.plan_rule.specs.Sizing.{laidFrom, busLaid}
 use Rattle.plan_rule.specs.Numbering.{weight, ownSpare, bridges, over, busNumber, lastBelow, subordinateOf, Numbered, rowOf}
 use Rattle.plan_rule.specs.Numbering.{numberedFrom, numbered}
 use Rattle.plan_rule.specs.NumberingLaws.{bridges-take-suc, bridges-split, bridges-take-mono, weight-own, weight-bridge, over-host}
-use Rattle.plan_rule.specs.NumberingLaws.{bridges-take-add, take-front, over-record}
+use Rattle.plan_rule.specs.NumberingLaws.{bridges-take-add, over-record}
 
 -- A bridge's numbers, none above `most`
 pub record Range (most : ℕ) (x : Numbered) : Type 0 where

@@ -1,5 +1,6 @@
--- Bus numbers. The root bus is the first bus; bridges take the next numbers in record order as secondary; subordinate is the greatest
--- number at or below the bridge. Assumes nothing.
+-- Bus numbers. Document 01: the root bus is the first bus; bridges take the next numbers in record order as secondary; subordinate is the
+-- greatest number at or below the bridge. Document 02, E10: a bridge's spare buses come right after all buses below it, inside its
+-- subordinate. Assumes nothing.
 use mathlib.Core.Bool.{Bool, cond}
 use mathlib.Core.List.{List, [], _∷_, _++_}
 use Prim.Native.Nat.{ℕ, suc, _+_, _-_}
@@ -7,7 +8,7 @@ use lib.ListN.{length, getD, take, drop}
 use Rattle.plan_rule.specs.Records.{Function, run}
 use Rattle.plan_rule.specs.Preorder.{parentOf}
 
--- A bridge takes one bus number and, after all below it, its spares. `bridges` is how many numbers a list of records takes
+-- A bridge takes one bus number and, after all below it, its spares; `bridges` is how many numbers a list of records takes
 abbrev pub weight : Function → ℕ
 weight f = cond (f .bridge) (suc (f .spareBuses)) 0
 

@@ -6,7 +6,6 @@ use Prim.Native.Nat.{ℕ, zero, suc, _+_, _≤_, _<_}
 use native.Mathlib.Omega.{arith}
 use lib.ListN.{length, getD, take, drop, length-append}
 use Rattle.plan_rule.specs.Records.{Function}
-use Rattle.lists.specs.Lists.{front}
 use Rattle.plan_rule.specs.Numbering.{weight, ownSpare, bridges, bridgeCount, spareCount, oversFrom, over}
 
 pub bridges-take-suc : (i : ℕ) (l : List Function) (f : Function) (fs : List Function) → drop i l ≡ f ∷ fs
@@ -53,16 +52,6 @@ bridges-take-add (suc a) m [] = let e : suc a + m ≡ suc (a + m) = omega arith 
 bridges-take-add (suc a) m (g ∷ l) =
     let e : suc a + m ≡ suc (a + m) = omega arith in
     rw e (omega (arith, bridges-take-add a m l))
-
-pub take-front : (p : Function → Bool) (l : List Function) → take (length (front p l)) l ≡ front p l
-unfolding front
-take-front p [] = refl
-take-front p (g ∷ l) = go (p g) (take-front p l)
-  where
-    go : (t : Bool) → take (length (front p l)) l ≡ front p l
-        → take (length (cond t (g ∷ front p l) [])) (g ∷ l) ≡ cond t (g ∷ front p l) []
-    go true e = ap (λ (m : List Function). g ∷ m) e
-    go false e = refl
 
 pub weight-own : (f : Function) → ownSpare f ≤ weight f
 weight-own f = go (f .bridge)

@@ -1,15 +1,12 @@
+-- `board_record::bridge_length` meets its contract. Assumes nothing.
 use Rattle.board_record.proofs.bridge_length.Statement.{statement}
 use Rattle.board_record.proofs.bridge_length.Tie as tie
-use Rattle.board_record.proofs.bridge_length.Reads as reads
-use Rattle.board_record.proofs.bridge_length.Lts as lts
 use mathlib.Core.Path.{sym}
 use borrow.Author.Tests.{eq-eqb, ne-eqb}
 
--- src/lib.rt:246:1
 returns : tie.Need-returns
 returns c = simp (eq-eqb _ _ (c .if1 .taken))
 
--- src/lib.rt:246:1
 returns-2 : tie.Need-returns-2
 returns-2 c = simp (ne-eqb _ _ (c .if1 .left))
 

@@ -1,48 +1,35 @@
+-- `board_record::function_of` meets its contract: a record that passed check 24 has 14 bytes at least. Assumes nothing.
 use borrow.Author.Needs.{needs}
 use Rattle.board_record.proofs.function_of.Statement.{statement}
 use Rattle.board_record.proofs.function_of.Tie as tie
-use Rattle.board_record.proofs.function_of.Reads as reads
-use Rattle.board_record.proofs.function_of.Lts as lts
-use Rattle.board_record.proofs.readbacks_of.Reads as readbacks-of-reads
-use Rattle.board_record.proofs.spares_of.Reads as spares-of-reads
-use Rattle.endian.proofs.read_be16.Reads as read-be16-reads
 use native.Mathlib.Omega.{arith}
 use Rattle.board_record.specs.FunctionLaws.{le-length}
 use Rattle.board_record.specs.Function.{functionOfPart}
 
--- src/lib.rt:123:9
 readbacks-of-requires : tie.Need-readbacks-of-requires
 readbacks-of-requires c κs = search needs
 
--- src/lib.rt:125:17
 read-be16-requires : tie.Need-read-be16-requires
 read-be16-requires c κs = omega (arith, le-length _ (c .before .before .pre))
 
--- src/lib.rt:125:17
 cast-t4 : tie.Need-cast-t4
 cast-t4 c = search needs
 
--- src/lib.rt:126:16
 shared-slice-read-t6 : tie.Need-shared-slice-read-t6
 shared-slice-read-t6 c = omega (arith, le-length _ (c .before .before .before .before .pre))
 
--- src/lib.rt:127:17
 shared-slice-read-t8 : tie.Need-shared-slice-read-t8
 shared-slice-read-t8 c = omega (arith, le-length _ (c .before .before .before .before .before .pre))
 
--- src/lib.rt:128:18
 read-be16-requires-2 : tie.Need-read-be16-requires-2
 read-be16-requires-2 c κs = omega (arith, le-length _ (c .before .before .before .before .before .pre))
 
--- src/lib.rt:128:18
 cast-t10 : tie.Need-cast-t10
 cast-t10 c = search needs
 
--- src/lib.rt:130:17
 spares-of-requires : tie.Need-spares-of-requires
 spares-of-requires c κs = search needs
 
--- src/lib.rt:119:1
 returns : tie.Need-returns
 unfolding functionOfPart
 returns c = cc
