@@ -1,6 +1,6 @@
-//! Document 01, with requests E1, E2, E4, E5, E6, E8, E11 and E14 of document 02, in plain, safe Rust: the header codec, the
-//! board planner, the packet router, from the host and from card to card, the trace annotator, the audit of a sheet, the
-//! index and the write script.
+//! Document 01, with requests E1 to E12 and E14 of document 02, in plain, safe Rust: the header codec, the board planner, the
+//! packet router, from the host and from card to card, the trace annotator, the audit of a sheet, the index, the ledger of
+//! open requests and the write script.
 //!
 //! Written from the documents and the readings of their open points in docs/DECISIONS.md, not from the proved code. The
 //! proved library is compared with it, and the stored answers of the test programs come from it. Every refusal is the

@@ -130,6 +130,21 @@ fn spares_alone() {
     assert_eq!(windows(&board), [CLOSED; 4]);
 }
 
+/// P10 with spares at its bridge, and a second bridge that has nothing else.
+#[test]
+fn p10() {
+    let mut board = inputs::board::p10().without_spares();
+    board.functions[0].spares = Some(Spares { buses: 2, memory: 3 });
+    board.spare_bridge(0, 0x08, 1, 1);
+    assert_eq!(
+        plain::listing(&plan(&board).unwrap()),
+        "plan 3\n\
+         0000 bridge 00000000 00000000 00 01 03 40 40 F900 F930 4001 43F1 00000002 00000002\n\
+         0100 end F9000000 4000000C 00000002 00004001 00000000 00000000\n\
+         0008 bridge 00000000 00000000 00 04 05 F0 00 F940 F940 FFF1 0001 00000000 00000000\n"
+    );
+}
+
 /// High and I/O windows have no spares.
 #[test]
 fn other_pools() {

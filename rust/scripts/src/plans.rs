@@ -121,6 +121,11 @@ fn spares() -> Vec<Run> {
         let last = (0..32).fold(0, |above, _| board.spare_bridge(above, 0x00, 1, 1));
         board.end(last, 0x00, &[memory(12)]);
     });
+    // P10's board, and a second bridge with nothing below.
+    let p10_and_slot = of(p10().without_spares(), |board| {
+        board.functions[0].spares = Some(Spares { buses: 2, memory: 3 });
+        board.spare_bridge(0, 0x08, 1, 1);
+    });
     let most = of(Board::version_2(), |board| {
         (0..512u16).for_each(|at| _ = board.add(if at < 256 { 0 } else { 256 }, at as u8, 0x81, &[]));
         board.functions.iter_mut().for_each(|bridge| bridge.spares = Some(Spares { buses: 255, memory: 65_535 }));
@@ -128,6 +133,7 @@ fn spares() -> Vec<Run> {
     vec![
         ("p10-version-2", p10().without_spares().bytes()),
         ("tree-001-version-2", document_001().without_spares().bytes()),
+        ("p10-spares", p10_and_slot),
         ("spares", tree((2, 3), (3, 2)).bytes()),
         ("spares-none", tree((0, 0), (0, 0)).bytes()),
         ("spares-alone", alone),
