@@ -14,7 +14,7 @@ use Rattle.records.specs.Limits.{mostFunctions}
 use Rattle.sheet.specs.Sheet.{sheetNumber}
 use Rattle.sheet.specs.SheetLaws.{checked-of-zero}
 use Rattle.route_cards.specs.Sending.{sendingOf}
-use Rattle.route_cards.specs.RequestLaws.{header-first, sheet-next, no-end-45}
+use Rattle.route_cards.specs.RequestLaws.{header-first, sheet-next, no-start-45}
 
 pub past-records : (number : ℕ) (header s : List ℕ) → mostFunctions < number → sendingOf 0 header s ≡ sendingOf number header s
 past-records number header s past = by-reading (readOf header) refl
@@ -23,9 +23,9 @@ past-records number header s past = by-reading (readOf header) refl
         → sendingOf 0 header s ≡ sendingOf number header s
     by-sheet p read true e =
         let passes : sheetNumber s ≡ 0 = eqb-true _ _ e in
-        no-end-45 0 header s p read passes (λ end. omega (arith, end .is-record .from-1))
-        ∙ sym (no-end-45 number header s p read passes
-        (λ end. omega (arith, past, end .is-record .in-sheet, checked-of-zero s passes .count)))
+        no-start-45 0 header s p read passes (λ type-0. omega (arith, type-0 .is-record .from-1))
+        ∙ sym (no-start-45 number header s p read passes
+        (λ type-0. omega (arith, past, type-0 .is-record .in-sheet, checked-of-zero s passes .count)))
     by-sheet p read false e =
         let fails : ¬ (sheetNumber s ≡ 0) = eqb-false _ _ e in
         sheet-next 0 header s p read fails ∙ sym (sheet-next number header s p read fails)

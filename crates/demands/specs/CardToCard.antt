@@ -30,7 +30,7 @@ use Rattle.route.specs.Route.{root}
 use Rattle.route_cards.specs.declared.Arrival.{Arrival}
 use Rattle.route_cards.specs.declared.Sending.the-variants.{Delivered, Host, Refused}
 use Rattle.route_cards.specs.Sending.{numberOf as sendingNumber, masterOf, sendingOf}
-use Rattle.route_cards.specs.Search.{functionAt, IsEnd}
+use Rattle.route_cards.specs.Search.{functionAt, IsType0}
 use Rattle.demands.specs.Demand3 as planned
 use Rattle.demands.specs.Audit as audited
 
@@ -46,7 +46,7 @@ IsCardRequest (Message k h routing code tail) sp address = ⊥
 
 -- "memory and I/O requests that start at a type 0 function, named by record": record k of the sheet, from 1, is one
 abbrev pub MayStart : List ℕ → ℕ → Packet → Type 0
-MayStart t k p = IsEnd t k × ((sp : Space) × (address : ℕ) × IsCardRequest p sp address)
+MayStart t k p = IsType0 t k × ((sp : Space) × (address : ℕ) × IsCardRequest p sp address)
 
 -- ## Who holds the address, who is enabled and bus master, and who stands above whom
 
@@ -121,9 +121,9 @@ pub record CardToCard : Type 0 where
       → (t : List ℕ) → SameButCommands (take n (sheetAfter b room)) t
       → (header : List ℕ) (p : Packet) → readOf header ≡ Read p
       → (sp : Space) (address : ℕ) → IsCardRequest p sp address
-      → (k : ℕ) → IsEnd t k → CardRouted (plannedBoard b t sp address) 64 t header p sp address k
+      → (k : ℕ) → IsType0 t k → CardRouted (plannedBoard b t sp address) 64 t header p sp address k
   -- and the same of any sheet that the audit accepts, where a way up and a way down have at most 255 bridges each
   pub accepted-routed : (host s : List ℕ) → Bytes s → Accepted host s
       → (header : List ℕ) (p : Packet) → readOf header ≡ Read p
       → (sp : Space) (address : ℕ) → IsCardRequest p sp address
-      → (k : ℕ) → IsEnd s k → CardRouted (acceptedBoard host s sp address) 510 s header p sp address k
+      → (k : ℕ) → IsType0 s k → CardRouted (acceptedBoard host s sp address) 510 s header p sp address k

@@ -54,9 +54,9 @@ use Rattle.route_cards.specs.declared.Arrival.{Arrival}
 use Rattle.route_cards.specs.declared.Sending.the-variants.{Delivered, Host, Refused}
 use Rattle.route_cards.specs.declared.start.Request.the-variants.{At, Other}
 use Rattle.route_cards.specs.Sending.{numberOf as sendingNumber, requestOf, masterOf, answer, sendingOf}
-use Rattle.route_cards.specs.Search.{functionAt, IsEnd}
-use Rattle.route_cards.specs.RecordLaws.{function-mem, end-bridge}
-use Rattle.route_cards.specs.RequestLaws.{header-first, sheet-next, other-45, no-end-45, request-sent}
+use Rattle.route_cards.specs.Search.{functionAt, IsType0}
+use Rattle.route_cards.specs.RecordLaws.{function-mem, type-0-no-bridge}
+use Rattle.route_cards.specs.RequestLaws.{header-first, sheet-next, other-45, no-start-45, request-sent}
 use Rattle.demands.specs.Demand3 as planned
 use Rattle.demands.specs.Audit as audited
 use Rattle.demands.specs.AuditLaws.{above-agree as audited-above}
@@ -86,7 +86,7 @@ others-45 k header t p read passes never = go (asked p)
   where
     go : ((sp : Space) × (address : ℕ) × IsCardRequest p sp address) ⊎ (requestOf p ≡ Other) → sendingOf k header t ≡ Refused 45
     go (inr other) = other-45 k header t p read passes other
-    go (inl (sp, address, is)) = no-end-45 k header t p read passes (λ end. never (end, (sp, address, is)))
+    go (inl (sp, address, is)) = no-start-45 k header t p read passes (λ type-0. never (type-0, (sp, address, is)))
 
 -- ## From what a request comes to, what is answered
 
@@ -191,7 +191,7 @@ module _ (b : Board) (depth most : ℕ) (t header : List ℕ) (p : Packet) (k : 
 -- ## Over good registers of a sheet
 
 module _ (t header : List ℕ) (p : Packet) (read : readOf header ≡ Read p) (passes : sheetNumber t ≡ 0) (sp : Space) (address : ℕ)
-    (is : IsCardRequest p sp address) (k : ℕ) (end : IsEnd t k) (host : WalkHost) (sound : Sound host (registersOf sp t))
+    (is : IsCardRequest p sp address) (k : ℕ) (type-0 : IsType0 t k) (host : WalkHost) (sound : Sound host (registersOf sp t))
     (HasBar : ℕ → Type 0) (aboveOf : ℕ → List ℕ) (tells : Tells host (registersOf sp t) address HasBar aboveOf) (depth most : ℕ)
     (few : (f : Registers) → f ∈ registersOf sp t → length (aboveOf (f .node .number)) ≤ depth) (twice : depth + depth ≤ most) where
   abbrev fs : List Registers
@@ -201,7 +201,7 @@ module _ (t header : List ℕ) (p : Packet) (read : readOf header ≡ Read p) (p
   start = functionAt sp t k
 
   start-mem : functionAt sp t k ∈ registersOf sp t
-  start-mem = function-mem t (checked-of-zero t passes) sp k (end .is-record)
+  start-mem = function-mem t (checked-of-zero t passes) sp k (type-0 .is-record)
 
   -- the root bus is the host's first
   root-first : root t ≡ host .first
@@ -218,17 +218,17 @@ module _ (t header : List ℕ) (p : Packet) (read : readOf header ≡ Read p) (p
   routed-over =
       card-routed (boardOver host fs (enabledOf sp t) (masterOf t) address HasBar aboveOf) depth most t header p k
       (sendFrom (enabledOf sp t) (masterOf t) fs address (host .first) (functionAt sp t k))
-      (request-sent k header t p read passes sp address (request-of p sp address is) end
+      (request-sent k header t p read passes sp address (request-of p sp address is) type-0
       ∙ ap (λ (bus : ℕ). answer p (sendFrom (enabledOf sp t) (masterOf t) fs address bus (functionAt sp t k))) root-first)
       (answers sound (numbered-functions sp 1 (entriesOf t)) (enabledOf sp t) (masterOf t) address HasBar aboveOf tells (functionAt sp t k)
-      start-mem (end-bridge t sp k end))
+      start-mem (type-0-no-bridge t sp k type-0))
       sp address
       (λ j sends ups downs. subst (λ (bus : ℕ). CardTrail (tallyFor (Address sp address) t) (upFrom (masterOf t) fs address bus)
       (functionAt sp t k .node .bus) ups downs j
       ↔ ((ups ≡ crossedUp (boardOver host fs (enabledOf sp t) (masterOf t) address HasBar aboveOf) k j)
       × (downs ≡ reverse (crossedDown (boardOver host fs (enabledOf sp t) (masterOf t) address HasBar aboveOf) k j)))) (sym root-first)
       (crosses-iff sound (numbered-functions sp 1 (entriesOf t)) (enabledOf sp t) (masterOf t) address HasBar aboveOf tells
-      (functionAt sp t k) start-mem (end-bridge t sp k end) j sends ups downs))
+      (functionAt sp t k) start-mem (type-0-no-bridge t sp k type-0) j sends ups downs))
       (few (functionAt sp t k) start-mem)
       (λ j s. let (f, m, is-j, held) = tells .of-bar j (s .bar-holds) in rw is-j at (few f m)) twice
 
@@ -293,9 +293,9 @@ module _ (b room : List ℕ) (n : ℕ) (bytes : Bytes b) (answered : planning b 
           (subst (λ (rs : List Registers). f ∈ rs) (sheet .registers-are sp) m)
 
   planned-routed : (header : List ℕ) (p : Packet) → readOf header ≡ Read p → IsCardRequest p sp address
-      → (k : ℕ) → IsEnd t k → CardRouted (plannedBoard b t sp address) 64 t header p sp address k
-  planned-routed header p read is k end =
-      routed-over t header p read (sheet .passes) sp address is k end (planHost sp (planned.host b)) sound (planned.HasBarOver b sp address)
+      → (k : ℕ) → IsType0 t k → CardRouted (plannedBoard b t sp address) 64 t header p sp address k
+  planned-routed header p read is k type-0 =
+      routed-over t header p read (sheet .passes) sp address is k type-0 (planHost sp (planned.host b)) sound (planned.HasBarOver b sp address)
       (planned.bridgesAbove b) tells mostAbove 64 (λ f m. sheet .not-too-deep (f .node .number)) (omega arith)
 
 -- ## An accepted sheet
@@ -326,9 +326,9 @@ module _ (host s : List ℕ) (bytes : Bytes s) (a : Accepted host s) (sp : Space
       )
 
   accepted-routed : (header : List ℕ) (p : Packet) → readOf header ≡ Read p → IsCardRequest p sp address
-      → (k : ℕ) → IsEnd s k → CardRouted (acceptedBoard host s sp address) 510 s header p sp address k
-  accepted-routed header p read is k end =
-      routed-over s header p read (a .passes) sp address is k end (hostFor sp (hostOfPart host)) sound-accepted
+      → (k : ℕ) → IsType0 s k → CardRouted (acceptedBoard host s sp address) 510 s header p sp address k
+  accepted-routed header p read is k type-0 =
+      routed-over s header p read (a .passes) sp address is k type-0 (hostFor sp (hostOfPart host)) sound-accepted
       (audited.HasBarOver s sp address) (audited.bridgesAbove host s) tells-accepted 255 510 few-accepted (omega arith)
 
 pub card-to-card : CardToCard
@@ -337,8 +337,8 @@ card-to-card =
       header-first = header-first;
       sheet-next = sheet-next;
       others-45 = others-45;
-      planned-routed = λ b room n bytes answered t same header p read sp address is k end.
-          planned-routed b room n bytes answered t same sp address header p read is k end;
-      accepted-routed = λ host s bytes a header p read sp address is k end.
-          accepted-routed host s bytes a sp address header p read is k end;
+      planned-routed = λ b room n bytes answered t same header p read sp address is k type-0.
+          planned-routed b room n bytes answered t same sp address header p read is k type-0;
+      accepted-routed = λ host s bytes a header p read sp address is k type-0.
+          accepted-routed host s bytes a sp address header p read is k type-0;
     }

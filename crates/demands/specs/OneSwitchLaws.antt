@@ -48,9 +48,9 @@ use Rattle.route_cards.specs.declared.start.Request.{Request}
 use Rattle.route_cards.specs.declared.start.Request.the-variants.{At, Other}
 use Rattle.route_cards.specs.Sending.{requestOf, masters, masterOf, sendingOf}
 use Rattle.route_cards.specs.Sending as sending
-use Rattle.route_cards.specs.Search.{functionAt, IsEnd}
-use Rattle.route_cards.specs.RecordLaws.{function-mem, function-elim, end-bridge, start-of-end}
-use Rattle.route_cards.specs.RequestLaws.{end-or-nowhere}
+use Rattle.route_cards.specs.Search.{functionAt, IsType0}
+use Rattle.route_cards.specs.RecordLaws.{function-mem, function-elim, type-0-no-bridge, start-of-type-0}
+use Rattle.route_cards.specs.RequestLaws.{type-0-or-nowhere}
 use Rattle.trace.specs.Annotated.{numberAfter}
 use Rattle.trace_line.specs.Line.{labelOf, labelWith, lineWith, lineOver}
 use Rattle.index_search.specs.Search.{searchOf}
@@ -280,45 +280,45 @@ module _ (k : ℕ) (s t : List ℕ) (d : DifferAt k s t) where
 
   -- ## From a card
 
-  function-is : (sp : Space) (j : ℕ) → IsEnd s j → startAt (registersOf sp t) j ≡ starts (functionAt sp s j)
-  function-is sp j end = ap (λ (fs : List Registers). startAt fs j) (registers-are sp) ∙ start-of-end s checked sp j end
+  function-is : (sp : Space) (j : ℕ) → IsType0 s j → startAt (registersOf sp t) j ≡ starts (functionAt sp s j)
+  function-is sp j type-0 = ap (λ (fs : List Registers). startAt fs j) (registers-are sp) ∙ start-of-type-0 s checked sp j type-0
 
   -- the function of record j is one on both
-  function-same : (sp : Space) (j : ℕ) → IsEnd s j → functionAt sp t j ≡ functionAt sp s j
-  function-same sp j end = go (end-or-nowhere t (checked-of-zero t passes) j)
+  function-same : (sp : Space) (j : ℕ) → IsType0 s j → functionAt sp t j ≡ functionAt sp s j
+  function-same sp j type-0 = go (type-0-or-nowhere t (checked-of-zero t passes) j)
     where
-      go : IsEnd t j ⊎ ((sp : Space) → startAt (registersOf sp t) j ≡ nowhere) → functionAt sp t j ≡ functionAt sp s j
+      go : IsType0 t j ⊎ ((sp : Space) → startAt (registersOf sp t) j ≡ nowhere) → functionAt sp t j ≡ functionAt sp s j
       go (inl there) =
           let x : starts (functionAt sp t j) ≡ starts (functionAt sp s j) =
-          sym (start-of-end t (checked-of-zero t passes) sp j there) ∙ function-is sp j end in
+          sym (start-of-type-0 t (checked-of-zero t passes) sp j there) ∙ function-is sp j type-0 in
           cc
       go (inr none-there) =
-          let x : nowhere ≡ starts (functionAt sp s j) = sym (none-there sp) ∙ function-is sp j end in absurd (suc-ne-zero 0 (cc))
+          let x : nowhere ≡ starts (functionAt sp s j) = sym (none-there sp) ∙ function-is sp j type-0 in absurd (suc-ne-zero 0 (cc))
 
   sent-agree : (p : Packet) (sp : Space) (address j : ℕ) → CardStaysClear k s t sp address j
       → sending.sendRequest p t sp address (startAt (registersOf sp t) j)
       ≡ sending.sendRequest p s sp address (startAt (registersOf sp s) j)
-  sent-agree p sp address j clear = go (end-or-nowhere s checked j)
+  sent-agree p sp address j clear = go (type-0-or-nowhere s checked j)
     where
-      go : IsEnd s j ⊎ ((sp : Space) → startAt (registersOf sp s) j ≡ nowhere)
+      go : IsType0 s j ⊎ ((sp : Space) → startAt (registersOf sp s) j ≡ nowhere)
           → sending.sendRequest p t sp address (startAt (registersOf sp t) j)
           ≡ sending.sendRequest p s sp address (startAt (registersOf sp s) j)
       go (inr none-there) =
           ap (sending.sendRequest p t sp address) (ap (λ (fs : List Registers). startAt fs j) (registers-are sp) ∙ none-there sp)
           ∙ sym (ap (sending.sendRequest p s sp address) (none-there sp))
-      go (inl end) =
+      go (inl type-0) =
           let f = functionAt sp s j in
           let up-t′ : ¬ (k ∈ goneUp (enabledOf sp t) (masterOf t) (registersOf sp s) address (root s) f) = λ m.
-          clear .goes-beside-too (rw (function-same sp j end, registers-are sp, nodes-are) m) in
-          ap (sending.sendRequest p t sp address) (function-is sp j end)
+          clear .goes-beside-too (rw (function-same sp j type-0, registers-are sp, nodes-are) m) in
+          ap (sending.sendRequest p t sp address) (function-is sp j type-0)
           ∙ ap (λ (fs : List Registers). sending.answer p (sendFrom (enabledOf sp t) (masterOf t) fs address (root t) f)) (registers-are sp)
           ∙ ap (λ (ns : List Node). sending.answer p (sendFrom (enabledOf sp t) (masterOf t) (registersOf sp s) address (rootOf ns) f))
           nodes-are
           ∙ ap (sending.answer p)
           (send-agree (enabledOf sp t) (enabledOf sp s) (masterOf t) (masterOf s) (registersOf sp s) address (root s) k
           (numbered-functions sp 1 (entriesOf s)) (enabled-agree sp) (bits-agree masters refl sp) (clear-of sp address (clear .lies-elsewhere)) f
-          (function-mem s checked sp j (end .is-record)) (end-bridge s sp j end) (clear .starts-elsewhere) up-t′ (clear .goes-beside))
-          ∙ sym (ap (sending.sendRequest p s sp address) (start-of-end s checked sp j end))
+          (function-mem s checked sp j (type-0 .is-record)) (type-0-no-bridge s sp j type-0) (clear .starts-elsewhere) up-t′ (clear .goes-beside))
+          ∙ sym (ap (sending.sendRequest p s sp address) (start-of-type-0 s checked sp j type-0))
 
   cards-agree : (j : ℕ) (header : List ℕ)
       → ((p : Packet) (sp : Space) (address : ℕ) → readOf header ≡ Read p → IsCardRequest p sp address → CardStaysClear k s t sp address j)

@@ -30,7 +30,7 @@ use Rattle.sheet.specs.IndexLaws.{command-index}
 use Rattle.sheet.specs.SheetLaws.{Checked, numbered-functions, lawful-index}
 use Rattle.route.specs.Route.{root}
 use Rattle.route_cards.specs.Sending.{masters, masterOf}
-use Rattle.route_cards.specs.Search.{partOf, functionAt, IsRecord, IsEnd, EndTold, startAnswer}
+use Rattle.route_cards.specs.Search.{partOf, functionAt, IsRecord, IsType0, Type0Told, startAnswer}
 
 -- ## The walk's functions are those of the records
 
@@ -96,17 +96,17 @@ module _ (s : List ℕ) (c : Checked s) (space : Space) where
       start-is (registersOf space s) (numbered-functions space 1 (entriesOf s)) (functionAt space s number) (function-mem number r)
       ∙ rw e
 
-  pub start-of-end : (number : ℕ) → IsEnd s number → startAt (registersOf space s) number ≡ startAnswer space s number
-  start-of-end number end = start-here number (end .is-record) false (end .no-bridge)
+  pub start-of-type-0 : (number : ℕ) → IsType0 s number → startAt (registersOf space s) number ≡ startAnswer space s number
+  start-of-type-0 number type-0 = start-here number (type-0 .is-record) false (type-0 .no-bridge)
 
-pub end-bridge : (s : List ℕ) (space : Space) (number : ℕ) → IsEnd s number → functionAt space s number .node .bridge ≡ false
+pub type-0-no-bridge : (s : List ℕ) (space : Space) (number : ℕ) → IsType0 s number → functionAt space s number .node .bridge ≡ false
 unfolding entryOf
-end-bridge s space number end = end .no-bridge
+type-0-no-bridge s space number type-0 = type-0 .no-bridge
 
--- ## What the test for an end function tells, in the words of the code
+-- ## What the test for a type 0 function tells, in the words of the code
 
 module _ (s : List ℕ) (c : Checked s) (number : ℕ) where
-  pub told-0 : number ≡ 0 → EndTold s number false
+  pub told-0 : number ≡ 0 → Type0Told s number false
   told-0 e =
       record {
         yes = λ y. absurd (false≢true y);
@@ -114,7 +114,7 @@ module _ (s : List ℕ) (c : Checked s) (number : ℕ) where
       }
 
   module _ (count : ℕ) (counted : count ≡ length (entriesOf s)) where
-    pub told-past : count < number → EndTold s number false
+    pub told-past : count < number → Type0Told s number false
     told-past h =
         record {
           yes = λ y. absurd (false≢true y);
@@ -147,7 +147,7 @@ module _ (s : List ℕ) (c : Checked s) (number : ℕ) where
       lawful = rw e (lawful-index s c (number - 1) inside)
 
       -- b the test for a bridge
-      pub told : (b : Bool) → b ≡ isBridge (headerOf p) → EndTold s number (not b)
+      pub told : (b : Bool) → b ≡ isBridge (headerOf p) → Type0Told s number (not b)
       told b t =
           record {
             yes = λ y. record { is-record = r; no-bridge = ap (λ (q : List ℕ). isBridge (headerOf q)) (sym e) ∙ sym t ∙ not-true b y };

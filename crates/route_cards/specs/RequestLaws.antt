@@ -23,15 +23,15 @@ use Rattle.route_cards.specs.declared.start.Request.{Request}
 use Rattle.route_cards.specs.declared.start.Request.the-variants.{At, Other}
 use Rattle.route_cards.specs.declared.Sending.the-variants.{Refused}
 use Rattle.route_cards.specs.Sending.{requestOf, masterOf, answer, noStart, sendRequest, onRequest, sendPacket, fromSheet, sendingOf}
-use Rattle.route_cards.specs.Search.{partOf, functionAt, IsRecord, IsEnd}
-use Rattle.route_cards.specs.RecordLaws.{start-of-end, told-0, told-past, told}
+use Rattle.route_cards.specs.Search.{partOf, functionAt, IsRecord, IsType0}
+use Rattle.route_cards.specs.RecordLaws.{start-of-type-0, told-0, told-past, told}
 
--- a record is an end function of the sheet, or nothing starts there
-pub end-or-nowhere : (s : List ℕ) → Checked s → (k : ℕ) → IsEnd s k ⊎ ((space : Space) → startAt (registersOf space s) k ≡ nowhere)
-end-or-nowhere s c k = go (eqb k 0) refl (leb k (length (entriesOf s))) refl (isBridge (headerOf (partOf s k))) refl
+-- a record is a type 0 function of the sheet, or nothing starts there
+pub type-0-or-nowhere : (s : List ℕ) → Checked s → (k : ℕ) → IsType0 s k ⊎ ((space : Space) → startAt (registersOf space s) k ≡ nowhere)
+type-0-or-nowhere s c k = go (eqb k 0) refl (leb k (length (entriesOf s))) refl (isBridge (headerOf (partOf s k))) refl
   where
     go : (z : Bool) → eqb k 0 ≡ z → (l : Bool) → leb k (length (entriesOf s)) ≡ l → (b : Bool) → isBridge (headerOf (partOf s k)) ≡ b
-        → IsEnd s k ⊎ ((space : Space) → startAt (registersOf space s) k ≡ nowhere)
+        → IsType0 s k ⊎ ((space : Space) → startAt (registersOf space s) k ≡ nowhere)
     go true e l f b g = inr (told-0 s c k (eqb-true k 0 e) .no refl)
     go false e false f b g = inr (told-past s c k (length (entriesOf s)) refl (leb-false k (length (entriesOf s)) f) .no refl)
     go false e true f b g =
@@ -40,7 +40,7 @@ end-or-nowhere s c k = go (eqb k 0) refl (leb k (length (entriesOf s))) refl (is
         by-type here b g
       where
         by-type : IsRecord s k → (b : Bool) → isBridge (headerOf (partOf s k)) ≡ b
-            → IsEnd s k ⊎ ((space : Space) → startAt (registersOf space s) k ≡ nowhere)
+            → IsType0 s k ⊎ ((space : Space) → startAt (registersOf space s) k ≡ nowhere)
         by-type here false g = inl (record { is-record = here; no-bridge = g })
         by-type here true g = inr (told s c k here (partOf s k) refl true (sym g) .no refl)
 
@@ -62,22 +62,22 @@ module _ (k : ℕ) (header s : List ℕ) where
       pub other-45 : requestOf p ≡ Other → sendingOf k header s ≡ Refused noStart
       other-45 e = packet-next ∙ ap (onRequest k p s) e
 
-      pub no-end-45 : ¬ IsEnd s k → sendingOf k header s ≡ Refused noStart
-      no-end-45 h = packet-next ∙ by-request (requestOf p)
+      pub no-start-45 : ¬ IsType0 s k → sendingOf k header s ≡ Refused noStart
+      no-start-45 h = packet-next ∙ by-request (requestOf p)
         where
           by-request : (r : Request) → onRequest k p s r ≡ Refused noStart
           by-request Other = refl
-          by-request (At space address) = go (end-or-nowhere s (checked-of-zero s passes) k)
+          by-request (At space address) = go (type-0-or-nowhere s (checked-of-zero s passes) k)
             where
-              go : IsEnd s k ⊎ ((space : Space) → startAt (registersOf space s) k ≡ nowhere)
+              go : IsType0 s k ⊎ ((space : Space) → startAt (registersOf space s) k ≡ nowhere)
                   → sendRequest p s space address (startAt (registersOf space s) k) ≡ Refused noStart
-              go (inl end) = absurd (h end)
+              go (inl type-0) = absurd (h type-0)
               go (inr none-there) = ap (sendRequest p s space address) (none-there space)
 
       -- from the function on
-      pub request-sent : (space : Space) (address : ℕ) → requestOf p ≡ At space address → IsEnd s k
+      pub request-sent : (space : Space) (address : ℕ) → requestOf p ≡ At space address → IsType0 s k
           → sendingOf k header s
           ≡ answer p (sendFrom (enabledOf space s) (masterOf s) (registersOf space s) address (root s) (functionAt space s k))
-      request-sent space address e end =
+      request-sent space address e type-0 =
           packet-next ∙ ap (onRequest k p s) e
-          ∙ ap (sendRequest p s space address) (start-of-end s (checked-of-zero s passes) space k end)
+          ∙ ap (sendRequest p s space address) (start-of-type-0 s (checked-of-zero s passes) space k type-0)

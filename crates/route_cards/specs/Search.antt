@@ -34,7 +34,7 @@ pub record IsRecord (s : List ℕ) (number : ℕ) : Type 0 where
   pub from-1 : 0 < number
   pub in-sheet : number ≤ length (entriesOf s)
 
-pub record IsEnd (s : List ℕ) (number : ℕ) : Type 0 where
+pub record IsType0 (s : List ℕ) (number : ℕ) : Type 0 where
   pub is-record : IsRecord s number
   pub no-bridge : isBridge (headerOf (partOf s number)) ≡ false
 
@@ -42,9 +42,9 @@ pub record IsBridgeAt (s : List ℕ) (number : ℕ) : Type 0 where
   pub is-record : IsRecord s number
   pub is-bridge : isBridge (headerOf (partOf s number)) ≡ true
 
--- what a test for an end function tells
-pub record EndTold (s : List ℕ) (number : ℕ) (b : Bool) : Type 0 where
-  pub yes : b ≡ true → IsEnd s number
+-- what a test for a type 0 function tells
+pub record Type0Told (s : List ℕ) (number : ℕ) (b : Bool) : Type 0 where
+  pub yes : b ≡ true → IsType0 s number
   pub no : b ≡ false → (space : Space) → startAt (registersOf space s) number ≡ nowhere
 
 abbrev pub startAnswer : Space → List ℕ → ℕ → Start

@@ -1,5 +1,5 @@
 -- Document 02, E11, "Card to card", in its order: the header's number before the sheet is read, the sheet's number, 45 for any other record
--- than an end function of the sheet and any other packet than a memory or I/O request, and then the climb. Assumes nothing.
+-- than a type 0 function of the sheet and any other packet than a memory or I/O request, and then the climb. Assumes nothing.
 use Prim.Native.Nat.{ℕ, _/_, _%_}
 use mathlib.Core.Bool.{Bool, cond}
 use mathlib.Core.List.{List, map}

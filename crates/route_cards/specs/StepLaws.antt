@@ -1,4 +1,4 @@
--- The climb, the request from an end function and the checks before it, one step each in the words of the code. Assumes nothing.
+-- The climb, the request from a type 0 function and the checks before it, one step each in the words of the code. Assumes nothing.
 use mathlib.Core.Path.{_≡_, refl, sym, ap, _∙_}
 use mathlib.Core.Bool.{Bool, true, false}
 use mathlib.Core.List.{List}
@@ -39,8 +39,8 @@ use Rattle.route_cards.specs.declared.Sending.{Sending}
 use Rattle.route_cards.specs.declared.Sending.the-variants.{Delivered, Host, Refused}
 use Rattle.route_cards.specs.Sending.{requestOf, masters, masterOf, answer, sendRequest, climbed, onRequest, sendPacket, fromSheet}
 use Rattle.route_cards.specs.Sending.{fromReading, sendingOf}
-use Rattle.route_cards.specs.Search.{partOf, functionAt, IsEnd, EndTold, startAnswer, anyHolds, upOf, sentOf}
-use Rattle.route_cards.specs.RecordLaws.{function-mem, start-of-end, end-bridge, master-is, bus-is, root-is}
+use Rattle.route_cards.specs.Search.{partOf, functionAt, IsType0, Type0Told, startAnswer, anyHolds, upOf, sentOf}
+use Rattle.route_cards.specs.RecordLaws.{function-mem, start-of-type-0, type-0-no-bridge, master-is, bus-is, root-is}
 
 -- ## Down: document 01's walk, with the bridges crossed before it added
 
@@ -107,10 +107,10 @@ module _ (space : Space) (address : ℕ) (s : List ℕ) (bytes : Bytes s) (c : C
       pub bus-falls : (number own : ℕ) → u ≡ Across number own → own < bus
       bus-falls number own r = falling .falls bus number own (sym f ∙ ap upOf r)
 
--- ## A request from an end function
+-- ## A request from a type 0 function
 
 -- p is the record's part
-module _ (packet : Packet) (s : List ℕ) (c : Checked s) (number : ℕ) (end : IsEnd s number) (space : Space) (address : ℕ) (p : List ℕ)
+module _ (packet : Packet) (s : List ℕ) (c : Checked s) (number : ℕ) (type-0 : IsType0 s number) (space : Space) (address : ℕ) (p : List ℕ)
     (e : p ≡ partOf s number) where
   abbrev sent : Sending
   sent = sendRequest packet s space address (startAnswer space s number)
@@ -118,7 +118,7 @@ module _ (packet : Packet) (s : List ℕ) (c : Checked s) (number : ℕ) (end : 
   -- m the test of its bus master
   module _ (m : Bool) (t : m ≡ masters (commandOf p)) where
     master-here : masterOf s number ≡ m
-    master-here = master-is s c number (end .is-record) p e ∙ sym t
+    master-here = master-is s c number (type-0 .is-record) p e ∙ sym t
 
     pub start-unmastered : m ≡ false → Refused notMaster ≡ sent
     unfolding sendFrom
@@ -143,13 +143,13 @@ module _ (packet : Packet) (s : List ℕ) (c : Checked s) (number : ℕ) (end : 
             rw (
               master-here ∙ y,
               bars-are ∙ o,
-              own ∙ sym (root-is s c number (end .is-record) f first),
+              own ∙ sym (root-is s c number (type-0 .is-record) f first),
               at ∙ sym
-                  (bus-is s c number (end .is-record) p e space),
+                  (bus-is s c number (type-0 .is-record) p e space),
             )
             (ap (answer packet) (sym (from-bus (enabledOf space s) (masterOf s) (registersOf space s) address (root s)
-            (numbered-functions space 1 (entriesOf s)) (functionAt space s number) (function-mem s c space number (end .is-record))
-            (end-bridge s space number end) (bars-are ∙ o))))
+            (numbered-functions space 1 (entriesOf s)) (functionAt space s number) (function-mem s c space number (type-0 .is-record))
+            (type-0-no-bridge s space number type-0) (bars-are ∙ o))))
 
         climbed-as : (x : Climbed) → r ≡ x → answer packet (sentOf x) ≡ sent
         climbed-as x q = ap (λ (z : Climbed). answer packet (sentOf z)) (sym q) ∙ ap (answer packet) done ∙ sent-is
@@ -174,15 +174,15 @@ module _ (packet : Packet) (s : List ℕ) (c : Checked s) (number : ℕ) (r : Re
   pub no-request : r ≡ Other → Refused 45 ≡ sendPacket number packet s
   no-request q = request-as Other q
 
-  -- b tells whether the record is an end function
-  module _ (space : Space) (address : ℕ) (q : r ≡ At space address) (b : Bool) (told : EndTold s number b) where
-    pub no-end : b ≡ false → Refused 45 ≡ sendPacket number packet s
-    no-end n = ap (sendRequest packet s space address) (sym (told .no n space)) ∙ request-as (At space address) q
+  -- b tells whether the record is a type 0 function
+  module _ (space : Space) (address : ℕ) (q : r ≡ At space address) (b : Bool) (told : Type0Told s number b) where
+    pub no-start : b ≡ false → Refused 45 ≡ sendPacket number packet s
+    no-start n = ap (sendRequest packet s space address) (sym (told .no n space)) ∙ request-as (At space address) q
 
-    pub from-end : b ≡ true → (x : Sending) → x ≡ sendRequest packet s space address (startAnswer space s number)
+    pub from-type-0 : b ≡ true → (x : Sending) → x ≡ sendRequest packet s space address (startAnswer space s number)
         → x ≡ sendPacket number packet s
-    from-end y x f =
-        f ∙ ap (sendRequest packet s space address) (sym (start-of-end s c space number (told .yes y))) ∙ request-as (At space address) q
+    from-type-0 y x f =
+        f ∙ ap (sendRequest packet s space address) (sym (start-of-type-0 s c space number (told .yes y))) ∙ request-as (At space address) q
 
 -- ## A header over a sheet
 

@@ -12,7 +12,7 @@ ghost use Rattle.sheet.specs.SheetLaws.{Checked};
 ghost use Rattle.claims.specs.declared.Aim.the-variants.{Address};
 ghost use Rattle.route.specs.Route.{walked};
 ghost use Rattle.route_cards.specs.Sending.{numberOf, sendingOf, sendPacket, sendRequest, climbed};
-ghost use Rattle.route_cards.specs.Search.{sentOf, IsEnd, startAnswer};
+ghost use Rattle.route_cards.specs.Search.{sentOf, IsType0, startAnswer};
 use above::Up;
 use claims::Aim;
 use claims::Claim;
@@ -66,15 +66,15 @@ pub fn route_from(number: u16, header: &[u8], sheet: &[u8]) -> Sending
     send_packet(number, p, sheet)
 }
 
-// A packet over a sheet that is known to pass its checks: 45 for what is no memory or I/O request, and for a record that is no end function
-// of the sheet. For who checks a sheet once and then routes over it many times.
+// A packet over a sheet that is known to pass its checks: 45 for what is no memory or I/O request, and for a record that is no type 0
+// function of the sheet. For who checks a sheet once and then routes over it many times.
 pub fn send_packet(number: u16, p: Packet, sheet: &[u8]) -> Sending
     requires { ⌜ sheetNumber (now sheet) ≡ 0 ⌝ }
     ensures { λ r. ⌜ r ≡ sendPacket number p (now (sheet .entry)) ⌝ }
 {
     match start::request_of(p) {
         Request::At(space, address) => {
-            if !start::is_end(sheet, number) {
+            if !start::is_type_0(sheet, number) {
                 return Sending::Refused(45);
             }
             send_request(number, p, sheet, space, address)
@@ -92,9 +92,9 @@ enum Climbed {
     Stops(u8),
 }
 
-// A request from an end function: 44 without its bus master, 40 for its own BAR, and then from its bus on.
+// A request from a type 0 function: 44 without its bus master, 40 for its own BAR, and then from its bus on.
 fn send_request(number: u16, p: Packet, sheet: &[u8], space: Space, address: u64) -> Sending
-    requires { ⌜ Checked (now sheet) × IsEnd (now sheet) number ⌝ }
+    requires { ⌜ Checked (now sheet) × IsType0 (now sheet) number ⌝ }
     ensures { λ r. ⌜ r ≡ sendRequest p (now (sheet .entry)) space address (startAnswer space (now (sheet .entry)) number) ⌝ }
 {
     let part = sheet::part(sheet, number as usize - 1);

@@ -5,7 +5,7 @@ ghost use Rattle.sheet_record.specs.Places.{recordSize};
 ghost use Rattle.sheet_record.specs.Entry.{commandOf};
 ghost use Rattle.sheet.specs.SheetLaws.{Checked};
 ghost use Rattle.route_cards.specs.Sending.{requestOf, masters};
-ghost use Rattle.route_cards.specs.Search.{EndTold};
+ghost use Rattle.route_cards.specs.Search.{Type0Told};
 use packet::Packet;
 use pools::Space;
 
@@ -28,9 +28,9 @@ pub fn request_of(p: Packet) -> Request
 }
 
 // A record of the sheet, numbered from 1, that is no bridge.
-pub fn is_end(sheet: &[u8], number: u16) -> bool
+pub fn is_type_0(sheet: &[u8], number: u16) -> bool
     requires { ⌜ Checked (now sheet) ⌝ }
-    ensures { λ r. ⌜ EndTold (now (sheet .entry)) number r ⌝ }
+    ensures { λ r. ⌜ Type0Told (now (sheet .entry)) number r ⌝ }
 {
     let record = number as usize;
     if record == 0 {

@@ -1,7 +1,7 @@
--- `route_cards::send_packet`: what is asked for, then whether the record is an end function. Assumes nothing.
+-- `route_cards::send_packet`: what is asked for, then whether the record is a type 0 function. Assumes nothing.
 use borrow.Author.Tests.{not-true, not-false}
 use Rattle.sheet.specs.SheetLaws.{checked-of-zero}
-use Rattle.route_cards.specs.StepLaws.{no-request, no-end, from-end}
+use Rattle.route_cards.specs.StepLaws.{no-request, no-start, from-type-0}
 use borrow.Author.Needs.{needs}
 use Rattle.route_cards.proofs.send_packet.Statement.{statement}
 use Rattle.route_cards.proofs.send_packet.Tie as tie
@@ -12,21 +12,21 @@ request-of-requires c κs = search needs
 enum-known-space : tie.Need-enum-known-space
 enum-known-space c = search needs
 
-is-end-requires : tie.Need-is-end-requires
-is-end-requires c κs = checked-of-zero _ (c .before .before .before .before .before .pre)
+is-type-0-requires : tie.Need-is-type-0-requires
+is-type-0-requires c κs = checked-of-zero _ (c .before .before .before .before .before .pre)
 
 returns : tie.Need-returns
 returns c =
     let asked = c .before .before .before in
     let request = asked .before .before in
     let entry = request .before .before in
-    no-end (entry .args .p) _ (checked-of-zero _ (entry .pre)) _ (request .request-of .result) (request .request-of .ensures) _ _
-    (asked .space .given .1) _ (c .before .is-end .ensures) (not-true _ (c .if1 .taken))
+    no-start (entry .args .p) _ (checked-of-zero _ (entry .pre)) _ (request .request-of .result) (request .request-of .ensures) _ _
+    (asked .space .given .1) _ (c .before .is-type-0 .ensures) (not-true _ (c .if1 .taken))
 
 send-request-requires : tie.Need-send-request-requires
 send-request-requires c κs =
     let entry = c .before .before .before .before .before .before .before in
-    (checked-of-zero _ (entry .pre), c .before .is-end .ensures .yes (not-false _ (c .if1 .left)))
+    (checked-of-zero _ (entry .pre), c .before .is-type-0 .ensures .yes (not-false _ (c .if1 .left)))
 
 enum-told : tie.Need-enum-told
 enum-told c = search needs
@@ -37,8 +37,8 @@ returns-2 c =
     let asked = told .before .before in
     let request = asked .before .before in
     let entry = request .before .before in
-    from-end (entry .args .p) _ (checked-of-zero _ (entry .pre)) _ (request .request-of .result) (request .request-of .ensures) _ _
-    (asked .space .given .1) _ (told .is-end .ensures) (not-false _ (c .before .if1 .left)) _ (c .send-request .ensures)
+    from-type-0 (entry .args .p) _ (checked-of-zero _ (entry .pre)) _ (request .request-of .result) (request .request-of .ensures) _ _
+    (asked .space .given .1) _ (told .is-type-0 .ensures) (not-false _ (c .before .if1 .left)) _ (c .send-request .ensures)
 
 returns-3 : tie.Need-returns-3
 returns-3 c =
@@ -53,7 +53,7 @@ send-packet-spec =
     (tie.spec
     request-of-requires
     enum-known-space
-    is-end-requires
+    is-type-0-requires
     returns
     send-request-requires
     enum-told

@@ -1,9 +1,9 @@
--- `route_cards::start::is_end`: from 1, in the sheet, and no bridge. Assumes nothing.
+-- `route_cards::start::is_type_0`: from 1, in the sheet, and no bridge. Assumes nothing.
 use Rattle.route_cards.specs.Search.{IsRecord}
 use Rattle.route_cards.specs.RecordLaws.{told-0, told-past, record-of, part-fits, sized, told}
 use borrow.Author.Needs.{needs}
-use Rattle.route_cards.proofs.start.is_end.Statement.{statement}
-use Rattle.route_cards.proofs.start.is_end.Tie as tie
+use Rattle.route_cards.proofs.start.is_type_0.Statement.{statement}
+use Rattle.route_cards.proofs.start.is_type_0.Tie as tie
 
 -- the record is there
 here : (c : tie.Else2) → IsRecord (c .before .before .before .before .args .sheet .now) (c .before .before .before .before .args .number)
@@ -32,7 +32,7 @@ returns-3 c =
     told _ (c .before .before .before .before .before .before .pre) _ (here (c .before .before)) _ (c .before .part .ensures) _
     (c .is-bridge .ensures)
 
-pub is-end-spec : {M : Type 1} → statement M
-is-end-spec =
+pub is-type-0-spec : {M : Type 1} → statement M
+is-type-0-spec =
     tie.close
     (tie.spec returns count-requires returns-2 sub-part part-requires is-bridge-requires returns-3)
