@@ -1,9 +1,10 @@
 // The ledger of open requests, document 02's E12: 256 places, a word each, that the caller keeps. A place is free, or holds a non-posted
 // request by its requester ID and tag until completions close it. Any 256 words are a ledger; 256 zeros are an empty one.
 ghost use mathlib.Core.Path.{_≡_};
-ghost use Prim.Native.Nat.{_<_, _≤_};
-ghost use lib.ListN.{length};
+ghost use Prim.Native.Nat.{_+_, _≤_};
+ghost use lib.ListN.{length, drop};
 ghost use Rattle.ledger.specs.Words.{keyOf, wordOf, keyIn, leftIn, isRead, isConfig, isLocked, placeOf, inUse, usedBy, empty};
+ghost use Rattle.ledger.specs.WordsLaws.{isAmongFour};
 ghost use Rattle.ledger.specs.Ledger.{classOf, hasData, inLockedForm, differ, disagrees, onSuccess, settled, onCompletion, onRequest};
 ghost use Rattle.ledger.specs.Ledger.{Inside, openingOf, completingOf, numberOf, wordsAfter};
 ghost use Rattle.ledger.specs.Ledger.{openNumber, openAfter, completeNumber, completeAfter};
@@ -170,7 +171,7 @@ fn settle(place: usize, word: u64, k: CompletionKind, dwords: u64, status: u8) -
     if disagree(word, k, status) {
         return Verdict::Refused(64);
     }
-    if status == 0 {
+    if status == SUCCESS {
         return deliver(place, word, dwords);
     }
     Verdict::Closed(place)
@@ -211,12 +212,17 @@ fn perform(words: &mut [u64], v: Verdict) -> u8
     }
 }
 
+// Completion statuses.
+const SUCCESS: u8 = 0;
+
+const RETRY: u8 = 2;
+
 // 64: retry for a request that is not configuration, or a success whose form is not the request's.
 fn disagree(word: u64, k: CompletionKind, status: u8) -> bool
     ensures { λ r. ⌜ r ≡ disagrees word k status ⌝ }
 {
-    ((status == 2) & !is_config(word))
-        | ((status == 0)
+    ((status == RETRY) & !is_config(word))
+        | ((status == SUCCESS)
             & (differ(has_data(k), is_read(word)) | differ(in_locked_form(k), is_locked(word))))
 }
 
@@ -330,7 +336,40 @@ fn differ(a: bool, b: bool) -> bool
 fn find(words: &[u64], key: u32) -> usize
     ensures { λ r. ⌜ r ≡ placeOf key (now (words .entry)) ⌝ }
 {
+    find_from(words, key, skip(words, key))
+}
+
+// Four places at a time, which is one comparison for all of them: as far as none of four has the key.
+fn skip(words: &[u64], key: u32) -> usize
+    ensures { λ r. ⌜
+        (r ≤ length (now (words .entry)))
+        × (r + placeOf key (drop r (now (words .entry))) ≡ placeOf key (now (words .entry)))
+        ⌝ }
+{
     let mut i: usize = 0;
+    while 4 <= words.len() - i {
+        if is_among_four(words, key, i) {
+            return i;
+        }
+        i += 4;
+    }
+    i
+}
+
+fn is_among_four(words: &[u64], key: u32, i: usize) -> bool
+    requires { ⌜ i + 4 ≤ length (now words) ⌝ }
+    ensures { λ r. ⌜ r ≡ isAmongFour key (now (words .entry)) i ⌝ }
+{
+    (key_in(words[i]) == key)
+        | ((key_in(words[i + 1]) == key)
+            | ((key_in(words[i + 2]) == key) | (key_in(words[i + 3]) == key)))
+}
+
+fn find_from(words: &[u64], key: u32, start: usize) -> usize
+    requires { ⌜ start ≤ length (now words) ⌝ }
+    ensures { λ r. ⌜ r ≡ start + placeOf key (drop start (now (words .entry))) ⌝ }
+{
+    let mut i: usize = start;
     while i < words.len() {
         if key_in(words[i]) == key {
             return i;

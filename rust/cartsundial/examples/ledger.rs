@@ -45,8 +45,8 @@ pub fn report(trace: &[u8]) -> String {
     let mut unanswered: Vec<_> = ledger.requests().map(|open| (openers[&(open.requester, open.tag)], open)).collect();
     unanswered.sort_by_key(|((record, _), _)| *record);
     for ((record, kind), OpenRequest { requester, tag, asked, left }) in unanswered {
-        let _ = write!(lines, "{record} {} not answered", name(kind, requester, tag));
-        lines += &if asked.is_read() { format!(": {left} dwords to come\n") } else { "\n".into() };
+        let missing = if asked.is_read() { format!(", dwords to come: {left}") } else { String::new() };
+        let _ = writeln!(lines, "{record} {} not answered{missing}", name(kind, requester, tag));
     }
     lines
 }

@@ -32,7 +32,7 @@ pub fn compare(random: &mut Random, rounds: u64, tally: &mut Tally) {
         let mut history = History::new(random);
         let mut words = any_words(&history, random);
         for _ in 0..100 + random.below(400) {
-            call(&mut words, &history.next(random), random, tally);
+            let _ = call(&mut words, &history.next(random), random, tally);
         }
         count(&words, random, tally);
     }

@@ -1,7 +1,7 @@
--- `ledger::find` meets its contract. Invariant: the places passed, and the place of the key in the rest, make the place of
--- the key. Measure: places left. Assumes nothing.
-use Rattle.ledger.proofs.find.Statement.{statement}
-use Rattle.ledger.proofs.find.Tie as tie
+-- `ledger::find_from` meets its contract. Invariant: the places passed, and the place of the key in the rest, make that of the start.
+-- Measure: places left. Assumes nothing.
+use Rattle.ledger.proofs.find_from.Statement.{statement}
+use Rattle.ledger.proofs.find_from.Tie as tie
 use Prim.Native.Nat.{_+_, _-_, _≤_}
 use mathlib.Core.Path.{_≡_, sym, _∙_}
 use native.Mathlib.Omega.{arith}
@@ -11,10 +11,10 @@ use Rattle.ledger.specs.Words.{placeOf}
 use Rattle.ledger.specs.WordsLaws.{find-hit, find-miss, find-end}
 
 abbrev Inv-loop : tie.InvT-loop
-Inv-loop words key i₀ i = (i ≤ length words) × (i + placeOf key (drop i words) ≡ placeOf key words)
+Inv-loop words key start i₀ i = (i ≤ length words) × (i + placeOf key (drop i words) ≡ start + placeOf key (drop start words))
 
 abbrev μ-loop : tie.MeasureT-loop
-μ-loop words key i₀ i = length words - i
+μ-loop words key start i₀ i = length words - i
 
 loop-holds : tie.Need-loop-holds Inv-loop μ-loop
 loop-holds c = (omega arith, omega arith)
@@ -51,8 +51,8 @@ loop-again c =
 returns-2 : tie.Need-returns-2 Inv-loop μ-loop
 returns-2 c = find-end _ _ _ (c .before .before .before .args .words .now) (omega arith) (c .before .loop .inv .1)
 
-pub find-spec : {M : Type 1} → statement M
-find-spec =
+pub find-from-spec : {M : Type 1} → statement M
+find-from-spec =
     tie.close
     (tie.spec
     Inv-loop
