@@ -1,5 +1,5 @@
 #!/usr/bin/env bash
-# Runs the examples of the documents. docs/FORMATS.md: a block that is marked plan, headers, routes, trace, audit or label goes in, from #
+# Runs the examples of the documents. docs/FORMATS.md: a block that is marked plan, script, headers, routes, trace, audit or label goes in, from #
 # on without its comments, and the next block must come out. README.md: a block that starts with $ is a command and what it prints. Where
 # something else comes out, the exit status is 1.
 set -euo pipefail
@@ -9,14 +9,14 @@ cd "$(dirname "$0")/.."
 parts=$(mktemp -d)
 trap 'rm -rf "$parts"' EXIT
 
-# Two files for each example, named by the line where it starts: NNNN.plan, .headers, .routes, .trace, .audit or .label, and NNNN.out.
+# Two files for each example, named by the line where it starts: NNNN.plan, .script, .headers, .routes, .trace, .audit or .label, and NNNN.out.
 mkdir "$parts/FORMATS.md" "$parts/README.md"
 awk -v parts="$parts/FORMATS.md" '
     /^```/ {
         inside = !inside
         file = ""
         mark = substr($0, 4)
-        if (inside && mark ~ /^(plan|headers|routes|trace|audit|label)$/) {
+        if (inside && mark ~ /^(plan|script|headers|routes|trace|audit|label)$/) {
             name = sprintf("%s/%04d", parts, NR)
             file = name "." mark
         } else if (inside && name != "") {
@@ -48,6 +48,7 @@ awk -v parts="$parts/README.md" '
 answer() {
     case $1 in
     plan) bytes | target/bin/plan ;;
+    script) bytes | target/bin/script | xxd -p -u -c 18 ;;
     headers) target/bin/test_headers ;;
     routes) sed -e ':all' -e 'N; $!b all' -e 's/\n  */ /g' | target/bin/test_routes ;;
     trace) bytes | target/bin/annotate ;;
@@ -64,7 +65,7 @@ bytes() {
 
 count=0
 for document in FORMATS.md README.md; do
-    for example in "$parts/$document"/*.{plan,headers,routes,trace,audit,label,command}; do
+    for example in "$parts/$document"/*.{plan,script,headers,routes,trace,audit,label,command}; do
         expected=${example%.*}.out
         if [ "$document" = FORMATS.md ]; then
             sed -i 's/ *#.*//' "$example"

@@ -48,6 +48,16 @@ mod c {
             written: *mut u64,
             written_len: usize,
         ) -> u32;
+        pub fn cartsundial_script(
+            board: *const u8,
+            board_len: usize,
+            requester: u32,
+            first_tag: u32,
+            script: *mut u8,
+            script_len: usize,
+            written: *mut u64,
+            written_len: usize,
+        ) -> u32;
         pub fn cartsundial_check(sheet: *const u8, sheet_len: usize) -> u32;
         pub fn cartsundial_audit(host: *const u8, host_len: usize, sheet: *const u8, sheet_len: usize) -> u32;
         pub fn cartsundial_lookup(
@@ -180,6 +190,25 @@ pub fn plan(board: &[u8], sheet: &mut [u8], written: &mut [u64]) -> u32 {
             board.len(),
             sheet.as_mut_ptr(),
             sheet.len(),
+            written.as_mut_ptr(),
+            written.len(),
+        )
+    }
+}
+
+/// Writes the plan of a board as configuration writes to the start of `script`, 18 bytes each, and their length to
+/// `written`.
+///
+/// A requester above FFFFh or a tag above FFh is 10, before the board is read.
+pub fn script(board: &[u8], requester: u32, first_tag: u32, script: &mut [u8], written: &mut [u64]) -> u32 {
+    unsafe {
+        c::cartsundial_script(
+            board.as_ptr(),
+            board.len(),
+            requester,
+            first_tag,
+            script.as_mut_ptr(),
+            script.len(),
             written.as_mut_ptr(),
             written.len(),
         )

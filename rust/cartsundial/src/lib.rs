@@ -19,6 +19,7 @@
 //! | a header's bytes as a packet, and back | [`read()`], [`write()`] |
 //! | a packet's fields, and a packet or a header of fields | [`Packet::fields`], [`Packet::new`], [`Fields::write`] |
 //! | a board as a register sheet | [`plan`] |
+//! | a board as configuration writes, in the order in which boot code makes them | [`write_script`], [`writes`] |
 //! | the record of a board that finds no room | [`what_does_not_fit`] |
 //! | a board's bridges, and the buses and memory that each keeps free | [`bridges`] |
 //! | a sheet: is it lawful, a function's registers, its command word | [`check`], [`registers`], [`set_command`] |
@@ -77,6 +78,7 @@ mod ledger;
 mod lines;
 mod packet;
 mod refusal;
+mod script;
 mod unfit;
 
 pub use annotator::{Annotator, LONGEST_LINE};
@@ -97,6 +99,7 @@ pub use ledger::{Asked, Completed, Ledger, OpenRequest};
 pub use lines::{lines, Line, Lines};
 pub use packet::{read, write, Packet};
 pub use refusal::Refusal;
+pub use script::{write_script, writes, RegisterWrite, Writes, FULL_SCRIPT};
 pub use unfit::{what_does_not_fit, Pool, Unfit};
 
 /// The length of the largest sheet: a version byte and 512 records.

@@ -1,5 +1,5 @@
 //! Chosen cases as scripts, one request to a line (`plain`'s program `answers` says which), and as runs of the programs
-//! `plan`, `annotate`, `audit` and `label`: the same bytes at every run. The answers to the lines of `test_headers`, which
+//! `plan`, `script`, `annotate`, `audit` and `label`: the same bytes at every run. The answers to the lines of `test_headers`, which
 //! are chosen by hand.
 
 #![forbid(unsafe_code)]
@@ -16,6 +16,7 @@ mod script;
 mod spares;
 mod tags;
 mod traces;
+mod writes;
 
 pub use audits::{runs as audits, CAPTURES};
 pub use headers::answers as headers;
@@ -24,3 +25,4 @@ pub use planning::script as boards;
 pub use plans::{program as plan_program, runs as plans};
 pub use routing::script as routes;
 pub use traces::runs as traces;
+pub use writes::runs as writes;

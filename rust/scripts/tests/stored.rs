@@ -1,4 +1,4 @@
-//! tests/plan has the runs of `plans`, tests/annotate those of `traces`, tests/audit those of `audits` and tests/label those
+//! tests/plan has the runs of `plans`, tests/script those of `writes`, tests/annotate those of `traces`, tests/audit those of `audits` and tests/label those
 //! of `labels`, with what plain prints for them, and no other file; tests/audit has the sheets that real firmware left as
 //! well. The stored lines of `test_headers` have plain's answers.
 
@@ -36,6 +36,12 @@ fn agree(files: &Files, runs: &Files, how: &str) {
 fn runs_of_plan() {
     let runs = stored(scripts::plans(), "board", scripts::plan_program);
     agree(&files("plan"), &runs, "cargo run --bin plans tests/plan");
+}
+
+#[test]
+fn runs_of_script() {
+    let runs = stored(scripts::writes(), "in", plain::script_program);
+    agree(&files("script"), &runs, "cargo run --bin writes tests/script");
 }
 
 #[test]

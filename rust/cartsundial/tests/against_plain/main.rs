@@ -19,6 +19,7 @@ mod sheets;
 mod tally;
 mod traces;
 mod typed;
+mod writes;
 
 use inputs::random::Random;
 use std::env;
@@ -34,7 +35,7 @@ fn main() -> ExitCode {
     let rounds = setting("CARTSUNDIAL_ROUNDS", 1);
     println!("against plain: seed {seed}, rounds {rounds}");
     let mut tally = Tally::default();
-    let parts: [(&str, Part); 10] = [
+    let parts: [(&str, Part); 11] = [
         ("chosen", chosen::compare),
         ("headers", headers::compare),
         ("boards", boards::compare),
@@ -45,6 +46,7 @@ fn main() -> ExitCode {
         ("indexes", indexes::compare),
         ("cards", cards::compare),
         ("ledgers", ledgers::compare),
+        ("writes", writes::compare),
     ];
     for (number, (name, compare)) in (0..).zip(parts) {
         let before = tally.total();
