@@ -173,6 +173,12 @@ module _ {b : List ℕ} {first : ℕ} {counts memo c₀ sheet₀ c sheet : List 
     unfolding placed
     planned-here = record-planned (r .prepared) (withLast (toHost (hostOf b)) (r .last)) c i here record-here inside (s .holding) (r .room)
 
+    -- the plan's next record
+    pub plan-turn : take (suc i) (planOn b) ≡ take i (planOn b) ++ (plannedOf (registersOf first counts memo c i here) ∷ [])
+    plan-turn =
+        plan-snoc b first i here (r .first-bus) record-here
+        ∙ ap (λ (p : Planned). take i (planOn b) ++ (p ∷ [])) (sym planned-here)
+
     pub standing-turn : {c' sheet' : List ℕ} → c' ≡ cursorsNext memo c i here
         → sheet' ≡ sets sheet (sheetLength i) (recordBytes (plannedOf (registersOf first counts memo c i here))) → length c' ≡ length c
         → Standing b c₀ sheet₀ c' sheet' (at + 2 + n) (suc i)
@@ -199,11 +205,19 @@ module _ {b : List ℕ} {first : ℕ} {counts memo c₀ sheet₀ c sheet : List 
         so-far : length (take i (planOn b)) ≡ i
         so-far = length-take-le i (planOn b) (omega (arith, length-plan b, s .within))
 
+  -- the plan has no record more
+  plan-whole : drop i (functionsOf b) ≡ [] → take i (planOn b) ≡ planOn b
+  plan-whole e = take-all i (planOn b) (omega (arith, ap length e, length-drop i (functionsOf b), length-plan b))
+
   -- none does
   finished : drop i (functionsOf b) ≡ [] → sheet ≡ sets sheet₀ 0 (sheetBytes (planOn b))
-  finished e =
-      let l : length (planOn b) ≤ i = omega (arith, ap length e, length-drop i (functionsOf b), length-plan b) in
-      s .written ∙ ap (λ (p : List Planned). sets sheet₀ 0 (sheetBytes p)) (take-all i (planOn b) l)
+  finished e = s .written ∙ ap (λ (p : List Planned). sets sheet₀ 0 (sheetBytes p)) (plan-whole e)
+
+  pub plan-end : nextOf (drop at b) ≡ End → take i (planOn b) ≡ planOn b
+  plan-end e = plan-whole (sym (s .rest) ∙ pass-end (map functionOfPart) b at e)
+
+  pub plan-broken : nextOf (drop at b) ≡ Broken → take i (planOn b) ≡ planOn b
+  plan-broken e = plan-whole (sym (s .rest) ∙ pass-broken (map functionOfPart) b at e)
 
   pub finished-end : nextOf (drop at b) ≡ End → sheet ≡ sets sheet₀ 0 (sheetBytes (planOn b))
   finished-end e = finished (sym (s .rest) ∙ pass-end (map functionOfPart) b at e)

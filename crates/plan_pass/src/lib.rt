@@ -32,7 +32,7 @@ use sheet_record::places::STRIDE;
 use window::Window;
 
 // The root bus, and a bus below each record.
-const BUSES: usize = 1 + records::MOST_FUNCTIONS;
+pub const BUSES: usize = 1 + records::MOST_FUNCTIONS;
 
 // The whole pass over a planned board: the sheet's bytes, and past them nothing.
 pub fn place_all(board: &[u8], host: Host, counts: &[u8], memo: &[u64], sheet: &mut [u8])
@@ -304,7 +304,7 @@ fn place_bridge(
 // ---- all records
 
 // The function at a place where a record stands.
-fn function_at(board: &[u8], at: usize, n: usize) -> Function
+pub fn function_at(board: &[u8], at: usize, n: usize) -> Function
     requires { ⌜ (nextOf (drop at (now board)) ≡ Record n) × (headerWrong (take n (drop (at + 2) (now board))) ≡ false) ⌝ }
     ensures { λ r. ⌜ r ≡ functionOfPart (take n (drop (at + 2) (now (board .entry)))) ⌝ }
 {
@@ -336,7 +336,7 @@ fn write_next(
 
 // ---- the pass
 
-fn bases_of(host: Host) -> Cursors
+pub fn bases_of(host: Host) -> Cursors
     ensures { λ r. ⌜ r ≡ basesFor host ⌝ }
 {
     let low = host.low;
@@ -350,7 +350,7 @@ fn bases_of(host: Host) -> Cursors
 }
 
 // The same cursors for every bus.
-fn fill_cursors(cursors: &mut [u64], base: Cursors)
+pub fn fill_cursors(cursors: &mut [u64], base: Cursors)
     requires { ⌜ 3 * mostBuses ≤ length (now cursors) ⌝ }
     ensures { λ _. ⌜ Filled base mostBuses (now (cursors .exit)) ⌝ }
 {

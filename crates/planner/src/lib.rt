@@ -77,7 +77,7 @@ fn measure(board: &[u8], host: Host, counts: &mut [u8], memo: &mut [u64]) -> Mea
 }
 
 // The first n functions of the arrays.
-fn count_and_size(
+pub fn count_and_size(
     parents: &[u16],
     heads: &[u32],
     readbacks: &[u32],
@@ -108,7 +108,7 @@ fn count_and_size(
 }
 
 // The number of what runs out first: bus numbers, then the low, high and I/O pool. 0 where nothing does.
-fn refusal(host: Host, m: Measured) -> u8
+pub fn refusal(host: Host, m: Measured) -> u8
     requires { ⌜ m .bridges ≤ mostTaken * mostFunctions ⌝ }
     ensures { λ r. ⌜ r ≡ refusalBy host m ⌝ }
 {
