@@ -1,6 +1,6 @@
 -- Document 01's examples, the user's demands, what becomes of a packet that goes by ID, and of document 02 messages (E1), traces (E4),
--- the audit (E6), the index (E8), empty slots (E10), card to card (E11), open requests (E12) and one card's
--- switch (E13).
+-- the audit (E6), the index (E8), empty slots (E10), card to card (E11), open requests (E12), one card's switch (E13) and the write script
+-- (E14).
 pub mod Examples
 pub mod Demand2
 pub mod Demand3
@@ -24,3 +24,5 @@ pub mod OpenRequests
 pub mod OpenRequestsLaws
 pub mod OneSwitch
 pub mod OneSwitchLaws
+pub mod WriteScript
+pub mod WriteScriptLaws

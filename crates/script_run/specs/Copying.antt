@@ -1,15 +1,13 @@
 -- The places that writes name, and that storing a sheet's own bytes there copies them. Assumes nothing.
 use mathlib.Core.Path.{_≡_, refl, sym, ap, _∙_}
 use mathlib.Core.Logic.{_⊎_, inl, inr}
-use mathlib.Core.Bool.{Bool, true, false, cond, _&&_, true≢false}
-use mathlib.Core.List.{List, [], _∷_, _++_, flatMap, append-nil, List·Memᴰ·head, List·Memᴰ·append-cases, Memᴰ·append-left}
+use mathlib.Core.Bool.{Bool, true, false, cond}
+use mathlib.Core.List.{List, [], _∷_, _++_, flatMap, List·Memᴰ·head, List·Memᴰ·append-cases, Memᴰ·append-left}
 use mathlib.Core.List.{append-assoc, Memᴰ·append-right, List·Memᴰ·cases-cons, List·Memᴰ·not-nil}
-use Prim.Native.Nat.{ℕ, zero, suc, _+_, _-_, _*_, _%_, _≤_, _<_}
-use native.Mathlib.Nat.{add-zero}
+use Prim.Native.Nat.{ℕ, zero, suc, _+_, _-_, _<_}
 use native.Mathlib.Omega.{arith}
-use lib.Dec.{eqb}
-use lib.ListN.{length, getD, set}
-use Rattle.lists.specs.Lists.{_∈_, All, oneIf}
+use lib.ListN.{getD, set}
+use Rattle.lists.specs.Lists.{_∈_, oneIf}
 use Rattle.lists.specs.ListLaws.{flat-elim, flat-intro}
 use Rattle.walk_written.specs.Copied.{copied, copied-one-if}
 use Rattle.script_writes.specs.Writes.{Write, named}

@@ -3,19 +3,18 @@
 use mathlib.Core.Path.{_≡_, refl, sym, ap, ap₂, subst, _∙_}
 use mathlib.Core.Logic.{_⊎_, inl, inr}
 use mathlib.Core.Bool.{Bool, true, false, cond, _&&_}
-use mathlib.Core.List.{List, [], _∷_, _++_, map, append-nil, Memᴰ·append-right, List·Memᴰ·head, List·Memᴰ·tail, List·Memᴰ·not-nil}
+use mathlib.Core.List.{List, [], _∷_, _++_, map, append-nil, List·Memᴰ·head, List·Memᴰ·tail, List·Memᴰ·not-nil}
 use mathlib.Core.List.{flatMap, append-assoc, List·Memᴰ·cases-cons}
-use Prim.Native.Nat.{ℕ, zero, suc, _+_, _-_, _*_, _/_, _%_, _≤_, _<_}
+use Prim.Native.Nat.{ℕ, zero, suc, _+_, _-_, _*_, _/_, _%_, _<_}
 use native.Mathlib.Omega.{arith}
-use lib.Dec.{eqb, ltb}
+use lib.Dec.{eqb}
 use lib.ListN.{length, getD, take, drop, length-map}
 use lib.Seq.{take-at, drop-at}
 use borrow.Author.Tests.{ne-eqb, lt-ltb}
-use Rattle.endian.specs.Endian.{Bytes, be}
+use Rattle.endian.specs.Endian.{Bytes}
 use Rattle.endian.specs.EndianLaws.{be-lt}
 use Rattle.endian.specs.BytesLaws.{bytes-take, bytes-drop}
 use Rattle.pairs.specs.declared.Row.{Row}
-use Rattle.pairs.specs.declared.ConfigKind.{ConfigKind}
 use Rattle.pairs.specs.declared.ConfigKind.the-variants.{CfgWr0, CfgWr1}
 use Rattle.pairs.specs.Pairs.{table, first, findKind, rowOf}
 use Rattle.packet.specs.declared.Packet.{Packet}
@@ -33,22 +32,22 @@ use Rattle.tlp_layout.specs.Layout.{layout}
 use Rattle.lists.specs.Lists.{_∈_, All}
 use Rattle.lists.specs.ListLaws.{all-elim, all-intro, all-left, all-right}
 use Rattle.walk.specs.Registers.{Node, rootOf}
-use Rattle.walk.specs.Walk.{Outcome, delivered, walkFrom}
-use Rattle.walk.specs.Above.{LeadsTo, Above, above}
+use Rattle.walk.specs.Walk.{delivered, walkFrom}
+use Rattle.walk.specs.Above.{Above, above}
 use Rattle.walk.specs.AboveLaws.{above-is}
 use Rattle.walk.specs.Good.{Host, BridgesRise, Tree}
 use Rattle.walk.specs.Delivery.{root-is-first}
 use Rattle.walk.specs.Ids.{tallyById, DistinctIds}
 use Rattle.walk.specs.IdsDelivery.{delivered-by-id}
 use Rattle.sheet_record.specs.Places.{recordSize}
-use Rattle.sheet_record.specs.Entry.{Entry, idOf, headerOf, isBridge, entryOf}
+use Rattle.sheet_record.specs.Entry.{idOf, entryOf}
 use Rattle.sheet_record.specs.Spaces.{nodeOf}
-use Rattle.sheet.specs.Sheet.{Framed, entriesFrom, entriesOf, partsIn, partAt, sheetLength, recordAt}
+use Rattle.sheet.specs.Sheet.{Framed, entriesFrom, entriesOf, partsIn, partAt, recordAt}
 use Rattle.sheet.specs.CheckLaws.{count-entries, entries-past}
 use Rattle.sheet.specs.IndexLaws.{entries-index}
 use Rattle.sheet.specs.Spaces.{nodesFrom, nodesOf}
 use Rattle.claims.specs.declared.Aim.the-variants.{Id}
-use Rattle.route_arrival.specs.Arrival.{typeWrong, kindWrong, arrived}
+use Rattle.route_arrival.specs.Arrival.{kindWrong, arrived}
 use Rattle.route.specs.declared.Delivery.{Delivery}
 use Rattle.route.specs.declared.Routing.{Routing}
 use Rattle.route.specs.declared.Routing.the-variants.{Delivered}
@@ -56,8 +55,8 @@ use Rattle.route.specs.Route.{answer, walked, root, from42, routePacket}
 use Rattle.walk_written.specs.Copied.{copied}
 use Rattle.walk_written.specs.Partly.{blank, masked, delivered-partly}
 use Rattle.script_writes.specs.declared.Boot.{Boot}
-use Rattle.script_writes.specs.Writes.{Write, named, dataByte, dataOf, writeOf, threeBytes, twoBytes, fourBytes, writesOf}
-use Rattle.script_writes.specs.Script.{kindFor, packetWith, packetOf, fourOf, writePart, nextTag, tagAfter}
+use Rattle.script_writes.specs.Writes.{Write, named, dataByte, dataOf, threeBytes, twoBytes, fourBytes, writesOf}
+use Rattle.script_writes.specs.Script.{kindFor, packetWith, packetOf, fourOf, writePart, nextTag}
 use Rattle.script_writes.specs.ScriptLaws.{length-header}
 use Rattle.script_run.specs.Model.{modelOf, registerPlace, storeFour, performedAs, performedBy, performed, run}
 use Rattle.script_run.specs.Copying.{placesAt, placesOf, allPlaces, store-copied}

@@ -1,17 +1,15 @@
 -- After all writes of a script the registers are the sheet's: every byte of it is named by a write, or the model has it, or it is 0.
--- Assumes
--- nothing.
-use mathlib.Core.Path.{_≡_, refl, sym, ap, ap₂, subst, _∙_}
+-- Assumes nothing.
+use mathlib.Core.Path.{_≡_, refl, sym, ap, subst, _∙_}
 use mathlib.Core.Logic.{_⊎_, inl, inr}
-use mathlib.Core.Bool.{Bool, true, false, cond, not, _&&_, _||_}
-use mathlib.Core.List.{List, [], _∷_, _++_, List·Memᴰ·head, List·Memᴰ·tail, Memᴰ·append-left, Memᴰ·append-right}
+use mathlib.Core.Bool.{Bool, true, false, cond, _&&_, _||_}
+use mathlib.Core.List.{List, [], _++_, List·Memᴰ·head, List·Memᴰ·tail, Memᴰ·append-left, Memᴰ·append-right}
 use Prim.Native.Nat.{ℕ, zero, suc, _+_, _-_, _*_, _/_, _%_, _≤_, _<_}
-use native.Mathlib.Nat.{add-zero}
 use native.Mathlib.Omega.{arith}
 use lib.Dec.{eqb, leb, ltb}
 use lib.ListN.{length, getD, take, drop, length-take, List·getD-eq-default}
 use lib.Seq.{getD-take}
-use borrow.Author.Tests.{eqb-true, eqb-false, ltb-true, ltb-false, leb-false, not-true, not-false}
+use borrow.Author.Tests.{eqb-true, eqb-false, ltb-true, ltb-false, leb-false, not-false}
 use Rattle.endian.specs.Endian.{Bytes, be, le, beBytes, leBytes}
 use Rattle.endian.specs.EndianLaws.{be-lt}
 use Rattle.endian.specs.BytesLaws.{bytes-take, bytes-drop}
@@ -20,26 +18,26 @@ use Rattle.lists.specs.ListLaws.{all-elim, all-intro}
 use Rattle.lists.specs.BoolLaws.{false-of-or}
 use Rattle.bar.specs.Bar.{slots}
 use Rattle.bar.specs.Values.{valuesFit}
-use Rattle.sheet_record.specs.Places.{recordSize, stride, registersAt, headerTypeAt, valuesAt, readbacksAt}
-use Rattle.sheet_record.specs.Entry.{headerOf, isBridge, slotCount, dwords, Entry, entryOf}
+use Rattle.sheet_record.specs.Places.{recordSize, valuesAt, readbacksAt}
+use Rattle.sheet_record.specs.Entry.{headerOf, isBridge, slotCount, dwords, entryOf}
 use Rattle.sheet.specs.declared.Rule.the-variants.{ReadBacks}
-use Rattle.sheet.specs.Sheet.{Framed, entriesOf, partsIn, partAt, sheetLength, recordAt, allZero, readBacksWrong, breaks, anyBreaks}
+use Rattle.sheet.specs.Sheet.{Framed, entriesOf, partsIn, partAt, recordAt, readBacksWrong, breaks, anyBreaks}
 use Rattle.sheet.specs.Commands.{placeIn}
 use Rattle.sheet.specs.FrameLaws.{part-index}
-use Rattle.sheet.specs.IndexLaws.{length-entries, record-fits, length-part}
+use Rattle.sheet.specs.IndexLaws.{length-entries}
 use Rattle.sheet.specs.CheckLaws.{count-entries}
 use Rattle.sheet.specs.RulesLaws.{breaks-index}
 use Rattle.sheet_bytes.specs.Layout.{Planned, dwordBytes, endBytes, bridgeBytes, bodyBytes, commonBytes, configBytes, partBytes}
 use Rattle.sheet_bytes.specs.ReadBack.{headerOf-partBytes}
-use Rattle.walk_written.specs.Copied.{copied, ends-as-final}
+use Rattle.walk_written.specs.Copied.{ends-as-final}
 use Rattle.script_writes.specs.declared.Pass.{Pass}
 use Rattle.script_writes.specs.declared.Pass.the-variants.{Buses, Registers, Commands}
-use Rattle.script_writes.specs.Writes.{Write, writeOf, named, threeBytes, twoBytes, fourBytes, isUsed, slotWrites, barWrites, busWrites}
+use Rattle.script_writes.specs.Writes.{Write, writeOf, named, threeBytes, twoBytes, fourBytes, isUsed, slotWrites, barWrites}
 use Rattle.script_writes.specs.Writes.{windowWrites, writesIn, passWrites, writesOf}
 use Rattle.scripter.specs.CountingLaws.{getD-dwords}
 use Rattle.script_run.specs.Model.{isKept, modelOf, registerPlace}
 use Rattle.script_run.specs.Copying.{allPlaces, all-places-elim, all-places-intro}
-use Rattle.script_run.specs.Written.{WriteIn, writes-in, pass-member}
+use Rattle.script_run.specs.Written.{writes-in, pass-member}
 use Rattle.script_run.specs.StateLaws.{length-blank, model-at, stateOf}
 use Rattle.script_run.specs.Nodes.{part-byte}
 use Rattle.script_run.specs.Unused.{unused-zero}

@@ -10,5 +10,5 @@ pub mod Unused
 pub mod Ends
 pub mod Safe
 pub mod Planned
-pub mod WriteScript
-pub mod WriteScriptLaws
+pub mod Run
+pub mod RunLaws

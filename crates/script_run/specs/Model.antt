@@ -1,7 +1,6 @@
 -- Document 02, E14: "Start from a model where functions, header types and read-backs are those of the planned sheet and every other
--- register
--- is zero. With the sheet checks left out, the walk takes every write to its function": what one record of a script does to the registers,
--- and what the records in order do. Assumes nothing.
+-- register is zero. With the sheet checks left out, the walk takes every write to its function": what one record of a script does to the
+-- registers, and what the records in order do. Assumes nothing.
 use Prim.Native.Nat.{ℕ, suc, _+_, _-_, _*_}
 use mathlib.Core.Bool.{Bool, cond, _||_}
 use mathlib.Core.List.{List, [], _∷_}

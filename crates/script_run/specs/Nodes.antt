@@ -1,21 +1,18 @@
--- After some of a script's writes the functions stand where they stand on the sheet, and a bridge leads to its buses once its bus
--- registers are
--- written, and to bus 0 before. Assumes nothing.
+-- After some of a script's writes the functions stand where they stand on the sheet, and a bridge leads to its buses once its bus registers
+-- are written, and to bus 0 before. Assumes nothing.
 use mathlib.Core.Path.{_≡_, refl, sym, ap, ap₂, _∙_}
 use mathlib.Core.Bool.{Bool, true, false, cond}
-use mathlib.Core.List.{List, [], _∷_, map}
-use Prim.Native.Nat.{ℕ, zero, suc, _+_, _-_, _*_, _/_, _%_, _≤_, _<_}
-use native.Mathlib.Nat.{add-zero}
+use mathlib.Core.List.{List, _∷_, map}
+use Prim.Native.Nat.{ℕ, zero, suc, _+_, _-_, _/_, _%_, _<_}
 use native.Mathlib.Omega.{arith}
-use lib.Dec.{eqb}
-use lib.ListN.{length, getD, take, drop}
+use lib.ListN.{length, getD, drop}
 use lib.Seq.{getD-take, getD-drop}
 use Rattle.endian.specs.Endian.{be}
 use Rattle.endian.specs.EndianLaws.{be-agree}
 use Rattle.lists.specs.Lists.{All}
 use Rattle.records.specs.RecordsLaws.{next-end, next-record}
 use Rattle.walk.specs.Registers.{Node}
-use Rattle.sheet_record.specs.Places.{recordSize, stride, secondaryAt, subordinateAt, headerTypeAt}
+use Rattle.sheet_record.specs.Places.{recordSize, stride, headerTypeAt}
 use Rattle.sheet_record.specs.Entry.{Entry, idOf, headerOf, isBridge, secondaryOf, subordinateOf, entryOf}
 use Rattle.sheet_record.specs.Spaces.{nodeOf}
 use Rattle.sheet.specs.Sheet.{isFramed, Framed, entriesFrom, entriesOf, partAt, sheetLength, recordAt}

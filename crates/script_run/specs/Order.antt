@@ -3,13 +3,13 @@
 use mathlib.Core.Path.{_≡_, refl, sym, ap, ap₂, subst, _∙_}
 use mathlib.Core.Logic.{_⊎_, inl, inr}
 use mathlib.Core.Bool.{Bool, true, false, cond}
-use mathlib.Core.List.{List, [], _∷_, _++_, append-assoc, cons≢nil, List·Memᴰ·head, List·Memᴰ·cases-cons, List·Memᴰ·append-cases}
+use mathlib.Core.List.{List, [], _∷_, _++_, append-assoc, List·Memᴰ·head, List·Memᴰ·cases-cons, List·Memᴰ·append-cases}
 use mathlib.Core.List.{Memᴰ·append-left}
-use Prim.Native.Nat.{ℕ, zero, suc, _+_, _-_, _≤_, _<_}
+use Prim.Native.Nat.{ℕ, suc, _+_, _-_, _≤_, _<_}
 use native.Mathlib.Omega.{arith}
-use lib.ListN.{length, getD}
+use lib.ListN.{length}
 use Rattle.lists.specs.Lists.{_∈_, All, Pairwise}
-use Rattle.lists.specs.ListLaws.{all-elim, all-imp, all-append, pairwise-append, all-right}
+use Rattle.lists.specs.ListLaws.{all-elim, all-imp, all-append}
 use Rattle.sheet_record.specs.Entry.{headerOf, isBridge}
 use Rattle.sheet.specs.Sheet.{Framed, partsIn, partAt, entriesOf}
 use Rattle.sheet.specs.FrameLaws.{part-index}

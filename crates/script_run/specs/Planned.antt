@@ -1,16 +1,13 @@
 -- A planned sheet is one that its script can be run on: its registers are good, its records come before those below them, and the rest of
--- each
--- record is 0. Assumes nothing.
-use mathlib.Core.Path.{_≡_, refl, sym, ap, subst, _∙_}
-use mathlib.Core.Bool.{Bool}
+-- each record is 0. Assumes nothing.
+use mathlib.Core.Path.{_≡_, refl, sym, subst}
 use mathlib.Core.List.{List, [], _∷_, map, Memᴰ·of-map}
-use Prim.Native.Nat.{ℕ, zero, suc, _+_, _≤_, _<_}
+use Prim.Native.Nat.{ℕ, zero, suc, _≤_, _<_}
 use native.Mathlib.Omega.{arith}
 use lib.ListN.{length, getD}
 use Rattle.endian.specs.Endian.{Bytes}
 use Rattle.lists.specs.Lists.{_∈_, All}
 use Rattle.lists.specs.ListLaws.{all-imp}
-use Rattle.pools.specs.declared.Space.{Space}
 use Rattle.pools.specs.declared.Space.the-variants.{Memory as memorySpace}
 use Rattle.plan_rule.specs.Records.{Function, Lawful}
 use Rattle.plan_rule.specs.Preorder.{parentOf}
@@ -22,17 +19,15 @@ use Rattle.board.specs.ToPlacing.{toHost, toPlacing, devfnOf}
 use Rattle.walk.specs.Registers.{Node, nodes}
 use Rattle.walk.specs.Reach.{numbersOf}
 use Rattle.walk.specs.Above.{above}
-use Rattle.walk.specs.Good.{BridgesRise, Tree, Good}
+use Rattle.walk.specs.Good.{BridgesRise, Tree}
 use Rattle.sheet.specs.Sheet.{entriesOf, partsIn, partAt}
 use Rattle.sheet.specs.SheetLaws.{checked-of-zero, passes-of-zero, nodes-functions}
 use Rattle.sheet.specs.FrameLaws.{part-index}
 use Rattle.sheet.specs.IndexLaws.{length-entries}
 use Rattle.sheet.specs.Spaces.{registersOf, nodesOf}
-use Rattle.sheet.specs.Commands.{SameButCommands}
-use Rattle.sheet_bytes.specs.Layout.{Planned, partBytes, sheetBytes}
+use Rattle.sheet_bytes.specs.Layout.{Planned, partBytes}
 use Rattle.sheet_bytes.specs.AllBytes.{bytes-sheetBytes}
 use Rattle.sheet_bytes.specs.ReadBack.{framed-sheetBytes, partsIn-sheetBytes}
-use Rattle.plan_good.specs.Boards.{Board}
 use Rattle.plan_good.specs.Kept.{kept-of-planned}
 use Rattle.plan_good.specs.Registers.{planNode, planRows, planNodes, planHost}
 use Rattle.plan_good.specs.AboveLaws.{row-above-agree}

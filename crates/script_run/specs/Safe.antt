@@ -1,38 +1,34 @@
 -- After any of a script's writes each address has its final owner or none: until the first command word nothing is enabled, and from then
--- on
--- the registers are the sheet's but for command words, of which some are still 0. Assumes nothing.
+-- on the registers are the sheet's but for command words, of which some are still 0. Assumes nothing.
 use mathlib.Core.Path.{_≡_, refl, sym, ap, ap₂, subst, _∙_}
 use mathlib.Core.Logic.{_⊎_, inl, inr}
 use mathlib.Core.Bool.{Bool, true, false, cond, true≢false}
-use mathlib.Core.List.{List, [], _∷_, _++_, map, append-nil, List·Memᴰ·append-cases, Memᴰ·append-left}
-use Prim.Native.Nat.{ℕ, zero, suc, pred, _+_, _-_, _*_, _/_, _%_, _≤_, _<_}
+use mathlib.Core.List.{List, [], _∷_, _++_, List·Memᴰ·append-cases, Memᴰ·append-left}
+use Prim.Native.Nat.{ℕ, zero, suc, pred, _+_, _-_, _*_, _≤_, _<_}
 use native.Mathlib.Omega.{arith}
-use lib.Dec.{eqb, ltb}
+use lib.Dec.{ltb}
 use lib.ListN.{length, getD, List·getD-map, List·getD-eq-default}
 use borrow.Author.Tests.{ltb-true, ltb-false}
-use Rattle.endian.specs.Endian.{Bytes, le}
+use Rattle.endian.specs.Endian.{le}
 use Rattle.endian.specs.EndianLaws.{le-agree}
 use Rattle.lists.specs.Lists.{_∈_, All}
-use Rattle.lists.specs.ListLaws.{all-elim, all-imp, all-append, all-left}
+use Rattle.lists.specs.ListLaws.{all-elim, all-append, all-left}
 use Rattle.pools.specs.declared.Space.{Space}
 use Rattle.pools.specs.declared.Space.the-variants.{Memory, Io}
-use Rattle.walk.specs.Registers.{Registers, Node, nodes, rootOf, enabledIn}
+use Rattle.walk.specs.Registers.{Registers, Node, rootOf, enabledIn}
 use Rattle.walk.specs.Tally.{tallyOn}
-use Rattle.walk.specs.Walk.{Outcome, refused, noOwner, walkFrom}
+use Rattle.walk.specs.Walk.{refused, noOwner, walkFrom}
 use Rattle.walk.specs.Good.{Host, Good, sound-of-good}
 use Rattle.walk.specs.Delivery.{outcomeOf, outcome-from-first}
-use Rattle.sheet_record.specs.Places.{commandAt}
 use Rattle.sheet_record.specs.Spaces.{enables}
-use Rattle.sheet.specs.Sheet.{Framed, entriesOf, commandsOf, partsIn, commandPlace, recordAt}
+use Rattle.sheet.specs.Sheet.{Framed, entriesOf, commandsOf, partsIn, commandPlace}
 use Rattle.sheet.specs.SheetLaws.{nodes-functions}
 use Rattle.sheet.specs.Spaces.{registersOf, nodesOf, enabledOf}
 use Rattle.sheet.specs.Commands.{placeIn, InCommand, SameButCommands}
 use Rattle.sheet.specs.CommandsLaws.{registers-same, nodes-same}
 use Rattle.sheet.specs.IndexLaws.{length-entries, length-commands, command-index}
 use Rattle.plan_sheet.specs.Delivery.{sheetOutcome}
-use Rattle.walk_written.specs.Copied.{copied, copied-final}
 use Rattle.walk_written.specs.Partly.{final-owner-or-none, nothing-enabled}
-use Rattle.script_writes.specs.declared.Pass.{Pass}
 use Rattle.script_writes.specs.declared.Pass.the-variants.{Buses, Registers as Rest, Commands}
 use Rattle.script_writes.specs.Writes.{Write, writeOf, named, threeBytes, twoBytes, fourBytes, isUsed, slotWrites, barWrites, windowWrites}
 use Rattle.script_writes.specs.Writes.{writesIn, passWrites, writesOf}

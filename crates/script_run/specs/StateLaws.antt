@@ -1,9 +1,9 @@
 -- The registers after some of a script's writes: what is named is as on the sheet, what is not is as in the model. Assumes nothing.
 use mathlib.Core.Path.{_≡_, refl, sym, ap, subst, _∙_}
-use mathlib.Core.Logic.{_⊎_, inl, inr}
+use mathlib.Core.Logic.{inl, inr}
 use mathlib.Core.Bool.{Bool, true, false, cond, _&&_, true≢false, and-eq-true-iff}
 use mathlib.Core.List.{List, [], _∷_, _++_}
-use Prim.Native.Nat.{ℕ, zero, suc, _+_, _-_, _*_, _/_, _%_, _≤_, _<_}
+use Prim.Native.Nat.{ℕ, zero, suc, _+_, _-_, _≤_, _<_}
 use native.Mathlib.Nat.{add-zero}
 use native.Mathlib.Omega.{arith}
 use lib.Dec.{eqb}
@@ -12,14 +12,12 @@ use borrow.Author.Tests.{eqb-true, eq-eqb}
 use Rattle.lists.specs.Lists.{_∈_, All, any}
 use Rattle.lists.specs.ListLaws.{all-elim, all-intro, member-of-some, some-of-member}
 use Rattle.lists.specs.KeepLaws.{any-of-some, some-of-any}
-use Rattle.sheet_record.specs.Places.{stride}
-use Rattle.sheet.specs.Sheet.{sheetLength, recordAt}
 use Rattle.sheet.specs.Commands.{placeIn}
 use Rattle.walk_written.specs.Copied.{copied, length-copied, copied-final, copied-other, copied-append}
 use Rattle.script_writes.specs.Writes.{Write, named}
 use Rattle.script_writes.specs.ScriptLaws.{IsRegister}
 use Rattle.script_run.specs.Model.{isKept, blankFrom, modelOf, registerPlace}
-use Rattle.script_run.specs.Copying.{allPlaces, all-places-elim, all-places-intro, all-places-append, placesOf}
+use Rattle.script_run.specs.Copying.{allPlaces, all-places-elim, all-places-intro, all-places-append}
 use Rattle.script_run.specs.Written.{enablesFor, bridgeAt, WriteIn}
 
 -- ## The model, byte by byte

@@ -1,8 +1,8 @@
 -- On a sheet that passes 25 a slot whose read-back is 0 has the value 0: it is no BAR, and not the upper half of one. Assumes nothing.
-use mathlib.Core.Path.{_≡_, refl, sym, ap, subst, _∙_}
+use mathlib.Core.Path.{_≡_, refl, sym, ap, _∙_}
 use mathlib.Core.Bool.{Bool, true, false, cond, _&&_, _||_, not, true≢false, and-eq-true-iff}
 use mathlib.Core.List.{List, [], _∷_}
-use Prim.Native.Nat.{ℕ, zero, suc, _+_, _-_, _*_, _/_, _%_, _^_, _≤_, _<_}
+use Prim.Native.Nat.{ℕ, zero, suc, _+_, _-_, _/_, _%_, _^_, _≤_, _<_}
 use native.Mathlib.Omega.{arith}
 use lib.Dec.{eqb}
 use lib.ListN.{length, getD, drop}
@@ -13,14 +13,14 @@ use Rattle.pools.specs.declared.Pool.{Pool}
 use Rattle.pools.specs.declared.Pool.the-variants.{Low, High, Io}
 use Rattle.bar.specs.declared.Slot.{Slot}
 use Rattle.bar.specs.declared.Slot.the-variants.{Unused, Bar, Upper, Bad}
-use Rattle.bar.specs.Bar.{ioWrong, ioSlot, anyBad, onesFrom, sizeOf, withoutType, sized, barOf, isIoBar, isWide, narrowSlot, joined}
+use Rattle.bar.specs.Bar.{ioWrong, ioSlot, anyBad, sizeOf, withoutType, sized, barOf, isIoBar, isWide, narrowSlot, joined}
 use Rattle.bar.specs.Bar.{widePool, wideSlot, slotHere}
 use Rattle.bar.specs.Bar.{slots, isBad}
 use Rattle.bar.specs.Values.{valueHere, isValue, valuesFit}
 use Rattle.bar.specs.ValuesLaws.{not-bad-of-value}
 use Rattle.bar.specs.BarLaws.{cond-intro}
 use Rattle.lists.specs.BoolLaws.{false-of-or}
-use Rattle.bar.specs.SizeLaws.{SizeBit, power-of-size}
+use Rattle.bar.specs.SizeLaws.{power-of-size}
 
 -- ones to the top of 64 bits reach the upper half
 no-size : (mask size : ℕ) → mask < 4294967296 → sizeOf 64 7 mask ≡ size → ¬ (size ≡ 0) → ⊥

@@ -1,6 +1,5 @@
 -- Document 02, E14: the script's bytes: "one length-first record a write, 12 header bytes and 4 data bytes in register order, unnamed
--- fields
--- and bytes 0", "type 0 for the root bus and type 1 below", the first tag "a byte, one up each write, wrapping". Assumes nothing.
+-- fields and bytes 0", "type 0 for the root bus and type 1 below", the first tag "a byte, one up each write, wrapping". Assumes nothing.
 use Prim.Native.Nat.{ℕ, _+_, _*_, _/_, _%_}
 use mathlib.Core.Bool.{false, cond}
 use mathlib.Core.List.{List, [], _∷_, _++_}

@@ -1,9 +1,8 @@
 -- A write's record as a list of eighteen bytes; scripts one after the other. Assumes nothing.
-use mathlib.Core.Path.{_≡_, refl, sym, ap, ap₂, _∙_}
+use mathlib.Core.Path.{_≡_, refl, sym, ap, _∙_}
 use mathlib.Core.Bool.{Bool, true, false, cond}
 use mathlib.Core.List.{List, [], _∷_, _++_, append-assoc}
-use Prim.Native.Nat.{ℕ, suc, _+_, _*_, _/_, _%_, _^_, _≤_, _<_}
-use native.Mathlib.Nat.{add-zero}
+use Prim.Native.Nat.{ℕ, suc, _+_, _*_, _/_, _%_, _≤_, _<_}
 use native.Mathlib.Omega.{arith}
 use lib.Dec.{eqb}
 use lib.ListN.{length, length-append}
@@ -12,7 +11,7 @@ use Rattle.pairs.specs.declared.ConfigKind.the-variants.{CfgWr0, CfgWr1}
 use Rattle.pairs.specs.Pairs.{table, first, findKind, rowOf}
 use Rattle.tlp_layout.specs.Layout.{frontBytes, requestBytes, targetBytes, layout}
 use Rattle.script_writes.specs.declared.Boot.{Boot}
-use Rattle.script_writes.specs.Writes.{Write, writeOf, dataOf}
+use Rattle.script_writes.specs.Writes.{Write}
 use Rattle.script_writes.specs.Script.{packetWith, packetOf, writeStride, fourOf, writePart, writeBytes, nextTag, scriptFrom}
 use Rattle.script_writes.specs.Script.{tagAfter}
 

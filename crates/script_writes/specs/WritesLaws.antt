@@ -4,13 +4,12 @@ use mathlib.Core.Bool.{Bool, true, false, cond}
 use mathlib.Core.List.{List, [], _∷_, _++_, append-assoc, append-nil}
 use Prim.Native.Nat.{ℕ, zero, suc, _+_, _-_, _*_, _≤_}
 use native.Mathlib.Nat.{add-zero}
-use native.Mathlib.Numerals.{add-one}
 use native.Mathlib.Omega.{arith}
 use lib.ListN.{length, length-append}
 use Rattle.sheet_record.specs.Entry.{headerOf, isBridge, slotCount}
 use Rattle.script_writes.specs.declared.Pass.{Pass}
 use Rattle.script_writes.specs.declared.Pass.the-variants.{Buses, Registers, Commands}
-use Rattle.script_writes.specs.Writes.{Write, writeOf, threeBytes, fourBytes, isUsed, slotWrites, barWrites, windowWrites}
+use Rattle.script_writes.specs.Writes.{writeOf, threeBytes, fourBytes, isUsed, slotWrites, barWrites, windowWrites}
 use Rattle.script_writes.specs.Writes.{writesIn, passWrites}
 
 module _ (k : ℕ) (p : List ℕ) where

@@ -4,7 +4,7 @@ use mathlib.Core.List.{List, _++_}
 use Prim.Native.Nat.{ℕ, _+_, _*_, _≤_, _<_}
 use native.Mathlib.Nat.{zero-add}
 use native.Mathlib.Omega.{arith}
-use lib.ListN.{length, drop, replicate, length-append, length-map, length-replicate}
+use lib.ListN.{length, drop, length-append, length-map, length-replicate}
 use lib.Seq.{sets, sets-eq}
 use borrow.Author.Tests.{lt-ltb, le-ltb}
 use Rattle.endian.specs.Endian.{Bytes}
@@ -16,10 +16,10 @@ use Rattle.board_record.specs.Function.{functionOfPart}
 use Rattle.board.specs.Board.{boardNumber, hostOf, functionsOf}
 use Rattle.board.specs.BoardLaws.{accepted-of-zero}
 use Rattle.board.specs.ToPlacing.{toHost, toPlacing}
-use Rattle.sheet.specs.Sheet.{sheetLength, fullSheet, partsIn}
+use Rattle.sheet.specs.Sheet.{sheetLength, fullSheet}
 use Rattle.plan_answer.specs.declared.Planning.{Planning}
 use Rattle.plan_answer.specs.declared.Planning.the-variants.{Planned}
-use Rattle.plan_answer.specs.Plan.{onBoard, planning}
+use Rattle.plan_answer.specs.Plan.{onBoard}
 use Rattle.plan_pass.specs.Loop.{Placing}
 use Rattle.planner.specs.declared.Measured.{Measured}
 use Rattle.planner.specs.Measure.{refusalBy, IsMeasured}
@@ -28,13 +28,13 @@ use Rattle.planner.specs.PlanLaws.{planning-unlawful, planning-lawful, on-board
 use Rattle.script_writes.specs.declared.Pass.the-variants.{Buses, Registers, Commands}
 use Rattle.script_writes.specs.declared.Boot.{Boot}
 use Rattle.script_writes.specs.declared.Place.{Place}
-use Rattle.script_writes.specs.Writes.{passWrites, writesOf}
+use Rattle.script_writes.specs.Writes.{writesOf}
 use Rattle.script_writes.specs.Script.{writeStride, scriptFrom}
 use Rattle.script_writes.specs.ScriptLaws.{length-script}
 use Rattle.script_writes.specs.Wrote.{Wrote, wrote-append, room-left}
 use Rattle.scripter.specs.declared.Scripting.{Scripting}
 use Rattle.scripter.specs.declared.Scripting.the-variants.{Written, Refused}
-use Rattle.scripter.specs.Scripting.{plannedSheet, boardWrites, bootOf, scriptOf, scriptLength, scriptingAs, scripting, roomAs}
+use Rattle.scripter.specs.Scripting.{boardWrites, bootOf, scriptOf, scriptLength, scriptingAs, scripting, roomAs}
 use Rattle.scripter.specs.Scripting.{roomAfter}
 use Rattle.scripter.specs.Counting.{countIn}
 use Rattle.scripter.specs.CountingLaws.{count-is}

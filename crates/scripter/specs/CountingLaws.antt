@@ -24,18 +24,16 @@ use Rattle.board.specs.ToPlacing.{toHost, toPlacing}
 use Rattle.sheet_record.specs.Places.{readbacksAt}
 use Rattle.sheet_record.specs.Entry.{Entry, dwords, entryOf, headerOf}
 use Rattle.sheet_record.specs.Entry as entry
-use Rattle.sheet.specs.Sheet.{partsIn}
-use Rattle.sheet_bytes.specs.Layout.{Planned, Shaped, WellShaped, partBytes, sheetBytes}
+use Rattle.sheet_bytes.specs.Layout.{Planned, Shaped, WellShaped, partBytes}
 use Rattle.sheet_bytes.specs.ReadBack.{headerOf-partBytes, entryOf-partBytes, partsIn-sheetBytes}
 use Rattle.plan_answer.specs.Plan.{entryFor, plannedFrom, planOf}
-use Rattle.plan_sheet.specs.Fits.{BoardFits}
 use Rattle.plan_sheet.specs.Shaped.{shaped}
 use Rattle.plan_sheet.specs.Accepted.{fits-of-accepted}
 use Rattle.script_writes.specs.declared.Pass.{Pass}
 use Rattle.script_writes.specs.declared.Pass.the-variants.{Buses, Registers, Commands}
-use Rattle.script_writes.specs.Writes.{Write, writeOf, threeBytes, fourBytes, isUsed, slotWrites, barWrites, busWrites, windowWrites}
+use Rattle.script_writes.specs.Writes.{writeOf, threeBytes, fourBytes, slotWrites, barWrites, busWrites, windowWrites}
 use Rattle.script_writes.specs.Writes.{registerWrites, writesIn, passWrites, writesOf}
-use Rattle.scripter.specs.Scripting.{plannedSheet, boardWrites}
+use Rattle.scripter.specs.Scripting.{boardWrites}
 use Rattle.scripter.specs.Counting.{usedIn, ownWrites, writeCount, countIn}
 
 -- ## Bounds, and a turn of the loops

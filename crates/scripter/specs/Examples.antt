@@ -2,7 +2,6 @@
 use mathlib.Core.Path.{_≡_, refl}
 use mathlib.Core.List.{List, [], _∷_, _++_, flatMap}
 use Prim.Native.Nat.{ℕ}
-use lib.ListN.{length}
 use Rattle.endian.specs.Endian.{be, beBytes, leBytes}
 use Rattle.pairs.specs.Pairs.{table, first, findKind, rowOf}
 use Rattle.records.specs.Records.{nextOf, partsOver, partsOf, anyPart}

@@ -14,7 +14,7 @@ use Rattle.records.specs.Records.{nextOf, partsFrom}
 use Rattle.board_record.specs.declared.Host.{Host}
 use Rattle.board_record.specs.declared.Function.{Function}
 use Rattle.board_record.specs.Function.{isBridge, functionOfPart, headerWrong}
-use Rattle.board.specs.Board.{hostOf, functionsOf}
+use Rattle.board.specs.Board.{functionsOf}
 use Rattle.board.specs.BoardLaws.{accepted-of-zero}
 use Rattle.sheet.specs.Sheet.{sheetLength, partsIn}
 use Rattle.sheet_bytes.specs.Layout.{Planned, plannedOf, partBytes, recordBytes}

@@ -1,28 +1,28 @@
 -- E14: bus registers written one after another, and command words at the end. Assumes nothing.
 use mathlib.Core.Path.{_≡_, refl, sym, ap, ap₂, subst, _∙_}
 use mathlib.Core.Logic.{_⊎_, inl, inr}
-use mathlib.Core.Bool.{Bool, true, false, cond, _&&_, true≢false, false≢true, and-eq-true-iff}
-use mathlib.Core.List.{List, [], _∷_, map, List·Memᴰ·head, List·Memᴰ·tail, Memᴰ·map}
-use Prim.Native.Nat.{ℕ, zero, suc, _+_, _≤_, _<_}
+use mathlib.Core.Bool.{Bool, true, false, cond, _&&_, true≢false, and-eq-true-iff}
+use mathlib.Core.List.{List, [], _∷_, map, List·Memᴰ·head, Memᴰ·map}
+use Prim.Native.Nat.{ℕ, zero, _<_}
 use native.Mathlib.Nat.{suc-ne-zero}
 use native.Mathlib.Omega.{arith}
-use lib.Dec.{eqb, ltb, leb}
+use lib.Dec.{eqb}
 use lib.ListN.{length}
-use borrow.Author.Tests.{eqb-true, eqb-false, eq-eqb, ne-eqb}
+use borrow.Author.Tests.{eqb-true, eqb-false, eq-eqb}
 use Rattle.lists.specs.Lists.{_∈_, All, keep}
 use Rattle.lists.specs.ListLaws.{all-elim, all-intro, all-imp}
 use Rattle.lists.specs.KeepLaws.{keep-none, keep-only}
-use Rattle.walk.specs.Ranges.{holds, Holds, holds-iff, Inside}
-use Rattle.walk.specs.Registers.{Node, Registers, nodes, Item, items, window, bar, barItem, windowItem, Claim, NumberedFrom}
-use Rattle.walk.specs.RegistersLaws.{item-of-window, item-of-bar, node-mem}
-use Rattle.walk.specs.Tally.{Tally, none, one, join, claims, claimsIn, tallyOn}
+use Rattle.walk.specs.Ranges.{holds, Holds, holds-iff}
+use Rattle.walk.specs.Registers.{Node, Registers, nodes, Item, items, bar, barItem, windowItem}
+use Rattle.walk.specs.RegistersLaws.{item-of-window, item-of-bar}
+use Rattle.walk.specs.Tally.{none, one, join, claims, tallyOn}
 use Rattle.walk.specs.Walk.{Outcome, delivered, refused, noOwner, walkFrom}
-use Rattle.walk.specs.WalkLaws.{walk-agree, walk-bar, walk-none, refused-elim}
+use Rattle.walk.specs.WalkLaws.{walk-agree, walk-bar, walk-none}
 use Rattle.walk.specs.Above.{above}
-use Rattle.walk.specs.AboveLaws.{root-le, above-is, above-root}
+use Rattle.walk.specs.AboveLaws.{root-le, above-root}
 use Rattle.walk.specs.Good.{Host, BridgesRise, Tree, busRange, Sound}
 use Rattle.walk.specs.Delivery.{Owns, outcomeOf, bridgesAbove, delivered-of-owner, owner-of-delivered, otherwise-nobody}
-use Rattle.walk.specs.Ids.{hasId, leadsToward, bridgeClaim, functionClaim, firstOf, tallyById, ownBus, byId, always, DistinctIds}
+use Rattle.walk.specs.Ids.{hasId, leadsToward, bridgeClaim, firstOf, tallyById, ownBus, byId, DistinctIds}
 use Rattle.walk.specs.Ids.{HasId}
 use Rattle.walk.specs.IdsLaws.{by-id-nodes}
 use Rattle.walk.specs.IdsDelivery.{by-id-sound, delivered-by-id}

@@ -1,11 +1,10 @@
 -- `script_writes::put_write` meets its contract. Assumes nothing.
-use mathlib.Core.Path.{sym}
 use mathlib.Core.List.{List, [], _∷_}
 use Prim.Native.Nat.{ℕ, _/_, _%_, _<_}
 use native.Mathlib.Omega.{arith}
 use borrow.Author.Needs.{needs}
 use Rattle.script_writes.specs.Writes.{writeOf}
-use Rattle.script_writes.specs.Wrote.{Coded, wrote-one}
+use Rattle.script_writes.specs.Wrote.{wrote-one}
 use Rattle.script_writes.proofs.put_write.Statement.{statement}
 use Rattle.script_writes.proofs.put_write.Tie as tie
 

@@ -9,7 +9,7 @@ use borrow.Author.Needs.{needs}
 use Rattle.scripter.specs.PassLaws.{passed-turn}
 use Rattle.scripter.specs.PassLaws.{Passed, passed-start, passed-end, passed-broken, pass-header, pass-placeable, pass-bridged}
 use Rattle.scripter.specs.PassLaws.{pass-few, pass-room}
-use Rattle.script_writes.specs.Wrote.{Wrote, wrote-length}
+use Rattle.script_writes.specs.Wrote.{wrote-length}
 use Rattle.script_writes.specs.Script.{writeStride}
 use Rattle.script_writes.specs.Writes.{writesIn}
 use Rattle.plan_pass.specs.Step.{registersOf, cursorsNext, Placeable, Bridged}

@@ -1,14 +1,14 @@
--- E14 is proved. Assumes nothing.
-use mathlib.Core.Path.{_≡_, refl, sym, ap, ap₂, subst, _∙_}
-use mathlib.Core.Logic.{_⊎_, inl, inr}
-use mathlib.Core.Bool.{Bool, true, false, cond}
-use mathlib.Core.List.{List, [], _∷_, _++_, append-nil}
-use Prim.Native.Nat.{ℕ, zero, suc, _+_, _*_, _/_, _%_, _≤_, _<_}
+-- A planned board's script, record by record: each is taken to its function at its place in the list, the registers end as the sheet has
+-- them, and at any stop each address has its final owner or none. Assumes nothing.
+use mathlib.Core.Path.{_≡_, refl, sym, ap, subst, _∙_}
+use mathlib.Core.Logic.{_⊎_}
+use mathlib.Core.Bool.{true}
+use mathlib.Core.List.{List, [], _∷_, _++_}
+use Prim.Native.Nat.{ℕ, zero, suc, _+_, _≤_, _<_}
 use native.Mathlib.Omega.{arith}
-use lib.Dec.{ltb}
 use lib.ListN.{length, getD, take, drop, length-append, length-drop, take-append-drop}
 use lib.Seq.{take-at, drop-at, take-length, length-take-le}
-use borrow.Author.Tests.{lt-ltb, le-ltb}
+use borrow.Author.Tests.{le-ltb}
 use Rattle.endian.specs.Endian.{Bytes, beBytes}
 use Rattle.records.specs.declared.Next.the-variants.{End, Record}
 use Rattle.records.specs.Records.{nextOf, Parts, partsOf}
@@ -16,18 +16,14 @@ use Rattle.records.specs.RecordsLaws.{partsOf-step}
 use Rattle.pairs.specs.declared.ConfigKind.the-variants.{CfgWr0}
 use Rattle.pools.specs.declared.Space.{Space}
 use Rattle.pools.specs.declared.Space.the-variants.{Memory as memorySpace}
-use Rattle.board.specs.Board.{boardNumber, hostOf, functionsOf}
-use Rattle.board.specs.ToPlacing.{toHost, toPlacing, devfnOf}
-use Rattle.plan_rule.specs.Refusals.{refusalOf}
+use Rattle.board.specs.Board.{hostOf}
+use Rattle.board.specs.ToPlacing.{toHost}
 use Rattle.tlp.specs.Reading.{readOf}
 use Rattle.tlp_layout.specs.Layout.{layout}
-use Rattle.walk.specs.Walk.{delivered, refused, noOwner, walkFrom}
-use Rattle.walk.specs.Ids.{tallyById}
+use Rattle.walk.specs.Walk.{delivered, refused, noOwner}
 use Rattle.sheet.specs.Sheet.{fullSheet, partsIn}
-use Rattle.sheet.specs.Spaces.{nodesOf}
 use Rattle.plan_good.specs.Registers.{planHost}
-use Rattle.plan_answer.specs.declared.Planning.{Planning}
-use Rattle.plan_answer.specs.declared.Planning.the-variants.{Planned, Refused as NotPlanned}
+use Rattle.plan_answer.specs.declared.Planning.the-variants.{Planned}
 use Rattle.plan_answer.specs.Plan.{planning}
 use Rattle.plan_sheet.specs.Answer.{AnswersPlanned, planned-of-answer}
 use Rattle.plan_sheet.specs.Delivery.{sheetOutcome}
@@ -37,17 +33,15 @@ use Rattle.route.specs.Route.{routePacket}
 use Rattle.script_writes.specs.declared.Boot.{Boot}
 use Rattle.script_writes.specs.Writes.{Write, writesOf}
 use Rattle.script_writes.specs.Script.{packetWith, packetOf, fourOf, writePart, writeBytes, nextTag, scriptFrom, tagAfter}
-use Rattle.script_writes.specs.ScriptLaws.{length-header, length-writePart, length-writeBytes, length-script, tag-is}
-use Rattle.scripter.specs.declared.Scripting.{Scripting}
-use Rattle.scripter.specs.declared.Scripting.the-variants.{Written, Refused}
-use Rattle.scripter.specs.Scripting.{plannedSheet, boardWrites, bootOf, scriptOf, scriptLength, scriptingAs, scripting, roomAs, roomAfter}
+use Rattle.script_writes.specs.ScriptLaws.{length-header, length-writePart, length-writeBytes, tag-is}
+use Rattle.scripter.specs.Scripting.{plannedSheet, boardWrites, bootOf}
 use Rattle.script_run.specs.Model.{modelOf, run}
 use Rattle.script_run.specs.StateLaws.{stateOf}
-use Rattle.script_run.specs.Delivered.{Scriptable, crossed, write-delivered, header-read, here, final-walk, writeParts, run-is}
+use Rattle.script_run.specs.Delivered.{Scriptable, write-delivered, header-read, final-walk, writeParts, run-is}
 use Rattle.script_run.specs.Ends.{ends-as-sheet}
 use Rattle.script_run.specs.Safe.{owner-or-none}
 use Rattle.script_run.specs.Planned.{sheet, scriptable, endable}
-use Rattle.script_run.specs.WriteScript.{scriptParts, stateAfter, tagAt, bridgesAbove, TakenInPlace, WriteScript}
+use Rattle.script_run.specs.Run.{scriptParts, stateAfter, tagAt, TakenInPlace}
 
 -- ## A script's records
 
@@ -76,7 +70,7 @@ parts-of-script boot tag (w ∷ ws) =
     partsOf-step (writeBytes boot tag w ++ rest) (Record 16) (next-of-write boot tag w rest)
     ∙ rw (take-of-write boot tag w rest, drop-of-write boot tag w rest, parts-of-script boot (nextTag tag) ws)
 
-length-parts : (boot : Boot) (tag : ℕ) (ws : List Write) → length (writeParts boot tag ws) ≡ length ws
+pub length-parts : (boot : Boot) (tag : ℕ) (ws : List Write) → length (writeParts boot tag ws) ≡ length ws
 unfolding writeParts
 length-parts boot tag [] = refl
 length-parts boot tag (w ∷ ws) = ap suc (length-parts boot (nextTag tag) ws)
@@ -88,32 +82,6 @@ part-at boot tag [] zero w rest e = absurd (let z : _≡_ {A = ℕ} 0 1 = cc in 
 part-at boot tag [] (suc j) w rest e = absurd (let z : _≡_ {A = ℕ} 0 1 = cc in omega arith)
 part-at boot tag (v ∷ ws) zero w rest e = let same : v ≡ w = cc in ap (writePart boot tag) same
 part-at boot tag (v ∷ ws) (suc j) w rest e = part-at boot (nextTag tag) ws j w rest e
-
--- ## What the call answers
-
-written-size : (p : Planning) (size room n : ℕ) → scriptingAs p size room ≡ Written n → size ≡ n
-written-size (NotPlanned m) size room n e = absurd (let z : _≡_ {A = ℕ} 0 1 = cc in omega arith)
-written-size (Planned m) size room n e = go (ltb room size) e
-  where
-    go : (t : Bool) → cond t (Refused 11) (Written size) ≡ Written n → size ≡ n
-    go true e = absurd (let z : _≡_ {A = ℕ} 0 1 = cc in omega arith)
-    go false e = cc
-
-script-starts : (b room : List ℕ) (requester tag n : ℕ) → scripting b (length room) ≡ Written n
-    → (take n (roomAfter b requester tag room) ≡ scriptOf b requester tag) × (drop n (roomAfter b requester tag room) ≡ drop n room)
-unfolding scripting roomAfter
-script-starts b room requester tag n e =
-    let script = scriptOf b requester tag in
-    let size : length (scriptOf b requester tag) ≡ n =
-    length-script (bootOf b requester) tag (boardWrites b) ∙ written-size (planning b fullSheet) (scriptLength b) (length room) n e in
-    let room-is = ap (λ (s : Scripting). roomAs s b requester tag room) e in (
-      ap (take n) room-is ∙ take-at (scriptOf b requester tag) (drop n room) n size,
-      ap (drop n) room-is ∙ drop-at (scriptOf b requester tag) (drop n room) n size,
-    )
-
-answer-as : (b : List ℕ) (room : ℕ) (p : Planning) → planning b fullSheet ≡ p → scripting b room ≡ scriptingAs p (scriptLength b) room
-unfolding scripting
-answer-as b room p e = ap (λ (x : Planning). scriptingAs x (scriptLength b) room) e
 
 -- ## What its records do
 
@@ -145,8 +113,8 @@ module _ (b : List ℕ) (n requester tag : ℕ) (bytes : Bytes b) (planned : pla
       ∙ run-is can (bootOf b requester) refl requester-fits j tag tag-fits
       ∙ ap (λ (ws : List Write). stateOf (plannedSheet b) (take j ws)) (sym writes-are)
 
-  taken : (j : ℕ) (w : Write) (rest : List Write) → drop j (boardWrites b) ≡ w ∷ rest → TakenInPlace b requester tag j w
-  taken j w rest e =
+  pub taken-in-place : (j : ℕ) (w : Write) (rest : List Write) → drop j (boardWrites b) ≡ w ∷ rest → TakenInPlace b requester tag j w
+  taken-in-place j w rest e =
       let ws = boardWrites b in
       let done = take j (boardWrites b) in
       let at : writesOf (partsIn (plannedSheet b)) ≡ take j (boardWrites b) ++ (w ∷ rest) =
@@ -177,15 +145,15 @@ module _ (b : List ℕ) (n requester tag : ℕ) (bytes : Bytes b) (planned : pla
             ∙ ap (λ (c : ℕ). Delivered (arrival c)) count;
       }
 
-  ends : stateAfter b requester tag (length (boardWrites b)) ≡ plannedSheet b
-  ends =
+  pub ends-as-planned : stateAfter b requester tag (length (boardWrites b)) ≡ plannedSheet b
+  ends-as-planned =
       state-is (length (boardWrites b)) ∙ ap (stateOf (plannedSheet b)) (take-length (boardWrites b) ∙ writes-are)
       ∙ ends-as-sheet (plannedSheet b) (endable b bytes (answer .accepted) (answer .not-refused))
 
-  owned : (j : ℕ) (sp : Space) (address : ℕ)
+  pub owner-or-none-after : (j : ℕ) (sp : Space) (address : ℕ)
       → (sheetOutcome sp (stateAfter b requester tag j) address ≡ sheetOutcome sp (plannedSheet b) address)
       ⊎ (sheetOutcome sp (stateAfter b requester tag j) address ≡ refused noOwner)
-  owned j sp address =
+  owner-or-none-after j sp address =
       subst (λ (s : List ℕ). (sheetOutcome sp s address ≡ sheetOutcome sp (plannedSheet b) address)
       ⊎ (sheetOutcome sp s address ≡ refused noOwner))
       (sym (state-is j))
@@ -193,27 +161,3 @@ module _ (b : List ℕ) (n requester tag : ℕ) (bytes : Bytes b) (planned : pla
       (drop j (boardWrites b))
       (sym writes-are ∙ sym (take-append-drop j (boardWrites b))) sp
       (sheet b bytes (answer .accepted) (answer .not-refused) .good sp) address)
-
--- ## The theorem
-
-keeps-room : (b room : List ℕ) (requester tag n : ℕ) → scripting b (length room) ≡ Refused n → roomAfter b requester tag room ≡ room
-unfolding roomAfter
-keeps-room b room requester tag n e = ap (λ (s : Scripting). roomAs s b requester tag room) e
-
-pub write-script : WriteScript
-write-script =
-    record {
-      refused-as-planned = λ b room n e. answer-as b (length room) (NotPlanned n) e;
-      short-room = λ b room n e l. answer-as b (length room) (Planned n) e ∙ rw (lt-ltb (length room) (scriptLength b) l);
-      else-written = λ b room n e l. answer-as b (length room) (Planned n) e ∙ rw (le-ltb (length room) (scriptLength b) l);
-      refused-keeps-room = keeps-room;
-      script-starts-room = script-starts;
-      one-record-a-write = λ b requester tag.
-          let ps = parts-of-script (bootOf b requester) tag (boardWrites b) in (
-            ap (λ (p : Parts). p .whole) ps,
-            ap (λ (p : Parts). length (p .parts)) ps ∙ length-parts (bootOf b requester) tag (boardWrites b),
-          );
-      taken-in-place = taken;
-      ends-as-planned = ends;
-      owner-or-none = owned;
-    }
