@@ -121,6 +121,11 @@ module _ {s : List ℕ} {f : Feed} {room : List ℕ} (fed : Fed s f room) where
       ap (take (f .count)) (fed .put .stored ∙ sets-eq s (fed .room-before) 0 (omega (arith, fed .size)))
       ∙ take-at s (drop (0 + length s) (fed .room-before)) (f .count) (sym n)
 
+  -- of an input that is not too long all is kept
+  pub kept-of-short : isLong f ≡ false → take (f .count) room ≡ s
+  unfolding isLong
+  kept-of-short e = kept-is (omega (arith, ltb-false mostBytes (f .count) e, count-is))
+
   pub any-planning : (size : ℕ) → planningOf f room size ≡ planning s size
   unfolding planningOf
   any-planning size = go (ltb mostBytes (length s)) refl

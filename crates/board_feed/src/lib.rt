@@ -112,14 +112,14 @@ impl Feed {
         sheet_text::put_planning(answer, 0, planning, sheet)
     }
 
-    fn is_long(self) -> bool
+    pub fn is_long(self) -> bool
         ensures { λ r. ⌜ r ≡ isLong self ⌝ }
     {
         KEPT <= self.count
     }
 
     // The number of an input that is longer than any lawful board.
-    fn frame_number(self) -> u8
+    pub fn frame_number(self) -> u8
         ensures { λ r. ⌜ r ≡ frameNumber self ⌝ }
     {
         let stage = self.stage;

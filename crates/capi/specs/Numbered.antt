@@ -37,7 +37,7 @@ use Rattle.sheet.specs.declared.Found.{Found}
 use Rattle.sheet.specs.declared.Found.the-variants.{At, Nothing}
 use Rattle.sheet.specs.declared.RecordId.{RecordId}
 use Rattle.sheet.specs.declared.Lookup.{Lookup}
-use Rattle.sheet.specs.Sheet.{entriesOf, findFrom, sheetNumber, sheetLength}
+use Rattle.sheet.specs.Sheet.{fullSheet, entriesOf, findFrom, sheetNumber, sheetLength}
 use Rattle.sheet_record.specs.Entry.{Entry}
 use Rattle.sheet.specs.Lookup.{placed, lookupOf, idAt, idOfRecord, recordId}
 use Rattle.sheet.specs.Spaces.{nodesOf}
@@ -73,6 +73,8 @@ use Rattle.capi_answers.specs.AnswersLaws.{Numbered}
 use Rattle.capi_trace.specs.Calls.{onLines, pieceOn, pieceAnswer, endOn, endAnswer}
 use Rattle.capi_cards.specs.Calls.{sendAnswer}
 use Rattle.capi_cards.specs.Numbered.{NumberedOutcome, numbered-walk, numbered-sending}
+use Rattle.capi_script.specs.Calls.{scriptAnswer}
+use Rattle.capi_script.specs.Refused.{script-numbered}
 use Rattle.capi.specs.Calls.{onReading, readAnswer, onWriting, onParsed, writeAnswer, onLookup, lookupAnswer}
 use Rattle.capi_find.specs.Calls.{onRouting, findAnswer}
 use Rattle.capi.specs.Calls.{onRecordId, idAnswer, routeAnswer}
@@ -328,6 +330,12 @@ numbered-plan board room =
     let roomy = either NumberedPlanning (ltb room size) (NotPlanned 11) (Planned size) (omega arith) tt in
     let kept = unless-zero NumberedPlanning out (cond (ltb room size) (NotPlanned 11) (Planned size)) (NotPlanned out) roomy (λ h. h) in
     unless-zero NumberedPlanning (boardNumber board) (onBoard (hostOf board) fs room) (NotPlanned (boardNumber board)) kept (λ h. h)
+
+-- ## A script
+
+pub numbered-script : (board : List ℕ) (requester tag room : ℕ) → Numbered (scriptAnswer board requester tag room)
+numbered-script board requester tag room =
+    script-numbered board requester tag room (λ n e. subst NumberedPlanning e (numbered-plan board fullSheet))
 
 -- ## A trace
 

@@ -23,6 +23,8 @@ use Rattle.index_build.specs.Build.{buildNumber, indexAfter}
 use Rattle.capi_answers.specs.Answers.{Answer, returned, filled}
 use Rattle.capi_answers.specs.AnswersLaws.{one-given, refused-keeps-slice}
 use Rattle.capi_trace.specs.Calls.{pieceAnswer, stateLeft, linesLeft, endAnswer, endLeft}
+use Rattle.capi_script.specs.Calls.{scriptAnswer, scriptLeft}
+use Rattle.capi_script.specs.Refused.{refused-keeps-script}
 use Rattle.capi_trace.specs.Refused.{refused-keeps-state, refused-keeps-lines, refused-keeps-last}
 use Rattle.capi_ledger.specs.Calls.{openAnswer, openLeft, completeAnswer, completeLeft}
 use Rattle.capi_ledger.specs.Refused.{refused-open-keeps, refused-complete-keeps}
@@ -38,6 +40,9 @@ pub record RefusedKeeps : Type 0 where
   -- the sheet of a plan
   pub planned-sheet : (board sheet written : List ℕ) → ¬ (returned (planAnswer board (length sheet)) written ≡ 0)
       → sheetLeft board sheet written ≡ sheet
+  -- the room of a script
+  pub script-room : (board : List ℕ) (requester tag : ℕ) (room written : List ℕ)
+      → ¬ (returned (scriptAnswer board requester tag (length room)) written ≡ 0) → scriptLeft board requester tag room written ≡ room
   -- the sheet of a command word
   pub commanded-sheet : (sheet : List ℕ) (id command : ℕ) → ¬ (commandNumber sheet id command ≡ 0) → commandLeft sheet id command ≡ sheet
   -- the slice of an index
@@ -109,6 +114,7 @@ refused-keeps =
       answer-slice = refused-keeps-slice;
       room = keeps-room;
       planned-sheet = keeps-planned;
+      script-room = refused-keeps-script;
       commanded-sheet = keeps-sheet;
       index-slice = keeps-index;
       trace-state = refused-keeps-state;

@@ -16,6 +16,7 @@ ghost use Rattle.capi_cards.specs.Calls.{sendAnswer};
 ghost use Rattle.capi_find.specs.Calls.{findAnswer};
 ghost use Rattle.capi_trace.specs.Calls.{pieceAnswer, stateLeft, linesLeft, endAnswer, endLeft};
 ghost use Rattle.capi_ledger.specs.Calls.{openAnswer, openLeft, completeAnswer, completeLeft, countAnswer};
+ghost use Rattle.capi_script.specs.Calls.{scriptAnswer, scriptLeft};
 ghost use Rattle.capi.specs.Calls.{readAnswer, onWriting, writeAnswer, roomLeft, lookupAnswer, idAnswer, unownedOf};
 ghost use Rattle.capi.specs.Calls.{commandNumber, commandLeft, routeAnswer, planAnswer, sheetLeft};
 use packet::Packet;
@@ -69,6 +70,30 @@ pub extern "C" fn cartsundial_plan(board: &[u8], sheet: &mut [u8], written: &mut
         Planning::Planned(n) => capi_answers::give_one(n as u64, written),
         Planning::Refused(n) => n as u32,
     }
+}
+
+// Writes a board's script, the configuration writes that bring its functions to the planned sheet, and the script's length. A requester ID
+// above FFFFh or a first tag above FFh is 10, tried first.
+#[no_mangle]
+pub extern "C" fn cartsundial_script(
+    board: &[u8],
+    requester: u32,
+    first_tag: u32,
+    script: &mut [u8],
+    written: &mut [u64],
+) -> u32
+    ensures { λ r. ⌜
+        r ≡ returned (scriptAnswer (now (board .entry)) requester «first_tag» (length (now (script .entry)))) (now (written .entry))
+        ⌝ }
+    ensures { λ _. ⌜
+        now (script .exit) ≡ scriptLeft (now (board .entry)) requester «first_tag» (now (script .entry)) (now (written .entry))
+        ⌝ }
+    ensures { λ _. ⌜
+        now (written .exit)
+        ≡ filled (scriptAnswer (now (board .entry)) requester «first_tag» (length (now (script .entry)))) (now (written .entry))
+        ⌝ }
+{
+    capi_script::script(board, requester, first_tag, script, written)
 }
 
 // 0 for a sheet that passes, or its number.

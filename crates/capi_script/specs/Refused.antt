@@ -2,7 +2,7 @@
 -- (`refused-keeps-slice` of capi_answers). Assumes nothing.
 use Prim.Native.Nat.{ℕ, _<_}
 use native.Mathlib.Omega.{arith}
-use mathlib.Core.Path.{_≡_, refl, _∙_}
+use mathlib.Core.Path.{_≡_, refl}
 use mathlib.Core.Bool.{Bool, true, false, cond}
 use mathlib.Core.List.{List}
 use lib.ListN.{length}
@@ -39,10 +39,10 @@ refused-keeps-script board requester tag room written = by-width (tooWide reques
     by-width false h = by-slice (eqb (length written) 0) refl h
 
 -- the planner's own refusals are not 0
-pub numbered-script : (board : List ℕ) (requester tag room : ℕ) → ((n : ℕ) → planning board fullSheet ≡ NotPlanned n → 0 < n)
+pub script-numbered : (board : List ℕ) (requester tag room : ℕ) → ((n : ℕ) → planning board fullSheet ≡ NotPlanned n → 0 < n)
     → Numbered (scriptAnswer board requester tag room)
 unfolding scripting
-numbered-script board requester tag room numbered = by-width (tooWide requester tag)
+script-numbered board requester tag room numbered = by-width (tooWide requester tag)
   where
     by-room : (t : Bool) → Numbered (onScripting (cond t (Refused 11) (Written (scriptLength board))))
     by-room true = omega arith

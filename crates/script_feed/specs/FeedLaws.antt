@@ -1,0 +1,246 @@
+-- Wherever the cuts fall, an input of any length comes to the program's answer on all its bytes. Assumes nothing.
+use mathlib.Core.Path.{_≡_, refl, sym, ap, ap₂, _∙_}
+use mathlib.Core.Bool.{Bool, true, false, cond}
+use mathlib.Core.List.{List, [], _∷_, _++_, append-nil, append-assoc, flatten}
+use Prim.Native.Nat.{ℕ, _+_, _-_, _≤_, _<_, min}
+use native.Mathlib.Omega.{arith}
+use lib.ListN.{length, getD, take, drop, length-drop, drop-of-length-le}
+use lib.Seq.{sets-eq, take-at, take-all, length-take-le, getD-take, take-append-le, take-append-add, drop-append-le, drop-append-add}
+use lib.Dec.{ltb}
+use borrow.Author.Tests.{ltb-true, ltb-false}
+use Rattle.endian.specs.Endian.{Bytes}
+use Rattle.endian.specs.EndianLaws.{be-agree}
+use Rattle.endian.specs.BytesLaws.{bytes-drop}
+use Rattle.text.specs.Text.{Put}
+use Rattle.text.specs.TextLaws.{put-append, put-length}
+use Rattle.records.specs.RecordsLaws.{fits-at}
+use Rattle.board.specs.BoardLaws.{accepted-of-zero}
+use Rattle.sheet.specs.Sheet.{fullSheet}
+use Rattle.plan_answer.specs.declared.Planning.{Planning}
+use Rattle.plan_answer.specs.declared.Planning.the-variants.{Planned, Refused as NotPlanned}
+use Rattle.plan_answer.specs.Plan.{planning}
+use Rattle.plan_sheet.specs.Answer.{planned-of-answer}
+use Rattle.board_feed.specs.declared.Feed.{Feed}
+use Rattle.board_feed.specs.Feed.{isLong, frameNumber, planningOf}
+use Rattle.board_feed.specs.Feed as board
+use Rattle.board_feed.specs.FeedLaws as board-laws
+use Rattle.board_feed.specs.FeedLaws.{any-planning, kept-of-short}
+use Rattle.sheet_text.specs.Listing.{refusalText}
+use Rattle.sheet_text.specs.LengthLaws.{put-whole, refusal-short}
+use Rattle.scripter.specs.declared.Scripting.{Scripting}
+use Rattle.scripter.specs.declared.Scripting.the-variants.{Written, Refused}
+use Rattle.scripter.specs.Scripting.{scriptOf, scripting, roomAfter}
+use Rattle.scripter.specs.AnswerLaws.{refused-as-planned, else-written, refused-keeps-room, length-written}
+use Rattle.scripter.specs.LongestLaws.{longestScript, script-length-le}
+use Rattle.script_feed.specs.declared.Input.{Input}
+use Rattle.script_feed.specs.Program.{frontSize, boardIn, requesterIn, tagIn, onPlanning, programOf}
+use Rattle.script_feed.specs.Feed.{started, beforeBoard, ofBoard, fedOf, frontAfter, keptAfter, boardOf, scriptingOf, roomOf, answerAs}
+use Rattle.script_feed.specs.Feed.{answerOf}
+
+-- ## In the words of the code
+
+pub started-is : (b : Feed) → b ≡ board.started → _≡_ {A = Input} (record { front = 0; board = b }) started
+started-is b e = rw e
+
+pub fed-is : (f : Input) (front piece : List ℕ) (n : ℕ) (g : Feed) → length front ≡ frontSize
+    → n ≡ min (f .front + length (beforeBoard f piece)) (length front) → g ≡ board.fedOf (f .board) (ofBoard f piece)
+    → _≡_ {A = Input} (record { front = n; board = g }) (fedOf f piece)
+fed-is f front piece n g l e fed = rw (fed, e, l)
+
+module _ (f : Input) (front kept answer after : List ℕ) (w : Scripting) (n : ℕ) (l : length answer ≡ longestScript)
+    (w-is : w ≡ scriptingOf f kept (length answer)) (after-is : after ≡ roomOf f front kept answer) where
+  script-is : (v : Scripting) → w ≡ v → answerOf f front kept ≡ answerAs v (boardOf f kept) front
+  unfolding answerOf
+  script-is v e =
+      ap (λ (k : ℕ). answerAs (scriptingOf f kept k) (boardOf f kept) front) (sym l)
+      ∙ ap (λ (x : Scripting). answerAs x (boardOf f kept) front) (sym w-is ∙ e)
+
+  -- a script fills the room that it is printed from
+  pub printed-script : w ≡ Written n
+      → (n ≡ length (answerOf f front kept)) × (after ≡ answerOf f front kept ++ drop n answer)
+  unfolding scriptingOf roomOf roomAfter
+  printed-script e = rw (script-is (Written n) e) (go (isLong (f .board)) refl (sym w-is ∙ e))
+    where
+      go : (t : Bool) → isLong (f .board) ≡ t
+          → cond t (Refused (frameNumber (f .board))) (scripting (boardOf f kept) (length answer)) ≡ Written n
+          → (n ≡ length (scriptOf (boardOf f kept) (requesterIn front) (tagIn front)))
+          × (after ≡ scriptOf (boardOf f kept) (requesterIn front) (tagIn front) ++ drop n answer)
+      go true long q = absurd (let z : _≡_ {A = ℕ} 0 1 = cc in omega arith)
+      go false long q = (
+        sym (length-written (boardOf f kept) (length answer) (requesterIn front) (tagIn front) n q),
+        after-is ∙ rw (long, q),
+      )
+
+  -- a line does too
+  pub printed-refusal : {line : List ℕ} {r : ℕ} → w ≡ Refused n → n < 1000 → Put after 0 (refusalText n) line r
+      → (r ≡ length (answerOf f front kept)) × (line ≡ answerOf f front kept ++ drop r answer)
+  unfolding scriptingOf roomOf
+  printed-refusal {line} {r} e small put =
+      let kept-room : after ≡ answer = after-is ∙ go (isLong (f .board)) (sym w-is ∙ e) in
+      let p : Put answer 0 (refusalText n) line r = rw kept-room at put in
+      let done = put-whole (omega (arith, refusal-short n small, l)) p in
+      rw (script-is (Refused n) e) (done .0, done .1 ∙ ap (λ (k : ℕ). refusalText n ++ drop k answer) (sym (done .0)))
+    where
+      go : (t : Bool) → cond t (Refused (frameNumber (f .board))) (scripting (boardOf f kept) (length answer)) ≡ Refused n
+          → cond t answer (roomAfter (boardOf f kept) (requesterIn front) (tagIn front) answer) ≡ answer
+      go true q = refl
+      go false q = refused-keeps-room (boardOf f kept) answer (requesterIn front) (tagIn front) n q
+
+-- ## What was fed
+
+-- s was fed, from a start with some room for the first three bytes and for the board
+pub record Fed (s : List ℕ) (f : Input) (front kept : List ℕ) : Type 0 where
+  pub front-before : List ℕ
+  pub size : length front-before ≡ frontSize
+  pub put : Put front-before 0 (take frontSize s) front (f .front)
+  pub of-board : board-laws.Fed (boardIn s) (f .board) kept
+
+fed-start : (front kept : List ℕ) → length front ≡ frontSize → length kept ≡ board.kept → Fed [] started front kept
+fed-start front kept l k =
+    record {
+      front-before = front;
+      size = l;
+      put = record { stored = refl; place = omega arith };
+      of-board = board-laws.fed-start kept k;
+    }
+
+-- how much of a piece comes before the board
+module _ (n : ℕ) (s piece : List ℕ) (e : n ≡ min (length (take frontSize s)) frontSize) where
+  front-append : take frontSize (s ++ piece) ≡ take frontSize s ++ take (frontSize - n) piece
+  front-append = go (ltb (length s) frontSize) refl
+    where
+      go : (b : Bool) → ltb (length s) frontSize ≡ b → take frontSize (s ++ piece) ≡ take frontSize s ++ take (frontSize - n) piece
+      go true b =
+          let h = ltb-true (length s) frontSize b in
+          let all : take frontSize s ≡ s = take-all frontSize s (omega arith) in
+          let k : frontSize ≡ length s + (frontSize - n) = omega (arith, ap length all) in
+          ap (λ (m : ℕ). take m (s ++ piece)) k ∙ take-append-add s piece (frontSize - n)
+          ∙ ap (_++ take (frontSize - n) piece) (sym all)
+      go false b =
+          let h = ltb-false (length s) frontSize b in
+          let z : frontSize - n ≡ 0 = omega (arith, length-take-le frontSize s h) in
+          take-append-le frontSize s piece h ∙ sym (append-nil (take frontSize s))
+          ∙ ap (λ (m : ℕ). take frontSize s ++ take m piece) (sym z)
+
+  board-append : boardIn (s ++ piece) ≡ boardIn s ++ drop (frontSize - n) piece
+  board-append = go (ltb (length s) frontSize) refl
+    where
+      go : (b : Bool) → ltb (length s) frontSize ≡ b → boardIn (s ++ piece) ≡ boardIn s ++ drop (frontSize - n) piece
+      go true b =
+          let h = ltb-true (length s) frontSize b in
+          let all : take frontSize s ≡ s = take-all frontSize s (omega arith) in
+          let k : frontSize ≡ length s + (frontSize - n) = omega (arith, ap length all) in
+          let none : boardIn s ≡ [] = drop-of-length-le s {i = frontSize} (omega arith) in
+          ap (λ (m : ℕ). drop m (s ++ piece)) k ∙ drop-append-add s piece (frontSize - n)
+          ∙ ap (_++ drop (frontSize - n) piece) (sym none)
+      go false b =
+          let h = ltb-false (length s) frontSize b in
+          let z : frontSize - n ≡ 0 = omega (arith, length-take-le frontSize s h) in
+          drop-append-le frontSize s piece h ∙ ap (λ (m : ℕ). boardIn s ++ drop m piece) (sym z)
+
+fed-more : {s : List ℕ} {f : Input} {front kept : List ℕ} → Fed s f front kept → (piece : List ℕ)
+    → Fed (s ++ piece) (fedOf f piece) (frontAfter f front piece) (keptAfter f kept piece)
+fed-more {s} {f} {front} {kept} before piece =
+    let l : length front ≡ frontSize = put-length (before .put) ∙ before .size in
+    let n : f .front ≡ min (length (take frontSize s)) frontSize = omega (arith, before .put .place, before .size) in
+    record {
+      front-before = before .front-before;
+      size = before .size;
+      put =
+          rw (front-append (f .front) s piece n) (put-append (before .put) (record { stored = refl; place = rw l }));
+      of-board = rw (board-append (f .front) s piece n) (board-laws.fed-more (before .of-board) (ofBoard f piece));
+    }
+
+-- ## Any input is scripted
+
+module _ {s : List ℕ} {f : Input} {front kept : List ℕ} (fed : Fed s f front kept) where
+  -- the first three bytes
+  front-byte : frontSize ≤ length s → (j : ℕ) → j < frontSize → getD front j 0 ≡ getD s j 0
+  front-byte long j h =
+      let n : length (take frontSize s) ≡ frontSize = length-take-le frontSize s long in
+      let stored : front ≡ take frontSize s ++ drop (0 + length (take frontSize s)) (fed .front-before) =
+      fed .put .stored ∙ sets-eq (take frontSize s) (fed .front-before) 0 (omega (arith, fed .size)) in
+      let same : take frontSize front ≡ take frontSize s =
+      ap (take frontSize) stored ∙ take-at (take frontSize s) (drop (0 + length (take frontSize s)) (fed .front-before)) frontSize n in
+      sym (getD-take frontSize front j 0 h) ∙ ap (λ (l : List ℕ). getD l j 0) same ∙ getD-take frontSize s j 0 h
+
+  requester-is : frontSize ≤ length s → requesterIn front ≡ requesterIn s
+  requester-is long = be-agree 2 front s 0 0 (λ i l. front-byte long (0 + i) (omega arith))
+
+  by-front : (b : List ℕ) → frontSize ≤ length s
+      → scriptOf b (requesterIn front) (tagIn front) ≡ scriptOf b (requesterIn s) (tagIn s)
+  by-front b long = ap₂ (scriptOf b) (requester-is long) (front-byte long 2 (omega arith))
+
+  -- a board that is planned has a host record
+  not-short : (n : ℕ) → planning (boardIn s) fullSheet ≡ Planned n → frontSize ≤ length s
+  not-short n planned =
+      let a = accepted-of-zero (boardIn s) (planned-of-answer (boardIn s) fullSheet n planned .accepted) in
+      omega (arith, fits-at (boardIn s) 1 30 (a .host-record), length-drop frontSize s)
+
+  planning-is : planningOf (f .board) kept fullSheet ≡ planning (boardIn s) fullSheet
+  planning-is = any-planning (fed .of-board) fullSheet
+
+  long-planning : isLong (f .board) ≡ true → planningOf (f .board) kept fullSheet ≡ NotPlanned (frameNumber (f .board))
+  unfolding planningOf
+  long-planning e = rw e
+
+  short-answer : Bytes s → answerAs (scripting (boardIn s) longestScript) (boardIn s) front ≡ programOf s
+  short-answer bytes = go (planning (boardIn s) fullSheet) refl
+    where
+      go : (p : Planning) → planning (boardIn s) fullSheet ≡ p
+          → answerAs (scripting (boardIn s) longestScript) (boardIn s) front ≡ onPlanning p s
+      go (NotPlanned n) e =
+          ap (λ (x : Scripting). answerAs x (boardIn s) front) (refused-as-planned (boardIn s) longestScript n e)
+      go (Planned n) e =
+          let fits = script-length-le (boardIn s) n (bytes-drop frontSize s bytes) e in
+          ap (λ (x : Scripting). answerAs x (boardIn s) front) (else-written (boardIn s) longestScript n e fits)
+          ∙ by-front (boardIn s) (not-short n e)
+
+  pub any-answer : Bytes s → answerOf f front kept ≡ programOf s
+  unfolding answerOf scriptingOf
+  any-answer bytes = go (isLong (f .board)) refl
+    where
+      go : (t : Bool) → isLong (f .board) ≡ t
+          → answerAs (cond t (Refused (frameNumber (f .board))) (scripting (boardOf f kept) longestScript)) (boardOf f kept) front
+          ≡ programOf s
+      go true e = sym (ap (λ (p : Planning). onPlanning p s) (sym planning-is ∙ long-planning e))
+      go false e =
+          let b : boardOf f kept ≡ boardIn s = kept-of-short (fed .of-board) e in
+          ap (λ (x : List ℕ). answerAs (scripting x longestScript) x front) b ∙ short-answer bytes
+
+-- ## Pieces
+
+pub record State : Type 0 where
+  pub input : Input
+  pub front : List ℕ
+  pub kept : List ℕ
+
+abbrev next : State → List ℕ → State
+next t piece =
+    record {
+      input = fedOf (t .input) piece;
+      front = frontAfter (t .input) (t .front) piece;
+      kept = keptAfter (t .input) (t .kept) piece;
+    }
+
+unfoldable pub fedAll : State → List (List ℕ) → State
+fedAll t [] = t
+fedAll t (piece ∷ pieces) = fedAll (next t piece) pieces
+
+fed-all : (s : List ℕ) (t : State) (pieces : List (List ℕ)) → Fed s (t .input) (t .front) (t .kept)
+    → Fed (s ++ flatten pieces) (fedAll t pieces .input) (fedAll t pieces .front) (fedAll t pieces .kept)
+unfolding fedAll flatten
+fed-all s t [] f = rw (append-nil s) f
+fed-all s t (piece ∷ pieces) f =
+    rw (← append-assoc s piece (flatten pieces)) (fed-all (s ++ piece) (next t piece) pieces (fed-more f piece))
+
+abbrev pub atEnd : List (List ℕ) → List ℕ → List ℕ → State
+atEnd pieces front kept = fedAll (record { input = started; front = front; kept = kept }) pieces
+
+-- from a start, any pieces come to what the program writes for all their bytes
+pub pieces-scripted : (pieces : List (List ℕ)) (front kept : List ℕ) → length front ≡ frontSize → length kept ≡ board.kept
+    → Bytes (flatten pieces)
+    → answerOf (atEnd pieces front kept .input) (atEnd pieces front kept .front) (atEnd pieces front kept .kept)
+    ≡ programOf (flatten pieces)
+pieces-scripted pieces front kept l k bytes =
+    any-answer (fed-all [] (record { input = started; front = front; kept = kept }) pieces (fed-start front kept l k)) bytes
