@@ -33,7 +33,7 @@ feed-requires c κs = search needs
 
 loop-less : tie.Need-loop-less Inv-loop μ-loop
 loop-less c =
-    let at-count = c .before .before .before .before .before in
+    let at-count = c .before .before .before .before .before .before in
     let count = at-count .count in
     let read-piece = at-count .before .before .before .before .read-piece in
     let read = read-piece in
