@@ -162,6 +162,7 @@ enum cartsundial_field {
 enum cartsundial_size {
     CARTSUNDIAL_HEADER_BYTES = 16,     /* a header written: 12 or 16 bytes */
     CARTSUNDIAL_SHEET_BYTES = 47105,   /* a sheet of 512 functions */
+    CARTSUNDIAL_SCRIPT_BYTES = 73692,  /* the script of any board: at most 4,094 writes of 18 bytes */
     CARTSUNDIAL_HOST_BYTES = 30,       /* a board's host record, after its length */
     CARTSUNDIAL_REGISTER_BYTES = 64,   /* a function's configuration header */
     CARTSUNDIAL_ROUTE_NUMBERS = 22,    /* record, bridges, and a packet: every route but a broadcast's */
@@ -206,6 +207,20 @@ uint32_t cartsundial_write(const uint64_t *packet, size_t packet_len, uint8_t *r
  * one that gets the same number ends with that record. (A front that has room for everything gets 11.)
  */
 uint32_t cartsundial_plan(const uint8_t *board, size_t board_len, uint8_t *sheet, size_t sheet_len, uint64_t *written, size_t written_len);
+
+/*
+ * Writes a board's plan as the configuration writes that boot code makes, at the front of script and nothing past them: a record for each
+ * write, of two length bytes (0, 16), twelve header bytes and four data bytes in register order. First come the bus registers of the bridges,
+ * then the used BARs and all window registers, then the command words, each by record; type 0 for the host's first bus and type 1 below; a
+ * byte that a write does not enable is 0. requester: the ID that the writes come from. first_tag: the first write's tag, one up at each
+ * write, 0 after 255. written: the script's length, at most CARTSUNDIAL_SCRIPT_BYTES.
+ * Made in this order on functions whose other registers are zero, each write reaches its function, the last leaves the planned sheet, and
+ * after any of them a memory or I/O address has the owner that it will have, or none. That is proved.
+ * Refused: 10 for a requester above FFFFh or a first_tag above FFh, tried first; 20 to 26 and 30 to 33, as cartsundial_plan; then 11 for a
+ * short script slice, or a written slice of no numbers.
+ */
+uint32_t cartsundial_script(const uint8_t *board, size_t board_len, uint32_t requester, uint32_t first_tag,
+                            uint8_t *script, size_t script_len, uint64_t *written, size_t written_len);
 
 /*
  * 0 for a sheet that passes its checks, or the number of the first that it fails, 20 to 29. Give the sheet's own length, not the buffer's.

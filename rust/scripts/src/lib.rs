@@ -1,6 +1,6 @@
 //! Chosen cases as scripts, one request to a line (`plain`'s program `answers` says which), and as runs of the programs
-//! `plan`, `script`, `annotate`, `audit` and `label`: the same bytes at every run. The answers to the lines of `test_headers`, which
-//! are chosen by hand.
+//! `plan`, `annotate`, `audit`, `label` and `script`: the same bytes at every run. The answers to the lines of
+//! `test_headers`, which are chosen by hand.
 
 #![forbid(unsafe_code)]
 

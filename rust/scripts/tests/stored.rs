@@ -1,6 +1,6 @@
-//! tests/plan has the runs of `plans`, tests/script those of `writes`, tests/annotate those of `traces`, tests/audit those of `audits` and tests/label those
-//! of `labels`, with what plain prints for them, and no other file; tests/audit has the sheets that real firmware left as
-//! well. The stored lines of `test_headers` have plain's answers.
+//! tests/plan has the runs of `plans`, tests/annotate those of `traces`, tests/audit those of `audits`, tests/label those of
+//! `labels` and tests/script those of `writes`, with what plain prints for them, and no other file; tests/audit has the
+//! sheets that real firmware left as well. The stored lines of `test_headers` have plain's answers.
 
 use std::collections::BTreeMap;
 use std::fs;
@@ -39,12 +39,6 @@ fn runs_of_plan() {
 }
 
 #[test]
-fn runs_of_script() {
-    let runs = stored(scripts::writes(), "in", plain::script_program);
-    agree(&files("script"), &runs, "cargo run --bin writes tests/script");
-}
-
-#[test]
 fn runs_of_annotate() {
     let runs = stored(scripts::traces(), "in", plain::program);
     agree(&files("annotate"), &runs, "cargo run --bin traces tests/annotate");
@@ -68,6 +62,12 @@ fn runs_of_audit() {
 fn runs_of_label() {
     let runs = stored(scripts::labels(), "in", plain::label_program);
     agree(&files("label"), &runs, "cargo run --bin labels tests/label");
+}
+
+#[test]
+fn runs_of_script() {
+    let runs = stored(scripts::writes(), "in", plain::script_program);
+    agree(&files("script"), &runs, "cargo run --bin writes tests/script");
 }
 
 /// The line of a run whose name says a number.
@@ -94,6 +94,19 @@ fn names_of_labels() {
             Some(line) => assert_eq!(printed, line, "{name}"),
             None => assert!(!printed.starts_with("refused"), "{name}"),
         }
+    }
+}
+
+/// A run whose name says a number is refused with it, any other is written; the longest is as long as a script can be.
+#[test]
+fn names_of_scripts() {
+    for (name, input) in scripts::writes() {
+        let printed = plain::script_program(&input);
+        match refusal(name) {
+            Some(line) => assert_eq!(printed, line.as_bytes(), "{name}"),
+            None => assert!(!printed.starts_with(b"refused"), "{name}"),
+        }
+        assert!(name != "longest" || printed.len() == 73_692);
     }
 }
 
