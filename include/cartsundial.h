@@ -210,10 +210,10 @@ uint32_t cartsundial_plan(const uint8_t *board, size_t board_len, uint8_t *sheet
 
 /*
  * Writes a board's plan as the configuration writes that boot code makes, at the front of script and nothing past them: a record for each
- * write, of two length bytes (0, 16), twelve header bytes and four data bytes in register order. First come the bus registers of the bridges,
- * then the used BARs and all window registers, then the command words, each by record; type 0 for the host's first bus and type 1 below; a
- * byte that a write does not enable is 0. requester: the ID that the writes come from. first_tag: the first write's tag, one up at each
- * write, 0 after 255. written: the script's length, at most CARTSUNDIAL_SCRIPT_BYTES.
+ * write, of two length bytes (0, 16), twelve header bytes and four data bytes in register order. First come the bus registers of the
+ * bridges, then the used BARs and all window registers, then the command words, each by record; type 0 for the host's first bus and type 1
+ * below; a byte that a write does not enable is 0. requester: the ID that the writes come from. first_tag: the first write's tag, one up at
+ * each write, 0 after 255. written: the script's length, at most CARTSUNDIAL_SCRIPT_BYTES.
  * Made in this order on functions whose other registers are zero, each write reaches its function, the last leaves the planned sheet, and
  * after any of them a memory or I/O address has the owner that it will have, or none. That is proved.
  * Refused: 10 for a requester above FFFFh or a first_tag above FFh, tried first; 20 to 26 and 30 to 33, as cartsundial_plan; then 11 for a
