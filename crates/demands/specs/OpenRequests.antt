@@ -62,7 +62,7 @@ pub record OpenRequests : Type 0 where
       → Answers s k h o → OpenFor (keyFor h) p cs → mismatchFor (kindOf p) k (o .status) ≡ false
       → (completeNumber s (after cs) ≡ 65) ↔ ((o .status ≡ 0) × (headOf p .length < delivered (keyFor h) cs + h .length))
   -- "Numbers .. change nothing."
-  pub refused-changes-nothing : (c : Call) (ws : List ℕ) → (numberOf (verdictOf c ws) ≡ 0 → ⊥) → wordsAfter (verdictOf c ws) ws ≡ ws
+  pub refused-changes-nothing : (c : Call) (ws : List ℕ) → ¬ (numberOf (verdictOf c ws) ≡ 0) → wordsAfter (verdictOf c ws) ws ≡ ws
   -- "A read stays open until successful completions have delivered its Length in dwords"
   pub read-closes-exactly : (cs : List Call) → Headers cs → (s : List ℕ) (k : Completing) (h : Head) (o : Outcome) (p : Packet)
       → Answers s k h o → OpenFor (keyFor h) p cs → kindReads (kindOf p) ≡ true → o .status ≡ 0 → completeNumber s (after cs) ≡ 0
@@ -73,7 +73,7 @@ pub record OpenRequests : Type 0 where
       → Closes s h (after cs)
   -- "An accepted status other than success closes either."
   pub other-status-closes : (ws s : List ℕ) (k : Completing) (h : Head) (o : Outcome)
-      → Answers s k h o → (o .status ≡ 0 → ⊥) → completeNumber s ws ≡ 0 → Closes s h ws
+      → Answers s k h o → ¬ (o .status ≡ 0) → completeNumber s ws ≡ 0 → Closes s h ws
   -- to close is that the key is open no more
   pub closes-exactly : (cs : List Call) → Headers cs → (s : List ℕ) (k : Completing) (h : Head) (o : Outcome) → Answers s k h o
       → completeNumber s (after cs) ≡ 0 → Closes s h (after cs) ↔ IsNew (keyFor h) (after (completes s ∷ cs))
@@ -81,6 +81,6 @@ pub record OpenRequests : Type 0 where
   pub counted : (cs : List Call) → opened cs ≡ closed cs + inUse (after cs)
   -- ", and freed places are used again": after a place is freed no request finds the ledger full, and the next is put there, or before it
   pub freed-has-room : (ws s t : List ℕ) (i : ℕ) (p : Packet) → completingOf s ws ≡ Closed i → Asks t p
-      → openNumber t (completeAfter s ws) ≡ 62 → ⊥
+      → ¬ (openNumber t (completeAfter s ws) ≡ 62)
   pub freed-used-again : (ws s t : List ℕ) (i j w : ℕ) → completingOf s ws ≡ Closed i → openingOf t (completeAfter s ws) ≡ Opened j w
       → j ≤ i

@@ -27,14 +27,14 @@ abbrev pub Headers : List Call → Type 0
 Headers cs = All (λ c. Bytes (headerOf c)) cs
 
 abbrev pub IsUsed : List ℕ → ℕ → Type 0
-IsUsed ws i = keyIn (getD ws i 0) ≡ 0 → ⊥
+IsUsed ws i = ¬ (keyIn (getD ws i 0) ≡ 0)
 
 -- some place holds the key
 abbrev pub IsOpen : ℕ → List ℕ → Type 0
 IsOpen key ws = (i : ℕ) × (keyIn (getD ws i 0) ≡ key)
 
 abbrev pub IsNew : ℕ → List ℕ → Type 0
-IsNew key ws = IsOpen key ws → ⊥
+IsNew key ws = ¬ IsOpen key ws
 
 -- the header is a non-posted request
 pub record Asks (s : List ℕ) (p : Packet) : Type 0 where

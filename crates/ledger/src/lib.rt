@@ -226,6 +226,12 @@ fn disagree(word: u64, k: CompletionKind, status: u8) -> bool
             & (differ(has_data(k), is_read(word)) | differ(in_locked_form(k), is_locked(word))))
 }
 
+fn differ(a: bool, b: bool) -> bool
+    ensures { λ r. ⌜ r ≡ differ a b ⌝ }
+{
+    (a & !b) | (!a & b)
+}
+
 // ---- kinds
 
 fn class_of(kind: Kind) -> Class
@@ -326,11 +332,17 @@ fn is_locked(word: u64) -> bool
     word % 2 == 1
 }
 
-fn differ(a: bool, b: bool) -> bool
-    ensures { λ r. ⌜ r ≡ differ a b ⌝ }
+// 0 for a free place.
+fn used_by(word: u64) -> usize
+    ensures { λ r. ⌜ (r ≡ usedBy word) × (r ≤ 1) ⌝ }
 {
-    (a & !b) | (!a & b)
+    if key_in(word) == 0 {
+        return 0;
+    }
+    1
 }
+
+// ---- the search
 
 // The first place with the key, or how many places there are.
 fn find(words: &[u64], key: u32) -> usize
@@ -339,7 +351,7 @@ fn find(words: &[u64], key: u32) -> usize
     find_from(words, key, skip(words, key))
 }
 
-// Four places at a time, which is one comparison for all of them: as far as none of four has the key.
+// As far as none of four places has the key: one comparison for all four.
 fn skip(words: &[u64], key: u32) -> usize
     ensures { λ r. ⌜
         (r ≤ length (now (words .entry)))
@@ -377,13 +389,4 @@ fn find_from(words: &[u64], key: u32, start: usize) -> usize
         i += 1;
     }
     i
-}
-
-fn used_by(word: u64) -> usize
-    ensures { λ r. ⌜ (r ≡ usedBy word) × (r ≤ 1) ⌝ }
-{
-    if key_in(word) == 0 {
-        return 0;
-    }
-    1
 }

@@ -17,51 +17,52 @@ fn main() -> io::Result<()> {
 /// A line for each header that the ledger refuses, 63 for a completion that belongs to nothing; at the end one for each
 /// request that is still open.
 pub fn report(trace: &[u8]) -> String {
-    let mut lines = String::new();
     let Some((1, mut rest)) = trace.split_first().map(|(&version, rest)| (version, rest)) else {
         return "no trace of version 1\n".into();
     };
+    let mut lines = String::new();
     let mut ledger = Ledger::new();
-    let mut openers = HashMap::new();
+    // By requester and tag, the record that asked.
+    let mut askers = HashMap::new();
     let mut record = 0_u64;
     while let Some((&length, after)) = rest.split_first_chunk() {
         let Some((header, after)) = after.split_at_checked(u16::from_be_bytes(length).into()) else { break };
         (record, rest) = (record + 1, after);
-        match follow(&mut ledger, header) {
-            Ok(Some(packet)) => {
-                openers.insert((packet.requester(), packet.tag()), (record, packet.kind()));
-            }
-            // What is posted waits for no answer.
-            Ok(None) | Err((Some(_), Refusal::LedgerKind)) => {}
-            Err((packet, refusal)) => {
-                let name = packet.map_or("-".into(), |packet| name(packet.kind(), packet.requester(), packet.tag()));
-                let _ = writeln!(lines, "{record} {name} {refusal}");
-            }
-        }
+        let line = match read(header) {
+            Ok(packet) => match follow(&mut ledger, &packet) {
+                Ok(true) => {
+                    askers.insert((packet.requester(), packet.tag()), (record, packet));
+                    continue;
+                }
+                // What is posted waits for no answer.
+                Ok(false) | Err(Refusal::LedgerKind) => continue,
+                Err(refusal) => format!("{} {refusal}", name(&packet)),
+            },
+            Err(refusal) => format!("- {refusal}"),
+        };
+        let _ = writeln!(lines, "{record} {line}");
     }
     if !rest.is_empty() {
         lines += "cut\n";
     }
-    let mut unanswered: Vec<_> = ledger.requests().map(|open| (openers[&(open.requester, open.tag)], open)).collect();
+    let mut unanswered: Vec<_> = ledger.requests().map(|open| (askers[&(open.requester, open.tag)], open)).collect();
     unanswered.sort_by_key(|((record, _), _)| *record);
-    for ((record, kind), OpenRequest { requester, tag, asked, left }) in unanswered {
-        let missing = if asked.is_read() { format!(", dwords to come: {left}") } else { String::new() };
-        let _ = writeln!(lines, "{record} {} not answered{missing}", name(kind, requester, tag));
+    for ((record, packet), OpenRequest { kind, left, .. }) in unanswered {
+        let missing = if kind.is_read() { format!(", dwords to come: {left}") } else { String::new() };
+        let _ = writeln!(lines, "{record} {} not answered{missing}", name(&packet));
     }
     lines
 }
 
-/// Opens a request, which is given back, or completes one. A refusal comes with the packet, where there is one.
-fn follow(ledger: &mut Ledger, header: &[u8]) -> Result<Option<Packet>, (Option<Packet>, Refusal)> {
-    let packet = read(header).map_err(|refusal| (None, refusal))?;
-    let followed = match packet.kind() {
-        Kind::Cpl | Kind::CplD | Kind::CplLk | Kind::CplDLk => ledger.complete(header).map(|_| None),
-        _ => ledger.open(header).map(|()| Some(packet)),
-    };
-    followed.map_err(|refusal| (Some(packet), refusal))
+/// Opens a request or completes one; whether it was opened.
+fn follow(ledger: &mut Ledger, packet: &Packet) -> Result<bool, Refusal> {
+    match packet.kind() {
+        Kind::Cpl | Kind::CplD | Kind::CplLk | Kind::CplDLk => ledger.complete(packet.header()).map(|_| false),
+        _ => ledger.open(packet.header()).map(|()| true),
+    }
 }
 
 /// `CplD 01:00.0 tag 021`.
-fn name(kind: Kind, requester: cartsundial::Id, tag: u16) -> String {
-    format!("{kind} {requester} tag {tag:03X}")
+fn name(packet: &Packet) -> String {
+    format!("{} {} tag {:03X}", packet.kind(), packet.requester(), packet.tag())
 }

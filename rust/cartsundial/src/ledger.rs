@@ -14,7 +14,7 @@ const LOCKED: u64 = 1 << 0;
 /// The non-posted requests that wait for completions, up to 256, by requester ID and tag.
 ///
 /// ```
-/// use cartsundial::{Asked, Completed, Id, Ledger, Refusal};
+/// use cartsundial::{Completed, Id, Ledger, Refusal, RequestKind};
 ///
 /// // A memory read of four dwords by 12:06.4 under tag 7, and two completions with two dwords each.
 /// let request = [0x00, 0, 0, 4, 0x12, 0x34, 7, 0xFF, 0x10, 0, 0, 0];
@@ -26,7 +26,7 @@ const LOCKED: u64 = 1 << 0;
 /// assert_eq!(ledger.open(&request), Err(Refusal::AlreadyOpen));
 /// assert_eq!(ledger.complete(&part)?, Completed::Open { left: 2 });
 /// let open = ledger.requests().next().unwrap();
-/// assert_eq!((open.requester, open.tag, open.asked, open.left), (Id(0x1234), 7, Asked::Read, 2));
+/// assert_eq!((open.requester, open.tag, open.kind, open.left), (Id(0x1234), 7, RequestKind::Read, 2));
 /// assert_eq!(ledger.complete(&part)?, Completed::Closed);
 /// assert!(ledger.is_empty());
 /// # Ok::<(), Refusal>(())
@@ -56,14 +56,14 @@ pub struct OpenRequest {
     /// Its tag, ten bits.
     pub tag: u16,
     /// What it asked for.
-    pub asked: Asked,
+    pub kind: RequestKind,
     /// Dwords still to come; of a write 1.
     pub left: u16,
 }
 
-/// What an open request asked for, as far as the ledger keeps it.
+/// The kind of an open request, as far as the ledger keeps it.
 #[derive(Clone, Copy, Debug, PartialEq, Eq, Hash)]
-pub enum Asked {
+pub enum RequestKind {
     /// MRd or IORd.
     Read,
     /// MRdLk.
@@ -137,38 +137,38 @@ impl OpenRequest {
         OpenRequest {
             requester: Id((key >> TAG_BITS) as u16),
             tag: (key & ((1 << TAG_BITS) - 1)) as u16,
-            asked: Asked::of(word),
+            kind: RequestKind::of(word),
             left: left(word),
         }
     }
 }
 
-impl Asked {
-    fn of(word: u64) -> Asked {
+impl RequestKind {
+    fn of(word: u64) -> RequestKind {
         match (word & READ != 0, word & CONFIGURATION != 0) {
-            (true, _) if word & LOCKED != 0 => Asked::LockedRead,
-            (true, false) => Asked::Read,
-            (true, true) => Asked::ConfigurationRead,
-            (false, false) => Asked::Write,
-            (false, true) => Asked::ConfigurationWrite,
+            (true, _) if word & LOCKED != 0 => RequestKind::LockedRead,
+            (true, false) => RequestKind::Read,
+            (true, true) => RequestKind::ConfigurationRead,
+            (false, false) => RequestKind::Write,
+            (false, true) => RequestKind::ConfigurationWrite,
         }
     }
 
     /// Whether it asked for data.
     pub const fn is_read(self) -> bool {
-        matches!(self, Asked::Read | Asked::LockedRead | Asked::ConfigurationRead)
+        matches!(self, RequestKind::Read | RequestKind::LockedRead | RequestKind::ConfigurationRead)
     }
 }
 
 /// `read`, `configuration write`.
-impl fmt::Display for Asked {
+impl fmt::Display for RequestKind {
     fn fmt(&self, f: &mut fmt::Formatter<'_>) -> fmt::Result {
         f.pad(match self {
-            Asked::Read => "read",
-            Asked::LockedRead => "locked read",
-            Asked::ConfigurationRead => "configuration read",
-            Asked::Write => "write",
-            Asked::ConfigurationWrite => "configuration write",
+            RequestKind::Read => "read",
+            RequestKind::LockedRead => "locked read",
+            RequestKind::ConfigurationRead => "configuration read",
+            RequestKind::Write => "write",
+            RequestKind::ConfigurationWrite => "configuration write",
         })
     }
 }

@@ -95,7 +95,7 @@ pub use kind::{CompletionKind, ConfigurationKind, Form, IoKind, Kind, MemoryKind
 pub use label::{Label, Owner};
 #[cfg(feature = "std")]
 pub use labeller::Labeller;
-pub use ledger::{Asked, Completed, Ledger, OpenRequest};
+pub use ledger::{Completed, Ledger, OpenRequest, RequestKind};
 pub use lines::{lines, Line, Lines};
 pub use packet::{read, write, Packet};
 pub use refusal::Refusal;

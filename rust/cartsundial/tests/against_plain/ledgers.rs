@@ -2,7 +2,7 @@
 
 use crate::lent::{hex, Lent};
 use crate::tally::{Call, Tally};
-use cartsundial::{calls, Asked, Completed, Ledger};
+use cartsundial::{calls, Completed, Ledger, RequestKind};
 use inputs::ledger::{History, Step};
 use inputs::random::Random;
 use plain::ledger::{self, PLACES};
@@ -108,16 +108,16 @@ fn follow(typed: &mut Ledger, step: &Step, answer: Answer, words: &Words) {
     };
     assert_eq!(followed.map_err(|refusal| refusal.number()), answer);
     assert_eq!(typed.len(), ledger::count(words));
-    let class = |asked| match asked {
-        Asked::Read => 0b100,
-        Asked::LockedRead => 0b101,
-        Asked::ConfigurationRead => 0b110,
-        Asked::Write => 0b000,
-        Asked::ConfigurationWrite => 0b010,
+    let class = |kind| match kind {
+        RequestKind::Read => 0b100,
+        RequestKind::LockedRead => 0b101,
+        RequestKind::ConfigurationRead => 0b110,
+        RequestKind::Write => 0b000,
+        RequestKind::ConfigurationWrite => 0b010,
     };
     let shown = typed.requests().map(|open| {
         let key = u64::from(open.requester.0) << 10 | u64::from(open.tag);
-        (key + 1) << 32 | u64::from(open.left) << 3 | class(open.asked)
+        (key + 1) << 32 | u64::from(open.left) << 3 | class(open.kind)
     });
     assert!(shown.eq(words.iter().copied().filter(|&word| word != 0)));
 }
