@@ -1,6 +1,6 @@
--- Document 02, E14, "The write script", in the request's sentences: what the call answers for a board, what a script is, and what becomes of
--- the registers while its records are performed one after another. Bytes are what a slice of u8 holds. `write-script` of WriteScriptLaws
--- proves it. Assumes nothing.
+-- Document 02, E14, "The write script", in the request's sentences: what the call answers for a board, what a script is, and what becomes
+-- of the registers while its records are performed one after another. Bytes are what a slice of u8 holds. `write-script` of
+-- WriteScriptLaws proves it. Assumes nothing.
 use mathlib.Core.Path.{_≡_}
 use mathlib.Core.Logic.{_⊎_}
 use mathlib.Core.Bool.{true}

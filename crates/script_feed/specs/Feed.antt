@@ -1,5 +1,5 @@
--- An input of any length, fed in pieces: three bytes are kept and then the board, as `board_feed` keeps it. `pieces-scripted` of FeedLaws says
--- that the answer is the program's on all the bytes, wherever the cuts fall. Assumes nothing.
+-- An input of any length, fed in pieces: three bytes are kept and then the board, as `board_feed` keeps it. `pieces-scripted` of FeedLaws
+-- says that the answer is the program's on all the bytes, wherever the cuts fall. Assumes nothing.
 use Prim.Native.Nat.{ℕ, _+_, _-_, min}
 use mathlib.Core.Bool.{cond}
 use mathlib.Core.List.{List}

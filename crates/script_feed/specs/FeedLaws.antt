@@ -34,8 +34,8 @@ use Rattle.scripter.specs.AnswerLaws.{refused-as-planned, else-written, refused
 use Rattle.scripter.specs.LongestLaws.{longestScript, script-length-le}
 use Rattle.script_feed.specs.declared.Input.{Input}
 use Rattle.script_feed.specs.Program.{frontSize, boardIn, requesterIn, tagIn, onPlanning, programOf}
-use Rattle.script_feed.specs.Feed.{started, beforeBoard, ofBoard, fedOf, frontAfter, keptAfter, boardOf, scriptingOf, roomOf, answerAs}
-use Rattle.script_feed.specs.Feed.{answerOf}
+use Rattle.script_feed.specs.Feed.{started, beforeBoard, ofBoard, fedOf, frontAfter, keptAfter, boardOf}
+use Rattle.script_feed.specs.Feed.{scriptingOf, roomOf, answerAs, answerOf}
 
 -- ## In the words of the code
 

@@ -4,7 +4,8 @@ use Prim.Native.Nat.{_-_}
 use native.Mathlib.Omega.{arith}
 use lib.ListN.{length}
 use borrow.Author.Needs.{needs}
-use Rattle.scripter.specs.CountingLaws.{Counted, counted-start, counted-end, counted-broken, counted-header, counted-fits, counted-turn}
+use Rattle.scripter.specs.CountingLaws.{Counted, counted-start, counted-end, counted-broken, counted-header}
+use Rattle.scripter.specs.CountingLaws.{counted-fits, counted-turn}
 use Rattle.records.specs.RecordsLaws.{fits-at}
 use Rattle.scripter.proofs.count_writes.Statement.{statement}
 use Rattle.scripter.proofs.count_writes.Tie as tie

@@ -106,8 +106,8 @@ put-next-requires c κs =
       (
         subst (λ (x : Function). Placeable (args .boot .root) (args .counts .now) (loop .cursors) x) (sym (f .ensures)) (pass-placeable
             pre (loop .inv) _ e),
-        subst (λ (x : Function). isBridge x ≡ true → Bridged (args .boot .root) (args .counts .now) (args .memo .now) (loop .cursors) (loop .i)
-            (x .parent)) (sym (f .ensures)) (pass-bridged pre (loop .inv) _ e),
+        subst (λ (x : Function). isBridge x ≡ true → Bridged (args .boot .root) (args .counts .now) (args .memo .now) (loop .cursors)
+            (loop .i) (x .parent)) (sym (f .ensures)) (pass-bridged pre (loop .inv) _ e),
       ),
       subst (λ (x : Function). loop
           .next .at + writeStride * length (writesIn (args .pass) 0

@@ -22,16 +22,17 @@ returns c =
     let at-n = c .before in
     let call = at-n .before .before in
     let s = call .before .before .args in
-    printed-script (s .self) (s .front .now) (s .kept .now) (s .answer .now) _ (call .script .result) _ (call .before .script-arg .given .0 .1)
-    (call .script .ensures .0) (call .script .ensures .1) (at-n .n .given .1)
+    printed-script (s .self) (s .front .now) (s .kept .now) (s .answer .now) _ (call .script .result) _
+    (call .before .script-arg .given .0 .1) (call .script .ensures .0) (call .script .ensures .1) (at-n .n .given .1)
 
 returns-2 : tie.Need-returns-2
 returns-2 c =
     let at-n = c .before .before .before in
     let call = at-n .before .before in
     let s = call .before .before .args in
-    printed-refusal (s .self) (s .front .now) (s .kept .now) (s .answer .now) _ (call .script .result) _ (call .before .script-arg .given .0 .1)
-    (call .script .ensures .0) (call .script .ensures .1) (at-n .n2 .given .1) (omega arith) (c .put-refusal .ensures)
+    printed-refusal (s .self) (s .front .now) (s .kept .now) (s .answer .now) _ (call .script .result) _
+    (call .before .script-arg .given .0 .1) (call .script .ensures .0) (call .script .ensures .1) (at-n .n2 .given .1)
+    (omega arith) (c .put-refusal .ensures)
 
 pub print-spec : {M : Type 1} → statement M
 print-spec =
