@@ -1,7 +1,7 @@
 #!/usr/bin/env bash
-# Runs the examples of the documents. docs/FORMATS.md: a block that is marked plan, script, headers, routes, trace, audit or label goes in, from #
-# on without its comments, and the next block must come out. README.md: a block that starts with $ is a command and what it prints. Where
-# something else comes out, the exit status is 1.
+# Runs the examples of the documents. docs/FORMATS.md: a block that is marked plan, script, headers, routes, trace, audit or label goes in,
+# from # on without its comments, and the next block must come out. README.md: a block that starts with $ is a command and what it prints.
+# Where something else comes out, the exit status is 1.
 set -euo pipefail
 shopt -s nullglob
 cd "$(dirname "$0")/.."
@@ -9,7 +9,8 @@ cd "$(dirname "$0")/.."
 parts=$(mktemp -d)
 trap 'rm -rf "$parts"' EXIT
 
-# Two files for each example, named by the line where it starts: NNNN.plan, .script, .headers, .routes, .trace, .audit or .label, and NNNN.out.
+# Two files for each example, named by the line where it starts: NNNN.plan, .script, .headers, .routes, .trace, .audit or .label, and
+# NNNN.out.
 mkdir "$parts/FORMATS.md" "$parts/README.md"
 awk -v parts="$parts/FORMATS.md" '
     /^```/ {

@@ -223,7 +223,8 @@ pub extern "C" fn cartsundial_annotate(
         ⌝ }
     ensures { λ _. ⌜
         now (state .exit)
-        ≡ stateLeft (lineOver (now (sheet .entry))) (now (state .entry)) (now (piece .entry)) (length (now (lines .entry))) (now (written .entry))
+        ≡ stateLeft (lineOver (now (sheet .entry))) (now (state .entry)) (now (piece .entry)) (length (now (lines .entry)))
+        (now (written .entry))
         ⌝ }
     ensures { λ _. ⌜
         now (lines .exit)
@@ -254,11 +255,13 @@ pub extern "C" fn cartsundial_label(
         ⌝ }
     ensures { λ _. ⌜
         now (state .exit)
-        ≡ stateLeft (lineBy Index (now (index .entry))) (now (state .entry)) (now (piece .entry)) (length (now (lines .entry))) (now (written .entry))
+        ≡ stateLeft (lineBy Index (now (index .entry))) (now (state .entry)) (now (piece .entry)) (length (now (lines .entry)))
+        (now (written .entry))
         ⌝ }
     ensures { λ _. ⌜
         now (lines .exit)
-        ≡ linesLeft (lineBy Index (now (index .entry))) (now (state .entry)) (now (piece .entry)) (now (lines .entry)) (now (written .entry))
+        ≡ linesLeft (lineBy Index (now (index .entry))) (now (state .entry)) (now (piece .entry)) (now (lines .entry))
+        (now (written .entry))
         ⌝ }
     ensures { λ _. ⌜
         now (written .exit)

@@ -24,7 +24,8 @@ pub fn annotate(
         ⌝ }
     ensures { λ _. ⌜
         now (state .exit)
-        ≡ stateLeft (lineOver (now (sheet .entry))) (now (state .entry)) (now (piece .entry)) (length (now (lines .entry))) (now (written .entry))
+        ≡ stateLeft (lineOver (now (sheet .entry))) (now (state .entry)) (now (piece .entry)) (length (now (lines .entry)))
+        (now (written .entry))
         ⌝ }
     ensures { λ _. ⌜
         now (lines .exit)
@@ -55,11 +56,13 @@ pub fn label(
         ⌝ }
     ensures { λ _. ⌜
         now (state .exit)
-        ≡ stateLeft (lineBy Index (now (index .entry))) (now (state .entry)) (now (piece .entry)) (length (now (lines .entry))) (now (written .entry))
+        ≡ stateLeft (lineBy Index (now (index .entry))) (now (state .entry)) (now (piece .entry)) (length (now (lines .entry)))
+        (now (written .entry))
         ⌝ }
     ensures { λ _. ⌜
         now (lines .exit)
-        ≡ linesLeft (lineBy Index (now (index .entry))) (now (state .entry)) (now (piece .entry)) (now (lines .entry)) (now (written .entry))
+        ≡ linesLeft (lineBy Index (now (index .entry))) (now (state .entry)) (now (piece .entry)) (now (lines .entry))
+        (now (written .entry))
         ⌝ }
     ensures { λ _. ⌜
         now (written .exit)
@@ -82,16 +85,19 @@ fn take(
     requires { ⌜ Knows engine (now bytes) ⌝ }
     ensures { λ r. ⌜
         r
-        ≡ returned (pieceAnswer (lineBy engine (now (bytes .entry))) (now (state .entry)) (now (piece .entry)) (length (now (lines .entry))))
+        ≡ returned (pieceAnswer (lineBy engine (now (bytes .entry))) (now (state .entry)) (now (piece .entry))
+        (length (now (lines .entry))))
         (now (written .entry))
         ⌝ }
     ensures { λ _. ⌜
         now (state .exit)
-        ≡ stateLeft (lineBy engine (now (bytes .entry))) (now (state .entry)) (now (piece .entry)) (length (now (lines .entry))) (now (written .entry))
+        ≡ stateLeft (lineBy engine (now (bytes .entry))) (now (state .entry)) (now (piece .entry)) (length (now (lines .entry)))
+        (now (written .entry))
         ⌝ }
     ensures { λ _. ⌜
         now (lines .exit)
-        ≡ linesLeft (lineBy engine (now (bytes .entry))) (now (state .entry)) (now (piece .entry)) (now (lines .entry)) (now (written .entry))
+        ≡ linesLeft (lineBy engine (now (bytes .entry))) (now (state .entry)) (now (piece .entry)) (now (lines .entry))
+        (now (written .entry))
         ⌝ }
     ensures { λ _. ⌜
         now (written .exit)

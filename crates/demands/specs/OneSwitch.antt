@@ -24,6 +24,7 @@ use Rattle.route_cards.specs.Sending.{masterOf, sendingOf}
 use Rattle.route_cards.specs.Search.{functionAt}
 use Rattle.index_search.specs.Search.{searchOf}
 use Rattle.index_build.specs.Build.{indexAfter}
+use Rattle.trace_line.specs.Line.{lineOver}
 use Rattle.demands.specs.Demand3.{IsRequest}
 use Rattle.demands.specs.ById.{GoesById}
 use Rattle.demands.specs.Trace.{told}
@@ -77,7 +78,7 @@ pub record OneSwitch : Type 0 where
   -- so the annotator's lines agree for a trace whose headers all stay clear, in whatever pieces it comes
   pub lines-agree : (k : ℕ) (s t : List ℕ) → DifferAt k s t
       → (pieces : List (List ℕ)) → ((records : List ℕ) → flatten pieces ≡ 1 ∷ records → All (StaysClear s k) (partsOf records .parts))
-      → told t pieces ≡ told s pieces
+      → told (lineOver t) pieces ≡ told (lineOver s) pieces
   -- and so do the searches by an index of each, for two sheets that the audit accepts
   pub searches-agree : (k : ℕ) (s t : List ℕ) → DifferAt k s t → Bytes s → Bytes t
       → (host host′ room room′ : List ℕ) → Bytes host → Bytes host′ → IsBuilt host s room → IsBuilt host′ t room′

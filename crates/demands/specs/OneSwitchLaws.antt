@@ -242,7 +242,7 @@ module _ (k : ℕ) (s t : List ℕ) (d : DifferAt k s t) where
 
   lines-agree : (pieces : List (List ℕ))
       → ((records : List ℕ) → flatten pieces ≡ 1 ∷ records → All (StaysClear s k) (partsOf records .parts))
-      → told t pieces ≡ told s pieces
+      → told (lineOver t) pieces ≡ told (lineOver s) pieces
   lines-agree pieces clear = go (flatten pieces) refl
     where
       over-t : Annotates t pieces
@@ -251,7 +251,8 @@ module _ (k : ℕ) (s t : List ℕ) (d : DifferAt k s t) where
       over-s : Annotates s pieces
       over-s = trace-annotated .annotates s pieces
 
-      framed : (records : List ℕ) → flatten pieces ≡ 1 ∷ records → (w : Bool) → partsOf records .whole ≡ w → told t pieces ≡ told s pieces
+      framed : (records : List ℕ) → flatten pieces ≡ 1 ∷ records → (w : Bool) → partsOf records .whole ≡ w
+          → told (lineOver t) pieces ≡ told (lineOver s) pieces
       framed records e true w =
           over-t .whole-trace records e w ∙ records-agree 0 (partsOf records .parts) (clear records e)
           ∙ sym (over-s .whole-trace records e w)
@@ -260,13 +261,14 @@ module _ (k : ℕ) (s t : List ℕ) (d : DifferAt k s t) where
           ∙ ap (λ (lines : List ℕ). lines ++ ascii "cut\n") (records-agree 0 (partsOf records .parts) (clear records e))
           ∙ sym (over-s .cut-trace records e w)
 
-      by-version : (v : ℕ) (records : List ℕ) → flatten pieces ≡ v ∷ records → (b : Bool) → eqb v 1 ≡ b → told t pieces ≡ told s pieces
+      by-version : (v : ℕ) (records : List ℕ) → flatten pieces ≡ v ∷ records → (b : Bool) → eqb v 1 ≡ b
+          → told (lineOver t) pieces ≡ told (lineOver s) pieces
       by-version v records e true q =
           framed records (e ∙ ap (λ (n : ℕ). n ∷ records) (eqb-true v 1 q)) (partsOf records .whole) refl
       by-version v records e false q =
           over-t .other-version v records e (eqb-false v 1 q) ∙ sym (over-s .other-version v records e (eqb-false v 1 q))
 
-      go : (trace : List ℕ) → flatten pieces ≡ trace → told t pieces ≡ told s pieces
+      go : (trace : List ℕ) → flatten pieces ≡ trace → told (lineOver t) pieces ≡ told (lineOver s) pieces
       go [] e = over-t .no-trace e ∙ sym (over-s .no-trace e)
       go (v ∷ records) e = by-version v records e (eqb v 1) refl
 
