@@ -56,9 +56,6 @@ pub fn route(
     assert_eq!(returned, number, "from {record} {} over {}", hex(header), hex(sheet));
     let same = given == given_then && lent_header == header_before && lent_sheet == sheet_before;
     assert!(same, "from {record} {} over {}: what was lent", hex(header), hex(sheet));
-    if returned == 0 {
-        answer.iter().for_each(|sending| tally.sent(sending));
-    }
 
     if let Ok(record) = u16::try_from(record) {
         let typed = cartsundial::route_from(record, header, sheet);
@@ -68,6 +65,8 @@ pub fn route(
             hex(header),
             hex(sheet)
         );
+        // The types lend room for the whole answer.
+        answer.iter().for_each(|sending| tally.sent(sending));
     }
     answer
 }
