@@ -1,82 +1,23 @@
--- What the search by an index answers for a packet that goes by an address or an ID: the slot's word that is found for its key decides.
--- Assumes nothing.
+-- What the call answers by what the search does, where it has no owner or one. Assumes nothing.
 use Prim.Native.Nat.{ℕ}
-use mathlib.Core.Path.{_≡_, refl, sym, ap, _∙_}
-use mathlib.Core.Bool.{Bool, true, false, cond}
+use mathlib.Core.Path.{_≡_, sym, ap, _∙_}
 use mathlib.Core.List.{List, _∷_}
-use lib.Dec.{eqb}
-use borrow.Author.Tests.{eq-eqb, ne-eqb}
-use Rattle.packet.specs.declared.Packet.{Packet}
 use Rattle.packet_numbers.specs.Numbers.{numbersOf}
-use Rattle.tlp.specs.declared.Reading.{Reading}
-use Rattle.tlp.specs.declared.Reading.the-variants.{Accepted}
-use Rattle.tlp.specs.Reading.{readOf}
-use Rattle.walk.specs.Walk.{Outcome, delivered, refused, noOwner}
-use Rattle.claims.specs.declared.Aim.{Aim}
-use Rattle.route_arrival.specs.declared.Heading.{Heading}
-use Rattle.route_arrival.specs.declared.Heading.the-variants.{Aimed}
-use Rattle.route_arrival.specs.Arrival.{headingOf, typeWrong, arrived}
+use Rattle.walk.specs.Walk.{noOwner}
 use Rattle.route_list.specs.Counted.{counted}
+use Rattle.route.specs.declared.Delivery.{Delivery}
 use Rattle.route.specs.declared.Routing.{Routing}
-use Rattle.route.specs.declared.Routing.the-variants.{Refused}
-use Rattle.route.specs.Route.{answer, headedOver, typedOver, routeOver, wrongType}
-use Rattle.index_rule.specs.Owners.{keyOf, inReach}
-use Rattle.index_rule.specs.Search.{recordIn, bridgesIn}
-use Rattle.index_search.specs.Search.{functionsIn, rootIn, answerOver, outcomeBy, outcomeOver, outcomeIn, searchPacket, searchOf}
+use Rattle.route.specs.declared.Routing.the-variants.{Delivered, Refused}
+use Rattle.index_search.specs.Search.{searchOf}
 use Rattle.capi_answers.specs.Answers.{refuses, gives}
 use Rattle.capi_find.specs.Calls.{onRouting, findAnswer}
-use Rattle.capi_find.specs.Found.{outcomeAt}
 
--- ## The word found for a key
+module _ (header ix : List ℕ) where
+  pub find-none : searchOf header ix ≡ Refused noOwner → findAnswer header ix ≡ refuses 40
+  find-none e = ap (λ (r : Routing). onRouting r (counted 1)) e
 
-module _ (ix : List ℕ) (key n : ℕ) (count : n ≡ functionsIn ix) where
-  pub word-of-none : n ≡ 0 → outcomeBy 0 ≡ outcomeAt ix key
-  unfolding outcomeAt
-  word-of-none z = rw (eq-eqb (functionsIn ix) 0 (sym count ∙ z))
-
-  pub word-of-some : ¬ (n ≡ 0) → (word : ℕ) → outcomeBy word ≡ answerOver ix n key → outcomeBy word ≡ outcomeAt ix key
-  unfolding outcomeAt
-  word-of-some some word found =
-      found ∙ ap (λ (m : ℕ). answerOver ix m key) count ∙ sym (rw (ne-eqb (functionsIn ix) 0 (λ z. some (count ∙ z))))
-
--- ## A packet by an address or an ID
-
-module _ (header ix : List ℕ) (p : Packet) (aim : Aim) (read : readOf header ≡ Accepted p) (headed : headingOf p ≡ Aimed aim)
-    (typed : typeWrong (rootIn ix) p ≡ false) where
-  -- no functions have no owner
-  abbrev outcome : Outcome
-  outcome = cond (eqb (functionsIn ix) 0) (refused noOwner) (outcomeIn ix aim)
-
-  searched : searchOf header ix ≡ answer p outcome
-  unfolding searchOf searchPacket
-  searched = rw (read, typed, headed) (go (eqb (functionsIn ix) 0))
-    where
-      go : (t : Bool) → cond t (Refused noOwner) (answer p (outcomeIn ix aim)) ≡ answer p (cond t (refused noOwner) (outcomeIn ix aim))
-      go true = refl
-      go false = refl
-
-  answered : (o : Outcome) → outcome ≡ o → findAnswer header ix ≡ onRouting (answer p o) (counted 1)
-  answered o e = ap (λ (r : Routing). onRouting r (counted 1)) (searched ∙ ap (answer p) e)
-
-  pub out-of-reach : inReach aim ≡ false → findAnswer header ix ≡ refuses 40
-  unfolding outcomeOver
-  out-of-reach far = answered (refused noOwner) (rw far (go (eqb (functionsIn ix) 0)))
-    where
-      go : (t : Bool) → cond t (refused noOwner) (refused noOwner) ≡ refused noOwner
-      go true = refl
-      go false = refl
-
-  module _ (near : inReach aim ≡ true) (word : ℕ) (found : outcomeBy word ≡ outcomeAt ix (keyOf aim)) where
-    by-word : outcome ≡ outcomeBy word
-    unfolding outcomeOver outcomeAt
-    by-word = rw near (sym found)
-
-    pub no-owner : recordIn word ≡ 0 → findAnswer header ix ≡ refuses 40
-    no-owner z = answered (refused noOwner) (by-word ∙ rw (eq-eqb (recordIn word) 0 z))
-
-    -- ns are the numbers of the packet as it arrives
-    pub owned : ¬ (recordIn word ≡ 0) → (ns : List ℕ) → ns ≡ numbersOf (arrived p)
-        → findAnswer header ix ≡ gives (recordIn word ∷ bridgesIn word ∷ ns)
-    owned some ns e =
-        answered (delivered (recordIn word) (bridgesIn word)) (by-word ∙ rw (ne-eqb (recordIn word) 0 some))
-        ∙ ap (λ (ms : List ℕ). gives (recordIn word ∷ bridgesIn word ∷ ms)) (sym e)
+  -- ns are the numbers of the packet as it arrives
+  pub find-owned : {d : Delivery} → searchOf header ix ≡ Delivered d → (ns : List ℕ) → ns ≡ numbersOf (d .packet)
+      → findAnswer header ix ≡ gives (d .owner ∷ d .bridges ∷ ns)
+  find-owned {d} e ns same =
+      ap (λ (r : Routing). onRouting r (counted 1)) e ∙ ap (λ (ms : List ℕ). gives (d .owner ∷ d .bridges ∷ ms)) (sym same)

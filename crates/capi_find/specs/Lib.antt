@@ -1,6 +1,4 @@
--- The search by an index at the C boundary: what it answers, and what the kinds that have a path of their own are read and found as.
+-- The search by an index at the C boundary: what it answers, and a packet's numbers.
 pub mod Calls
-pub mod Found
-pub mod Kinds
-pub mod KindsLaws
 pub mod FoundLaws
+pub mod NumbersLaws

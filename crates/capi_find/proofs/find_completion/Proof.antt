@@ -9,8 +9,10 @@ use Rattle.packet.specs.declared.Packet.the-variants.{Completion}
 use Rattle.tlp.specs.declared.Reading.the-variants.{Accepted}
 use Rattle.tlp.specs.Reading.{readOf}
 use Rattle.index_table.specs.SegmentLaws.{segment-id}
-use Rattle.capi_find.specs.KindsLaws.{accepted-completion, numbers-completion}
-use Rattle.capi_find.specs.FoundLaws.{no-owner, owned}
+use Rattle.tlp_kinds.specs.KindsLaws.{accepted-completion}
+use Rattle.index_find.specs.FoundLaws.{no-owner, owned}
+use Rattle.capi_find.specs.FoundLaws.{find-none, find-owned}
+use Rattle.capi_find.specs.NumbersLaws.{numbers-completion}
 use Rattle.capi_find.proofs.find_completion.Statement.{statement}
 use Rattle.capi_find.proofs.find_completion.Tie as tie
 
@@ -94,8 +96,8 @@ returns-3 c =
     let word = c .before in
     let id = word .before .before .before .before .before .before .before .before .completion-head-at .result .requester in
     let e =
-    no-owner _ (start .args .index .now) _ _ (accepted (word .before .before)) refl refl (lt-ltb id 65536 (omega arith))
-    _ (word .word-for .ensures) (c .if3 .taken) in
+    find-none _ _ (no-owner _ (start .args .index .now) _ _ (accepted (word .before .before)) refl refl (lt-ltb id 65536 (omega arith))
+    _ (word .word-for .ensures) (c .if3 .taken)) in
     (rw e, rw e)
 
 kind-number-requires : tie.Need-kind-number-requires
@@ -115,8 +117,8 @@ returns-4 c =
     let word = some .before in
     let id = word .before .before .before .before .before .before .before .before .completion-head-at .result .requester in
     let e =
-    owned _ (start .args .index .now) _ _ (accepted (word .before .before)) refl refl (lt-ltb id 65536 (omega arith))
-    _ (word .word-for .ensures) (some .if3 .left)
+    find-owned _ _ (owned _ (start .args .index .now) _ _ (accepted (word .before .before)) refl refl (lt-ltb id 65536 (omega arith))
+    _ (word .word-for .ensures) (some .if3 .left))
     _ (numbers-completion _ _ _ _ (c .before .before .before .before .kind-number .ensures)) in
     rw e (c .before .before .give-completion .ensures)
 

@@ -9,8 +9,10 @@ use Rattle.packet.specs.declared.Packet.the-variants.{Config}
 use Rattle.tlp.specs.declared.Reading.the-variants.{Accepted}
 use Rattle.tlp.specs.Reading.{readOf}
 use Rattle.index_table.specs.SegmentLaws.{segment-id}
-use Rattle.capi_find.specs.KindsLaws.{accepted-config, numbers-config}
-use Rattle.capi_find.specs.FoundLaws.{no-owner, owned}
+use Rattle.tlp_kinds.specs.KindsLaws.{accepted-config}
+use Rattle.index_find.specs.FoundLaws.{no-owner, owned}
+use Rattle.capi_find.specs.FoundLaws.{find-none, find-owned}
+use Rattle.capi_find.specs.NumbersLaws.{numbers-config}
 use Rattle.capi_find.proofs.find_config.Statement.{statement}
 use Rattle.capi_find.proofs.find_config.Tie as tie
 
@@ -123,8 +125,8 @@ returns-5 c =
     let typed = word .before .before in
     let id = typed .before .before .before .before .before .before .before .before .before .target-at .result .id in
     let e =
-    no-owner _ _ _ _ (accepted (typed .before .before .before .before)) refl (sym (typed .before .type-wrong .ensures) ∙ typed .if4 .left)
-    (lt-ltb id 65536 (omega arith)) _ (word .word-for .ensures) (c .if5 .taken) in
+    find-none _ _ (no-owner _ _ _ _ (accepted (typed .before .before .before .before)) refl (sym (typed .before .type-wrong .ensures) ∙ typed .if4 .left)
+    (lt-ltb id 65536 (omega arith)) _ (word .word-for .ensures) (c .if5 .taken)) in
     (rw e, rw e)
 
 arrived-number-requires : tie.Need-arrived-number-requires
@@ -150,8 +152,8 @@ returns-6 c =
     let typed = word .before .before in
     let id = typed .before .before .before .before .before .before .before .before .before .target-at .result .id in
     let e =
-    owned _ _ _ _ (accepted (typed .before .before .before .before)) refl (sym (typed .before .type-wrong .ensures) ∙ typed .if4 .left)
-    (lt-ltb id 65536 (omega arith)) _ (word .word-for .ensures) (some .if5 .left)
+    find-owned _ _ (owned _ _ _ _ (accepted (typed .before .before .before .before)) refl (sym (typed .before .type-wrong .ensures) ∙ typed .if4 .left)
+    (lt-ltb id 65536 (omega arith)) _ (word .word-for .ensures) (some .if5 .left))
     _ (numbers-config _ _ _ _ _ (arrived .arrived-number .ensures)) in
     rw e (c .before .before .give-request .ensures)
 

@@ -8,8 +8,10 @@ use Rattle.packet.specs.declared.Packet.the-variants.{Io}
 use Rattle.tlp.specs.declared.Reading.the-variants.{Accepted}
 use Rattle.tlp.specs.Reading.{readOf}
 use Rattle.index_table.specs.SegmentLaws.{segment-io}
-use Rattle.capi_find.specs.KindsLaws.{accepted-io, numbers-io}
-use Rattle.capi_find.specs.FoundLaws.{out-of-reach, no-owner, owned}
+use Rattle.tlp_kinds.specs.KindsLaws.{accepted-io}
+use Rattle.index_find.specs.FoundLaws.{out-of-reach, no-owner, owned}
+use Rattle.capi_find.specs.FoundLaws.{find-none, find-owned}
+use Rattle.capi_find.specs.NumbersLaws.{numbers-io}
 use Rattle.capi_find.proofs.find_io.Statement.{statement}
 use Rattle.capi_find.proofs.find_io.Tie as tie
 
@@ -78,7 +80,7 @@ returns-3 : tie.Need-returns-3
 returns-3 c =
     let middle = c .before .before .before .before .before .before in
     let start = middle .before .before .before .before .before .before .before in
-    let e = out-of-reach _ (start .args .index .now) _ _ (accepted (c .before)) refl refl (le-ltb _ _ (c .if3 .taken)) in
+    let e = find-none _ _ (out-of-reach _ (start .args .index .now) _ _ (accepted (c .before)) refl refl (le-ltb _ _ (c .if3 .taken))) in
     (rw e, rw e)
 
 add-word-for : tie.Need-add-word-for
@@ -93,8 +95,8 @@ returns-4 : tie.Need-returns-4
 returns-4 c =
     let word = c .before in
     let near = word .before in
-    let e = no-owner _ _ _ _ (accepted (near .before)) refl refl (lt-ltb _ _ (near .if3 .left))
-    _ (word .word-for .ensures) (c .if4 .taken) in
+    let e = find-none _ _ (no-owner _ _ _ _ (accepted (near .before)) refl refl (lt-ltb _ _ (near .if3 .left))
+    _ (word .word-for .ensures) (c .if4 .taken)) in
     (rw e, rw e)
 
 kind-number-requires : tie.Need-kind-number-requires
@@ -111,7 +113,7 @@ returns-5 c =
     let some = c .before .before .before .before .before in
     let word = some .before in
     let near = word .before in
-    let e = owned _ _ _ _ (accepted (near .before)) refl refl (lt-ltb _ _ (near .if3 .left)) _ (word .word-for .ensures) (some .if4 .left)
+    let e = find-owned _ _ (owned _ _ _ _ (accepted (near .before)) refl refl (lt-ltb _ _ (near .if3 .left)) _ (word .word-for .ensures) (some .if4 .left))
     _ (numbers-io _ _ _ _ _ (c .before .before .before .before .kind-number .ensures)) in
     rw e (c .before .before .give-request .ensures)
 

@@ -5,8 +5,10 @@ use borrow.Author.Tests.{lt-ltb, le-ltb}
 use Rattle.packet.specs.declared.Packet.the-variants.{Memory}
 use Rattle.tlp.specs.declared.Reading.the-variants.{Accepted}
 use Rattle.tlp.specs.Reading.{readOf}
-use Rattle.capi_find.specs.KindsLaws.{accepted-memory, numbers-memory}
-use Rattle.capi_find.specs.FoundLaws.{out-of-reach, no-owner, owned}
+use Rattle.tlp_kinds.specs.KindsLaws.{accepted-memory}
+use Rattle.index_find.specs.FoundLaws.{out-of-reach, no-owner, owned}
+use Rattle.capi_find.specs.FoundLaws.{find-none, find-owned}
+use Rattle.capi_find.specs.NumbersLaws.{numbers-memory}
 use Rattle.capi_find.proofs.find_memory.Statement.{statement}
 use Rattle.capi_find.proofs.find_memory.Tie as tie
 
@@ -101,7 +103,7 @@ returns-4 : tie.Need-returns-4
 returns-4 c =
     let middle = c .before .before .before .before .before .before .before .before in
     let start = middle .before .before .before .before .before .before .before .before in
-    let e = out-of-reach _ (start .args .index .now) _ _ (accepted (c .before)) refl refl (le-ltb _ _ (c .if4 .taken)) in
+    let e = find-none _ _ (out-of-reach _ (start .args .index .now) _ _ (accepted (c .before)) refl refl (le-ltb _ _ (c .if4 .taken))) in
     (rw e, rw e)
 
 segment-of-requires : tie.Need-segment-of-requires
@@ -114,8 +116,8 @@ returns-5 : tie.Need-returns-5
 returns-5 c =
     let word = c .before in
     let near = word .before .before in
-    let e = no-owner _ _ _ _ (accepted (near .before)) refl refl (lt-ltb _ _ (near .if4 .left))
-    _ (word .word-for .ensures) (c .if5 .taken) in
+    let e = find-none _ _ (no-owner _ _ _ _ (accepted (near .before)) refl refl (lt-ltb _ _ (near .if4 .left))
+    _ (word .word-for .ensures) (c .if5 .taken)) in
     (rw e, rw e)
 
 kind-number-requires : tie.Need-kind-number-requires
@@ -132,7 +134,7 @@ returns-6 c =
     let some = c .before .before .before .before .before in
     let word = some .before in
     let near = word .before .before in
-    let e = owned _ _ _ _ (accepted (near .before)) refl refl (lt-ltb _ _ (near .if4 .left)) _ (word .word-for .ensures) (some .if5 .left)
+    let e = find-owned _ _ (owned _ _ _ _ (accepted (near .before)) refl refl (lt-ltb _ _ (near .if4 .left)) _ (word .word-for .ensures) (some .if5 .left))
     _ (numbers-memory _ _ _ _ _ (c .before .before .before .before .kind-number .ensures)) in
     rw e (c .before .before .give-request .ensures)
 

@@ -1,5 +1,5 @@
--- Byte 0 of the headers that have a path of their own in the search: memory, I/O, configuration requests and completions, and the kind and
--- form that the table of pairs has for each. Assumes nothing.
+-- Byte 0 of memory, I/O and configuration requests and of completions, and the kind and form that the table of pairs has for each. Assumes
+-- nothing.
 use Prim.Native.Nat.{ℕ, _+_, _/_, _%_}
 use mathlib.Core.Bool.{Bool, cond, _||_}
 use lib.Dec.{eqb}

@@ -1,6 +1,6 @@
--- `capi_find::memory_kind` meets its contract: by the tests of the byte, one after the other. Assumes nothing.
-use Rattle.capi_find.proofs.memory_kind.Statement.{statement}
-use Rattle.capi_find.proofs.memory_kind.Tie as tie
+-- `tlp_kinds::memory_kind` meets its contract: by the tests of the byte, one after the other. Assumes nothing.
+use Rattle.tlp_kinds.proofs.memory_kind.Statement.{statement}
+use Rattle.tlp_kinds.proofs.memory_kind.Tie as tie
 
 returns : tie.Need-returns
 returns c = rw (c .if1 .taken)

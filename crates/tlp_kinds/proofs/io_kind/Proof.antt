@@ -1,7 +1,7 @@
--- `capi_find::io_kind` meets its contract: by the test of the byte. Assumes nothing.
+-- `tlp_kinds::io_kind` meets its contract: by the test of the byte. Assumes nothing.
 use borrow.Author.Tests.{eq-eqb, ne-eqb}
-use Rattle.capi_find.proofs.io_kind.Statement.{statement}
-use Rattle.capi_find.proofs.io_kind.Tie as tie
+use Rattle.tlp_kinds.proofs.io_kind.Statement.{statement}
+use Rattle.tlp_kinds.proofs.io_kind.Tie as tie
 
 returns : tie.Need-returns
 returns c = rw (eq-eqb _ _ (c .if1 .taken))

@@ -1,7 +1,7 @@
--- `capi_find::config_kind` meets its contract: by the tests of the byte, one after the other. Assumes nothing.
+-- `tlp_kinds::completion_kind` meets its contract: by the tests of the byte, one after the other. Assumes nothing.
 use borrow.Author.Tests.{eq-eqb, ne-eqb}
-use Rattle.capi_find.proofs.config_kind.Statement.{statement}
-use Rattle.capi_find.proofs.config_kind.Tie as tie
+use Rattle.tlp_kinds.proofs.completion_kind.Statement.{statement}
+use Rattle.tlp_kinds.proofs.completion_kind.Tie as tie
 
 returns : tie.Need-returns
 returns c = rw (eq-eqb _ _ (c .if1 .taken))
@@ -15,5 +15,5 @@ returns-3 c = rw (ne-eqb _ _ (c .before .before .if1 .left), ne-eqb _ _ (c .befo
 returns-4 : tie.Need-returns-4
 returns-4 c = rw (ne-eqb _ _ (c .before .before .if1 .left), ne-eqb _ _ (c .before .if2 .left), ne-eqb _ _ (c .if3 .left))
 
-pub config-kind-spec : {M : Type 1} → statement M
-config-kind-spec = tie.close (tie.spec returns returns-2 returns-3 returns-4)
+pub completion-kind-spec : {M : Type 1} → statement M
+completion-kind-spec = tie.close (tie.spec returns returns-2 returns-3 returns-4)

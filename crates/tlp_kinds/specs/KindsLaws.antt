@@ -3,7 +3,7 @@ use Prim.Native.Nat.{ℕ, _*_, _≤_}
 use native.Mathlib.Omega.{arith}
 use mathlib.Core.Path.{_≡_, refl, sym, ap, subst, _∙_}
 use mathlib.Core.Bool.{Bool, true, false, cond, _||_}
-use mathlib.Core.List.{List, _++_}
+use mathlib.Core.List.{List}
 use lib.ListN.{length, getD}
 use lib.Dec.{ltb, eqb}
 use borrow.Author.Tests.{eq-eqb, eqb-true, le-ltb}
@@ -13,7 +13,7 @@ use Rattle.pairs.specs.declared.MemoryKind.{MemoryKind}
 use Rattle.pairs.specs.declared.IoKind.{IoKind}
 use Rattle.pairs.specs.declared.ConfigKind.{ConfigKind}
 use Rattle.pairs.specs.declared.CompletionKind.{CompletionKind}
-use Rattle.pairs.specs.Pairs.{table, first, findPair, pairOf, kindNumber}
+use Rattle.pairs.specs.Pairs.{table, first, findPair, pairOf}
 use Rattle.packet.specs.declared.Head.{Head}
 use Rattle.packet.specs.declared.Enables.{Enables}
 use Rattle.packet.specs.declared.Target.{Target}
@@ -22,13 +22,12 @@ use Rattle.packet.specs.declared.Packet.{Packet}
 use Rattle.packet.specs.declared.Packet.the-variants.{Memory, Io, Config, Completion}
 use Rattle.packet.specs.Fields.{isPosted}
 use Rattle.packet.specs.Rules.{ruleNumber}
-use Rattle.packet_numbers.specs.Numbers.{headNumbers, requestNumbers, outcomeNumbers, absent, numbersOf}
 use Rattle.tlp_fields.specs.Fields.{requestHeadAt, completionHeadAt, enablesAt, addressAt, targetAt, outcomeAt}
 use Rattle.tlp_fields.specs.Fields.{unnamed, unnamedTarget, unnamedLower}
 use Rattle.tlp.specs.declared.Reading.{Reading}
 use Rattle.tlp.specs.declared.Reading.the-variants.{Accepted, Refused as NotRead}
 use Rattle.tlp.specs.Reading.{judged, readAs, readPair, readOf}
-use Rattle.capi_find.specs.Kinds.{isMemory, memoryKind, memoryForm, isIo, ioKind, isConfig, configKind, isCompletion, completionKind}
+use Rattle.tlp_kinds.specs.Kinds.{isMemory, memoryKind, memoryForm, isIo, ioKind, isConfig, configKind, isCompletion, completionKind}
 
 -- ## By the table
 
@@ -128,27 +127,3 @@ module _ (s : List ℕ) (some : 12 ≤ length s) where
       λ i. Completion (k-is i) ((h-is ∙ ap (λ (x : CompletionKind). completionHeadAt x 3 s) k-is) i) (o-is i) in
       read-paired s (CompletionOf (completionKind b)) 3 (completion-paired b is) some (omega arith)
       ∙ judged-lawful (unnamed false s || unnamedLower s) (Completion k h o) _ named same lawful
-
--- ## Numbers
-
--- the kind as a number
-module _ (kind : ℕ) (h : Head) where
-  pub numbers-memory : (k : MemoryKind) (e : Enables) (a : ℕ) → kind ≡ kindNumber (MemoryOf k)
-      → headNumbers kind h ++ (requestNumbers e a 0 0 ++ absent) ≡ numbersOf (Memory k h e a)
-  unfolding numbersOf
-  numbers-memory k e a same = ap (λ (n : ℕ). headNumbers n h ++ (requestNumbers e a 0 0 ++ absent)) same
-
-  pub numbers-io : (k : IoKind) (e : Enables) (a : ℕ) → kind ≡ kindNumber (IoOf k)
-      → headNumbers kind h ++ (requestNumbers e a 0 0 ++ absent) ≡ numbersOf (Io k h e a)
-  unfolding numbersOf
-  numbers-io k e a same = ap (λ (n : ℕ). headNumbers n h ++ (requestNumbers e a 0 0 ++ absent)) same
-
-  pub numbers-config : (k : ConfigKind) (e : Enables) (t : Target) → kind ≡ kindNumber (ConfigOf k)
-      → headNumbers kind h ++ (requestNumbers e 0 (t .id) (t .register) ++ absent) ≡ numbersOf (Config k h e t)
-  unfolding numbersOf
-  numbers-config k e t same = ap (λ (n : ℕ). headNumbers n h ++ (requestNumbers e 0 (t .id) (t .register) ++ absent)) same
-
-  pub numbers-completion : (k : CompletionKind) (o : Outcome) → kind ≡ kindNumber (CompletionOf k)
-      → headNumbers kind h ++ (absent ++ outcomeNumbers o) ≡ numbersOf (Completion k h o)
-  unfolding numbersOf
-  numbers-completion k o same = ap (λ (n : ℕ). headNumbers n h ++ (absent ++ outcomeNumbers o)) same

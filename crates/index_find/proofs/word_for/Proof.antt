@@ -1,9 +1,9 @@
--- `capi_find::word_for` meets its contract: no functions, or the word that is found among theirs. Assumes nothing.
+-- `index_find::word_for` meets its contract: no functions, or the word that is found among theirs. Assumes nothing.
 use borrow.Author.Needs.{needs}
 use Rattle.index_search.specs.AnswerLaws.{functions-fit}
-use Rattle.capi_find.specs.FoundLaws.{word-of-none, word-of-some}
-use Rattle.capi_find.proofs.word_for.Statement.{statement}
-use Rattle.capi_find.proofs.word_for.Tie as tie
+use Rattle.index_find.specs.FoundLaws.{word-of-none, word-of-some}
+use Rattle.index_find.proofs.word_for.Statement.{statement}
+use Rattle.index_find.proofs.word_for.Tie as tie
 
 functions-in-requires : tie.Need-functions-in-requires
 functions-in-requires c κs = search needs
