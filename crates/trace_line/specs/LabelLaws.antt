@@ -20,12 +20,15 @@ use Rattle.tlp.specs.declared.Reading.{Reading}
 use Rattle.tlp.specs.declared.Reading.the-variants.{Accepted, Refused as NotRead}
 use Rattle.tlp.specs.Reading.{readOf}
 use Rattle.route.specs.declared.Routing.{Routing}
+use Rattle.route.specs.Route.{answer}
+use Rattle.index_search.specs.Search.{outcomeBy, searchOf}
 use Rattle.trace_line.specs.declared.Engine.{Engine}
+use Rattle.trace_line.specs.declared.Engine.the-variants.{Index}
 use Rattle.trace_line.specs.declared.Label.{Label}
 use Rattle.trace_line.specs.Line.{ownerText}
-use Rattle.trace_line.specs.Engine.{packetBy, labelBy}
+use Rattle.trace_line.specs.Engine.{packetBy, routingBy, labelBy}
 use Rattle.trace_line.specs.Label.{nameIn, Names, wayText, Labels, Over}
-use Rattle.trace_line.specs.LineLaws.{label-accepted, label-refused}
+use Rattle.trace_line.specs.LineLaws.{routing-accepted, label-accepted, label-refused}
 
 -- ## A label
 
@@ -46,6 +49,16 @@ module _ (engine : Engine) (bytes header : List ℕ) (reading : Reading) (is-rea
       → Labels (record { name = 0x202d000000000002; way = 1; number = n }) (labelBy engine bytes header)
   unfolding nameIn wayText beBytes ascii
   labels-refused n e = record { is = sym (label-refused engine bytes header reading is-reading n e); few = omega arith }
+
+-- by an index, where a slot's word decides
+pub labels-found : (index header : List ℕ) (p : Packet) → readOf header ≡ Accepted p
+    → (word : ℕ) → searchOf header index ≡ answer p (outcomeBy word) → (name : ℕ) → Names name (ascii " " ++ kindText (kindOf p))
+    → (l : Label) → (l .name ≡ name) × ((q : Packet) → wayText (l .way) (l .number) ≡ ownerText (answer q (outcomeBy word)))
+    → Labels l (labelBy Index index header)
+unfolding routingBy
+labels-found index header p read word found name named l way =
+    labels-accepted Index index header (readOf header) refl p read name named (answer p (outcomeBy word))
+    (sym found ∙ routing-accepted Index index header p read) l (way .0, way .1 p)
 
 -- ## Lengths
 

@@ -138,7 +138,7 @@ module _ (p : Packet) (sheet : List ℕ) (n : ℕ) (number : n ≡ sheetNumber s
   sheet-passed h r e = rw (← number, eq-eqb n 0 h) e
 
 -- only a packet is looked up
-routing-accepted : (engine : Engine) (bytes header : List ℕ) (p : Packet) → readOf header ≡ Accepted p
+pub routing-accepted : (engine : Engine) (bytes header : List ℕ) (p : Packet) → readOf header ≡ Accepted p
     → routingBy engine bytes header ≡ packetBy engine p bytes
 unfolding routingBy packetBy routeOf searchOf
 routing-accepted (Sheet number) bytes header p e = rw e

@@ -1,13 +1,20 @@
 // A record's line of a trace: its number, the header's kind as read, and where the packet goes, as `1 MRd owner 2` or
 // `2 IOWr refused 40`, looked up by one of two engines.
 ghost use mathlib.Core.Path.{_≡_};
+ghost use mathlib.Core.Bool.{true};
 ghost use mathlib.Core.List.{_++_};
 ghost use Prim.Native.Nat.{_%_, _≤_};
+ghost use lib.ListN.{length, getD};
 ghost use Rattle.text.specs.Text.{Put, ascii};
 ghost use Rattle.packet_text.specs.Labels.{kindText};
+ghost use Rattle.pairs.specs.declared.Kind.the-variants.{Memory as MemoryOf, Io as IoOf, Config as ConfigOf, Completion as CompletionOf};
+ghost use Rattle.packet.specs.declared.Packet.{Packet as PacketOf};
 ghost use Rattle.packet.specs.Fields.{kindOf};
+ghost use Rattle.tlp_kinds.specs.Kinds.{isMemory, isIo, isConfig, isCompletion};
 ghost use Rattle.sheet.specs.Sheet.{sheetNumber};
-ghost use Rattle.route.specs.Route.{fromSheet};
+ghost use Rattle.route.specs.Route.{answer, fromSheet};
+ghost use Rattle.index_search.specs.Search.{outcomeBy};
+ghost use Rattle.trace_line.specs.declared.Engine.the-variants.{Index as ByIndex};
 ghost use Rattle.trace_line.specs.Line.{ownerText};
 ghost use Rattle.trace_line.specs.Engine.{Knows, packetBy, labelBy, lineBy};
 ghost use Rattle.trace_line.specs.Label.{nameIn, Names, wayText, Labels, Over};
@@ -68,8 +75,21 @@ pub fn put_line(
     put_text(out, at, b"\n")
 }
 
-// The name is in a word, so that it is stored at once. The packet is let go.
+// By an index most headers need no packet.
 fn label_of(header: &[u8], engine: Engine, bytes: &[u8]) -> Label
+    requires { ⌜ Knows engine (now bytes) ⌝ }
+    ensures { λ r. ⌜ Labels r (labelBy engine (now (bytes .entry)) (now (header .entry))) ⌝ }
+{
+    match engine {
+        Engine::Sheet(number) => label_packet(header, Engine::Sheet(number), bytes),
+        Engine::Index => label_by_index(header, bytes),
+    }
+}
+
+// ---- by a packet
+
+// The name is in a word, so that it is stored at once. The packet is let go.
+fn label_packet(header: &[u8], engine: Engine, bytes: &[u8]) -> Label
     requires { ⌜ Knows engine (now bytes) ⌝ }
     ensures { λ r. ⌜ Labels r (labelBy engine (now (bytes .entry)) (now (header .entry))) ⌝ }
 {
@@ -110,39 +130,6 @@ fn way_of(name: u64, routing: Routing) -> Label
     }
 }
 
-// A space and the kind's name, as it was read and not as it arrives: a CfgRd1 stays one. The last byte says how many bytes they are.
-fn name_of(p: Packet) -> u64
-    ensures { λ r. ⌜ Names r (ascii " " ++ kindText (kindOf p)) ⌝ }
-{
-    match p {
-        Packet::Memory(k, _, _, _) => match k {
-            MemoryKind::MRd => 0x204d526400000004,
-            MemoryKind::MRdLk => 0x204d52644c6b0006,
-            MemoryKind::MWr => 0x204d577200000004,
-        },
-        Packet::Io(k, _, _, _) => match k {
-            IoKind::IORd => 0x20494f5264000005,
-            IoKind::IOWr => 0x20494f5772000005,
-        },
-        Packet::Config(k, _, _, _) => match k {
-            ConfigKind::CfgRd0 => 0x2043666752643007,
-            ConfigKind::CfgWr0 => 0x2043666757723007,
-            ConfigKind::CfgRd1 => 0x2043666752643107,
-            ConfigKind::CfgWr1 => 0x2043666757723107,
-        },
-        Packet::Completion(k, _, _) => match k {
-            CompletionKind::Cpl => 0x2043706c00000004,
-            CompletionKind::CplD => 0x2043706c44000005,
-            CompletionKind::CplLk => 0x2043706c4c6b0006,
-            CompletionKind::CplDLk => 0x2043706c444c6b07,
-        },
-        Packet::Message(k, _, _, _, _) => match k {
-            MessageKind::Msg => 0x204d736700000004,
-            MessageKind::MsgD => 0x204d736744000005,
-        },
-    }
-}
-
 fn route_by(p: Packet, engine: Engine, bytes: &[u8]) -> Routing
     requires { ⌜ Knows engine (now bytes) ⌝ }
     ensures { λ r. ⌜ r ≡ packetBy engine p (now (bytes .entry)) ⌝ }
@@ -163,6 +150,212 @@ fn route_over(p: Packet, number: u8, sheet: &[u8]) -> Routing
     }
     route::route_packet(p, sheet)
 }
+
+// ---- by an index, from bytes to a label where nothing refuses the header
+
+fn label_by_index(header: &[u8], index: &[u8]) -> Label
+    ensures { λ r. ⌜ Labels r (labelBy ByIndex (now (index .entry)) (now (header .entry))) ⌝ }
+{
+    if header.len() < 12 {
+        return label_packet(header, Engine::Index, index);
+    }
+    let b = header[0];
+    if tlp_kinds::is_memory(b) {
+        return label_memory(header, index);
+    }
+    if tlp_kinds::is_io(b) {
+        return label_io(header, index);
+    }
+    if tlp_kinds::is_config(b) {
+        return label_config(header, index);
+    }
+    if tlp_kinds::is_completion(b) {
+        return label_completion(header, index);
+    }
+    label_packet(header, Engine::Index, index)
+}
+
+fn label_memory(header: &[u8], index: &[u8]) -> Label
+    requires { ⌜ (12 ≤ length (now header)) × (isMemory (getD (now header) 0 0) ≡ true) ⌝ }
+    ensures { λ r. ⌜ Labels r (labelBy ByIndex (now (index .entry)) (now (header .entry))) ⌝ }
+{
+    let b = header[0];
+    let k = tlp_kinds::memory_kind(b);
+    let form = tlp_kinds::memory_form(b);
+    if header.len() < 4 * (form as usize) {
+        return label_packet(header, Engine::Index, index);
+    }
+    let h = tlp_fields::request_head_at(form, header);
+    let e = tlp_fields::enables_at(header);
+    let a = tlp_fields::address_at(form, header);
+    if tlp_fields::unnamed(packet::is_write(k), header) {
+        return label_packet(header, Engine::Index, index);
+    }
+    if packet::memory_rules(h, e, a) != 0 {
+        return label_packet(header, Engine::Index, index);
+    }
+    let name = name_of_memory(k);
+    if index_find::MEMORY_END <= a {
+        return owned_by(name, 0);
+    }
+    owned_by(
+        name,
+        index_find::word_for(index, index_table::segment_of(a), a),
+    )
+}
+
+fn label_io(header: &[u8], index: &[u8]) -> Label
+    requires { ⌜ (12 ≤ length (now header)) × (isIo (getD (now header) 0 0) ≡ true) ⌝ }
+    ensures { λ r. ⌜ Labels r (labelBy ByIndex (now (index .entry)) (now (header .entry))) ⌝ }
+{
+    let k = tlp_kinds::io_kind(header[0]);
+    let h = tlp_fields::request_head_at(3, header);
+    let e = tlp_fields::enables_at(header);
+    let a = tlp_fields::address_at(3, header);
+    if tlp_fields::unnamed(false, header) {
+        return label_packet(header, Engine::Index, index);
+    }
+    if packet::io_rules(h, e, a) != 0 {
+        return label_packet(header, Engine::Index, index);
+    }
+    let name = name_of_io(k);
+    if index_find::IO_END <= a {
+        return owned_by(name, 0);
+    }
+    owned_by(
+        name,
+        index_find::word_for(index, 2, index_find::MEMORY_END + a),
+    )
+}
+
+// 42 before the search, for which the root bus is in the index.
+fn label_config(header: &[u8], index: &[u8]) -> Label
+    requires { ⌜ (12 ≤ length (now header)) × (isConfig (getD (now header) 0 0) ≡ true) ⌝ }
+    ensures { λ r. ⌜ Labels r (labelBy ByIndex (now (index .entry)) (now (header .entry))) ⌝ }
+{
+    let k = tlp_kinds::config_kind(header[0]);
+    let h = tlp_fields::request_head_at(3, header);
+    let e = tlp_fields::enables_at(header);
+    let t = tlp_fields::target_at(header);
+    if tlp_fields::unnamed(false, header) | tlp_fields::unnamed_target(header) {
+        return label_packet(header, Engine::Index, index);
+    }
+    if packet::config_rules(h, e) != 0 {
+        return label_packet(header, Engine::Index, index);
+    }
+    if index.len() < 3 {
+        return label_packet(header, Engine::Index, index);
+    }
+    if route_arrival::type_wrong(Packet::Config(k, h, e, t), index[2]) {
+        return label_packet(header, Engine::Index, index);
+    }
+    let name = name_of_config(k);
+    owned_by(
+        name,
+        index_find::word_for(index, 3, index_find::ID_BASE + (t.id as u64)),
+    )
+}
+
+// By its requester.
+fn label_completion(header: &[u8], index: &[u8]) -> Label
+    requires { ⌜ (12 ≤ length (now header)) × (isCompletion (getD (now header) 0 0) ≡ true) ⌝ }
+    ensures { λ r. ⌜ Labels r (labelBy ByIndex (now (index .entry)) (now (header .entry))) ⌝ }
+{
+    let k = tlp_kinds::completion_kind(header[0]);
+    let h = tlp_fields::completion_head_at(k, 3, header);
+    let o = tlp_fields::outcome_at(header);
+    if tlp_fields::unnamed(false, header) | tlp_fields::unnamed_lower(header) {
+        return label_packet(header, Engine::Index, index);
+    }
+    if packet::completion_rules(k, h, o) != 0 {
+        return label_packet(header, Engine::Index, index);
+    }
+    let name = name_of_completion(k);
+    owned_by(
+        name,
+        index_find::word_for(index, 3, index_find::ID_BASE + (h.requester as u64)),
+    )
+}
+
+// By a slot's word, whatever the packet: its record, or nobody's.
+fn owned_by(name: u64, word: u64) -> Label
+    ensures { λ r. ⌜ (r .name ≡ name) × ((p : PacketOf) → wayText (r .way) (r .number) ≡ ownerText (answer p (outcomeBy word))) ⌝ }
+{
+    let record = (word >> 16) % 65536;
+    if record == 0 {
+        return Label {
+            name,
+            way: REFUSED,
+            number: 40,
+        };
+    }
+    Label {
+        name,
+        way: OWNER,
+        number: record as u16,
+    }
+}
+
+// ---- names
+
+// A space and the kind's name, as it was read and not as it arrives: a CfgRd1 stays one. The last byte says how many bytes they are.
+fn name_of(p: Packet) -> u64
+    ensures { λ r. ⌜ Names r (ascii " " ++ kindText (kindOf p)) ⌝ }
+{
+    match p {
+        Packet::Memory(k, _, _, _) => name_of_memory(k),
+        Packet::Io(k, _, _, _) => name_of_io(k),
+        Packet::Config(k, _, _, _) => name_of_config(k),
+        Packet::Completion(k, _, _) => name_of_completion(k),
+        Packet::Message(k, _, _, _, _) => match k {
+            MessageKind::Msg => 0x204d736700000004,
+            MessageKind::MsgD => 0x204d736744000005,
+        },
+    }
+}
+
+fn name_of_memory(k: MemoryKind) -> u64
+    ensures { λ r. ⌜ Names r (ascii " " ++ kindText (MemoryOf k)) ⌝ }
+{
+    match k {
+        MemoryKind::MRd => 0x204d526400000004,
+        MemoryKind::MRdLk => 0x204d52644c6b0006,
+        MemoryKind::MWr => 0x204d577200000004,
+    }
+}
+
+fn name_of_io(k: IoKind) -> u64
+    ensures { λ r. ⌜ Names r (ascii " " ++ kindText (IoOf k)) ⌝ }
+{
+    match k {
+        IoKind::IORd => 0x20494f5264000005,
+        IoKind::IOWr => 0x20494f5772000005,
+    }
+}
+
+fn name_of_config(k: ConfigKind) -> u64
+    ensures { λ r. ⌜ Names r (ascii " " ++ kindText (ConfigOf k)) ⌝ }
+{
+    match k {
+        ConfigKind::CfgRd0 => 0x2043666752643007,
+        ConfigKind::CfgWr0 => 0x2043666757723007,
+        ConfigKind::CfgRd1 => 0x2043666752643107,
+        ConfigKind::CfgWr1 => 0x2043666757723107,
+    }
+}
+
+fn name_of_completion(k: CompletionKind) -> u64
+    ensures { λ r. ⌜ Names r (ascii " " ++ kindText (CompletionOf k)) ⌝ }
+{
+    match k {
+        CompletionKind::Cpl => 0x2043706c00000004,
+        CompletionKind::CplD => 0x2043706c44000005,
+        CompletionKind::CplLk => 0x2043706c4c6b0006,
+        CompletionKind::CplDLk => 0x2043706c444c6b07,
+    }
+}
+
+// ---- a label as text
 
 // Where there is room for the word it is stored whole, and what is put next stands over the rest of it.
 fn put_name(out: &mut [u8], start: usize, name: u64) -> usize

@@ -1,0 +1,26 @@
+-- `trace_line::name_of_io` meets its contract: one word for each kind, by computation. Assumes nothing.
+use borrow.Author.Needs.{needs}
+use native.Mathlib.Omega.{arith}
+use mathlib.Core.Path.{refl}
+use Rattle.endian.specs.Endian.{beBytes}
+use Rattle.text.specs.Text.{ascii}
+use Rattle.trace_line.specs.Label.{nameIn, Names}
+use Rattle.trace_line.proofs.name_of_io.Statement.{statement}
+use Rattle.trace_line.proofs.name_of_io.Tie as tie
+
+enum-told : tie.Need-enum-told
+enum-told c = search needs
+
+enum-told-2 : tie.Need-enum-told-2
+enum-told-2 c = search needs
+
+returns : tie.Need-returns
+unfolding nameIn beBytes ascii
+returns c = rw (c .enum-told .given .1) (record { is = refl; few = omega arith })
+
+returns-2 : tie.Need-returns-2
+unfolding nameIn beBytes ascii
+returns-2 c = rw (c .enum-told2 .given .1) (record { is = refl; few = omega arith })
+
+pub name-of-io-spec : {M : Type 1} → statement M
+name-of-io-spec = tie.close (tie.spec enum-told enum-told-2 returns returns-2)
