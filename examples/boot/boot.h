@@ -14,6 +14,7 @@
 void console_start(void);
 void print(const char *format, ...) __attribute__((format(printf, 1, 2)));    /* %s %u %0nX %0nlX */
 void print_bytes(const char *name, const uint8_t *bytes, size_t count);       /* a line: name, hexadecimal */
+void await_byte(void);
 void quit(unsigned status) __attribute__((noreturn));
 void fail(const char *format, ...) __attribute__((noreturn, format(printf, 1, 2)));
 
@@ -106,7 +107,7 @@ void judge_registers(const uint8_t *sheet, size_t sheet_len);
 /* ---- stack.c: what a call takes ---- */
 
 /* The figures of cartsundial.h, in bytes; of cartsundial_script it says no more than 64 KiB for any call. */
-enum { PLAN_STACK = 60 << 10, SCRIPT_STACK = 64 << 10, OTHER_STACK = 12 << 10 };
+enum { PLAN_STACK = 60 << 10, SCRIPT_STACK = 60 << 10, OTHER_STACK = 12 << 10 };
 
 void stack_paint(void);
 void stack_hold(const char *call, size_t limit);         /* how deep the stack was used since it was painted */

@@ -3,7 +3,7 @@
 
 #include "boot.h"
 
-enum { SERIAL = 0x3F8, LINE_CONTROL = SERIAL + 3, LINE_STATUS = SERIAL + 5, CAN_SEND = 0x20 };
+enum { SERIAL = 0x3F8, LINE_CONTROL = SERIAL + 3, LINE_STATUS = SERIAL + 5, CAN_READ = 0x01, CAN_SEND = 0x20 };
 
 void console_start(void)
 {
@@ -92,6 +92,13 @@ void print_bytes(const char *name, const uint8_t *bytes, size_t count)
     while (count-- > 0)
         put_hexadecimal(*bytes++, 2);
     put('\n');
+}
+
+void await_byte(void)
+{
+    while (!(port_in(LINE_STATUS, 1) & CAN_READ))
+        ;
+    port_in(SERIAL, 1);
 }
 
 void quit(unsigned status)

@@ -86,11 +86,23 @@ static void take_card(void)
     probe_box();
 }
 
+/* A pool that the processor, or the page tables, do not reach could not be looked at. */
+static void check_reach(uint64_t last)
+{
+    uint32_t leaf = 0x80000008, other[3];
+
+    __asm__ volatile("cpuid" : "+a"(leaf), "=b"(other[0]), "=c"(other[1]), "=d"(other[2]));
+    if (last >> (leaf & 0xFF) != 0 || last >> 30 >= MAPPED_GIB)
+        fail("%016lX is beyond the processor's %u bits or the page tables' %u GiB", last, leaf & 0xFF, (unsigned)MAPPED_GIB);
+}
+
 void boot_main(void)
 {
     static const struct host host = { FIRST_BUS, LAST_BUS, LOW_FIRST, LOW_LAST, HIGH_FIRST, HIGH_LAST, IO_FIRST, IO_LAST };
 
     console_start();
+    if (HIGH_FIRST <= HIGH_LAST)
+        check_reach(HIGH_LAST);
     print("-- the box\n");
     bring_up(&host);
     if (PLUG)

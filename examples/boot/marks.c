@@ -201,7 +201,8 @@ void mark_all(const struct host *host)
     unsigned record, i;
 
     bar_count = 0;
-    empty_memory = address_read(false, host->low_first, 4);
+    if (host->low_first <= host->low_last)
+        empty_memory = address_read(false, host->low_first, 4);
     if (host->io_first <= host->io_last)
         empty_io = port_in(host->io_first, 4);
     print("empty: memory %08X, I/O %08X\n", empty_memory, empty_io);

@@ -25,8 +25,13 @@ static struct write read_write(const uint8_t *bytes, unsigned number, unsigned f
     uint64_t packet[CARTSUNDIAL_PACKET_NUMBERS];
     const uint8_t *data = bytes + 14;
     struct write write = { .number = number };
-    uint32_t refused = cartsundial_read(bytes + 2, 12, packet, CARTSUNDIAL_PACKET_NUMBERS);
+    uint32_t refused;
 
+    if (number == 1)
+        stack_paint();
+    refused = cartsundial_read(bytes + 2, 12, packet, CARTSUNDIAL_PACKET_NUMBERS);
+    if (number == 1)
+        stack_hold("cartsundial_read", OTHER_STACK);
     if (bytes[0] != 0 || bytes[1] != 16 || refused != CARTSUNDIAL_ACCEPTED)
         fail("write %u is no record, or its header is refused: %u", number, refused);
     write.id = (unsigned)packet[CARTSUNDIAL_TARGET];
@@ -201,6 +206,8 @@ void perform(const uint8_t *script, size_t script_len, unsigned first_bus, bool 
             commanded = record_of(writes[i].id);
         if (watched)
             probe_stop(commanded, !SABOTAGE);
+        if (STEP)
+            await_byte();
     }
     print("performed: %u writes\n", write_count);
 }

@@ -35,6 +35,11 @@
 #define PLUG 0
 #endif
 
+/* 1: after every write of the script a byte on the serial port is waited for, time to look at the machine (QEMU's `info mtree`). */
+#ifndef STEP
+#define STEP 0
+#endif
+
 /* The boot's own requester ID and the tag of its first write. */
 #define REQUESTER 0x0000
 #define FIRST_TAG 0x00

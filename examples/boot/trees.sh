@@ -29,12 +29,12 @@ backplane=(
     -device edu,bus=pci2,addr=1 -device pci-serial,bus=pci2,addr=2
 )
 
-# 32 bridges in a row, which is as many as a function may have above it.
+# 32 bridges in a row, which is as many as a function may have above it, and beside the last cards a 33rd bridge with nothing below.
 row=(-device pcie-root-port,id=b1,bus=pcie.0,addr=2,chassis=1 -device pcie-pci-bridge,id=b2,bus=b1)
 for ((n = 3; n <= 32; n++)); do
     row+=(-device "pci-bridge,id=b$n,bus=b$((n - 1)),addr=1,chassis_nr=$n")
 done
-row+=(-device edu,bus=b32,addr=1 -device pci-serial,bus=b32,addr=2)
+row+=(-device edu,bus=b32,addr=1 -device pci-serial,bus=b32,addr=2 -device pci-bridge,bus=b32,addr=3,chassis_nr=33)
 
 # Slots: one with a card, one that stays empty and one that gets a card later. QEMU's own hot plug by ACPI is off: the port tells it.
 slots=(
@@ -49,3 +49,72 @@ later='stop
 device_add pcie-pci-bridge,id=later,bus=slot3
 device_add edu,bus=later,addr=1
 cont'
+
+# random_tree SEED: any tree, in the array random. The same seed is the same tree for one version of bash.
+random_tree() {
+    RANDOM=$1 random=() names=0 cards=0 io_cards=0
+    local device at
+    for ((device = 2; device < 26; device += 1 + RANDOM % 6)); do
+        printf -v at %x $device
+        if ((RANDOM % 3 == 0)); then
+            random_card pcie.0 "$at"
+        else
+            random+=(-device "pcie-root-port,id=n$((++names)),bus=pcie.0,addr=$at,chassis=$names")
+            random_slot n$names 1
+        fi
+    done
+}
+
+# random_card BUS ADDRESS: a card at a device, or device.function.
+random_card() {
+    local at=bus=$1,addr=$2,multifunction=on
+    cards=$((cards + 1))
+    case $((RANDOM % 6)) in
+    0) random+=(-device "intel-hda,$at") ;;
+    1 | 2)
+        random+=(-object "memory-backend-ram,id=m$((++names)),size=$((1 << RANDOM % 5))M")
+        random+=(-device "ivshmem-plain,memdev=m$names,$at")
+        ;;
+    3)
+        if ((++io_cards < 5)); then random+=(-device "pci-serial,$at"); else random+=(-device "edu,$at"); fi
+        ;;
+    *) random+=(-device "edu,$at") ;;
+    esac
+}
+
+# random_slot PORT DEPTH: what is in the slot of a PCI Express port: nothing, a card of one to four functions, a switch, or a PCI bridge.
+random_slot() {
+    local port=$1 depth=$2 switch n
+    case $((cards > 40 ? 0 : RANDOM % (depth < 7 ? 7 : 3))) in
+    0) ;;
+    1 | 2)
+        for ((n = RANDOM % 4; n >= 0; n--)); do random_card "$port" 0.$n; done
+        ;;
+    3 | 4)
+        switch=n$((++names))
+        random+=(-device "x3130-upstream,id=$switch,bus=$port")
+        for ((n = RANDOM % 4; n >= 0; n--)); do
+            random+=(-device "xio3130-downstream,id=n$((++names)),bus=$switch,addr=$n,chassis=$names")
+            random_slot n$names $((depth + 2))
+        done
+        ;;
+    *)
+        random+=(-device "pcie-pci-bridge,id=n$((++names)),bus=$port")
+        random_bus n$names $((depth + 1))
+        ;;
+    esac
+}
+
+# random_bus BUS DEPTH: cards and bridges on a PCI bus.
+random_bus() {
+    local bus=$1 depth=$2 device at
+    for ((device = 1; device < 24 && cards < 40; device += 1 + RANDOM % 12)); do
+        printf -v at %x $device
+        if ((depth < 9 && RANDOM % 3 == 0)); then
+            random+=(-device "pci-bridge,id=n$((++names)),bus=$bus,addr=$at,chassis_nr=$names")
+            random_bus n$names $((depth + 1))
+        else
+            random_card "$bus" "$at"
+        fi
+    done
+}
