@@ -64,6 +64,7 @@ extern uint8_t board[BOARD_BYTES];
 extern size_t board_len;
 
 bool is_bridge(const struct function *function);
+unsigned record_with_id(unsigned id);                    /* 0 for none */
 void scan(const struct host *host);                      /* fills functions, by temporary bus numbers that stay set */
 void clear(void);                                        /* every planned register to 0, the temporary bus numbers last */
 void write_board(const struct host *host);
@@ -88,7 +89,21 @@ void mark_all(const struct host *host);                  /* each function alone;
 
 /* ---- script.c: the writes ---- */
 
+enum { RECORD_BYTES = 18, MAX_WRITES = CARTSUNDIAL_SCRIPT_BYTES / RECORD_BYTES };
+
+struct write {
+    unsigned number;                                     /* its place in the script */
+    unsigned id, offset, enables;
+    uint32_t value;
+};
+
 void perform(const uint8_t *script, size_t script_len, unsigned first_bus, bool watched);
+
+/* ---- sabotage.c: the same done wrong ---- */
+
+enum { COMMANDS_FIRST = 1, BUSES_LATE = 2, EXCHANGED = 3, CLOSED_LEFT_OUT = 4, ONE_UNDER_ANOTHER = 5, NOT_CLEARED = 6 };
+
+unsigned do_it_wrong(struct write *writes, unsigned count);    /* how many are left */
 
 /* ---- probe.c: who answers ---- */
 
@@ -106,7 +121,7 @@ void judge_registers(const uint8_t *sheet, size_t sheet_len);
 
 /* ---- stack.c: what a call takes ---- */
 
-/* The figures of cartsundial.h, in bytes; of cartsundial_script it says no more than 64 KiB for any call. */
+/* The figures of cartsundial.h, in bytes. */
 enum { PLAN_STACK = 60 << 10, SCRIPT_STACK = 60 << 10, OTHER_STACK = 12 << 10 };
 
 void stack_paint(void);

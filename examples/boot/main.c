@@ -37,8 +37,7 @@ static void make_script(void)
         print_bytes("script: ", script + at, 18);
 }
 
-#if SABOTAGE == 6
-/* Another plan is brought up first, and nothing of it cleared. */
+/* A sabotage: another plan is brought up first, and nothing of it cleared. */
 static void leave_another_plan(const struct host *host)
 {
     struct host other = *host;
@@ -51,16 +50,14 @@ static void leave_another_plan(const struct host *host)
     know_plan(&other, sheet);
     perform(script, script_len, other.first_bus, false);
 }
-#endif
 
 static void bring_up(const struct host *host)
 {
     scan(host);
     mark_all(host);
     clear();
-#if SABOTAGE == 6
-    leave_another_plan(host);
-#endif
+    if (SABOTAGE == NOT_CLEARED)
+        leave_another_plan(host);
     write_board(host);
     plan_board();
     make_script();

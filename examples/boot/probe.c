@@ -172,15 +172,6 @@ void probe_box(void)
 
 /* ---- IDs ---- */
 
-static unsigned record_with_id(unsigned id)
-{
-    unsigned record;
-
-    for (record = function_count; record > 0 && functions[record].id != id; record--)
-        ;
-    return record;
-}
-
 static void probe_id(unsigned id, unsigned record)
 {
     uint32_t found = config_read(id, 0);

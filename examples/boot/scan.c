@@ -16,6 +16,15 @@ bool is_bridge(const struct function *function)
     return (function->header_type & 0x7F) == 1;
 }
 
+unsigned record_with_id(unsigned id)
+{
+    unsigned record;
+
+    for (record = function_count; record > 0 && functions[record].id != id; record--)
+        ;
+    return record;
+}
+
 static unsigned header_type(unsigned id)
 {
     return config_read(id, CACHE_LINE) >> 16 & 0xFF;

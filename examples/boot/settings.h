@@ -54,7 +54,7 @@
 #define MAPPED_GIB 1024
 #define STACK_BYTES 131072
 
-/* Wrong orders and wrong writes, each of which has to be noticed: see script.c. 0 is none. */
+/* Wrong orders and wrong writes, 1 to 6, each of which has to be noticed: sabotage.c. 0 is none. */
 #ifndef SABOTAGE
 #define SABOTAGE 0
 #endif
