@@ -96,6 +96,7 @@ void print_bytes(const char *name, const uint8_t *bytes, size_t count)
 
 void await_byte(void)
 {
+    print("waiting\n");
     while (!(port_in(LINE_STATUS, 1) & CAN_READ))
         ;
     port_in(SERIAL, 1);

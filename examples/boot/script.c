@@ -82,10 +82,10 @@ void perform(const uint8_t *script, size_t script_len, unsigned first_bus, bool 
         perform_write(&writes[i], watched);
         if (writes[i].offset == COMMAND)
             commanded = record_with_id(writes[i].id);
+        if (watched && STEP)
+            await_byte();
         if (watched)
             probe_stop(commanded, !SABOTAGE);
-        if (STEP)
-            await_byte();
     }
     print("performed: %u writes\n", write_count);
 }
