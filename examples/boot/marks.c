@@ -28,7 +28,7 @@ static const struct scratch scratches[] = {
     { 0x00031B36, 0, 0x07, 1, 0x000000FF, false },       /* two of them */
     { 0x00041B36, 0, 0x07, 1, 0x000000FF, false },       /* four */
     { 0x00051B36, 2, 0x00, 4, 0xFFFFFFFF, false },       /* test device: memory behind it */
-    { 0x00011B36, 0, 0x27, 1, 0x0000007F, false },       /* PCI bridges with a hot plug controller: which events of the first slot are off */
+    { 0x00011B36, 0, 0x27, 1, 0x0000007F, false },       /* PCI bridges: events of the first slot that are off */
     { 0x000E1B36, 0, 0x27, 1, 0x0000007F, false },
     { 0x26688086, 0, 0x40, 4, 0xFFFFFF80, false },       /* HD audio: command ring, base */
     { 0x293E8086, 0, 0x40, 4, 0xFFFFFF80, false },

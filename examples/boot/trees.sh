@@ -1,5 +1,5 @@
-# The named trees, as arguments of qemu-system-x86_64: sourced by run. q35 has functions of its own beside them: host bridge, ISA bridge, AHCI
-# and SMBus. Memory BARs have 128 bytes or more, as the planner asks: not so pvpanic-pci, pcnet and i6300esb.
+# The named trees, as arguments of qemu-system-x86_64: sourced by run. q35 has functions of its own beside them: host bridge, ISA bridge,
+# AHCI and SMBus. Memory BARs have 128 bytes or more, as the planner asks: not so pvpanic-pci, pcnet and i6300esb.
 
 # One card.
 card=(-device pcie-root-port,id=root1,bus=pcie.0,addr=2,chassis=1 -device edu,bus=root1)
