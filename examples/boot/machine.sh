@@ -2,10 +2,11 @@
 
 have_qemu() {
     command -v qemu-system-x86_64 >/dev/null && return
-    local install=(apt-get -qq -o Acquire::Retries=0 -o Acquire::http::Timeout=20 install -y --no-install-recommends qemu-system-x86)
+    local quickly=(-qq -o Acquire::Retries=0 -o Acquire::http::Timeout=20)
+    local install=(env DEBIAN_FRONTEND=noninteractive apt-get "${quickly[@]}" install -y --no-install-recommends qemu-system-x86)
     echo 'examples/boot: installing qemu-system-x86'
     {
-        timeout 300 "${install[@]}" || { timeout 120 apt-get -qq update && timeout 300 "${install[@]}"; }
+        timeout 300 "${install[@]}" || { timeout 120 apt-get "${quickly[@]}" update && timeout 300 "${install[@]}"; }
     } >/dev/null 2>&1 </dev/null || true
     command -v qemu-system-x86_64 >/dev/null
 }

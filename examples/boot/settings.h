@@ -8,18 +8,26 @@
 /* Buses and pools of the host record. On QEMU's q35 these addresses are free, cold and after SeaBIOS. */
 #ifndef FIRST_BUS
 #define FIRST_BUS 0x00
+#endif
+#ifndef LAST_BUS
 #define LAST_BUS 0xFF
 #endif
 #ifndef LOW_FIRST
 #define LOW_FIRST 0xC0000000
+#endif
+#ifndef LOW_LAST
 #define LOW_LAST 0xFEBFFFFF
 #endif
 #ifndef HIGH_FIRST
 #define HIGH_FIRST 0x8C0000000   /* its low half is in the low pool, so that half of an address that is written would be heard there */
+#endif
+#ifndef HIGH_LAST
 #define HIGH_LAST 0xFFFFFFFFF
 #endif
 #ifndef IO_FIRST
 #define IO_FIRST 0x6000
+#endif
+#ifndef IO_LAST
 #define IO_LAST 0xFFFF
 #endif
 

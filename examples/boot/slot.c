@@ -6,7 +6,7 @@
 
 enum {
     EXPRESS = 0x10, SLOT_CONTROL = 0x18,         /* the capability, and in it control (bytes 1:0) and status (3:2) of the slot */
-    POWER_OFF = 0x0400, PRESENT = 0x00400000, PATIENCE = 4000000
+    POWER_OFF = 0x0400, PRESENT = 0x00400000, PATIENCE = 40000000
 };
 
 unsigned empty_slot(void)
