@@ -43,12 +43,12 @@ plug() {
     status=0
     : >"$log.serial"
     {
-        for ((tries = 0; tries < 200; tries++)); do
+        for ((tries = 0; tries < 600; tries++)); do
             grep -q 'waits for a card' "$log.serial" && break
             sleep 0.05
         done
         printf '%s\n' "$lines"
-        for ((tries = 0; tries < 200; tries++)); do
+        for ((tries = 0; tries < 600; tries++)); do
             grep -q -E '^(good|FAILED|FAULT)' "$log.serial" && break
             sleep 0.05
         done
