@@ -107,6 +107,15 @@ unsigned do_it_wrong(struct write *writes, unsigned count);    /* how many are l
 
 /* ---- probe.c: who answers ---- */
 
+struct hole {
+    bool io;
+    uint64_t address;
+};
+
+enum { MAX_HOLES = 3 * MAX_BARS + 8 };
+extern struct hole holes[MAX_HOLES];                     /* addresses that are nobody's */
+extern unsigned hole_count;
+
 void know_plan(const struct host *host, const uint8_t *sheet);    /* planned IDs, addresses and holes */
 void probe_stop(unsigned commanded, bool exact);         /* after a write: records 1 to commanded have their command words */
 void probe_ids(const struct host *host);
@@ -117,7 +126,11 @@ void probe_box(void);
 /* ---- readback.c: the registers at the end ---- */
 
 void print_plan(const uint8_t *sheet);
-void judge_registers(const uint8_t *sheet, size_t sheet_len);
+const uint8_t *judge_registers(const uint8_t *sheet, size_t sheet_len);    /* a sheet of what was read */
+
+/* ---- route.c: the router's word on it ---- */
+
+void route_all(const uint8_t *sheet, size_t sheet_len);
 
 /* ---- stack.c: what a call takes ---- */
 

@@ -1,6 +1,6 @@
 /*
- * A box that boots by our plan: scan, mark, clear, plan, write, ask everybody, judge the registers. Each step is printed, and the first
- * that is not as planned ends the machine with another status.
+ * A box that boots by our plan: scan, mark, clear, plan, write, ask everybody, judge the registers, route. Each step is printed, and the
+ * first that is not as planned ends the machine with another status.
  */
 #include "boot.h"
 
@@ -65,7 +65,7 @@ static void bring_up(const struct host *host)
     perform(script, script_len, host->first_bus, true);
     probe_ids(host);
     probe_switched_off();
-    judge_registers(sheet, sheet_len);
+    route_all(judge_registers(sheet, sheet_len), sheet_len);
 }
 
 /* A card that comes later is brought up in the room that its slot keeps, as a board of its own. */

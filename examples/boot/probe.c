@@ -4,14 +4,9 @@
  */
 #include "boot.h"
 
-struct hole {
-    bool io;
-    uint64_t address;
-};
-
-enum { MAX_HOLES = 3 * MAX_BARS + 8 };
-static struct hole holes[MAX_HOLES];
-static unsigned hole_count, switched_off;
+struct hole holes[MAX_HOLES];
+unsigned hole_count;
+static unsigned switched_off;
 
 /* ---- what the plan says ---- */
 

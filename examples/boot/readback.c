@@ -88,7 +88,7 @@ static void compare_record(unsigned record, const uint8_t *sheet)
                  sheet[start + offset]);
 }
 
-void judge_registers(const uint8_t *sheet, size_t sheet_len)
+const uint8_t *judge_registers(const uint8_t *sheet, size_t sheet_len)
 {
     unsigned record;
     uint32_t number;
@@ -107,4 +107,5 @@ void judge_registers(const uint8_t *sheet, size_t sheet_len)
     print("audit: %u\n", number);
     if (number != CARTSUNDIAL_ACCEPTED)
         fail("the audit refuses the registers: %u", number);
+    return found;
 }
