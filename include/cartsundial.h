@@ -55,6 +55,19 @@
 extern "C" {
 #endif
 
+/* The version of this file. The archive's is what cartsundial_version answers: they are the same where both belong together. */
+#define CARTSUNDIAL_VERSION_MAJOR 0
+#define CARTSUNDIAL_VERSION_MINOR 24
+#define CARTSUNDIAL_VERSION_PATCH 0
+#define CARTSUNDIAL_VERSION_NUMBER (10000 * CARTSUNDIAL_VERSION_MAJOR + 100 * CARTSUNDIAL_VERSION_MINOR + CARTSUNDIAL_VERSION_PATCH)
+
+/* The System V convention, also in a module that is built for another one, as UEFI's are. */
+#if defined(__GNUC__) && defined(__x86_64__)
+#define CARTSUNDIAL_CALL __attribute__((sysv_abi))
+#else
+#define CARTSUNDIAL_CALL
+#endif
+
 /* ---- numbers given back ---- */
 
 enum cartsundial_number {
@@ -182,11 +195,14 @@ enum cartsundial_size {
  * first. Of 32-bit words, as a header log has them, give each word's high byte first.
  */
 
+/* The version of the archive, as CARTSUNDIAL_VERSION_NUMBER is that of this file. */
+CARTSUNDIAL_CALL uint32_t cartsundial_version(void);
+
 /*
  * Reads the header at the front of any bytes. packet: its twenty numbers. Later bytes are not looked at.
  * Refused: 1 to 9, then 11 for a packet slice of fewer than twenty numbers.
  */
-uint32_t cartsundial_read(const uint8_t *header, size_t header_len, uint64_t *packet, size_t packet_len);
+CARTSUNDIAL_CALL uint32_t cartsundial_read(const uint8_t *header, size_t header_len, uint64_t *packet, size_t packet_len);
 
 /*
  * Writes the packet that the first twenty numbers are, 12 or 16 bytes at the front of the room and nothing past them. written: how many.
@@ -195,8 +211,8 @@ uint32_t cartsundial_read(const uint8_t *header, size_t header_len, uint64_t *pa
  * than 0), or other than 0 in a field that the kind does not have; 4 to 9; 11 for a short room, or a written slice of no numbers.
  * What cartsundial_read gave is written back to the same bytes, and what was written is read back as the same twenty numbers.
  */
-uint32_t cartsundial_write(const uint64_t *packet, size_t packet_len, uint8_t *room, size_t room_len,
-                           uint64_t *written, size_t written_len);
+CARTSUNDIAL_CALL uint32_t cartsundial_write(const uint64_t *packet, size_t packet_len, uint8_t *room, size_t room_len, uint64_t *written,
+                                            size_t written_len);
 
 /* ---- boards and sheets ---- */
 
@@ -208,7 +224,8 @@ uint32_t cartsundial_write(const uint64_t *packet, size_t packet_len, uint8_t *r
  * Which record finds no room, at 31, 32 or 33: plan the board's fronts, each cut after a whole record, with a sheet_len of 0. The shortest
  * one that gets the same number ends with that record. (A front that has room for everything gets 11.)
  */
-uint32_t cartsundial_plan(const uint8_t *board, size_t board_len, uint8_t *sheet, size_t sheet_len, uint64_t *written, size_t written_len);
+CARTSUNDIAL_CALL uint32_t cartsundial_plan(const uint8_t *board, size_t board_len, uint8_t *sheet, size_t sheet_len, uint64_t *written,
+                                           size_t written_len);
 
 /*
  * Writes a board's plan as the configuration writes that boot code makes, at the front of script and nothing past them: a record for each
@@ -221,13 +238,13 @@ uint32_t cartsundial_plan(const uint8_t *board, size_t board_len, uint8_t *sheet
  * Refused: 10 for a requester above FFFFh or a first_tag above FFh, tried first; 20 to 26 and 30 to 33, as cartsundial_plan; then 11 for a
  * short script slice, or a written slice of no numbers.
  */
-uint32_t cartsundial_script(const uint8_t *board, size_t board_len, uint32_t requester, uint32_t first_tag,
-                            uint8_t *script, size_t script_len, uint64_t *written, size_t written_len);
+CARTSUNDIAL_CALL uint32_t cartsundial_script(const uint8_t *board, size_t board_len, uint32_t requester, uint32_t first_tag,
+                                             uint8_t *script, size_t script_len, uint64_t *written, size_t written_len);
 
 /*
  * 0 for a sheet that passes its checks, or the number of the first that it fails, 20 to 29. Give the sheet's own length, not the buffer's.
  */
-uint32_t cartsundial_check(const uint8_t *sheet, size_t sheet_len);
+CARTSUNDIAL_CALL uint32_t cartsundial_check(const uint8_t *sheet, size_t sheet_len);
 
 /*
  * Judges a sheet, whoever wrote it, for a host: 0 for one that is accepted, or the number of the first check that fails. host: the
@@ -242,27 +259,27 @@ uint32_t cartsundial_check(const uint8_t *sheet, size_t sheet_len);
  * request to the one function whose BAR holds the address, where that function and all bridges above it are enabled, and else answers 40,
  * never 41. Both are proved.
  */
-uint32_t cartsundial_audit(const uint8_t *host, size_t host_len, const uint8_t *sheet, size_t sheet_len);
+CARTSUNDIAL_CALL uint32_t cartsundial_audit(const uint8_t *host, size_t host_len, const uint8_t *sheet, size_t sheet_len);
 
 /*
  * Finds the function with an ID. offset: where its 64 register bytes start in the sheet.
  * Refused: the sheet's number, then 40 where no function has the ID (an ID above FFFFh is no function's), then 11 for an offset slice of no
  * numbers.
  */
-uint32_t cartsundial_lookup(const uint8_t *sheet, size_t sheet_len, uint32_t id, uint64_t *offset, size_t offset_len);
+CARTSUNDIAL_CALL uint32_t cartsundial_lookup(const uint8_t *sheet, size_t sheet_len, uint32_t id, uint64_t *offset, size_t offset_len);
 
 /*
  * The ID of the function with a record number, from 1 on: bus in bits 15:8, device in 7:3, function in 2:0. It turns the record that
  * cartsundial_route answers into an ID.
  * Refused: the sheet's number, then 40 where there is no such record (0 is none), then 11 for an id slice of no numbers.
  */
-uint32_t cartsundial_id(const uint8_t *sheet, size_t sheet_len, uint32_t record, uint64_t *id, size_t id_len);
+CARTSUNDIAL_CALL uint32_t cartsundial_id(const uint8_t *sheet, size_t sheet_len, uint32_t record, uint64_t *id, size_t id_len);
 
 /*
  * Rewrites the command word of the function with an ID, and no other byte.
  * Refused: 10 for a command above FFFFh, tried before the sheet is read, then the sheet's number, then 40.
  */
-uint32_t cartsundial_command(uint8_t *sheet, size_t sheet_len, uint32_t id, uint32_t command);
+CARTSUNDIAL_CALL uint32_t cartsundial_command(uint8_t *sheet, size_t sheet_len, uint32_t id, uint32_t command);
 
 /* ---- routing ---- */
 
@@ -279,8 +296,8 @@ uint32_t cartsundial_command(uint8_t *sheet, size_t sheet_len, uint32_t id, uint
  * Refused: the header's number, 1 to 9, before the sheet is read; the sheet's number, 20 to 29; 40, 41, 42 or 43; then 11 for fewer numbers
  * than the answer has. Over 22 numbers, then, 11 is a broadcast that would be answered.
  */
-uint32_t cartsundial_route(const uint8_t *header, size_t header_len, const uint8_t *sheet, size_t sheet_len,
-                           uint64_t *answer, size_t answer_len);
+CARTSUNDIAL_CALL uint32_t cartsundial_route(const uint8_t *header, size_t header_len, const uint8_t *sheet, size_t sheet_len,
+                                            uint64_t *answer, size_t answer_len);
 
 /*
  * Walks a memory or I/O request that starts at a type 0 function of the sheet, a card that writes or reads by itself. record: that
@@ -300,8 +317,8 @@ uint32_t cartsundial_route(const uint8_t *header, size_t header_len, const uint8
  * Over a sheet that cartsundial_audit accepts, and so over a planned one, it is never 41, and over a planned one at most 64 bridges are
  * crossed. Both are proved.
  */
-uint32_t cartsundial_route_from(uint32_t record, const uint8_t *header, size_t header_len, const uint8_t *sheet, size_t sheet_len,
-                                uint64_t *answer, size_t answer_len);
+CARTSUNDIAL_CALL uint32_t cartsundial_route_from(uint32_t record, const uint8_t *header, size_t header_len, const uint8_t *sheet,
+                                                 size_t sheet_len, uint64_t *answer, size_t answer_len);
 
 /* ---- routing by an index ---- */
 
@@ -313,7 +330,8 @@ uint32_t cartsundial_route_from(uint32_t record, const uint8_t *header, size_t h
  * Refused: the audit's number, 20 to 29 and 50 to 52; then 11 for a shorter slice.
  * The index is of the sheet as it is now: build it again after cartsundial_command. It holds no addresses of memory, so it may be copied.
  */
-uint32_t cartsundial_index(const uint8_t *host, size_t host_len, const uint8_t *sheet, size_t sheet_len, uint8_t *index, size_t index_len);
+CARTSUNDIAL_CALL uint32_t cartsundial_index(const uint8_t *host, size_t host_len, const uint8_t *sheet, size_t sheet_len, uint8_t *index,
+                                            size_t index_len);
 
 /*
  * Where a header goes, by an index that cartsundial_index left: for every header the answer and the number of cartsundial_route over the
@@ -323,8 +341,8 @@ uint32_t cartsundial_index(const uint8_t *host, size_t host_len, const uint8_t *
  * A broadcast's n is at most 65,535 then, and at most 512 for an index that was built.
  * Refused: the header's number, 1 to 9, before the index is read; 40, 42 or 43; then 11 for fewer numbers than the answer has.
  */
-uint32_t cartsundial_find(const uint8_t *header, size_t header_len, const uint8_t *index, size_t index_len,
-                          uint64_t *answer, size_t answer_len);
+CARTSUNDIAL_CALL uint32_t cartsundial_find(const uint8_t *header, size_t header_len, const uint8_t *index, size_t index_len,
+                                           uint64_t *answer, size_t answer_len);
 
 /* ---- traces ---- */
 
@@ -366,9 +384,9 @@ uint32_t cartsundial_find(const uint8_t *header, size_t header_len, const uint8_
  * Room for CARTSUNDIAL_LINE_BYTES a record is always enough, and so for piece_len / 2 + 1 lines whatever the piece holds; with less, each
  * line may have to be made twice. The sheet is checked once a call, so pieces of some KiB are better than single records.
  */
-uint32_t cartsundial_annotate(uint64_t *state, size_t state_len, const uint8_t *sheet, size_t sheet_len,
-                              const uint8_t *piece, size_t piece_len, uint8_t *lines, size_t lines_len,
-                              uint64_t *written, size_t written_len);
+CARTSUNDIAL_CALL uint32_t cartsundial_annotate(uint64_t *state, size_t state_len, const uint8_t *sheet, size_t sheet_len,
+                                               const uint8_t *piece, size_t piece_len, uint8_t *lines, size_t lines_len, uint64_t *written,
+                                               size_t written_len);
 
 /*
  * The same by an index in place of the sheet. By an index that cartsundial_index left, the call returns and writes what
@@ -377,9 +395,8 @@ uint32_t cartsundial_annotate(uint64_t *state, size_t state_len, const uint8_t *
  * Any other bytes may be given too: the lines then say what cartsundial_find answers over them.
  * Refused: as cartsundial_annotate. The index is not checked, so single records cost no more than larger pieces.
  */
-uint32_t cartsundial_label(uint64_t *state, size_t state_len, const uint8_t *index, size_t index_len,
-                           const uint8_t *piece, size_t piece_len, uint8_t *lines, size_t lines_len,
-                           uint64_t *written, size_t written_len);
+CARTSUNDIAL_CALL uint32_t cartsundial_label(uint64_t *state, size_t state_len, const uint8_t *index, size_t index_len, const uint8_t *piece,
+                                            size_t piece_len, uint8_t *lines, size_t lines_len, uint64_t *written, size_t written_len);
 
 /*
  * The line that a trace gets if it ends here, at the front of lines: `cut` inside a record or its length, `refused 20` where there was no
@@ -387,8 +404,8 @@ uint32_t cartsundial_label(uint64_t *state, size_t state_len, const uint8_t *ind
  * ends a trace of either call.
  * Refused: as cartsundial_annotate.
  */
-uint32_t cartsundial_annotate_end(const uint64_t *state, size_t state_len, uint8_t *lines, size_t lines_len,
-                                  uint64_t *written, size_t written_len);
+CARTSUNDIAL_CALL uint32_t cartsundial_annotate_end(const uint64_t *state, size_t state_len, uint8_t *lines, size_t lines_len,
+                                                   uint64_t *written, size_t written_len);
 
 /* ---- open requests ---- */
 
@@ -404,7 +421,7 @@ uint32_t cartsundial_annotate_end(const uint64_t *state, size_t state_len, uint8
  * Refused: 11 for fewer than 256 numbers, tried first; then the header's number, 1 to 9; 60 for any other kind; 61 where its requester and
  * tag are open already; 62 where 256 requests are open.
  */
-uint32_t cartsundial_ledger_open(uint64_t *ledger, size_t ledger_len, const uint8_t *header, size_t header_len);
+CARTSUNDIAL_CALL uint32_t cartsundial_ledger_open(uint64_t *ledger, size_t ledger_len, const uint8_t *header, size_t header_len);
 
 /*
  * Completes the request with the requester and the tag of a completion.
@@ -412,13 +429,13 @@ uint32_t cartsundial_ledger_open(uint64_t *ledger, size_t ledger_len, const uint
  * open; 64 for retry (status 010) where it is not configuration, and for a success with data for a write, without data for a read, in the
  * locked form for any but MRdLk, or not in it for MRdLk; 65 for a success with more dwords than are still to come.
  */
-uint32_t cartsundial_ledger_complete(uint64_t *ledger, size_t ledger_len, const uint8_t *header, size_t header_len);
+CARTSUNDIAL_CALL uint32_t cartsundial_ledger_complete(uint64_t *ledger, size_t ledger_len, const uint8_t *header, size_t header_len);
 
 /*
  * count: how many requests are open.
  * Refused: 11 for fewer than 256 numbers, or a count slice of no numbers.
  */
-uint32_t cartsundial_ledger_count(const uint64_t *ledger, size_t ledger_len, uint64_t *count, size_t count_len);
+CARTSUNDIAL_CALL uint32_t cartsundial_ledger_count(const uint64_t *ledger, size_t ledger_len, uint64_t *count, size_t count_len);
 
 #ifdef __cplusplus
 }

@@ -154,6 +154,10 @@ int main(void)
     uint64_t written[1], state[CARTSUNDIAL_TRACE_NUMBERS] = { 0 }, again[CARTSUNDIAL_TRACE_NUMBERS] = { 0 };
     uint32_t number = cartsundial_plan(board, sizeof board, sheet, sizeof sheet, written, 1);
 
+    if (cartsundial_version() != CARTSUNDIAL_VERSION_NUMBER) {
+        printf("the archive is of another version than cartsundial.h\n");
+        return 1;
+    }
     if (number != CARTSUNDIAL_ACCEPTED) {
         printf("refused %" PRIu32 "\n", number);
         return 1;

@@ -28,6 +28,10 @@ use Rattle.plan_answer.specs.Plan.{planning, sheetAfter}
 use Rattle.capi_answers.specs.Answers.{Answer, refuses, gives, leftBeside}
 use Rattle.capi_find.specs.Calls.{onRouting}
 
+-- 0.24.0: 10,000 times the major number, 100 times the minor one, the patch
+abbrev pub versionNumber : ℕ
+versionNumber = 2400
+
 -- ## Reading: the packet's twenty numbers
 
 abbrev pub onReading : Reading → Answer

@@ -17,7 +17,7 @@ ghost use Rattle.capi_find.specs.Calls.{findAnswer};
 ghost use Rattle.capi_trace.specs.Calls.{pieceAnswer, stateLeft, linesLeft, endAnswer, endLeft};
 ghost use Rattle.capi_ledger.specs.Calls.{openAnswer, openLeft, completeAnswer, completeLeft, countAnswer};
 ghost use Rattle.capi_script.specs.Calls.{scriptAnswer, scriptLeft};
-ghost use Rattle.capi.specs.Calls.{readAnswer, onWriting, writeAnswer, roomLeft, lookupAnswer, idAnswer, unownedOf};
+ghost use Rattle.capi.specs.Calls.{versionNumber, readAnswer, onWriting, writeAnswer, roomLeft, lookupAnswer, idAnswer, unownedOf};
 ghost use Rattle.capi.specs.Calls.{commandNumber, commandLeft, routeAnswer, planAnswer, sheetLeft};
 use packet::Packet;
 use packet_numbers::Parsed;
@@ -27,6 +27,14 @@ use sheet::Lookup;
 use sheet::RecordId;
 use tlp::Reading;
 use tlp::Writing;
+
+// The version of these calls, which the C header and the Rust crate are held against: 0.24.0 is 2400.
+#[no_mangle]
+pub extern "C" fn cartsundial_version() -> u32
+    ensures { λ r. ⌜ r ≡ versionNumber ⌝ }
+{
+    2400
+}
 
 // Reads a header's packet as twenty numbers.
 #[no_mangle]

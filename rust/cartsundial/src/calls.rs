@@ -25,12 +25,16 @@ pub const TRACE: usize = 6;
 /// an empty one, and any numbers are a ledger.
 pub const LEDGER: usize = 256;
 
+/// The version that this crate is for, 0.24.0, as [`version`] tells the archive's.
+pub const VERSION: u32 = 2400;
+
 /// What a call answers where its answer does not fit the slice for it: tried last, so it would have been accepted.
 pub const SHORT: u32 = 11;
 
 mod c {
     // The archive is compiled for the System V convention, whatever the target's own is.
     extern "sysv64" {
+        pub fn cartsundial_version() -> u32;
         pub fn cartsundial_read(header: *const u8, header_len: usize, packet: *mut u64, packet_len: usize) -> u32;
         pub fn cartsundial_write(
             packet: *const u64,
@@ -158,6 +162,12 @@ mod c {
 // SAFETY, of every call below: each pointer comes from a slice and goes with that slice's length; a slice's pointer is
 // never null, not even of an empty one. The borrows last for the call, and a slice that is written is borrowed alone.
 // The library is proved to touch nothing else, for any contents and any lengths.
+
+/// The version of the archive: 10,000 times the major number, 100 times the minor one, and the patch. [`VERSION`] is the one
+/// that this crate is for.
+pub fn version() -> u32 {
+    unsafe { c::cartsundial_version() }
+}
 
 /// Reads the header at the start of `header` into the first [`PACKET`] numbers of `packet`.
 pub fn read(header: &[u8], packet: &mut [u64]) -> u32 {
