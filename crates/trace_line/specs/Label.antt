@@ -30,6 +30,10 @@ pub record Labels (l : Label) (label : List ℕ) : Type 0 where
   pub is : nameIn (l .name) ++ wayText (l .way) (l .number) ≡ label
   pub few : l .name % 256 ≤ 8
 
+-- unless it is untold, for which the way is 4
+abbrev pub Told : Label → List ℕ → Type 0
+Told l label = ¬ (l .way ≡ 4) → Labels l label
+
 -- a text put at a place with up to eight bytes more, which stand where the next text will
 pub record Over (bytes : List ℕ) (at : ℕ) (text : List ℕ) (after : List ℕ) (next : ℕ) : Type 0 where
   pub rest : List ℕ

@@ -17,7 +17,7 @@ ghost use Rattle.index_search.specs.Search.{outcomeBy};
 ghost use Rattle.trace_line.specs.declared.Engine.the-variants.{Index as ByIndex};
 ghost use Rattle.trace_line.specs.Line.{ownerText};
 ghost use Rattle.trace_line.specs.Engine.{Knows, packetBy, labelBy, lineBy};
-ghost use Rattle.trace_line.specs.Label.{nameIn, Names, wayText, Labels, Over};
+ghost use Rattle.trace_line.specs.Label.{nameIn, Names, wayText, Labels, Told, Over};
 use packet::Packet;
 use pairs::CompletionKind;
 use pairs::ConfigKind;
@@ -53,6 +53,9 @@ const ALL: u8 = 2;
 
 const PORT: u8 = 3;
 
+// Not told by a header's bytes alone: it takes a packet.
+const UNTOLD: u8 = 4;
+
 // The name of a header that is refused: ` -`.
 const NONE: u64 = 0x202d000000000002;
 
@@ -68,21 +71,42 @@ pub fn put_line(
     requires { ⌜ Knows engine (now bytes) ⌝ }
     ensures { λ r. ⌜ Put (now (out .entry)) start (lineBy engine (now (bytes .entry)) n (now (header .entry))) (now (out .exit)) r ⌝ }
 {
-    let label = label_of(header, engine, bytes);
+    let told = label_by_bytes(header, engine, bytes);
+    let label = label_of(told, header, engine, bytes);
     let mut at = text::put_decimal(out, start, n);
     at = put_name(out, at, label.name);
     at = put_way(out, at, label.way, label.number);
     put_text(out, at, b"\n")
 }
 
-// By an index most headers need no packet.
-fn label_of(header: &[u8], engine: Engine, bytes: &[u8]) -> Label
-    requires { ⌜ Knows engine (now bytes) ⌝ }
+// The label that is told, or by a packet. What tells it calls nothing that is lent the header, so that this stays in registers.
+fn label_of(told: Label, header: &[u8], engine: Engine, bytes: &[u8]) -> Label
+    requires { ⌜ Knows engine (now bytes) × Told told (labelBy engine (now bytes) (now header)) ⌝ }
     ensures { λ r. ⌜ Labels r (labelBy engine (now (bytes .entry)) (now (header .entry))) ⌝ }
 {
+    if told.way != UNTOLD {
+        return told;
+    }
+    label_packet(header, engine, bytes)
+}
+
+// By an index most headers need no packet.
+fn label_by_bytes(header: &[u8], engine: Engine, bytes: &[u8]) -> Label
+    ensures { λ r. ⌜ Told r (labelBy engine (now (bytes .entry)) (now (header .entry))) ⌝ }
+{
     match engine {
-        Engine::Sheet(number) => label_packet(header, Engine::Sheet(number), bytes),
+        Engine::Sheet(_) => untold(),
         Engine::Index => label_by_index(header, bytes),
+    }
+}
+
+fn untold() -> Label
+    ensures { λ r. ⌜ r .way ≡ 4 ⌝ }
+{
+    Label {
+        name: NONE,
+        way: UNTOLD,
+        number: 0,
     }
 }
 
@@ -154,10 +178,10 @@ fn route_over(p: Packet, number: u8, sheet: &[u8]) -> Routing
 // ---- by an index, from bytes to a label where nothing refuses the header
 
 fn label_by_index(header: &[u8], index: &[u8]) -> Label
-    ensures { λ r. ⌜ Labels r (labelBy ByIndex (now (index .entry)) (now (header .entry))) ⌝ }
+    ensures { λ r. ⌜ Told r (labelBy ByIndex (now (index .entry)) (now (header .entry))) ⌝ }
 {
     if header.len() < 12 {
-        return label_packet(header, Engine::Index, index);
+        return untold();
     }
     let b = header[0];
     if tlp_kinds::is_memory(b) {
@@ -172,27 +196,27 @@ fn label_by_index(header: &[u8], index: &[u8]) -> Label
     if tlp_kinds::is_completion(b) {
         return label_completion(header, index);
     }
-    label_packet(header, Engine::Index, index)
+    untold()
 }
 
 fn label_memory(header: &[u8], index: &[u8]) -> Label
     requires { ⌜ (12 ≤ length (now header)) × (isMemory (getD (now header) 0 0) ≡ true) ⌝ }
-    ensures { λ r. ⌜ Labels r (labelBy ByIndex (now (index .entry)) (now (header .entry))) ⌝ }
+    ensures { λ r. ⌜ Told r (labelBy ByIndex (now (index .entry)) (now (header .entry))) ⌝ }
 {
     let b = header[0];
     let k = tlp_kinds::memory_kind(b);
     let form = tlp_kinds::memory_form(b);
     if header.len() < 4 * (form as usize) {
-        return label_packet(header, Engine::Index, index);
+        return untold();
     }
     let h = tlp_fields::request_head_at(form, header);
     let e = tlp_fields::enables_at(header);
     let a = tlp_fields::address_at(form, header);
     if tlp_fields::unnamed(packet::is_write(k), header) {
-        return label_packet(header, Engine::Index, index);
+        return untold();
     }
     if packet::memory_rules(h, e, a) != 0 {
-        return label_packet(header, Engine::Index, index);
+        return untold();
     }
     let name = name_of_memory(k);
     if index_find::MEMORY_END <= a {
@@ -206,17 +230,17 @@ fn label_memory(header: &[u8], index: &[u8]) -> Label
 
 fn label_io(header: &[u8], index: &[u8]) -> Label
     requires { ⌜ (12 ≤ length (now header)) × (isIo (getD (now header) 0 0) ≡ true) ⌝ }
-    ensures { λ r. ⌜ Labels r (labelBy ByIndex (now (index .entry)) (now (header .entry))) ⌝ }
+    ensures { λ r. ⌜ Told r (labelBy ByIndex (now (index .entry)) (now (header .entry))) ⌝ }
 {
     let k = tlp_kinds::io_kind(header[0]);
     let h = tlp_fields::request_head_at(3, header);
     let e = tlp_fields::enables_at(header);
     let a = tlp_fields::address_at(3, header);
     if tlp_fields::unnamed(false, header) {
-        return label_packet(header, Engine::Index, index);
+        return untold();
     }
     if packet::io_rules(h, e, a) != 0 {
-        return label_packet(header, Engine::Index, index);
+        return untold();
     }
     let name = name_of_io(k);
     if index_find::IO_END <= a {
@@ -231,23 +255,23 @@ fn label_io(header: &[u8], index: &[u8]) -> Label
 // 42 before the search, for which the root bus is in the index.
 fn label_config(header: &[u8], index: &[u8]) -> Label
     requires { ⌜ (12 ≤ length (now header)) × (isConfig (getD (now header) 0 0) ≡ true) ⌝ }
-    ensures { λ r. ⌜ Labels r (labelBy ByIndex (now (index .entry)) (now (header .entry))) ⌝ }
+    ensures { λ r. ⌜ Told r (labelBy ByIndex (now (index .entry)) (now (header .entry))) ⌝ }
 {
     let k = tlp_kinds::config_kind(header[0]);
     let h = tlp_fields::request_head_at(3, header);
     let e = tlp_fields::enables_at(header);
     let t = tlp_fields::target_at(header);
     if tlp_fields::unnamed(false, header) | tlp_fields::unnamed_target(header) {
-        return label_packet(header, Engine::Index, index);
+        return untold();
     }
     if packet::config_rules(h, e) != 0 {
-        return label_packet(header, Engine::Index, index);
+        return untold();
     }
     if index.len() < 3 {
-        return label_packet(header, Engine::Index, index);
+        return untold();
     }
     if route_arrival::type_wrong(Packet::Config(k, h, e, t), index[2]) {
-        return label_packet(header, Engine::Index, index);
+        return untold();
     }
     let name = name_of_config(k);
     owned_by(
@@ -259,16 +283,16 @@ fn label_config(header: &[u8], index: &[u8]) -> Label
 // By its requester.
 fn label_completion(header: &[u8], index: &[u8]) -> Label
     requires { ⌜ (12 ≤ length (now header)) × (isCompletion (getD (now header) 0 0) ≡ true) ⌝ }
-    ensures { λ r. ⌜ Labels r (labelBy ByIndex (now (index .entry)) (now (header .entry))) ⌝ }
+    ensures { λ r. ⌜ Told r (labelBy ByIndex (now (index .entry)) (now (header .entry))) ⌝ }
 {
     let k = tlp_kinds::completion_kind(header[0]);
     let h = tlp_fields::completion_head_at(k, 3, header);
     let o = tlp_fields::outcome_at(header);
     if tlp_fields::unnamed(false, header) | tlp_fields::unnamed_lower(header) {
-        return label_packet(header, Engine::Index, index);
+        return untold();
     }
     if packet::completion_rules(k, h, o) != 0 {
-        return label_packet(header, Engine::Index, index);
+        return untold();
     }
     let name = name_of_completion(k);
     owned_by(

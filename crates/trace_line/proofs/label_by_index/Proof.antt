@@ -5,11 +5,11 @@ use mathlib.Core.Path.{sym, _∙_}
 use Rattle.trace_line.proofs.label_by_index.Statement.{statement}
 use Rattle.trace_line.proofs.label_by_index.Tie as tie
 
-label-packet-requires : tie.Need-label-packet-requires
-label-packet-requires c κs = search needs
+untold-requires : tie.Need-untold-requires
+untold-requires c κs = search needs
 
 returns : tie.Need-returns
-returns c = search needs
+returns c = λ told. absurd (told (c .untold .ensures))
 
 shared-slice-read-b : tie.Need-shared-slice-read-b
 shared-slice-read-b c = search needs
@@ -58,17 +58,17 @@ label-completion-requires c κs =
 returns-5 : tie.Need-returns-5
 returns-5 c = search needs
 
-label-packet-requires-2 : tie.Need-label-packet-requires-2
-label-packet-requires-2 c κs = search needs
+untold-requires-2 : tie.Need-untold-requires-2
+untold-requires-2 c κs = search needs
 
 returns-6 : tie.Need-returns-6
-returns-6 c = search needs
+returns-6 c = λ told. absurd (told (c .untold2 .ensures))
 
 pub label-by-index-spec : {M : Type 1} → statement M
 label-by-index-spec =
     tie.close
     (tie.spec
-    label-packet-requires
+    untold-requires
     returns
     shared-slice-read-b
     is-memory-requires
@@ -83,5 +83,5 @@ label-by-index-spec =
     is-completion-requires
     label-completion-requires
     returns-5
-    label-packet-requires-2
+    untold-requires-2
     returns-6)

@@ -33,20 +33,20 @@ unnamed-requires c κs = search needs
 unnamed-lower-requires : tie.Need-unnamed-lower-requires
 unnamed-lower-requires c κs = search needs
 
-label-packet-requires : tie.Need-label-packet-requires
-label-packet-requires c κs = search needs
+untold-requires : tie.Need-untold-requires
+untold-requires c κs = search needs
 
 returns : tie.Need-returns
-returns c = search needs
+returns c = λ told. absurd (told (c .untold .ensures))
 
 completion-rules-requires : tie.Need-completion-rules-requires
 completion-rules-requires c κs = search needs
 
-label-packet-requires-2 : tie.Need-label-packet-requires-2
-label-packet-requires-2 c κs = search needs
+untold-requires-2 : tie.Need-untold-requires-2
+untold-requires-2 c κs = search needs
 
 returns-2 : tie.Need-returns-2
-returns-2 c = search needs
+returns-2 c = λ told. absurd (told (c .untold2 .ensures))
 
 name-of-completion-requires : tie.Need-name-of-completion-requires
 name-of-completion-requires c κs = search needs
@@ -98,7 +98,7 @@ returns-3 c =
     let index = middle .before .before .before .before .before .args .index .now in
     let found =
     by-word _ index _ _ (accepted lawful) refl refl (lt-ltb id 65536 (omega arith)) (word .word-for .result) (word .word-for .ensures) in
-    labels-found index _ _ (accepted lawful) (word .word-for .result) found _ (name .name-of-completion .ensures) _ (c .owned-by .ensures)
+    λ _. labels-found index _ _ (accepted lawful) (word .word-for .result) found _ (name .name-of-completion .ensures) _ (c .owned-by .ensures)
 
 pub label-completion-spec : {M : Type 1} → statement M
 label-completion-spec =
@@ -110,10 +110,10 @@ label-completion-spec =
     outcome-at-requires
     unnamed-requires
     unnamed-lower-requires
-    label-packet-requires
+    untold-requires
     returns
     completion-rules-requires
-    label-packet-requires-2
+    untold-requires-2
     returns-2
     name-of-completion-requires
     cast-word-for

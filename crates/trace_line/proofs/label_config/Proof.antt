@@ -36,26 +36,26 @@ unnamed-requires c κs = search needs
 unnamed-target-requires : tie.Need-unnamed-target-requires
 unnamed-target-requires c κs = search needs
 
-label-packet-requires : tie.Need-label-packet-requires
-label-packet-requires c κs = search needs
+untold-requires : tie.Need-untold-requires
+untold-requires c κs = search needs
 
 returns : tie.Need-returns
-returns c = search needs
+returns c = λ told. absurd (told (c .untold .ensures))
 
 config-rules-requires : tie.Need-config-rules-requires
 config-rules-requires c κs = search needs
 
-label-packet-requires-2 : tie.Need-label-packet-requires-2
-label-packet-requires-2 c κs = search needs
+untold-requires-2 : tie.Need-untold-requires-2
+untold-requires-2 c κs = search needs
 
 returns-2 : tie.Need-returns-2
-returns-2 c = search needs
+returns-2 c = λ told. absurd (told (c .untold2 .ensures))
 
-label-packet-requires-3 : tie.Need-label-packet-requires-3
-label-packet-requires-3 c κs = search needs
+untold-requires-3 : tie.Need-untold-requires-3
+untold-requires-3 c κs = search needs
 
 returns-3 : tie.Need-returns-3
-returns-3 c = search needs
+returns-3 c = λ told. absurd (told (c .untold3 .ensures))
 
 shared-slice-read-type-wrong : tie.Need-shared-slice-read-type-wrong
 shared-slice-read-type-wrong c = search needs
@@ -63,11 +63,11 @@ shared-slice-read-type-wrong c = search needs
 type-wrong-requires : tie.Need-type-wrong-requires
 type-wrong-requires c κs = search needs
 
-label-packet-requires-4 : tie.Need-label-packet-requires-4
-label-packet-requires-4 c κs = search needs
+untold-requires-4 : tie.Need-untold-requires-4
+untold-requires-4 c κs = search needs
 
 returns-4 : tie.Need-returns-4
-returns-4 c = search needs
+returns-4 c = λ told. absurd (told (c .untold4 .ensures))
 
 name-of-config-requires : tie.Need-name-of-config-requires
 name-of-config-requires c κs = search needs
@@ -122,7 +122,7 @@ returns-5 c =
     let found =
     by-word _ _ _ _ (accepted lawful) refl (sym (typed .before .type-wrong .ensures) ∙ typed .if4 .left) (lt-ltb id 65536 (omega arith))
     (word .word-for .result) (word .word-for .ensures) in
-    labels-found _ _ _ (accepted lawful) (word .word-for .result) found _ (name .name-of-config .ensures) _ (c .owned-by .ensures)
+    λ _. labels-found _ _ _ (accepted lawful) (word .word-for .result) found _ (name .name-of-config .ensures) _ (c .owned-by .ensures)
 
 pub label-config-spec : {M : Type 1} → statement M
 label-config-spec =
@@ -135,16 +135,16 @@ label-config-spec =
     target-at-requires
     unnamed-requires
     unnamed-target-requires
-    label-packet-requires
+    untold-requires
     returns
     config-rules-requires
-    label-packet-requires-2
+    untold-requires-2
     returns-2
-    label-packet-requires-3
+    untold-requires-3
     returns-3
     shared-slice-read-type-wrong
     type-wrong-requires
-    label-packet-requires-4
+    untold-requires-4
     returns-4
     name-of-config-requires
     cast-word-for

@@ -32,20 +32,20 @@ address-at-requires c κs = search needs
 unnamed-requires : tie.Need-unnamed-requires
 unnamed-requires c κs = search needs
 
-label-packet-requires : tie.Need-label-packet-requires
-label-packet-requires c κs = search needs
+untold-requires : tie.Need-untold-requires
+untold-requires c κs = search needs
 
 returns : tie.Need-returns
-returns c = search needs
+returns c = λ told. absurd (told (c .untold .ensures))
 
 io-rules-requires : tie.Need-io-rules-requires
 io-rules-requires c κs = search needs
 
-label-packet-requires-2 : tie.Need-label-packet-requires-2
-label-packet-requires-2 c κs = search needs
+untold-requires-2 : tie.Need-untold-requires-2
+untold-requires-2 c κs = search needs
 
 returns-2 : tie.Need-returns-2
-returns-2 c = search needs
+returns-2 c = λ told. absurd (told (c .untold2 .ensures))
 
 name-of-io-requires : tie.Need-name-of-io-requires
 name-of-io-requires c κs = search needs
@@ -83,7 +83,7 @@ returns-3 c =
     let middle = lawful .before .before .before .before .before in
     let index = middle .before .before .before .before .before .before .args .index .now in
     let found = out-of-reach _ index _ _ (accepted lawful) refl refl (le-ltb _ _ (far .if3 .taken)) in
-    labels-found index _ _ (accepted lawful) 0 found _ (name .name-of-io .ensures) _ (c .owned-by .ensures)
+    λ _. labels-found index _ _ (accepted lawful) 0 found _ (name .name-of-io .ensures) _ (c .owned-by .ensures)
 
 add-word-for : tie.Need-add-word-for
 add-word-for c = search needs
@@ -103,7 +103,7 @@ returns-4 c =
     let name = near .before in
     let lawful = name .before in
     let found = by-word _ _ _ _ (accepted lawful) refl refl (lt-ltb _ _ (near .if3 .left)) (word .word-for .result) (word .word-for .ensures) in
-    labels-found _ _ _ (accepted lawful) (word .word-for .result) found _ (name .name-of-io .ensures) _ (c .owned-by2 .ensures)
+    λ _. labels-found _ _ _ (accepted lawful) (word .word-for .result) found _ (name .name-of-io .ensures) _ (c .owned-by2 .ensures)
 
 pub label-io-spec : {M : Type 1} → statement M
 label-io-spec =
@@ -115,10 +115,10 @@ label-io-spec =
     enables-at-requires
     address-at-requires
     unnamed-requires
-    label-packet-requires
+    untold-requires
     returns
     io-rules-requires
-    label-packet-requires-2
+    untold-requires-2
     returns-2
     name-of-io-requires
     owned-by-requires

@@ -26,11 +26,11 @@ cast-if1 c = search needs
 mul-if1 : tie.Need-mul-if1
 mul-if1 c = search needs
 
-label-packet-requires : tie.Need-label-packet-requires
-label-packet-requires c κs = search needs
+untold-requires : tie.Need-untold-requires
+untold-requires c κs = search needs
 
 returns : tie.Need-returns
-returns c = search needs
+returns c = λ told. absurd (told (c .untold .ensures))
 
 request-head-at-requires : tie.Need-request-head-at-requires
 request-head-at-requires c κs = search needs
@@ -47,20 +47,20 @@ is-write-requires c κs = search needs
 unnamed-requires : tie.Need-unnamed-requires
 unnamed-requires c κs = search needs
 
-label-packet-requires-2 : tie.Need-label-packet-requires-2
-label-packet-requires-2 c κs = search needs
+untold-requires-2 : tie.Need-untold-requires-2
+untold-requires-2 c κs = search needs
 
 returns-2 : tie.Need-returns-2
-returns-2 c = search needs
+returns-2 c = λ told. absurd (told (c .untold2 .ensures))
 
 memory-rules-requires : tie.Need-memory-rules-requires
 memory-rules-requires c κs = search needs
 
-label-packet-requires-3 : tie.Need-label-packet-requires-3
-label-packet-requires-3 c κs = search needs
+untold-requires-3 : tie.Need-untold-requires-3
+untold-requires-3 c κs = search needs
 
 returns-3 : tie.Need-returns-3
-returns-3 c = search needs
+returns-3 c = λ told. absurd (told (c .untold3 .ensures))
 
 name-of-memory-requires : tie.Need-name-of-memory-requires
 name-of-memory-requires c κs = search needs
@@ -103,7 +103,7 @@ returns-4 c =
     let middle = lawful .before .before .before .before .before .before .before in
     let index = middle .before .before .before .before .before .before .before .args .index .now in
     let found = out-of-reach _ index _ _ (accepted lawful) refl refl (le-ltb _ _ (far .if4 .taken)) in
-    labels-found index _ _ (accepted lawful) 0 found _ (name .name-of-memory .ensures) _ (c .owned-by .ensures)
+    λ _. labels-found index _ _ (accepted lawful) 0 found _ (name .name-of-memory .ensures) _ (c .owned-by .ensures)
 
 segment-of-requires : tie.Need-segment-of-requires
 segment-of-requires c κs = search needs
@@ -121,7 +121,7 @@ returns-5 c =
     let name = near .before in
     let lawful = name .before in
     let found = by-word _ _ _ _ (accepted lawful) refl refl (lt-ltb _ _ (near .if4 .left)) (word .word-for .result) (word .word-for .ensures) in
-    labels-found _ _ _ (accepted lawful) (word .word-for .result) found _ (name .name-of-memory .ensures) _ (c .owned-by2 .ensures)
+    λ _. labels-found _ _ _ (accepted lawful) (word .word-for .result) found _ (name .name-of-memory .ensures) _ (c .owned-by2 .ensures)
 
 pub label-memory-spec : {M : Type 1} → statement M
 label-memory-spec =
@@ -132,17 +132,17 @@ label-memory-spec =
     memory-form-requires
     cast-if1
     mul-if1
-    label-packet-requires
+    untold-requires
     returns
     request-head-at-requires
     enables-at-requires
     address-at-requires
     is-write-requires
     unnamed-requires
-    label-packet-requires-2
+    untold-requires-2
     returns-2
     memory-rules-requires
-    label-packet-requires-3
+    untold-requires-3
     returns-3
     name-of-memory-requires
     owned-by-requires

@@ -7,6 +7,9 @@ use Rattle.text.specs.TextLaws.{put-append}
 use Rattle.trace_line.specs.Line.{lineWith}
 use Rattle.trace_line.specs.LabelLaws.{label-put}
 
+label-by-bytes-requires : tie.Need-label-by-bytes-requires
+label-by-bytes-requires c κs = search needs
+
 label-of-requires : tie.Need-label-of-requires
 label-of-requires c κs = search needs
 
@@ -44,6 +47,7 @@ pub put-line-spec : {M : Type 1} → statement M
 put-line-spec =
     tie.close
     (tie.spec
+    label-by-bytes-requires
     label-of-requires
     put-decimal-requires
     put-name-requires
