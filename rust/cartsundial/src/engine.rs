@@ -13,7 +13,7 @@ use core::fmt;
 ///
 /// | by | before | each piece | each header |
 /// |---|---|---|---|
-/// | an index, of a sheet that the audit accepts | built once: 7 µs for 16 functions, 0.4 ms for 512 | nothing | 70 to 80 ns |
+/// | an index, of a sheet that the audit accepts | built once: 7 µs for 16 functions, 0.4 ms for 512 | nothing | 35 to 45 ns |
 /// | a sheet, which may be any bytes | nothing | its check, 25 ns a function | 0.2 µs over 16 functions, 3 over 256, 7 to 9 over 512 |
 #[derive(Clone, Copy)]
 pub struct Engine<'a>(Bytes<'a>);
