@@ -37,9 +37,9 @@
  * to be done: signal handlers keep clear of it. In ring 0 an interrupt or exception that is handled on the interrupted stack overwrites
  * it, and the call is then no longer the one that was proved. So call only where every handler has a stack of its own (an interrupt stack
  * table entry), or with interrupts off and such stacks for what cannot be turned off, or from user mode. Firmware that takes its timer
- * interrupt on the one stack that there is, as UEFI usually does, must turn it off for the call. cartsundial_plan keeps clear of it;
- * examples/boot/redzone tells from the archive's code which calls do not. The code uses XMM registers too: SSE must be enabled, and a
- * handler that calls it has to save them.
+ * interrupt on the one stack that there is, as UEFI usually does, must turn it off for the call. cartsundial_plan and cartsundial_script
+ * keep clear of it; examples/boot/redzone tells from the archive's code which calls do not. The code uses XMM registers too: SSE must be
+ * enabled, and a handler that calls it has to save them.
  *
  * Answer slices (packet of cartsundial_read, answer, written, offset, id, count). The call writes the numbers that it names, and leaves the
  * numbers past them as they were. A slice too short for them is CARTSUNDIAL_SHORT, tried last: a header, board or sheet that is refused

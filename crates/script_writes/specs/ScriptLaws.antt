@@ -40,6 +40,12 @@ bytesFor t requester tag w =
     0 ∷ 16 ∷ kindByte t ∷ 0 ∷ 0 ∷ 1 ∷ (requester / 256) ∷ (requester % 256) ∷ tag ∷ (w .enables)
     ∷ (w .id / 256) ∷ (w .id % 256) ∷ 0 ∷ (w .offset) ∷ fourOf (w .bytes)
 
+-- the fourteen before the data
+abbrev pub headerFor : Boot → ℕ → ℕ → ℕ → ℕ → List ℕ
+headerFor boot tag id enables offset =
+    0 ∷ 16 ∷ kindByte (eqb (id / 256) (boot .root)) ∷ 0 ∷ 0 ∷ 1 ∷ (boot .requester / 256) ∷ (boot .requester % 256) ∷ tag ∷ enables
+    ∷ (id / 256) ∷ (id % 256) ∷ 0 ∷ offset ∷ []
+
 pub write-bytes : (boot : Boot) (tag : ℕ) (w : Write) → boot .requester < 65536 → tag < 256 → w .id < 65536 → IsRegister (w .offset)
     → writeBytes boot tag w ≡ bytesFor (eqb (w .id / 256) (boot .root)) (boot .requester) tag w
 unfolding writeBytes beBytes

@@ -1,19 +1,32 @@
 // One record's configuration writes as script records: each a length, twelve header bytes and four data bytes. The definitions stand in
 // specs/Writes and specs/Script.
 ghost use mathlib.Core.Path.{_≡_};
-ghost use Prim.Native.Nat.{ℕ, _+_, _*_, _≤_, _<_};
+ghost use Prim.Native.Nat.{ℕ, _+_, _*_, _/_, _%_, _≤_, _<_};
+ghost use mathlib.Core.List.{[], _∷_};
 ghost use lib.ListN.{length};
+ghost use lib.Seq.{sets};
 ghost use Rattle.sheet_record.specs.Places.{recordSize};
 ghost use Rattle.sheet_record.specs.Entry.{headerOf, slotCount};
-ghost use Rattle.script_writes.specs.Writes.{dataByte, isUsed, slotWrites, barWrites, busWrites, windowWrites};
+ghost use Rattle.script_writes.specs.Writes.{dataByte, dataOf, isUsed, slotWrites, barWrites, busWrites, windowWrites};
 ghost use Rattle.script_writes.specs.Writes.{registerWrites, writesIn};
 ghost use Rattle.script_writes.specs.Script.{writeStride};
-ghost use Rattle.script_writes.specs.ScriptLaws.{kindByte, IsRegister};
+ghost use Rattle.script_writes.specs.ScriptLaws.{kindByte, IsRegister, headerFor};
 ghost use Rattle.script_writes.specs.Wrote.{Wrote, WroteOne};
 use sheet_record::places;
 
-// The bytes of a write's record, with the two of its own length.
+// The bytes of a write's record, and with the two of its own length.
+const SIZE: u64 = 16;
+
 pub const STRIDE: usize = 18;
+
+// From its length on, where its dwords stand: the header's three, then the data.
+const FRONT: usize = 2;
+
+const REQUEST: usize = 6;
+
+const TARGET: usize = 10;
+
+const DATA: usize = 14;
 
 // The three parts of a script, each over all records before the next.
 pub enum Pass {
@@ -129,7 +142,8 @@ fn put_windows(part: &[u8], boot: Boot, from: Place, room: &mut [u8]) -> Place
     put_write(part, 0x2c, 0b1111, boot, base, room)
 }
 
-// One write: its length, its header, and the data bytes that it names.
+// One write: its length, its header, and the data bytes that it names. Stored dword by dword: its eighteen bytes at once are more than
+// there are registers, and what has none may stand in the red zone.
 fn put_write(
     part: &[u8],
     offset: u8,
@@ -142,31 +156,74 @@ fn put_write(
     ensures { λ r. ⌜ WroteOne boot (now (room .entry)) from (now (part .entry)) offset enables (now (room .exit)) r ⌝ }
 {
     let id = sheet_record::id_of(part);
-    let bytes = [
-        0,
-        16,
-        kind_byte(id / 256 == boot.root as u16),
-        0,
-        0,
-        1,
-        (boot.requester / 256) as u8,
-        (boot.requester % 256) as u8,
-        from.tag,
-        enables,
-        (id / 256) as u8,
-        (id % 256) as u8,
-        0,
-        offset,
-        data_byte(part, offset, enables, 0),
-        data_byte(part, offset, enables, 1),
-        data_byte(part, offset, enables, 2),
-        data_byte(part, offset, enables, 3),
-    ];
-    text::put_text(room, from.at, &bytes);
+    put_header(id, offset, enables, boot, from, room);
+    put_data(part, offset, enables, room, from.at + DATA);
     Place {
         at: from.at + STRIDE,
         tag: ((from.tag as u16 + 1) % 256) as u8,
     }
+}
+
+// The length, and the header's three dwords.
+fn put_header(id: u16, offset: u8, enables: u8, boot: Boot, from: Place, room: &mut [u8])
+    requires { ⌜ from .at + 14 ≤ length (now room) ⌝ }
+    ensures { λ _. ⌜ now (room .exit) ≡ sets (now (room .entry)) (from .at) (headerFor boot (from .tag) id enables offset) ⌝ }
+{
+    put_front(id / 256 == boot.root as u16, room, from.at);
+    put_request(boot.requester, from.tag, enables, room, from.at + REQUEST);
+    put_target(id, offset, room, from.at + TARGET);
+}
+
+fn put_front(root: bool, room: &mut [u8], at: usize)
+    requires { ⌜ at + 6 ≤ length (now room) ⌝ }
+    ensures { λ _. ⌜ now (room .exit) ≡ sets (now (room .entry)) at (0 ∷ 16 ∷ kindByte root ∷ 0 ∷ 0 ∷ 1 ∷ []) ⌝ }
+{
+    let kind = kind_byte(root);
+    endian::write_be16(room, at, SIZE);
+    put_four(room, at + FRONT, kind, 0, 0, 1);
+}
+
+fn put_request(requester: u16, tag: u8, enables: u8, room: &mut [u8], at: usize)
+    requires { ⌜ at + 4 ≤ length (now room) ⌝ }
+    ensures { λ _. ⌜ now (room .exit) ≡ sets (now (room .entry)) at ((requester / 256) ∷ (requester % 256) ∷ tag ∷ enables ∷ []) ⌝ }
+{
+    put_four(
+        room,
+        at,
+        (requester / 256) as u8,
+        (requester % 256) as u8,
+        tag,
+        enables,
+    );
+}
+
+fn put_target(id: u16, offset: u8, room: &mut [u8], at: usize)
+    requires { ⌜ at + 4 ≤ length (now room) ⌝ }
+    ensures { λ _. ⌜ now (room .exit) ≡ sets (now (room .entry)) at ((id / 256) ∷ (id % 256) ∷ 0 ∷ offset ∷ []) ⌝ }
+{
+    put_four(room, at, (id / 256) as u8, (id % 256) as u8, 0, offset);
+}
+
+// A register's four bytes, 0 where they are not named.
+fn put_data(part: &[u8], offset: u8, enables: u8, room: &mut [u8], at: usize)
+    requires { ⌜ (length (now part) ≡ recordSize) × IsRegister offset × (at + 4 ≤ length (now room)) ⌝ }
+    ensures { λ _. ⌜ now (room .exit) ≡ sets (now (room .entry)) at (dataOf (now (part .entry)) offset enables) ⌝ }
+{
+    let first = data_byte(part, offset, enables, 0);
+    let second = data_byte(part, offset, enables, 1);
+    let third = data_byte(part, offset, enables, 2);
+    let fourth = data_byte(part, offset, enables, 3);
+    put_four(room, at, first, second, third, fourth);
+}
+
+fn put_four(room: &mut [u8], at: usize, a: u8, b: u8, c: u8, d: u8)
+    requires { ⌜ at + 4 ≤ length (now room) ⌝ }
+    ensures { λ _. ⌜ now (room .exit) ≡ sets (now (room .entry)) at (a ∷ b ∷ c ∷ d ∷ []) ⌝ }
+{
+    room[at] = a;
+    room[at + 1] = b;
+    room[at + 2] = c;
+    room[at + 3] = d;
 }
 
 // Byte 0 of a configuration write, of type 0 or 1.
