@@ -31,7 +31,7 @@ fn main() -> Result<(), Refusal> {
     let length = plan(&BOARD, &mut room)?;
     let sheet = &room[..length];
     println!("planned: a sheet of {length} bytes");
-    for Function { record, id, registers } in functions(sheet)? {
+    for Function { record, id, registers, .. } in functions(sheet)? {
         print!("record {record}, {id}, registers 10h to 27h:");
         for register in registers[0x10..0x28].chunks_exact(4) {
             print!(" {:08X}", u32::from_le_bytes([register[0], register[1], register[2], register[3]]));

@@ -10,8 +10,9 @@ pub const LONGEST_LINE: usize = 40;
 const STAGE: usize = 0;
 const RECORD_NUMBER: usize = 2;
 
-/// The stage after a first byte that is another version's.
+/// The stages after a first byte that is another version's, and between two records.
 const OTHER_VERSION: u64 = 1;
+const BETWEEN: u64 = 2;
 
 /// How far a trace was read. The trace goes in piece by piece; out comes a line for each record, with the record's last
 /// byte.
@@ -67,6 +68,15 @@ impl Annotator {
     /// Before the first byte.
     pub const fn new() -> Annotator {
         Annotator { state: [0; TRACE] }
+    }
+
+    /// After the version byte and so many whole records: for a part of a trace that was cut between records. Its lines are
+    /// those that it gets within the trace.
+    pub const fn after(records: u64) -> Annotator {
+        let mut state = [0; TRACE];
+        state[STAGE] = BETWEEN;
+        state[RECORD_NUMBER] = records;
+        Annotator { state }
     }
 
     /// Room that the lines of any piece of so many bytes fit: one line for the record under way, and one for each two

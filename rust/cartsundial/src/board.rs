@@ -56,14 +56,20 @@ pub struct Bridge {
 /// # Ok::<(), Refusal>(())
 /// ```
 pub fn bridges(board: &[u8]) -> Result<impl Iterator<Item = Bridge> + '_, Refusal> {
+    lawful(board)?;
+    Ok(records(board).enumerate().skip(1).filter_map(|(record, (part, _))| {
+        (part.get(HEADER_TYPE)? & 0x7F == 1).then(|| {
+            let end = part.get(SPARES..).and_then(<[u8]>::first_chunk);
+            Bridge { record: record as u16, spares: end.map_or(Spares::default(), Spares::from_bytes) }
+        })
+    }))
+}
+
+/// The number of a board that is not lawful, 20 to 26.
+pub(crate) fn lawful(board: &[u8]) -> Result<(), Refusal> {
     match number_of(board) {
         Some(refusal) if !is_lawful(refusal) => Err(refusal),
-        _ => Ok(records(board).enumerate().skip(1).filter_map(|(record, (part, _))| {
-            (part.get(HEADER_TYPE)? & 0x7F == 1).then(|| {
-                let end = part.get(SPARES..).and_then(<[u8]>::first_chunk);
-                Bridge { record: record as u16, spares: end.map_or(Spares::default(), Spares::from_bytes) }
-            })
-        })),
+        _ => Ok(()),
     }
 }
 

@@ -20,6 +20,19 @@ impl HostRecord {
     /// The length of a host record, without the two bytes of its length.
     pub const BYTES: usize = 30;
 
+    /// All buses, and every pool closed.
+    pub const CLOSED: HostRecord =
+        HostRecord { buses: (0, 0xFF), low: (u32::MAX, 0), high: (u64::MAX, 0), io: (u16::MAX, 0) };
+
+    /// Of a board, of which no more is looked at: 20 where there is none, 21 for another version.
+    pub fn of_board(board: &[u8]) -> Result<HostRecord, Refusal> {
+        match board {
+            [1 | 2, 0, 30, rest @ ..] => rest.first_chunk().map(HostRecord::from_bytes).ok_or(Refusal::Frame),
+            [1 | 2, ..] | [] => Err(Refusal::Frame),
+            _ => Err(Refusal::Version),
+        }
+    }
+
     /// From the bytes after the record's length, in a board those from 3 on.
     pub const fn from_bytes(b: &[u8; HostRecord::BYTES]) -> HostRecord {
         HostRecord {

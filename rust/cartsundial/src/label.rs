@@ -43,7 +43,7 @@ pub enum Owner {
 
 impl Label {
     /// What a line says, without its newline. `None` where it is no line of the library.
-    pub(crate) fn of_line(line: &str) -> Option<Label> {
+    pub fn of_line(line: &str) -> Option<Label> {
         let mut words = line.split(' ');
         Some(match (words.next()?, words.next(), words.next(), words.next()) {
             ("cut", None, None, None) => Label::Cut,

@@ -1,8 +1,8 @@
 //! A PCI Express header codec, board planner, packet router and trace annotator: Rust types over the proved library.
 //!
 //! The archive `libcapi.a` is compiled from proved code: what each call answers, and what the lent bytes then hold, is an
-//! equation with document 01's definitions, for every input. This crate adds types, a search over [`plan`], and no rules
-//! of its own. Any bytes may be given; each call ends with an answer or a [`Refusal`], and a refused call changes no lent
+//! equation with document 01's definitions, for every input. This crate adds types, a search over [`plan`], a board's text,
+//! and no rules of its own. Any bytes may be given; each call ends with an answer or a [`Refusal`], and a refused call changes no lent
 //! byte.
 //!
 //! docs/FORMATS.md in the repository is document 01 in our own words: headers, boards and sheets byte by byte, which of a
@@ -18,22 +18,26 @@
 //! |---|---|
 //! | a header's bytes as a packet, and back | [`read()`], [`write()`] |
 //! | a packet's fields, and a packet or a header of fields | [`Packet::fields`], [`Packet::new`], [`Fields::write`] |
+//! | a board, built or from its text | `Board` |
 //! | a board as a register sheet | [`plan`] |
 //! | a board as configuration writes, in the order in which boot code makes them | [`write_script`], [`writes`] |
-//! | the record of a board that finds no room | [`what_does_not_fit`] |
+//! | the record by which a board is refused, and the pool that it finds no room in | [`refused_record`], [`what_does_not_fit`] |
 //! | a board's bridges, and the buses and memory that each keeps free | [`bridges`] |
 //! | a sheet: is it lawful, a function's registers, its command word | [`check`], [`registers`], [`set_command`] |
 //! | is a sheet that other firmware left in order, for a host | [`audit`] |
+//! | a sheet that is checked once and then asked: functions, BARs, windows, buses | [`Sheet`], [`Function`] |
 //! | its functions one by one, or from a record to its ID | [`functions()`], [`id_of`] |
 //! | where a packet goes: a function, every function, the port | [`route`] |
 //! | the same for many headers over one sheet | [`Index`] |
 //! | where a request goes that starts at a function: another function, the host | [`route_from`] |
 //! | a line for each header of a trace, over a sheet or by an index: in pieces, of a whole one | [`Annotator`], [`lines()`] |
 //! | what each of the two costs | [`Engine`] |
+//! | the headers of a trace, and a trace of headers | [`headers()`], `TraceWriter` |
 //! | which requests wait for completions, and what a completion belongs to | [`Ledger`] |
 //! | the same calls with numbers in place of types | [`calls`] |
 //!
-//! With the feature `std`, which is off unless asked for, `Labeller` is an annotator that implements `std::io::Write`, and
+//! With the feature `alloc`, which is off unless asked for, there are `Board`, which is built or read from a text, and
+//! `TraceWriter`. With the feature `std`, which has `alloc`, `Labeller` is an annotator that implements `std::io::Write`, and
 //! `Index::new` builds an index in a vector.
 //!
 //! ```
@@ -56,12 +60,19 @@
 #![no_std]
 #![deny(unsafe_code, missing_docs)]
 
+#[cfg(feature = "alloc")]
+extern crate alloc;
 #[cfg(feature = "std")]
 extern crate std;
 
 mod annotator;
 mod arrival;
+mod bar;
 mod board;
+#[cfg(feature = "alloc")]
+mod board_text;
+#[cfg(feature = "alloc")]
+mod built;
 pub mod calls;
 mod cards;
 mod engine;
@@ -78,18 +89,27 @@ mod ledger;
 mod lines;
 mod packet;
 mod refusal;
+mod requests;
 mod script;
+mod sheet;
+mod size;
+mod trace;
 mod unfit;
 
 pub use annotator::{Annotator, LONGEST_LINE};
 pub use arrival::{route, Arrival, Delivery};
+pub use bar::{Bar, BarKind};
 pub use board::{bridges, Bridge, Spares};
+#[cfg(feature = "alloc")]
+pub use board_text::BoardTextError;
+#[cfg(feature = "alloc")]
+pub use built::{Board, BoardFunction};
 pub use cards::{route_from, Sending};
 pub use engine::Engine;
 pub use fields::{Body, Enables, Fields};
-pub use functions::{functions, Function};
+pub use functions::{functions, Buses, Function, PlacedBar, Windows};
 pub use host::{audit, HostRecord};
-pub use id::Id;
+pub use id::{Id, NoId};
 pub use index::{index_length, Index, FULL_INDEX};
 pub use kind::{CompletionKind, ConfigurationKind, Form, IoKind, Kind, MemoryKind, MessageKind, Routing};
 pub use label::{Label, Owner};
@@ -100,7 +120,12 @@ pub use lines::{lines, Line, Lines};
 pub use packet::{read, write, Packet};
 pub use refusal::Refusal;
 pub use script::{write_script, writes, RegisterWrite, Writes, FULL_SCRIPT};
-pub use unfit::{what_does_not_fit, Pool, Unfit};
+pub use sheet::Sheet;
+pub use size::{NoSize, Size};
+#[cfg(feature = "alloc")]
+pub use trace::TraceWriter;
+pub use trace::{headers, Headers};
+pub use unfit::{refused_record, what_does_not_fit, Pool, Unfit};
 
 /// The length of the largest sheet: a version byte and 512 records.
 pub const FULL_SHEET: usize = 47_105;

@@ -4,7 +4,7 @@ use core::error::Error;
 use core::fmt;
 
 /// Why a call was refused: document 01's number and its meaning.
-#[derive(Clone, Copy, Debug, PartialEq, Eq, PartialOrd, Ord, Hash)]
+#[derive(Clone, Copy, PartialEq, Eq, PartialOrd, Ord, Hash)]
 #[repr(u8)]
 pub enum Refusal {
     /// A header under 12 bytes, or under 16 in the four-dword form.
@@ -206,6 +206,13 @@ impl Refusal {
 impl fmt::Display for Refusal {
     fn fmt(&self, f: &mut fmt::Formatter<'_>) -> fmt::Result {
         write!(f, "refused {}: {}", self.number(), self.meaning())
+    }
+}
+
+/// `Refusal(40: no owner)`: what a test that fails shows.
+impl fmt::Debug for Refusal {
+    fn fmt(&self, f: &mut fmt::Formatter<'_>) -> fmt::Result {
+        write!(f, "Refusal({}: {})", self.number(), self.meaning())
     }
 }
 

@@ -56,10 +56,34 @@ pub struct Unfit {
 /// assert_eq!(what_does_not_fit(&board), Some(Unfit { record: 2, pool: Pool::Low }));
 /// ```
 pub fn what_does_not_fit(board: &[u8]) -> Option<Unfit> {
-    let refusal = number_of(board)?;
-    let pool = Pool::short_by(refusal)?;
-    // Every front of a lawful board is lawful: what is asked of a record looks at it and at earlier ones. A record more
-    // never takes less of a pool, so the fronts that are refused with this number are those from the wanted record on.
+    let pool = Pool::short_by(number_of(board)?)?;
+    refused_record(board).map(|record| Unfit { record, pool })
+}
+
+/// The first record by which `board` is refused, from 1: with 22, 23, 24 or 25 the one that breaks the rule, with 30 the
+/// bridge whose bus, or whose spare buses, are not there any more, with 31, 32 or 33 the one of [`what_does_not_fit`]. `None`
+/// where the board is planned, or refused for no record of a function: 20, 21, 26.
+///
+/// ```
+/// use cartsundial::{refused_record, Refusal};
+///
+/// // All pools closed, and a card below record 7, which is not there.
+/// let mut board = vec![1, 0, 30, 0, 255, 1, 0, 0, 0, 0, 0, 0, 0];
+/// board.extend([1, 0, 0, 0, 0, 0, 0, 0, 0, 0, 0, 0, 0, 0, 0, 0, 1, 0, 0, 0]);
+/// board.extend([0, 30, 0, 7, 0, 0, 0, 3]);
+/// board.extend([0; 24]);
+/// assert_eq!(refused_record(&board), Some(1));
+/// ```
+pub fn refused_record(board: &[u8]) -> Option<u16> {
+    let refusal = number_of(board).filter(|refusal| is_of_a_record(*refusal))?;
+    // Each check covers all records before the next starts, and what it asks of a record looks at that one and at earlier
+    // ones; a record more never takes less of the buses or of a pool. So the fronts of the board that are refused with this
+    // number are those from the wanted record on.
     let mut fronts = (0..).zip(records(board)).skip(1);
-    fronts.find(|(_, (_, end))| number_of(&board[..*end]) == Some(refusal)).map(|(record, _)| Unfit { record, pool })
+    fronts.find(|(_, (_, end))| number_of(&board[..*end]) == Some(refusal)).map(|(record, _)| record)
+}
+
+fn is_of_a_record(refusal: Refusal) -> bool {
+    use Refusal::*;
+    matches!(refusal, TooManyFunctions | Tree | HeaderType | ReadBack | NoBuses | NoLowRoom | NoHighRoom | NoIoRoom)
 }

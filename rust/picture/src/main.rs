@@ -5,19 +5,7 @@
 //! is of, keep free. `picture crates` takes crates.txt and shows what each crate is built on. A refusal, or another text,
 //! gives a message on standard error and exit status 1.
 
-mod crate_drawing;
-mod crates;
-mod drawing;
-mod entry;
-mod layers;
-mod plan;
-mod registers;
-mod spares;
-mod svg;
-mod tree;
-
-use crates::Crates;
-use plan::Plan;
+use picture::draw_crates;
 use std::io::{self, Read, Write};
 use std::process::ExitCode;
 use std::{env, fs};
@@ -51,15 +39,7 @@ fn input() -> Result<String, String> {
 
 /// The plan, with the spares of its board where that is named.
 fn draw_plan(text: &str, board: Option<&str>) -> Result<String, String> {
-    let mut plan = Plan::read(text).map_err(|undrawable| undrawable.to_string())?;
-    if let Some(name) = board {
-        let bytes = fs::read(name).map_err(|error| format!("{name}: {error}"))?;
-        let spares = spares::read(&bytes).ok_or_else(|| format!("{name}: not a board"))?;
-        plan.set_spares(&spares).map_err(|why| format!("{name}: {why}"))?;
-    }
-    Ok(drawing::draw(&plan))
-}
-
-fn draw_crates(text: &str) -> Result<String, String> {
-    crate_drawing::draw(&Crates::read(text)?)
+    let Some(name) = board else { return picture::draw_plan(text, None) };
+    let bytes = fs::read(name).map_err(|error| format!("{name}: {error}"))?;
+    picture::draw_plan(text, Some(&bytes)).map_err(|why| format!("{name}: {why}"))
 }
