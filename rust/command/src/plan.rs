@@ -1,0 +1,148 @@
+//! `plan`: a board's plan as a table, a sheet, a script, a picture, JSON or an lspci dump.
+
+use crate::arguments::{Arguments, Options};
+use crate::failure::{print, Answer, Failure, Verdict};
+use crate::json::Json;
+use crate::named::NamedSheet;
+use crate::source::{read_id, Source};
+use crate::{convert, export, listing};
+use cartsundial::{refused_record, write_script, Board, Id, Refusal, Sheet, Spares, FULL_SCRIPT};
+use std::fs;
+
+pub const OPTIONS: Options = Options {
+    flags: &["--json", "--lspci", "--lines"],
+    values: &["--sheet", "--script", "--svg", "--requester", "--tag"],
+};
+
+pub const HELP: &str = "\
+cartsundial plan BOARD [--sheet FILE] [--script FILE] [--svg FILE] [--json | --lspci | --lines]
+
+Plans a board: bus numbers, BARs and windows for every function, or the number and the words that say why not, with the
+record that they are about.
+
+  --sheet FILE        also write the register sheet: bytes, or with its names as text where FILE ends in .txt
+  --script FILE       also write the configuration writes that bring the plan about, in their order
+  --requester ID      who makes them, 00:00.0 unless given
+  --tag NUMBER        the first one's tag, 0 to 255, 0 unless given
+  --svg FILE          also draw the plan
+  --json              JSON in place of the table
+  --lspci             an lspci dump in its place, for lspci -F
+  --lines             the proved program's lines in its place
+";
+
+pub fn run(arguments: &Arguments) -> Answer {
+    let [name] = arguments.exactly(["BOARD"])?;
+    let board = Source::read(name)?.into_board_or_bytes()?;
+    let bytes = match &board {
+        Ok(board) => board.bytes(),
+        Err(bytes) => bytes.clone(),
+    };
+    let planned = board.map_err(|bytes| (Board::of_bytes(&bytes).err(), None));
+    let planned = planned.and_then(|board| NamedSheet::planned(&board).map_err(|why| (Some(why), Some(board))));
+    match planned {
+        Ok(named) => {
+            write_files(arguments, &named, &bytes)?;
+            print(shown(arguments, &named))?;
+            Ok(Verdict::Accepted)
+        }
+        Err((refusal, board)) => {
+            let refusal = refusal.expect("bytes that are no board have a number");
+            print(refused(arguments.has("--json"), refusal, &bytes, board.as_ref()))?;
+            Ok(Verdict::Refused)
+        }
+    }
+}
+
+fn shown(arguments: &Arguments, named: &NamedSheet) -> String {
+    if arguments.has("--json") {
+        format!("{}\n", Json::Object(vec![("functions", listing::json(named))]))
+    } else if arguments.has("--lspci") {
+        export::dump(named)
+    } else if arguments.has("--lines") {
+        listing::plan_lines(named)
+    } else {
+        let functions = named.sheet.functions().len();
+        format!("planned: {functions} function{}\n{}", if functions == 1 { "" } else { "s" }, listing::table(named))
+    }
+}
+
+fn write_files(arguments: &Arguments, named: &NamedSheet, board: &[u8]) -> Result<(), Failure> {
+    let write = |file: &str, bytes: &[u8]| fs::write(file, bytes).map_err(Failure::stream(file));
+    if let Some(file) = arguments.value("--sheet") {
+        match file.ends_with(".txt") {
+            true => write(file, convert::sheet_text(named).as_bytes())?,
+            false => write(file, named.sheet.bytes())?,
+        }
+    }
+    if let Some(file) = arguments.value("--script") {
+        write(file, &script(arguments, board)?)?;
+    }
+    if let Some(file) = arguments.value("--svg") {
+        let drawn = picture::draw_plan(&listing::plan_lines(named), Some(board));
+        write(file, drawn.map_err(|why| Failure::Usage(format!("no picture: {why}")))?.as_bytes())?;
+    }
+    Ok(())
+}
+
+fn script(arguments: &Arguments, board: &[u8]) -> Result<Vec<u8>, Failure> {
+    let requester = arguments.value("--requester").map_or(Ok(Id(0)), read_id)?;
+    let tag = arguments.value("--tag").map_or(Ok(0), str::parse);
+    let tag = tag.map_err(|_| Failure::Usage("--tag has a number from 0 to 255".into()))?;
+    let mut script = vec![0; FULL_SCRIPT];
+    let length = write_script(board, requester, tag, &mut script);
+    script.truncate(length.map_err(|refusal| Failure::refused("the board", refusal))?);
+    Ok(script)
+}
+
+/// The number with its words, and the record that it is about.
+fn refused(is_json: bool, refusal: Refusal, bytes: &[u8], board: Option<&Board>) -> String {
+    let record = refused_record(bytes);
+    let who = record.map(|record| described(record, bytes, board));
+    if is_json {
+        let members = vec![
+            ("refused", Json::number(refusal.number())),
+            ("meaning", Json::text(refusal.meaning())),
+            ("record", record.map_or(Json::Null, Json::number)),
+            ("about", who.map_or(Json::Null, Json::text)),
+        ];
+        return format!("{}\n", Json::Object(members));
+    }
+    match who {
+        Some(who) => format!("{refusal}\n  {who}\n"),
+        None => format!("{refusal}\n"),
+    }
+}
+
+/// `record 4, 03:00.0 "capture", line 5`.
+fn described(record: u16, bytes: &[u8], board: Option<&Board>) -> String {
+    let mut text = format!("record {record}");
+    let Some(one) = board.and_then(|board| board.function(record)) else { return text };
+    match board.and_then(numbered).and_then(|sheet| sheet.record(record).map(|function| function.id)) {
+        Some(id) => text += &format!(", {id}"),
+        None if one.parent == 0 => text += &format!(", {:02X}.{} below the host", one.device, one.function),
+        None => text += &format!(", {:02X}.{} below record {}", one.device, one.function, one.parent),
+    }
+    if let Some(name) = &one.name {
+        text += &format!(" \"{name}\"");
+    }
+    if let Some(line) = one.line {
+        text += &format!(", line {line}");
+    }
+    if let Some(unfit) = cartsundial::what_does_not_fit(bytes) {
+        text += &format!(": no room in the {} pool", listing::word(unfit.pool));
+    }
+    text
+}
+
+/// The IDs of a board that finds no room: its plan without BARs and spare memory, for which there is none to find.
+fn numbered(board: &Board) -> Option<Sheet<Vec<u8>>> {
+    let mut empty = board.clone();
+    for record in 1..=board.functions().len() as u16 {
+        let Spares { buses, .. } = board.function(record)?.spares;
+        empty.set_bars(record, &[]).ok()?;
+        if buses > 0 || board.function(record)?.spares.memory > 0 {
+            empty.set_spares(record, Spares { buses, memory: 0 });
+        }
+    }
+    Sheet::new(empty.plan().ok()?).ok()
+}
