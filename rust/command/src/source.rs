@@ -5,7 +5,7 @@ use crate::hexadecimal::HexText;
 use crate::named::NamedSheet;
 use cartsundial::{check, Board, HostRecord, Id};
 use std::fs::File;
-use std::io::{self, Read};
+use std::io::{self, ErrorKind, Read};
 
 /// How much of an input is looked at to tell what it is; no board and no sheet is longer.
 const FRONT: usize = 1 << 16;
@@ -168,8 +168,14 @@ impl Source {
 
 /// A text has no control characters but tabs and line ends; no board, sheet or trace is one.
 fn text_of(bytes: &[u8]) -> Option<&str> {
-    let is_text = |byte: u8| byte >= b' ' || matches!(byte, b'\t' | b'\r' | b'\n');
-    std::str::from_utf8(bytes).ok().filter(|text| !text.is_empty() && text.bytes().all(is_text))
+    std::str::from_utf8(bytes).ok().filter(|text| has_text(text.as_bytes()))
+}
+
+/// Whether there is nothing but text, which may end inside a letter.
+fn has_text(bytes: &[u8]) -> bool {
+    let is_text = |byte: &u8| *byte >= b' ' || matches!(byte, b'\t' | b'\r' | b'\n');
+    let is_spelled = std::str::from_utf8(bytes).map_or_else(|error| error.error_len().is_none(), |_| true);
+    !bytes.is_empty() && bytes.iter().all(is_text) && is_spelled
 }
 
 /// What bytes are by their own frame; `None` where none of them fits.
@@ -186,18 +192,28 @@ pub fn kind_of(bytes: &[u8]) -> Option<Kind> {
     }
 }
 
-/// A trace that may be longer than memory: its bytes as they come, or all of a text's.
+/// A trace that may be longer than memory: its bytes as they come, or all of a text's. What it looks like is told by what
+/// can be read at once.
 pub fn open_trace(name: &str) -> Result<Box<dyn Read>, Failure> {
     let mut reader = open(name)?;
-    let mut front = Vec::new();
-    let read = reader.by_ref().take(FRONT as u64).read_to_end(&mut front);
-    read.map_err(Failure::stream(called(name)))?;
-    if text_of(&front).is_some() {
+    let mut front = vec![0; FRONT];
+    let length = read_once(&mut reader, &mut front).map_err(Failure::stream(called(name)))?;
+    front.truncate(length);
+    if has_text(&front) {
         reader.read_to_end(&mut front).map_err(Failure::stream(called(name)))?;
         return Ok(Box::new(io::Cursor::new(Source::of(name, front)?.into_trace()?)));
     }
     let front = Source::of(name, front)?.into_trace()?;
     Ok(Box::new(io::Cursor::new(front).chain(reader)))
+}
+
+fn read_once(reader: &mut dyn Read, room: &mut [u8]) -> io::Result<usize> {
+    loop {
+        match reader.read(room) {
+            Err(error) if error.kind() == ErrorKind::Interrupted => {}
+            read => return read,
+        }
+    }
 }
 
 /// `03:00.0`, as an option has it.
