@@ -1,7 +1,7 @@
 #!/usr/bin/env bash
 # Runs the examples of the documents. docs/FORMATS.md: a block that is marked plan, script, headers, routes, trace, audit or label goes in,
-# from # on without its comments, and the next block must come out. README.md: a block that starts with $ is a command and what it prints.
-# Where something else comes out, the exit status is 1.
+# from # on without its comments, and the next block must come out. README.md: a block that starts with $ is a command and what it prints;
+# some start rust/target/release/cartsundial, which rust/run builds. Where something else comes out, the exit status is 1.
 set -euo pipefail
 shopt -s nullglob
 cd "$(dirname "$0")/.."

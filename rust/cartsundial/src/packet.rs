@@ -1,7 +1,9 @@
 //! A lawful header.
 //!
-//! A [`Packet`] keeps a header's 12 or 16 bytes. They come from two places only: from a header that the library's reader
-//! accepted, as it is or as it arrives, or from its writer. What is proved of the library makes that enough:
+//! A [`Packet`] keeps a header's 12 or 16 bytes. It is made by three ways: of a header that the library's reader accepted, as
+//! it is or as it arrives ([`read()`], and the answers of routing); of fields ([`Packet::new`], through which the constructors
+//! of common packets go); of the library's twenty numbers ([`Packet::from_numbers`]). The last two are what the library's
+//! writer wrote. What is proved of the library makes that enough:
 //!
 //! - A header that is read is written back to its own first 12 or 16 bytes, and what the writer wrote is read back as the
 //!   same packet (crates/demands/specs/Demand2.antt). So [`write()`] copies the bytes and asks nothing again.
@@ -27,6 +29,10 @@ const CFG_WR1: u8 = 0b010_00101;
 
 /// A lawful packet's header. The fields that every kind has are methods; [`body`](Packet::body) has the others, to match
 /// on, and [`fields`](Packet::fields) has all of them, to change and make another packet of.
+///
+/// It is made by three ways, each judged by the library: of a header by [`read()`], of fields by [`Packet::new`], which
+/// [`memory_read`](Packet::memory_read) and the others for common packets call, and of the library's numbers by
+/// [`Packet::from_numbers`].
 ///
 /// ```
 /// # use cartsundial::{read, Body, Fields, Kind, Packet, Refusal};

@@ -6,7 +6,10 @@ use crate::json::Json;
 use crate::named::NamedSheet;
 use crate::source::{read_id, Source};
 use crate::{convert, export, listing};
-use cartsundial::{refused_record, write_script, Board, Id, Refusal, Sheet, Spares, FULL_SCRIPT};
+use cartsundial::{
+    refused_record, what_does_not_fit, write_script, Board, Headers, HostRecord, Id, Refusal, Sheet, Spares,
+    FULL_SCRIPT,
+};
 use std::fs;
 
 pub const OPTIONS: Options = Options {
@@ -116,25 +119,37 @@ fn refused(is_json: bool, refusal: Refusal, bytes: &[u8], board: Option<&Board>)
 /// `record 4, 03:00.0 "capture", line 5`.
 fn described(record: u16, bytes: &[u8], board: Option<&Board>) -> String {
     let mut text = format!("record {record}");
-    let Some(one) = board.and_then(|board| board.function(record)) else { return text };
-    match board.and_then(numbered).and_then(|sheet| sheet.record(record).map(|function| function.id)) {
-        Some(id) => text += &format!(", {id}"),
-        None if one.parent == 0 => text += &format!(", {:02X}.{} below the host", one.device, one.function),
-        None => text += &format!(", {:02X}.{} below record {}", one.device, one.function, one.parent),
+    if let Some(id) = id_of(record, bytes) {
+        text += &format!(", {id}");
     }
-    if let Some(name) = &one.name {
+    let one = board.and_then(|board| board.function(record));
+    if let Some(name) = one.and_then(|one| one.name.as_ref()) {
         text += &format!(" \"{name}\"");
     }
-    if let Some(line) = one.line {
+    if let Some(line) = one.and_then(|one| one.line) {
         text += &format!(", line {line}");
     }
-    if let Some(unfit) = cartsundial::what_does_not_fit(bytes) {
+    if let Some(unfit) = what_does_not_fit(bytes) {
         text += &format!(": no room in the {} pool", listing::word(unfit.pool));
     }
     text
 }
 
-/// The IDs of a board that finds no room: its plan without BARs and spare memory, for which there is none to find.
+/// The ID of the first record by which a board is refused. The records before it are a lawful board; its bus is the one
+/// below its parent there.
+fn id_of(record: u16, bytes: &[u8]) -> Option<Id> {
+    let mut records = Headers::of_records(bytes.get(1..)?);
+    records.nth(usize::from(record) - 1)?;
+    let front = &bytes[..bytes.len() - records.rest().len()];
+    let (&[parent_high, parent_low, device_function], _) = records.next()?.split_first_chunk()?;
+    let bus = match u16::from_be_bytes([parent_high, parent_low]) {
+        0 => HostRecord::of_board(bytes).ok()?.buses.0,
+        parent => numbered(&Board::of_bytes(front).ok()?)?.record(parent)?.buses()?.secondary,
+    };
+    Some(Id(u16::from_be_bytes([bus, device_function])))
+}
+
+/// The IDs of a board, which may find no room: its plan without BARs and spare memory, for which there is none to find.
 fn numbered(board: &Board) -> Option<Sheet<Vec<u8>>> {
     let mut empty = board.clone();
     for record in 1..=board.functions().len() as u16 {

@@ -7,13 +7,15 @@ use run::{repository, run, Ran};
 use std::{env, fs};
 
 /// Name, exit status, arguments. Files are named from the repository's root.
-const RUNS: [(&str, i32, &str); 35] = [
+const RUNS: [(&str, i32, &str); 38] = [
     ("plan", 0, "plan tests/command/recorder.txt"),
     ("plan-json", 0, "plan docs/example/board --json"),
     ("plan-lspci", 0, "plan tests/command/recorder.txt --lspci"),
     ("plan-refused-31", 1, "plan tests/command/full.txt"),
     ("plan-refused-31-json", 1, "plan tests/command/full.txt --json"),
     ("plan-refused-23", 1, "plan tests/command/order.txt"),
+    ("plan-refused-25", 1, "plan tests/command/small.txt"),
+    ("plan-refused-30", 1, "plan tests/plan/refused-30.board"),
     ("plan-wrong", 2, "plan tests/command/wrong.txt"),
     ("plan-trace", 2, "plan docs/example/trace"),
     ("audit", 0, "audit tests/audit/ovmf-one-bridge.sheet --host tests/audit/ovmf-one-bridge.host"),
@@ -41,6 +43,7 @@ const RUNS: [(&str, i32, &str); 35] = [
     ("show-board", 0, "show docs/example/board"),
     ("show-sheet", 0, "show tests/audit/ovmf-one-bridge.sheet"),
     ("show-trace", 0, "show docs/example/trace.txt"),
+    ("show-script", 0, "show tests/script/p10.out"),
     ("convert-trace", 0, "convert docs/example/trace"),
     ("convert-sheet", 0, "convert tests/audit/ovmf-one-bridge.sheet"),
     ("export", 0, "export tests/audit/ovmf-one-bridge.sheet"),
