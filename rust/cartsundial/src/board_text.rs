@@ -62,7 +62,7 @@ impl FromStr for Board {
                 continue;
             }
             let added = match &mut tree {
-                None => read_host(&line.words).map(|board| tree = Some(Tree { board, above: Vec::new() })),
+                None => read_host(line.words).map(|board| tree = Some(Tree { board, above: Vec::new() })),
                 Some(tree) => tree.add(&line, number),
             };
             added.map_err(|what| BoardTextError { line: number, what })?;

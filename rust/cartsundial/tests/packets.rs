@@ -161,3 +161,69 @@ fn kinds() {
     assert_eq!(Kind::from(MemoryKind::MWr), Kind::MWr);
     assert_eq!(Kind::from(MessageKind::MsgD), Kind::MsgD);
 }
+
+/// Each is the header that its bytes say, and what is given beyond a field is refused.
+#[test]
+fn common_packets() {
+    let (me, other) = (Id(0x0300), Id(0x0100));
+    let read_four = Packet::memory_read(me, 7, 0x1000, 4).unwrap();
+    let made = [
+        (read_four, "MRd 3dw tc 0 attr 0 td 0 ep 0 at 0 length 4 requester 0300 tag 007 last F first F address 0000000000001000"),
+        (
+            Packet::memory_write(me, 7, 1 << 32, 1).unwrap(),
+            "MWr 4dw tc 0 attr 0 td 0 ep 0 at 0 length 1 requester 0300 tag 007 last 0 first F address 0000000100000000",
+        ),
+        (
+            Packet::io_read(me, 7, 0x4000).unwrap(),
+            "IORd 3dw tc 0 attr 0 td 0 ep 0 at 0 length 1 requester 0300 tag 007 last 0 first F address 0000000000004000",
+        ),
+        (
+            Packet::io_write(me, 7, 0x4000).unwrap(),
+            "IOWr 3dw tc 0 attr 0 td 0 ep 0 at 0 length 1 requester 0300 tag 007 last 0 first F address 0000000000004000",
+        ),
+        (
+            Packet::configuration_read(me, 7, other, 0x10, 0).unwrap(),
+            "CfgRd1 3dw tc 0 attr 0 td 0 ep 0 at 0 length 1 requester 0300 tag 007 last 0 first F target 0100 register 004",
+        ),
+        (
+            Packet::configuration_write(me, 7, other, 0x10, 1).unwrap(),
+            "CfgWr0 3dw tc 0 attr 0 td 0 ep 0 at 0 length 1 requester 0300 tag 007 last 0 first F target 0100 register 004",
+        ),
+        (
+            Packet::completion_with_data(other, &read_four, 4).unwrap(),
+            "CplD 3dw tc 0 attr 0 td 0 ep 0 at 0 length 4 requester 0300 tag 007 completer 0100 status 0 bcm 0 count 16 lower 00",
+        ),
+        (
+            Packet::completion_without_data(other, &Packet::io_write(me, 7, 0x4000).unwrap()).unwrap(),
+            "Cpl 3dw tc 0 attr 0 td 0 ep 0 at 0 length 0 requester 0300 tag 007 completer 0100 status 0 bcm 0 count 4 lower 00",
+        ),
+        (
+            Packet::message(me, 0, Routing::Local, 0x20, 0).unwrap(),
+            "Msg 4dw tc 0 attr 0 td 0 ep 0 at 0 length 0 requester 0300 tag 000 routing 4 code 20 tail 0000000000000000",
+        ),
+    ];
+    for (packet, text) in made {
+        assert_eq!(packet.to_string(), text);
+        assert_eq!(read(packet.header()), Ok(packet));
+    }
+    assert_eq!(Packet::memory_read(me, 1024, 0, 1), Err(Refusal::TooWide));
+    assert_eq!(Packet::memory_read(me, 0, 2, 1), Err(Refusal::ReservedBits));
+    assert_eq!(Packet::memory_read(me, 0, 0, 0), Err(Refusal::TooWide));
+    assert_eq!(Packet::configuration_read(me, 0, other, 0x12, 0), Err(Refusal::ReservedBits));
+    assert_eq!(Packet::configuration_read(me, 0, other, 0x1000, 0), Err(Refusal::TooWide));
+}
+
+#[test]
+fn ids() {
+    for id in (0..=u16::MAX).map(Id) {
+        assert_eq!(id.to_string().parse(), Ok(id));
+        assert_eq!(Id::new(id.bus(), id.device(), id.function()), Some(id));
+    }
+    assert_eq!("0000:1f:1F.7".parse(), Ok(Id(0x1FFF)));
+    assert_eq!((Id::new(0, 32, 0), Id::new(0, 0, 8)), (None, None));
+    for text in ["", "00:00", "00.0", "100:00.0", "00:20.0", "00:00.8", "00:00.0 ", "+1:00.0", "0001:00:00.0"] {
+        assert!(text.parse::<Id>().is_err(), "{text}");
+    }
+    assert_eq!(format!("{:<9}|{:>9}", Id(0x0100), Id(0x0100)), "01:00.0  |  01:00.0");
+    assert_eq!(format!("{:?}", Refusal::NoOwner), "Refusal(40: no owner)");
+}

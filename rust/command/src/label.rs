@@ -49,12 +49,16 @@ pub fn run(arguments: &Arguments) -> Answer {
     let (has_names, has_tally) = (arguments.has("--names"), arguments.has("--summary"));
     let labels = Labels { by, named: &named, has_names, has_tally };
     let parts = Parts::new(open_trace(trace)?, jobs);
-    let (is_whole, tally) = labels.write_all(parts, called(trace))?;
+    let (last, tally) = labels.write_all(parts, called(trace))?;
     if has_tally {
         // Where standard error cannot be written the lines are there all the same.
         let _ = io::stderr().write_all(tally.shown(&named).as_bytes());
     }
-    Ok(Verdict::of(is_whole))
+    match last {
+        None => Ok(Verdict::Accepted),
+        Some(Label::NoTrace(refusal)) => Err(Failure::refused(called(trace), refusal)),
+        Some(_) => Err(Failure::Refused(format!("{}: it ends inside a record", called(trace)))),
+    }
 }
 
 fn indexed<'a>(host: &HostRecord, named: &'a NamedSheet) -> Result<Index<&'a [u8], Vec<u8>>, Failure> {
@@ -63,8 +67,8 @@ fn indexed<'a>(host: &HostRecord, named: &'a NamedSheet) -> Result<Index<&'a [u8
 }
 
 impl Labels<'_> {
-    /// Whether the trace is a whole one, and what was counted.
-    fn write_all(&self, mut parts: Parts, name: &str) -> Result<(bool, Tally), Failure> {
+    /// The line after those of all records, where the trace is no whole one; and what was counted.
+    fn write_all(&self, mut parts: Parts, name: &str) -> Result<(Option<Label>, Tally), Failure> {
         let mut out = BufWriter::new(io::stdout().lock());
         let mut tally = Tally::default();
         let shows = io::stderr().is_terminal() && !io::stdout().is_terminal();
@@ -87,7 +91,8 @@ impl Labels<'_> {
         }
         let last = parts.last_line(self.by);
         out.write_all(&last).and_then(|()| out.flush()).map_err(output_failed)?;
-        Ok((last.is_empty(), tally))
+        let last = std::str::from_utf8(&last).expect("lines are text");
+        Ok((Label::of_line(last.trim_end()), tally))
     }
 
     /// The lines of a part.
