@@ -4,10 +4,10 @@ use crate::arguments::{Arguments, Options};
 use crate::failure::{print, Answer, Failure, Verdict};
 use crate::hexadecimal::dwords;
 use crate::listing;
-use crate::named::NamedSheet;
+use crate::named::{NamedSheet, RECORD};
 use crate::source::{Kind, Source};
 use crate::words;
-use cartsundial::{headers, read, writes, Board, HostRecord, RegisterWrite};
+use cartsundial::{headers, read, writes, Board, HostRecord, Id, RegisterWrite};
 use std::fmt::Write;
 use std::fs;
 
@@ -66,22 +66,26 @@ fn kind_of(source: &Source) -> Result<Kind, Failure> {
 fn text_of(source: Source) -> Result<String, Failure> {
     Ok(match kind_of(&source)? {
         Kind::Board => source.into_board()?.to_string(),
-        Kind::Sheet => sheet_text(&source.into_sheet()?),
+        Kind::Sheet => named_text(&source.into_sheet()?),
         Kind::Trace => trace_text(&source.name.clone(), &source.into_trace()?)?,
         Kind::Script => script_text(&source.bytes),
         Kind::Host => Board::host(HostRecord::from_bytes(source.bytes[..].try_into().expect("30 bytes"))).to_string(),
     })
 }
 
+pub fn named_text(named: &NamedSheet) -> String {
+    sheet_text(named.sheet.bytes(), |record| named.name(record))
+}
+
 /// A sheet in hexadecimal, with its names.
-pub fn sheet_text(named: &NamedSheet) -> String {
+pub fn sheet_text<'a>(sheet: &[u8], name: impl Fn(u16) -> Option<&'a str>) -> String {
     let mut text = "sheet\n01\n".to_string();
-    for (function, record) in named.sheet.functions().zip(named.sheet.bytes()[1..].chunks(crate::named::RECORD)) {
-        if let Some(name) = named.name(function.record) {
+    for (number, record) in (1..).zip(sheet[1..].chunks(RECORD)) {
+        if let Some(name) = name(number) {
             let _ = writeln!(text, "\"{name}\"");
         }
-        let kind = if function.is_bridge() { "bridge" } else { "card" };
-        let _ = writeln!(text, "{}    # {}: {}, a {kind}", dwords(&record[..4]), function.record, function.id);
+        let id = Id(u16::from_be_bytes([record[2], record[3]]));
+        let _ = writeln!(text, "{}    # {number}: {id}", dwords(&record[..4]));
         for (row, bytes) in record[4..68].chunks(16).enumerate() {
             let _ = writeln!(text, "  {}    # {:02X}h", dwords(bytes), 16 * row);
         }

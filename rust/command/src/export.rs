@@ -39,10 +39,15 @@ pub fn dump(named: &NamedSheet) -> String {
     text
 }
 
-/// lspci has a function's class and model there; a sheet that was planned has neither, so it is what it is called.
+/// lspci has a function's class and model there, and so has the name of a function that came from lspci. A sheet that was
+/// planned has neither, so it is what it is called.
 fn class(named: &NamedSheet, function: &Function) -> String {
     let kind = if function.is_bridge() { "PCI bridge" } else { "Device" };
-    named.name(function.record).map_or(format!("{kind}: unnamed"), |name| format!("{kind}: {name}"))
+    match named.name(function.record) {
+        Some(name) if name.contains(": ") => name.to_string(),
+        Some(name) => format!("{kind}: {name}"),
+        None => format!("{kind}: unnamed"),
+    }
 }
 
 fn region(placed: &PlacedBar) -> String {

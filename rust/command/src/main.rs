@@ -11,6 +11,7 @@ mod export;
 mod failure;
 mod faults;
 mod hexadecimal;
+mod import;
 mod json;
 mod label;
 mod ledger;
@@ -36,7 +37,7 @@ struct Subcommand {
     run: fn(&Arguments) -> Answer,
 }
 
-const SUBCOMMANDS: [Subcommand; 9] = [
+const SUBCOMMANDS: [Subcommand; 10] = [
     Subcommand { name: "plan", options: plan::OPTIONS, help: plan::HELP, run: plan::run },
     Subcommand { name: "audit", options: audit::OPTIONS, help: audit::HELP, run: audit::run },
     Subcommand { name: "route", options: route::OPTIONS, help: route::HELP, run: route::run },
@@ -45,6 +46,7 @@ const SUBCOMMANDS: [Subcommand; 9] = [
     Subcommand { name: "ledger", options: ledger::OPTIONS, help: ledger::HELP, run: ledger::run },
     Subcommand { name: "show", options: convert::SHOW_OPTIONS, help: convert::SHOW_HELP, run: convert::run_show },
     Subcommand { name: "convert", options: convert::OPTIONS, help: convert::HELP, run: convert::run },
+    Subcommand { name: "import", options: import::OPTIONS, help: import::HELP, run: import::run },
     Subcommand { name: "export", options: export::OPTIONS, help: export::HELP, run: export::run },
 ];
 
@@ -59,6 +61,7 @@ cartsundial: PCI Express boards planned, sheets judged, packets routed and trace
   ledger TRACE              requests never answered, completions of nothing
   show FILE                 a board, a sheet, a trace or a script in words
   convert FILE              from bytes to text, from text to bytes
+  import FILE..             lspci -vvx, or /sys/bus/pci/devices, with iomem, ioports or a boot log: sheet, host and board
   export SHEET              an lspci dump
 
 cartsundial SUBCOMMAND --help says more. A file may be - for standard input, and bytes or text, which is told by its content.

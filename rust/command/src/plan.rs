@@ -73,7 +73,7 @@ fn write_files(arguments: &Arguments, named: &NamedSheet, board: &[u8]) -> Resul
     let write = |file: &str, bytes: &[u8]| fs::write(file, bytes).map_err(Failure::stream(file));
     if let Some(file) = arguments.value("--sheet") {
         match file.ends_with(".txt") {
-            true => write(file, convert::sheet_text(named).as_bytes())?,
+            true => write(file, convert::named_text(named).as_bytes())?,
             false => write(file, named.sheet.bytes())?,
         }
     }

@@ -1,0 +1,105 @@
+//! A bridge's registers in the spelling of a sheet. Only what changes no bus range and no decoded range is touched, and each
+//! change is told.
+
+use super::found::{Found, BUSES, HEADER_TYPE};
+use super::Notes;
+
+const IO: usize = 0x1C;
+const LOW: usize = 0x20;
+const HIGH: usize = 0x24;
+const UPPERS: usize = 0x28;
+const IO_UPPERS: usize = 0x30;
+
+/// Registers 18h to 27h are BARs of a function that is no bridge.
+const OTHER_BARS: std::ops::Range<usize> = 0x18..0x28;
+
+pub fn normalise(found: &mut Found, notes: &mut Notes) {
+    let title = found.title();
+    let mut tell = |note: &str| notes.push(format!("{title}: {note}"));
+    let is_closed = [io_closed(found), low_closed(found), high_closed(found)] == [true; 3];
+    if is_closed && found.registers[BUSES..BUSES + 3] == [0; 3] {
+        found.registers[HEADER_TYPE] &= 0x80;
+        found.registers[OTHER_BARS].fill(0);
+        tell("a bridge without buses and windows: taken for a card");
+        return;
+    }
+    if found.registers[BUSES] != found.id.bus() {
+        found.registers[BUSES] = found.id.bus();
+        tell("its primary bus register is not its own bus: set");
+    }
+    if normalise_io(found) {
+        tell("the I/O window's registers: the same range as of 16 bits");
+    }
+    if low_closed(found) && set(found, LOW, &[0xF0, 0xFF, 0, 0]) {
+        tell("the closed memory window in the sheet's spelling");
+    }
+    if normalise_high(found) {
+        tell("the prefetchable window's registers: the same range as of 64 bits");
+    }
+}
+
+fn normalise_io(found: &mut Found) -> bool {
+    if io_closed(found) {
+        return set(found, IO, &[0xF0, 0]);
+    }
+    let [base, limit] = [found.registers[IO], found.registers[IO + 1]];
+    // An open window above FFFFh stays as it is, and is 29.
+    found.registers[IO_UPPERS..IO_UPPERS + 4] == [0; 4] && set(found, IO, &[base & 0xF0, limit & 0xF0])
+}
+
+fn normalise_high(found: &mut Found) -> bool {
+    if high_closed(found) {
+        let is_changed = set(found, HIGH, &[0xF1, 0xFF, 1, 0]);
+        return set(found, UPPERS, &[0; 8]) || is_changed;
+    }
+    let [base, limit] = [found.registers[HIGH], found.registers[HIGH + 2]];
+    if (base & 0xF, limit & 0xF) != (0, 0) {
+        return false;
+    }
+    found.registers[HIGH] |= 1;
+    found.registers[HIGH + 2] |= 1;
+    set(found, UPPERS, &[0; 8]);
+    true
+}
+
+fn io_closed(found: &Found) -> bool {
+    let upper = |at: usize| u32::from(word(found, at)) << 16;
+    let address = |at: usize, up: usize| {
+        let low = u32::from(found.registers[at] >> 4) << 12;
+        if found.registers[at] & 0xF == 1 {
+            upper(up) | low
+        } else {
+            low
+        }
+    };
+    address(IO, IO_UPPERS) > address(IO + 1, IO_UPPERS + 2)
+}
+
+fn low_closed(found: &Found) -> bool {
+    word(found, LOW) >> 4 > word(found, LOW + 2) >> 4
+}
+
+fn high_closed(found: &Found) -> bool {
+    let address = |at: usize, up: usize| {
+        let upper = u64::from(word(found, up + 2)) << 16 | u64::from(word(found, up));
+        let low = u64::from(word(found, at) >> 4);
+        if found.registers[at] & 0xF == 1 {
+            upper << 12 | low
+        } else {
+            low
+        }
+    };
+    address(HIGH, UPPERS) > address(HIGH + 2, UPPERS + 4)
+}
+
+fn word(found: &Found, at: usize) -> u16 {
+    u16::from_le_bytes([found.registers[at], found.registers[at + 1]])
+}
+
+/// Writes the bytes, and tells whether they were others.
+fn set(found: &mut Found, at: usize, bytes: &[u8]) -> bool {
+    let room = &mut found.registers[at..at + bytes.len()];
+    let is_changed = room != bytes;
+    room.copy_from_slice(bytes);
+    is_changed
+}

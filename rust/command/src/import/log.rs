@@ -1,0 +1,129 @@
+//! The windows of root buses: from /proc/iomem and /proc/ioports, or from a boot log's `root bus resource` lines.
+
+use super::found::read_address;
+use std::ops::RangeInclusive;
+
+#[derive(Default)]
+pub struct Log {
+    /// Of the boot log: they go before those of iomem and ioports.
+    logged: Vec<Window>,
+    claims: Vec<Claim>,
+    buses: Vec<((u32, u8), u8)>,
+}
+
+#[derive(Clone, Debug, PartialEq, Eq)]
+pub struct Window {
+    root: (u32, u8),
+    pub is_io: bool,
+    pub range: RangeInclusive<u64>,
+}
+
+/// A line of /proc/iomem or /proc/ioports.
+struct Claim {
+    is_io: bool,
+    range: RangeInclusive<u64>,
+    name: String,
+}
+
+impl Log {
+    pub fn read(&mut self, text: &str) {
+        for line in text.lines() {
+            if let Some((before, resource)) = line.split_once(": root bus resource [") {
+                self.read_logged(before, resource);
+            } else if let Some(claim) = Claim::of_line(line) {
+                self.claims.push(claim);
+            }
+        }
+    }
+
+    /// `pci_bus 0000:00`, and `mem 0x20000000-0xafffffff window]` or `bus 00-ff]`.
+    fn read_logged(&mut self, before: &str, resource: &str) -> Option<()> {
+        let root = read_root(before.rsplit(' ').next()?)?;
+        let mut words = resource.split([' ', ']']).filter(|word| !word.is_empty());
+        let (kind, range) = (words.next()?, read_range(words.next()?)?);
+        match kind {
+            "bus" => self.buses.push((root, u8::try_from(*range.end()).ok()?)),
+            "io" | "mem" => self.logged.push(Window { root, is_io: kind == "io", range }),
+            _ => {}
+        }
+        Some(())
+    }
+
+    /// The windows of a root bus.
+    pub fn windows(&self, root: (u32, u8)) -> Vec<Window> {
+        let logged: Vec<Window> = self.logged.iter().filter(|window| window.root == root).cloned().collect();
+        if !logged.is_empty() {
+            return logged;
+        }
+        let of_root = |claim: &&Claim| claim.name.strip_prefix("PCI Bus ").and_then(read_root) == Some(root);
+        let window = |claim: &Claim| Window { root, is_io: claim.is_io, range: claim.range.clone() };
+        self.claims.iter().filter(of_root).map(window).collect()
+    }
+
+    /// The last bus of a root bus, where the log says it.
+    pub fn last_bus(&self, root: (u32, u8)) -> Option<u8> {
+        self.buses.iter().find(|(of, _)| *of == root).map(|(_, last)| *last)
+    }
+
+    /// What lies fixed: neither a bus nor a function's, nor inside a function's. By ranges, not by indentation, which ends
+    /// after five levels.
+    pub fn fixed(&self, is_io: bool) -> Vec<RangeInclusive<u64>> {
+        let of_space = || self.claims.iter().filter(move |claim| claim.is_io == is_io);
+        let is_inside = |claim: &Claim| {
+            of_space()
+                .filter(|other| other.is_function())
+                .any(|other| other.range.contains(claim.range.start()) && other.range.contains(claim.range.end()))
+        };
+        let is_fixed = |claim: &&Claim| !claim.name.starts_with("PCI Bus ") && !is_inside(claim);
+        of_space().filter(is_fixed).map(|claim| claim.range.clone()).collect()
+    }
+}
+
+impl Claim {
+    /// `  fe200000-fe200fff : 0000:00:02.0`; ports have four digits. Who is not root sees zeros, which are none.
+    fn of_line(line: &str) -> Option<Claim> {
+        let (range, name) = line.split_once(" : ")?;
+        let is_io = range.trim().len() == "0000-0000".len();
+        let range = read_range(range.trim()).filter(|range| *range != (0..=0))?;
+        Some(Claim { is_io, range, name: name.trim().to_string() })
+    }
+
+    fn is_function(&self) -> bool {
+        read_address(&self.name).is_some()
+    }
+}
+
+/// `0000:00`.
+fn read_root(text: &str) -> Option<(u32, u8)> {
+    let (domain, bus) = text.split_once(':')?;
+    Some((u32::from_str_radix(domain, 16).ok()?, u8::from_str_radix(bus, 16).ok()?))
+}
+
+fn read_range(text: &str) -> Option<RangeInclusive<u64>> {
+    let (first, last) = text.split_once('-')?;
+    let number = |word: &str| u64::from_str_radix(word.strip_prefix("0x").unwrap_or(word), 16).ok();
+    let (first, last) = (number(first)?, number(last)?);
+    (first <= last).then_some(first..=last)
+}
+
+#[cfg(test)]
+mod tests {
+    use super::*;
+
+    #[test]
+    fn windows_and_what_is_fixed() {
+        let mut log = Log::default();
+        log.read(
+            "0000-0cf7 : PCI Bus 0000:00\n  0020-0021 : pic1\n20000000-afffffff : PCI Bus 0000:00\n\
+             \x20 20900000-20900fff : 0000:00:02.0\n    20900000-20900fff : driver\n  fed00000-fed003ff : HPET 0\n",
+        );
+        let ranges = |log: &Log| log.windows((0, 0)).into_iter().map(|window| window.range).collect::<Vec<_>>();
+        assert_eq!(ranges(&log), [0..=0xCF7, 0x2000_0000..=0xAFFF_FFFF]);
+        assert_eq!((log.fixed(true), log.fixed(false)), (vec![0x20..=0x21], vec![0xFED0_0000..=0xFED0_03FF]));
+        log.read(
+            "[    0.7] pci_bus 0000:00: root bus resource [io  0x0d00-0xffff window]\n\
+             [    0.7] pci_bus 0000:00: root bus resource [bus 00-7f]\n",
+        );
+        assert_eq!((ranges(&log), log.last_bus((0, 0))), (vec![0xD00..=0xFFFF], Some(0x7F)));
+    }
+}

@@ -1,0 +1,55 @@
+//! /sys/bus/pci/devices, or a copy of it: of each function its `config` and its `resource`. Neither asks for root.
+
+use super::found::{read_address, Found, Region, REGIONS};
+use crate::failure::Failure;
+use cartsundial::REGISTERS;
+use std::fs;
+use std::path::Path;
+
+pub fn read(folder: &Path) -> Result<Vec<Found>, Failure> {
+    let called = folder.display().to_string();
+    let mut functions = Vec::new();
+    for entry in fs::read_dir(folder).map_err(Failure::stream(&called))? {
+        let path = entry.map_err(Failure::stream(&called))?.path();
+        let name = path.file_name().unwrap_or_default().to_string_lossy().into_owned();
+        if let Some((domain, id)) = read_address(&name) {
+            let mut found = Found::new(domain, id, "");
+            read_config(&path, &mut found)?;
+            read_resource(&path, &mut found)?;
+            functions.push(found);
+        }
+    }
+    functions.sort_by_key(|found| (found.domain, found.id));
+    Ok(functions)
+}
+
+fn read_config(path: &Path, found: &mut Found) -> Result<(), Failure> {
+    let file = path.join("config");
+    let called = file.display().to_string();
+    let bytes = fs::read(&file).map_err(Failure::stream(&called))?;
+    let short = || Failure::Usage(format!("{called}: fewer than {REGISTERS} bytes"));
+    found.registers = *bytes.first_chunk().ok_or_else(short)?;
+    let class = u16::from_le_bytes([bytes[0x0A], bytes[0x0B]]);
+    let word = |at: usize| u16::from_le_bytes([bytes[at], bytes[at + 1]]);
+    found.name = format!("{class:04x}: {:04x}:{:04x}", word(0), word(2));
+    Ok(())
+}
+
+/// A line for each region: first address, last address, flags.
+fn read_resource(path: &Path, found: &mut Found) -> Result<(), Failure> {
+    let file = path.join("resource");
+    let text = fs::read_to_string(&file).map_err(Failure::stream(&file.display().to_string()))?;
+    for (region, line) in found.regions.iter_mut().zip(text.lines()).take(REGIONS) {
+        let number = |word: &str| u64::from_str_radix(word.strip_prefix("0x")?, 16).ok();
+        let numbers: Vec<u64> = line.split_whitespace().filter_map(number).collect();
+        *region = match numbers[..] {
+            [0, 0, ..] => None,
+            [first, last, ..] if first <= last => Some(Region {
+                size: (last - first).saturating_add(1),
+                address: Some(first).filter(|first| *first != 0),
+            }),
+            _ => None,
+        };
+    }
+    Ok(())
+}
