@@ -12,6 +12,8 @@ pub struct Found {
     pub name: String,
     pub registers: [u8; REGISTERS],
     pub regions: [Option<Region>; REGIONS],
+    /// Sizes that the boot log has; the kernel forgets those of BARs that it could not place.
+    pub logged: [Option<u64>; REGIONS],
 }
 
 /// What the kernel says of a BAR.
@@ -30,7 +32,7 @@ pub const BUSES: usize = 0x18;
 impl Found {
     pub fn new(domain: u32, id: Id, name: &str) -> Found {
         let name = name.replace('"', "'");
-        Found { domain, id, name, registers: [0; REGISTERS], regions: [None; REGIONS] }
+        Found { domain, id, name, registers: [0; REGISTERS], regions: [None; REGIONS], logged: [None; REGIONS] }
     }
 
     pub fn header_type(&self) -> u8 {

@@ -1,6 +1,7 @@
 //! The windows of root buses: from /proc/iomem and /proc/ioports, or from a boot log's `root bus resource` lines.
 
-use super::found::read_address;
+use super::found::{read_address, REGIONS};
+use cartsundial::Id;
 use std::ops::RangeInclusive;
 
 #[derive(Default)]
@@ -9,6 +10,8 @@ pub struct Log {
     logged: Vec<Window>,
     claims: Vec<Claim>,
     buses: Vec<((u32, u8), u8)>,
+    /// Of each function and slot, as the boot log has them first.
+    sizes: Vec<((u32, Id), usize, u64)>,
 }
 
 #[derive(Clone, Debug, PartialEq, Eq)]
@@ -32,6 +35,8 @@ impl Log {
                 self.read_logged(before, resource);
             } else if let Some(claim) = Claim::of_line(line) {
                 self.claims.push(claim);
+            } else {
+                self.sizes.extend(read_size(line));
             }
         }
     }
@@ -58,6 +63,11 @@ impl Log {
         let of_root = |claim: &&Claim| claim.name.strip_prefix("PCI Bus ").and_then(read_root) == Some(root);
         let window = |claim: &Claim| Window { root, is_io: claim.is_io, range: claim.range.clone() };
         self.claims.iter().filter(of_root).map(window).collect()
+    }
+
+    /// The size of a function's BAR, where the log says it.
+    pub fn size(&self, function: (u32, Id), slot: usize) -> Option<u64> {
+        self.sizes.iter().find(|(of, number, _)| (*of, *number) == (function, slot)).map(|(_, _, size)| *size)
     }
 
     /// The last bus of a root bus, where the log says it.
@@ -93,6 +103,20 @@ impl Claim {
     }
 }
 
+/// `pci 0000:01:00.0: BAR 2 [mem 0x00000000-0x00000fff 64bit pref]`, in older logs `reg 0x18: [mem ..]`.
+fn read_size(line: &str) -> Option<((u32, Id), usize, u64)> {
+    let (function, rest) = line.split_once("pci ")?.1.split_once(": ")?;
+    let (slot, resource) = rest.split_once('[')?;
+    let slot = match slot.trim_end().trim_end_matches(':').split_once(' ')? {
+        ("BAR", number) => number.parse().ok()?,
+        ("reg", register) => usize::from_str_radix(register.strip_prefix("0x")?, 16).ok()?.checked_sub(0x10)? / 4,
+        _ => return None,
+    };
+    let range = read_range(resource.split([' ', ']']).filter(|word| !word.is_empty()).nth(1)?)?;
+    let size = (range.end() - range.start()).saturating_add(1);
+    Some((read_address(function)?, slot, size)).filter(|_| slot < REGIONS)
+}
+
 /// `0000:00`.
 fn read_root(text: &str) -> Option<(u32, u8)> {
     let (domain, bus) = text.split_once(':')?;
@@ -125,5 +149,18 @@ mod tests {
              [    0.7] pci_bus 0000:00: root bus resource [bus 00-7f]\n",
         );
         assert_eq!((ranges(&log), log.last_bus((0, 0))), (vec![0xD00..=0xFFFF], Some(0x7F)));
+    }
+
+    #[test]
+    fn sizes() {
+        let mut log = Log::default();
+        log.read(
+            "[    1.2] pci 0000:01:00.0: BAR 2 [mem 0x00000000-0x1ffffffff 64bit pref]\n\
+             [    1.2] pci 0000:01:00.0: BAR 2: assigned [mem 0x100000000-0x100000fff 64bit pref]\n\
+             [    1.2] pci 0000:02:00.0: reg 0x18: [io  0x0000-0x001f]\n\
+             [    1.2] pci 0000:02:00.0: BAR 7 [mem 0x00000000-0x00000fff]\n",
+        );
+        let size = |id, slot| log.size((0, Id(id)), slot);
+        assert_eq!([size(0x100, 2), size(0x200, 2), size(0x200, 7)], [Some(1 << 33), Some(32), None]);
     }
 }

@@ -28,9 +28,10 @@ cartsundial import FILE.. [--out PREFIX]
 
 Takes `lspci -vvx` (more x's, -D, -n and -nn do not matter), or /sys/bus/pci/devices or a copy of it, and, for the root windows,
 /proc/iomem and /proc/ioports as root sees them, or a boot log. They may be in several files or in one. Registers are taken
-from the hexadecimal lines, sizes from `Region` lines. What is normalised or left out is told on standard error: closed windows
-in other spellings, bits that say how wide a window register is, a primary bus register, BARs without an address or a size.
-No address, size, bus number or open window is changed.
+from the hexadecimal lines, sizes from `Region` lines, for a board also from the boot log.
+
+What is normalised or left out is told on standard error: closed windows in other spellings, bits that say how wide a window
+register is, a primary bus register, BARs without an address or a size. No address, size, bus number or open window is changed.
 
   --out PREFIX        for each root bus, PREFIX-0000-00.sheet.txt, .host.txt, for --host of audit and label, and .board.txt, for
                       plan; without it, the sheet of a machine with one root bus comes out
@@ -49,6 +50,9 @@ pub fn run(arguments: &Arguments) -> Answer {
     }
     if functions.is_empty() {
         return Err(Failure::Usage("no function found: `lspci -vvx` has them, or /sys/bus/pci/devices".into()));
+    }
+    for found in &mut functions {
+        found.logged = std::array::from_fn(|slot| log.size((found.domain, found.id), slot));
     }
     let mut notes = Notes::new();
     let roots = roots::all(&functions, &log, &mut notes);

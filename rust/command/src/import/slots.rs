@@ -35,7 +35,9 @@ pub fn bars(found: &mut Found, notes: &mut Notes) -> Bars {
     while number < slots {
         let slot = slot(found, number, slots);
         let title = format!("{} BAR {number}", found.title());
-        let known = slot.region.map(|region| Bar::new(slot.kind, region.size));
+        // A size of the boot log alone is enough for a board.
+        let size = slot.region.map(|region| region.size).or(found.logged[number]);
+        let known = size.map(|size| Bar::new(slot.kind, size));
         let read_backs = known.and_then(Bar::read_backs);
         match judge(found, &slot, read_backs.is_some()) {
             Ok(()) => {
@@ -95,6 +97,7 @@ fn judge(found: &Found, slot: &Slot, has_size: bool) -> Result<(), Option<String
             Err(Some(format!("the kernel has it at {address:x}, the register has no BAR: left out")))
         }
         (BarKind::Unused, _) => Err(None),
+        (_, None) if has_size => Err(Some("its size is known from the boot log only: left out of the sheet".into())),
         (_, None) => Err(Some("its size is not known: left out, and missing on the board".into())),
         (_, Some(region)) if !has_size => {
             Err(Some(format!("no BAR has {} bytes: left out, and missing on the board", region.size)))
