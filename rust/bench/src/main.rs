@@ -1,7 +1,7 @@
 //! Times the proved library and the plain implementation side by side, and prints a table.
 //!
 //! `cargo run --release --offline -p bench` prints all of it but `programs`, names after `--` only those parts: `calls`,
-//! `ids`, `audits`, `traces`, `labels`, `ledgers`, `programs`.
+//! `ids`, `audits`, `traces`, `labels`, `ledgers`, `requests`, `programs`.
 
 mod audits;
 mod ids;
@@ -9,6 +9,7 @@ mod labels;
 mod ledgers;
 mod measure;
 mod programs;
+mod requests;
 mod subjects;
 mod through;
 mod traces;
@@ -42,13 +43,14 @@ const REUSED: &str = "reused, not cleared";
 const FRESH: &str = "new and zeroed, within the time";
 
 /// What is printed, and can be asked for by name.
-const PARTS: [(&str, fn()); 7] = [
+const PARTS: [(&str, fn()); 8] = [
     ("calls", calls),
     ("ids", ids::print),
     ("audits", audits::print),
     ("traces", traces::print),
     ("labels", labels::print),
     ("ledgers", ledgers::print),
+    ("requests", requests::print),
     (PROGRAMS, programs::print),
 ];
 
