@@ -38,7 +38,7 @@ mod proved_calls {
 }
 
 pub fn print() {
-    println!("Microseconds a call, median of {ROUNDS} rounds: a board's write script, and a memory read from the first card to the last.\n");
+    println!("Microseconds a call, median of {ROUNDS} rounds: a board's script, and a read from the first card to the last.\n");
     println!("| call | board | plain | proved | proved/plain |");
     println!("|---|---|---:|---:|---:|");
     let backplanes = Backplane::all();
