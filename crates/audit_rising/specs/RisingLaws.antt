@@ -10,8 +10,8 @@ use lib.ListN.{length, getD, set}
 use lib.Seq.{getD-set-same, getD-set-other}
 use lib.Dec.{eqb, leb, ltb}
 use borrow.Author.Tests.{eqb-true, eqb-false, leb-false, ltb-false}
+use Rattle.arith.specs.BoolLaws.{false-of-or}
 use Rattle.lists.specs.Lists.{All, Pairwise}
-use Rattle.lists.specs.BoolLaws.{false-of-or}
 use Rattle.lists.specs.ListLaws.{all-imp}
 use Rattle.audit_rising.specs.Rising.{Spot, spot, Fits, Rising, Takes, Clear}
 

@@ -6,8 +6,8 @@ use mathlib.Core.List.{List, [], _∷_, _++_, map, map-append, flatMap, Memᴰ·
 use Prim.Native.Nat.{ℕ, _+_}
 use lib.Dec.{eqb}
 use borrow.Author.Tests.{eqb-true, eq-eqb}
+use Rattle.arith.specs.BoolLaws.{false-of-or}
 use Rattle.lists.specs.Lists.{_∈_, All, Pairwise, keep, any}
-use Rattle.lists.specs.BoolLaws.{false-of-or}
 use Rattle.lists.specs.ListLaws.{all-imp, all-elim, all-intro, all-append, all-left, all-right, all-map-intro}
 use Rattle.lists.specs.ListLaws.{pairwise-imp, pairwise-imp-members, pairwise-append, pairwise-map}
 use Rattle.lists.specs.KeepLaws.{all-of-none, none-of-all, all-of-keep, keep-yes, keep-no, keep-elim, keep-intro, pairwise-keep}

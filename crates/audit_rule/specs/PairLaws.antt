@@ -3,8 +3,8 @@ use mathlib.Core.Path.{_≡_, refl}
 use mathlib.Core.Bool.{Bool, false}
 use mathlib.Core.List.{List, [], _∷_}
 use Prim.Native.Nat.{ℕ, _+_}
+use Rattle.arith.specs.BoolLaws.{false-of-or}
 use Rattle.lists.specs.Lists.{All, Pairwise, any}
-use Rattle.lists.specs.BoolLaws.{false-of-or}
 use Rattle.lists.specs.ListLaws.{all-imp}
 use Rattle.lists.specs.KeepLaws.{all-of-none, none-of-all}
 use Rattle.walk.specs.Registers.{Node}

@@ -7,8 +7,8 @@ use Prim.Native.Nat.{ℕ, suc}
 use native.Mathlib.Omega.{arith}
 use lib.Dec.{eqb, leb}
 use borrow.Author.Tests.{eqb-true, eq-eqb, leb-true, leb-false, le-leb, lt-leb, not-false}
+use Rattle.arith.specs.BoolLaws.{false-of-or}
 use Rattle.lists.specs.Lists.{_∈_, All, any}
-use Rattle.lists.specs.BoolLaws.{false-of-or}
 use Rattle.lists.specs.ListLaws.{all-imp, all-elim, all-intro, pairwise-imp}
 use Rattle.lists.specs.KeepLaws.{all-of-none, none-of-all}
 use Rattle.pools.specs.declared.Space.{Space}

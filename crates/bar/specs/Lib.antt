@@ -1,12 +1,9 @@
 -- Document 01, "Read-backs", and BAR values on a sheet (25).
 pub mod Header
 pub mod Bar
-pub mod Bars
 pub mod Values
-pub mod PowerOfTwo
 pub mod SizeLaws
 pub mod BarLaws
-pub mod BarsLaws
 pub mod ValuesLaws
 pub mod PlacedLaws
 pub mod Examples

@@ -10,9 +10,8 @@ use lib.Arith.{lt-of-le-ne}
 use lib.Bits.{bitAnd}
 use lib.Dec.{eqb}
 use lib.Pow.{pow-pos, pow-lt, pow-mono}
-use Rattle.plan_rule.specs.AlignLaws.{lt-of-pow-lt}
+use Rattle.arith.specs.PowersLaws.{lt-of-pow-lt, power-of-and-pred-zero, and-pred-zero-of-power, le-of-pow-le}
 use Rattle.bar.specs.Bar.{onesFrom, sizeFrom, sizeOf}
-use Rattle.bar.specs.PowerOfTwo.{power-of-and-pred-zero, and-pred-zero-of-power, le-of-pow-le}
 
 -- a mask of w bits with its size bit at k or above
 pub record SizeBit (w k mask size : ℕ) : Type 0 where

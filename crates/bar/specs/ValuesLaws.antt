@@ -14,11 +14,11 @@ use lib.Bits.{bitAnd}
 use lib.Dec.{eqb, leb}
 use lib.ListN.{length, getD, take, drop, length-drop, drop-of-length-le, List·getD-eq-default}
 use lib.Seq.{drop-drop, getD-drop, getD-take}
+use Rattle.arith.specs.Powers.{PowerOfTwo}
+use Rattle.arith.specs.PowersLaws.{and-pred-power}
 use Rattle.pools.specs.declared.Pool.{Pool}
 use Rattle.pools.specs.declared.Pool.the-variants.{Low, High, Io}
 use Rattle.pools.specs.Pools.{isIo}
-use Rattle.plan_rule.specs.Align.{PowerOfTwo}
-use Rattle.plan_rule.specs.AlignLaws.{and-pred-power}
 use Rattle.bar.specs.declared.Slot.{Slot}
 use Rattle.bar.specs.declared.Slot.the-variants.{Unused, Bar, Upper, Bad}
 use Rattle.bar.specs.Bar.{typeBits, leastBit, width, typeOf, withoutType, joined, slotHere, slots, isBad, anyBad, takesNext, span}

@@ -4,11 +4,11 @@ ghost use mathlib.Core.Path.{_≡_};
 ghost use mathlib.Core.Bool.{cond, not, _&&_};
 ghost use Prim.Native.Nat.{ℕ, _+_, _^_, _<_, _≤_, min};
 ghost use lib.ListN.{length, getD, take, drop};
+ghost use Rattle.arith.specs.Powers.{PowerOfTwo};
 ghost use Rattle.bar.specs.Header.{isBridge, slotCount};
 ghost use Rattle.bar.specs.Bar.{sizeOf, sized as sizedOf, joined as joinedOf, isIoBar, ioWrong, typeOf, withoutType, ioSlot, isWide};
 ghost use Rattle.bar.specs.Bar.{narrowSlot, wideSlot, slotHere, slots, isBad, anyBad, takesNext, span as spanOf, SizedSlot};
 ghost use Rattle.pools.specs.Pools.{isIo};
-ghost use Rattle.plan_rule.specs.Align.{PowerOfTwo};
 ghost use Rattle.bar.specs.Values.{valueHere, isBarValue, isValue, valuesLawful, baseOf, valueOf};
 use pools::Pool;
 

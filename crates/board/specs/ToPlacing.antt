@@ -10,7 +10,7 @@ use Rattle.board_record.specs.declared.Host.{Host}
 use Rattle.board_record.specs.declared.Span.{Span}
 use Rattle.board_record.specs.declared.Function.{Function}
 use Rattle.board_record.specs.Function.{isBridge, slotCount, spareBuses, spareLow}
-unfoldable pub use Rattle.bar.specs.Bars.{barsFrom}
+unfoldable pub use Rattle.plan_bars.specs.Bars.{barsFrom}
 
 abbrev pub poolSpan : Host → PlacingPool → Span
 poolSpan h low = h .low

@@ -8,7 +8,7 @@ use lib.ListN.{length, take}
 use lib.Dec.{eqb}
 use borrow.Author.Tests.{eqb-true}
 use Rattle.records.specs.RecordsLaws.{false-of-or}
-use Rattle.bar.specs.BarsLaws.{bars-from-sized}
+use Rattle.plan_bars.specs.BarsLaws.{bars-from-sized}
 use Rattle.lists.specs.Lists.{any}
 use Rattle.lists.specs.ListLaws.{all-imp}
 use Rattle.plan_rule.specs.Records.{parentsAfter, onlyHost, DepthFirst, Sized, Lawful}

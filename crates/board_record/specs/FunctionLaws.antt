@@ -8,8 +8,8 @@ use native.Mathlib.Omega.{arith}
 use lib.ListN.{length, getD, take, List·getD-eq-default}
 use lib.Dec.{eqb, leb}
 use borrow.Author.Tests.{eqb-true, ne-eqb, not-false, leb-true, leb-false}
+use Rattle.arith.specs.BoolLaws.{false-of-or}
 use Rattle.endian.specs.Endian.{be}
-use Rattle.lists.specs.BoolLaws.{false-of-or}
 use Rattle.bar.specs.Bar.{slots, anyBad}
 use Rattle.bar.specs.Header.{headerType, isBridge as isBridgeHeader}
 use Rattle.board_record.specs.Function.{bridgeLength, lengthFor, readbacksFor, sparesFor, functionOfPart, wrongFor, wrongIn}

@@ -10,6 +10,8 @@ use native.Mathlib.Omega.{arith}
 use lib.ListN.{length, take}
 use lib.Dec.{eqb}
 use borrow.Author.Tests.{eqb-true, eqb-false, eq-eqb, ne-eqb, not-true}
+use Rattle.arith.specs.Order.{eq-or-ne}
+use Rattle.arith.specs.BoolLaws.{true-or-false}
 use Rattle.endian.specs.Endian.{Bytes}
 use Rattle.pairs.specs.declared.ConfigKind.{ConfigKind}
 use Rattle.pairs.specs.declared.ConfigKind.the-variants.{CfgRd0, CfgWr0, CfgRd1, CfgWr1}
@@ -19,7 +21,6 @@ use Rattle.packet.specs.declared.Packet.{Packet}
 use Rattle.packet.specs.declared.Packet.the-variants.{Memory, Io, Config, Completion, Message}
 use Rattle.tlp.specs.declared.Reading.the-variants.{Accepted}
 use Rattle.tlp.specs.Reading.{readOf}
-use Rattle.plan_rule.specs.Order.{eq-or-ne, true-or-false}
 use Rattle.board.specs.Board.{hostOf, functionsOf}
 use Rattle.walk.specs.Walk.{Outcome, delivered, refused}
 use Rattle.walk.specs.WalkLaws.{trail-unique}

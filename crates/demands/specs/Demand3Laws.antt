@@ -8,12 +8,12 @@ use native.Mathlib.Omega.{arith}
 use lib.ListN.{length, take, drop}
 use lib.Seq.{drop-at}
 use borrow.Author.Tests.{eq-eqb, ne-eqb, lt-ltb, le-ltb}
+use Rattle.arith.specs.Order.{eq-or-ne, le-or-lt}
 use Rattle.endian.specs.Endian.{Bytes}
 use Rattle.pools.specs.declared.Space.{Space}
 use Rattle.records.specs.Limits.{mostAbove}
 use Rattle.plan_rule.specs.Pools.{low, high, io}
 use Rattle.lists.specs.ListLaws.{all-of}
-use Rattle.plan_rule.specs.Order.{eq-or-ne, le-or-lt}
 use Rattle.plan_rule.specs.Placed.{well-placed}
 use Rattle.plan_rule.specs.Refusals.{refusalOf}
 use Rattle.board.specs.Board.{boardNumber, hostOf, functionsOf}

@@ -5,6 +5,7 @@ use Prim.Native.String.{String}
 use mathlib.Core.Path.{_≡_, refl}
 use mathlib.Core.List.{List, [], _∷_, _++_, flatMap}
 use lib.ListN.{length, replicate}
+use Rattle.arith.specs.Align.{alignUp}
 use Rattle.endian.specs.Endian.{be, beBytes, le, leBytes}
 use Rattle.text.specs.Text.{ascii, hexadecimal, decimalOver, decimal}
 use Rattle.pairs.specs.Pairs.{table, first, findPair, pairOf}
@@ -17,14 +18,13 @@ use Rattle.tlp_fields.specs.Fields.{headAt, enablesAt, addressAt, unnamed}
 use Rattle.tlp.specs.Reading.{numberOf as readingNumber, judged, readOf}
 use Rattle.records.specs.Records.{nextOf, partsOver, partsOf, anyPart}
 use Rattle.lists.specs.Lists.{keep, front, any}
-use Rattle.plan_rule.specs.Align.{alignUp}
 use Rattle.plan_rule.specs.Layout.{layoutEnd, largestAlign}
 use Rattle.plan_rule.specs.Pieces.{barPieces, windowPieces, ownPieces, pieces}
 use Rattle.plan_rule.specs.Placing.{place, placed}
 use Rattle.plan_rule.specs.Numbering.{bridges, oversFrom, over, lastBelow, busNumber, subordinateOf}
 use Rattle.plan_rule.specs.Refusals.{outOfPool, refusalOf}
 use Rattle.bar.specs.Bar.{sizeFrom, sized, ioSlot, narrowSlot, wideSlot, slotHere, slots, anyBad}
-use Rattle.bar.specs.Bars.{barsFrom}
+use Rattle.plan_bars.specs.Bars.{barsFrom}
 use Rattle.bar.specs.Values.{isBarValue, valuesFit}
 use Rattle.window.specs.Window.{closed, opened, start, stop, isNibbled}
 use Rattle.board_record.specs.Host.{hostOfPart, poolWrong, hostWrong}

@@ -9,6 +9,7 @@ use native.Mathlib.Omega.{arith}
 use lib.Dec.{eqb}
 use lib.ListN.{length, getD}
 use borrow.Author.Tests.{le-ltb, lt-ltb}
+use Rattle.arith.specs.Order.{eq-or-ne}
 use Rattle.pairs.specs.declared.MessageRouting.{MessageRouting}
 use Rattle.pairs.specs.declared.MessageRouting.the-variants.{ToRoot, ByAddress, ById, Broadcast, Local, Gathered}
 use Rattle.pairs.specs.Pairs.{table, first, findPair, pairOf}
@@ -18,7 +19,6 @@ use Rattle.packet.specs.RulesLaws.{rule-number-message}
 use Rattle.tlp.specs.declared.Reading.the-variants.{Accepted, Refused as NotRead}
 use Rattle.tlp.specs.Reading.{readOf}
 use Rattle.pools.specs.declared.Space.the-variants.{Memory as memorySpace}
-use Rattle.plan_rule.specs.Order.{eq-or-ne}
 use Rattle.walk.specs.Walk.{Outcome, delivered, refused as walkRefused}
 use Rattle.sheet.specs.Sheet.{sheetNumber}
 use Rattle.sheet.specs.Spaces.{nodesOf}

@@ -7,11 +7,11 @@ use Prim.Native.Nat.{ℕ, zero, suc, _≤_, _<_}
 use native.Mathlib.Omega.{arith}
 use lib.Dec.{leb, ltb}
 use borrow.Author.Tests.{leb-false}
+use Rattle.arith.specs.BoolLaws.{false-of-or}
 use Rattle.endian.specs.Endian.{Bytes}
 use Rattle.endian.specs.EndianLaws.{be-lt}
 use Rattle.lists.specs.Lists.{_∈_, Some}
 use Rattle.lists.specs.ListLaws.{all-elim, member-of-some, some-of-member, mem-cond-elim}
-use Rattle.lists.specs.BoolLaws.{false-of-or}
 use Rattle.pools.specs.declared.Pool.{Pool}
 use Rattle.pools.specs.declared.Pool.the-variants.{Low, High, Io}
 use Rattle.pools.specs.declared.Space.{Space}

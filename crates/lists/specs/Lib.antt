@@ -1,5 +1,4 @@
--- What is said of lists, and the laws; and of tests that are joined.
+-- What is said of lists, and the laws.
 pub mod Lists
 pub mod ListLaws
 pub mod KeepLaws
-pub mod BoolLaws

@@ -11,6 +11,7 @@ use lib.ListN.{length, getD, take, drop, length-append}
 use lib.Seq.{drop-cons}
 use lib.Dec.{ltb, eqb}
 use borrow.Author.Tests.{le-ltb, eqb-true, eqb-false, ltb-false}
+use Rattle.arith.specs.BoolLaws.{false-of-or}
 use Rattle.pairs.specs.declared.Kind.{Kind}
 use Rattle.pairs.specs.declared.Kind.the-variants.{Memory as MemoryKind, Io as IoKind, Config as ConfigKind, Completion as CompletionKind}
 use Rattle.pairs.specs.declared.Kind.the-variants.{Message as MessageKind, FetchAdd, Swap, Cas}
@@ -36,7 +37,6 @@ use Rattle.packet.specs.Widths.{lengthFits}
 use Rattle.packet.specs.WidthsLaws.{length-in-elim, address-fits-elim, fields-fit-elim}
 use Rattle.packet.specs.VerdictLaws.{lawful-elim, head-of-lawful, memory-of-lawful, io-of-lawful, config-of-lawful, completion-of-lawful}
 use Rattle.packet.specs.VerdictLaws.{message-of-lawful}
-use Rattle.lists.specs.BoolLaws.{false-of-or}
 use Rattle.packet_numbers.specs.declared.Parsed.{Parsed}
 use Rattle.packet_numbers.specs.declared.Parsed.the-variants.{Accepted, Refused}
 use Rattle.packet_numbers.specs.Numbers.{bit, messageCode, kindCode, headNumbers, bodyNumbers, numbersOf}

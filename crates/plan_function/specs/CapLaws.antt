@@ -6,6 +6,7 @@ use mathlib.Core.List.{List, [], _∷_, map}
 use Prim.Native.Nat.{ℕ, _+_, _<_, max}
 use native.Mathlib.Omega.{arith}
 use lib.Pow.{pow-pos}
+use Rattle.arith.specs.Align.{alignUp}
 use Rattle.pools.specs.declared.Pool.{Pool}
 use Rattle.pools.specs.Pools.{granule, samePool}
 use Rattle.pools.specs.PoolsLaws.{granule-pos}
@@ -13,7 +14,6 @@ use Rattle.bar.specs.declared.Slot.{Slot}
 use Rattle.bar.specs.declared.Slot.the-variants.{Unused, Bar, Upper, Bad}
 use Rattle.bar.specs.Bar.{BarSize, SizedSlot}
 use Rattle.lists.specs.Lists.{All}
-use Rattle.plan_rule.specs.Align.{alignUp}
 use Rattle.plan_rule.specs.declared.Extent.{Extent}
 use Rattle.plan_rule.specs.Cap.{cap, capped, cap-cap, cap-align}
 use Rattle.plan_function.specs.Function.{Ends, startOf, afterBar, barStarts, afterBars, isEmpty, windowStart, windowStop, afterWindow}

@@ -5,6 +5,7 @@ use mathlib.Core.Bool.{Bool, cond}
 use mathlib.Core.List.{List, [], _∷_, _++_}
 use lib.Dec.{eqb}
 use lib.ListN.{getD, drop}
+use Rattle.arith.specs.Align.{alignUp}
 use Rattle.pools.specs.declared.Pool.{Pool}
 use Rattle.pools.specs.Pools.{samePool}
 use Rattle.bar.specs.declared.Slot.{Slot}
@@ -12,7 +13,6 @@ use Rattle.bar.specs.declared.Slot.the-variants.{Unused, Bar, Upper, Bad}
 use Rattle.bar.specs.Values.{valueOf, registersOf}
 use Rattle.window.specs.declared.Window.{Window}
 use Rattle.window.specs.Window.{closed, opened}
-use Rattle.plan_rule.specs.Align.{alignUp}
 use Rattle.plan_rule.specs.Pieces.{windowSize, windowAlign}
 use Rattle.plan_rule.specs.declared.Extent.{Extent}
 

@@ -9,17 +9,17 @@ use native.Mathlib.Nat.{add-zero}
 use lib.Dec.{eqb}
 use lib.ListN.{getD, drop}
 use borrow.Author.Tests.{eq-eqb, ne-eqb}
+use Rattle.arith.specs.BoolLaws.{true-or-false, both-of-and}
+use Rattle.arith.specs.Align.{alignUp}
 use Rattle.pools.specs.declared.Pool.{Pool}
 use Rattle.pools.specs.declared.Pool.the-variants.{Low as low, High as high, Io as io}
 use Rattle.pools.specs.Pools.{samePool}
 use Rattle.bar.specs.declared.Slot.{Slot}
 use Rattle.bar.specs.declared.Slot.the-variants.{Unused, Bar, Upper, Bad}
 use Rattle.bar.specs.Values.{valueOf, registersOf}
-use Rattle.plan_rule.specs.Order.{true-or-false, both-of-and}
 use Rattle.lists.specs.Lists.{All, keep}
 use Rattle.lists.specs.ListLaws.{all-append, all-imp, all-imp₂}
 use Rattle.lists.specs.KeepLaws.{all-keep, all-of-keep, keep-none, keep-append}
-use Rattle.plan_rule.specs.Align.{alignUp}
 use Rattle.plan_rule.specs.PoolLaws.{same-pool-refl, eq-of-same-pool, is-on-of-on, is-on-of-ne}
 use Rattle.plan_rule.specs.Records.{Function}
 use Rattle.plan_rule.specs.Records as placing

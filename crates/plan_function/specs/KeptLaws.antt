@@ -10,6 +10,7 @@ use borrow.Author.Tests.{eq-eqb, ne-eqb}
 use lib.Dec.{eqb}
 use lib.ListN.{length, getD, set, take, drop, replicate, length-append, length-take, length-drop, drop-of-length-le, take-append-drop}
 use lib.Seq.{sets, sets-eq, length-sets, length-take-le, take-at, drop-at, drop-drop, getD-drop}
+use Rattle.arith.specs.Align.{alignUp}
 use Rattle.pools.specs.declared.Pool.{Pool}
 use Rattle.pools.specs.declared.Pool.the-variants.{Low, High, Io}
 use Rattle.pools.specs.Pools.{granule}
@@ -24,7 +25,6 @@ use Rattle.bar.specs.Values.{valueOf, registersOf}
 use Rattle.window.specs.Window.{closed, opened}
 use Rattle.lists.specs.Lists.{All}
 use Rattle.plan_rule.specs.RecordLaws.{false-of-not}
-use Rattle.plan_rule.specs.Align.{alignUp}
 use Rattle.plan_rule.specs.declared.Extent.{Extent}
 use Rattle.plan_rule.specs.Cap.{cap, cap-cap, cap-align}
 use Rattle.plan_rule.specs.Pieces.{windowSize, windowAlign}

@@ -7,6 +7,8 @@ use mathlib.Core.List.{List, map}
 use Prim.Native.Nat.{ℕ, suc, _≤_, _<_, max}
 use native.Mathlib.Omega.{arith}
 use lib.ListN.{take, drop}
+use Rattle.arith.specs.Order.{eq-or-ne}
+use Rattle.arith.specs.Powers.{PowerOfTwo}
 use Rattle.pools.specs.declared.Pool.{Pool}
 use Rattle.pools.specs.Pools.{granule}
 use Rattle.bar.specs.declared.Slot.{Slot}
@@ -15,8 +17,6 @@ use Rattle.bar.specs.Bar.{SizedSlot}
 use Rattle.lists.specs.Lists.{All}
 use Rattle.lists.specs.ListLaws.{all-imp, all-drop}
 use Rattle.lists.specs.KeepLaws.{all-keep}
-use Rattle.plan_rule.specs.Order.{eq-or-ne}
-use Rattle.plan_rule.specs.Align.{PowerOfTwo}
 use Rattle.plan_rule.specs.PoolLaws.{granule-power}
 use Rattle.plan_rule.specs.Records.{Host, Function, Lawful, Sized}
 use Rattle.plan_rule.specs.RecordLaws.{IsAt}

@@ -12,7 +12,7 @@ use Rattle.bar.specs.Values.{valueOf, registersOf}
 use Rattle.window.specs.declared.Window.{Window}
 use Rattle.window.specs.Window.{closed, opened}
 use Rattle.plan_rule.specs.Layout.{Part, bar, window, Placed, endOf, isWindow as isWindowPart}
-unfoldable pub use Rattle.bar.specs.Bars.{barsFrom}
+unfoldable pub use Rattle.plan_bars.specs.Bars.{barsFrom}
 
 -- is it BAR j of record k?
 abbrev pub isPart : Part → ℕ → Bool

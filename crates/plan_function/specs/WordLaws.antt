@@ -7,6 +7,9 @@ use Prim.Native.Nat.{ℕ, suc, _%_, _≤_, _<_}
 use native.Mathlib.Omega.{arith}
 use lib.ListN.{getD, drop}
 use borrow.Author.Tests.{eq-eqb, ne-eqb}
+use Rattle.arith.specs.Align.{alignUp}
+use Rattle.arith.specs.Powers.{PowerOfTwo}
+use Rattle.arith.specs.PowersLaws.{pos-of-power}
 use Rattle.pools.specs.declared.Pool.{Pool}
 use Rattle.pools.specs.declared.Pool.the-variants.{Low, High, Io}
 use Rattle.bar.specs.declared.Slot.{Slot}
@@ -17,8 +20,6 @@ use Rattle.bar.specs.ValuesLaws.{typed-lt-64}
 use Rattle.window.specs.Window.{bound}
 use Rattle.lists.specs.Lists.{All}
 use Rattle.lists.specs.ListLaws.{all-append, all-left, all-right, all-drop}
-use Rattle.plan_rule.specs.Align.{alignUp, PowerOfTwo}
-use Rattle.plan_rule.specs.AlignLaws.{pos-of-power}
 use Rattle.plan_rule.specs.Records as placing
 use Rattle.plan_rule.specs.Records.{Host, Function, Sized, Lawful}
 use Rattle.plan_rule.specs.RecordLaws.{IsAt}

@@ -5,10 +5,10 @@ use mathlib.Core.Bool.{Bool, not}
 use mathlib.Core.List.{List, [], _∷_, flatMap}
 use Prim.Native.Nat.{ℕ}
 use lib.Dec.{lit<, lit≤, eqb}
+use Rattle.arith.specs.Align.{alignUp}
 use Rattle.lists.specs.Lists.{All, keep, any}
 use Rattle.pools.specs.declared.Space.{Space}
 use Rattle.pools.specs.declared.Space.the-variants.{Memory as memorySpace, Io as ioSpace}
-use Rattle.plan_rule.specs.Align.{alignUp}
 use Rattle.plan_rule.specs.Layout.{layoutEnd, largestAlign}
 use Rattle.plan_rule.specs.Pieces.{barPieces, windowPieces, ownPieces, pieces}
 use Rattle.plan_rule.specs.Placing.{place, placed}

@@ -8,9 +8,9 @@ use Prim.Native.Nat.{ℕ, suc}
 use native.Mathlib.Numerals.{add-one}
 use lib.Dec.{eqb}
 use borrow.Author.Tests.{eqb-true, eq-eqb}
+use Rattle.arith.specs.BoolLaws.{both-of-and}
 use Rattle.pools.specs.declared.Space.{Space}
 use Rattle.pools.specs.Pools.{inSpace}
-use Rattle.plan_rule.specs.Order.{both-of-and}
 use Rattle.plan_rule.specs.Records.{Host, Function, Lawful}
 use Rattle.plan_rule.specs.Preorder.{parentOf}
 use Rattle.plan_rule.specs.Layout.{Placed, isWindow}

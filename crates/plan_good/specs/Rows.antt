@@ -7,7 +7,7 @@ use mathlib.Core.List.{List, [], _∷_}
 use Prim.Native.Nat.{ℕ, suc, _+_, _≤_, _<_}
 use native.Mathlib.Omega.{arith}
 use lib.ListN.{length, drop, length-drop}
-use Rattle.plan_rule.specs.Order.{eq-or-ne}
+use Rattle.arith.specs.Order.{eq-or-ne}
 use Rattle.lists.specs.Lists.{All, Some, Pairwise}
 use Rattle.lists.specs.ListLaws.{all-imp, drop-suc}
 use Rattle.plan_rule.specs.Records.{Host, Function, Lawful, Sized}

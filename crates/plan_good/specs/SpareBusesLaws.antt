@@ -10,9 +10,10 @@ use lib.Dec.{leb}
 use lib.ListN.{length, getD, take, drop, length-drop}
 use lib.Seq.{drop-cons, getD-drop}
 use borrow.Author.Tests.{leb-true, leb-false}
+use Rattle.arith.specs.Order.{le-or-lt, eq-or-ne}
+use Rattle.arith.specs.BoolLaws.{true-or-false}
 use Rattle.lists.specs.Lists.{front}
 use Rattle.lists.specs.KeepLaws.{length-front-le}
-use Rattle.plan_rule.specs.Order.{le-or-lt, eq-or-ne, true-or-false}
 use Rattle.plan_rule.specs.Records.{Function, Lawful, run}
 use Rattle.plan_rule.specs.RecordLaws.{IsAt}
 use Rattle.plan_rule.specs.Preorder.{noFunction, parentOf, AtOrAbove, at, above, at-or-above-trans, depth-first-iff}

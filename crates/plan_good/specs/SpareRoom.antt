@@ -4,9 +4,9 @@ use mathlib.Core.Path.{_≡_}
 use mathlib.Core.Logic.{_⊎_, _↔_}
 use mathlib.Core.List.{List, []}
 use Prim.Native.Nat.{ℕ, _+_, _-_, _*_, _≤_, _<_}
+use Rattle.arith.specs.Align.{alignUp}
 use Rattle.lists.specs.Lists.{_∈_, Some}
 use Rattle.pools.specs.declared.Space.the-variants.{Memory as memorySpace}
-use Rattle.plan_rule.specs.Align.{alignUp}
 use Rattle.plan_rule.specs.Pools.{low, granule}
 use Rattle.plan_rule.specs.Records.{Host, Function}
 use Rattle.plan_rule.specs.Layout.{Piece, Placed, endOf, select, layoutEnd, largestAlign}

@@ -10,15 +10,16 @@ use native.Mathlib.Omega.{arith}
 use lib.Dec.{eqb}
 use lib.ListN.{length, drop}
 use borrow.Author.Tests.{eq-eqb, eqb-true, eqb-false}
+use Rattle.arith.specs.Order.{le-or-lt, eq-or-ne}
+use Rattle.arith.specs.Align.{alignUp, Multiple}
+use Rattle.arith.specs.PowersLaws.{pos-of-power}
+use Rattle.arith.specs.AlignLaws.{le-align-up, align-up-multiple, align-up-of-multiple, multiple-add}
 use Rattle.lists.specs.Lists.{_∈_, All, Some, keep}
 use Rattle.lists.specs.ListLaws.{all-imp, all-elim, all-drop, all-map-intro, some-left, some-right, some-imp, some-of-member}
 use Rattle.lists.specs.ListLaws.{member-of-some, pairwise-members}
 use Rattle.lists.specs.KeepLaws.{all-keep, keep-intro, keep-elim}
 use Rattle.pools.specs.declared.Space.the-variants.{Memory as memorySpace}
 use Rattle.pools.specs.Pools.{inSpace}
-use Rattle.plan_rule.specs.Order.{le-or-lt, eq-or-ne}
-use Rattle.plan_rule.specs.Align.{alignUp, Multiple}
-use Rattle.plan_rule.specs.AlignLaws.{pos-of-power, le-align-up, align-up-multiple, align-up-of-multiple, multiple-add}
 use Rattle.plan_rule.specs.Pools.{Pool, low, high, io, granule}
 use Rattle.plan_rule.specs.PoolLaws.{granule-power, is-on-of-on}
 use Rattle.plan_rule.specs.Records.{Host, Function, DepthFirst, Sized, Lawful}

@@ -11,9 +11,9 @@ use native.Mathlib.Numerals.{add-one}
 use native.Mathlib.Omega.{arith}
 use lib.ListN.{length, take, drop, set, length-drop, length-set}
 use lib.Seq.{sets, length-sets, drop-drop, length-take-le, take-all}
+use Rattle.arith.specs.Order.{eq-or-ne}
 use Rattle.pools.specs.declared.Pool.{Pool}
 use Rattle.pools.specs.declared.Pool.the-variants.{Low, High, Io}
-use Rattle.plan_rule.specs.Order.{eq-or-ne}
 use Rattle.window.specs.Window.{closed, opened}
 use Rattle.records.specs.declared.Next.the-variants.{End, Record, Broken}
 use Rattle.records.specs.Limits.{mostFunctions}

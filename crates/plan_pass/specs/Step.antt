@@ -6,12 +6,12 @@ use mathlib.Core.Bool.{false, cond}
 use mathlib.Core.List.{List, [], _∷_}
 use lib.ListN.{length, getD, take}
 use lib.Seq.{sets}
+use Rattle.arith.specs.Powers.{PowerOfTwo}
 use Rattle.pools.specs.declared.Pool.{Pool}
 use Rattle.pools.specs.declared.Pool.the-variants.{Low, High, Io}
 use Rattle.pools.specs.Pools.{granule}
 use Rattle.bar.specs.Bar.{slots, anyBad}
 use Rattle.window.specs.Window.{closed}
-use Rattle.plan_rule.specs.Align.{PowerOfTwo}
 use Rattle.board_record.specs.declared.Function.{Function}
 use Rattle.board_record.specs.Function.{isBridge, slotCount}
 use Rattle.plan_sizing.specs.declared.Laid.{Laid}

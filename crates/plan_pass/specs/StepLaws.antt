@@ -9,6 +9,7 @@ use native.Mathlib.Nat.{add-zero}
 use native.Mathlib.Omega.{arith}
 use lib.ListN.{length, getD, take, drop, replicate, length-append}
 use lib.Seq.{sets, length-sets, take-at, length-take-le}
+use Rattle.arith.specs.Order.{le-or-lt}
 use Rattle.endian.specs.SetsLaws.{getD-sets-before, getD-sets-after, getD-sets-at}
 use Rattle.records.specs.RecordsLaws.{false-of-or}
 use Rattle.pools.specs.declared.Pool.{Pool}
@@ -18,7 +19,6 @@ use Rattle.bar.specs.declared.Slot.the-variants.{Unused, Bar, Upper, Bad}
 use Rattle.bar.specs.Bar.{narrowSlot, wideSlot, isWide, slotHere, slots, isBad, anyBad, takesNext}
 use Rattle.bar.specs.BarLaws.{narrow-takes-one, wide-takes-next}
 use Rattle.window.specs.Window.{closed}
-use Rattle.plan_rule.specs.Order.{le-or-lt}
 use Rattle.plan_rule.specs.Records as placing
 use Rattle.plan_rule.specs.Records.{Host, Lawful}
 use Rattle.plan_rule.specs.RecordLaws.{IsAt}

@@ -6,7 +6,7 @@ use Prim.Native.Nat.{ℕ, zero, suc, _≤_, _<_}
 use native.Mathlib.Omega.{arith}
 use lib.ListN.{length, drop, List·getD-eq-default}
 use lib.Seq.{drop-cons}
-use Rattle.plan_rule.specs.Order.{le-or-lt}
+use Rattle.arith.specs.Order.{le-or-lt}
 use Rattle.plan_rule.specs.Records.{Function, DepthFirst, Lawful}
 use Rattle.plan_rule.specs.RecordLaws.{ordered-from}
 use Rattle.plan_rule.specs.Preorder.{noFunction, parentOf}

@@ -10,12 +10,14 @@ use native.Mathlib.Omega.{arith}
 use lib.Dec.{eqb, ltb}
 use lib.ListN.{drop}
 use borrow.Author.Tests.{lt-ltb, le-ltb}
-use Rattle.plan_rule.specs.Order.{le-or-lt}
+use Rattle.arith.specs.Order.{le-or-lt}
+use Rattle.arith.specs.Align.{alignUp}
+use Rattle.arith.specs.Powers.{PowerOfTwo}
+use Rattle.arith.specs.AlignLaws.{le-align-up}
+use Rattle.arith.specs.PowersLaws.{pos-of-power}
 use Rattle.lists.specs.Lists.{All}
 use Rattle.lists.specs.ListLaws.{all-imp, all-drop}
 use Rattle.lists.specs.KeepLaws.{all-keep}
-use Rattle.plan_rule.specs.Align.{alignUp, PowerOfTwo}
-use Rattle.plan_rule.specs.AlignLaws.{le-align-up, pos-of-power}
 use Rattle.plan_rule.specs.Pools.{Pool, low, high, io, granule, samePool}
 use Rattle.plan_rule.specs.PoolLaws.{granule-power}
 use Rattle.plan_rule.specs.Records.{Host, Bar, Function, Sized, Lawful}

@@ -4,8 +4,8 @@ use mathlib.Core.Path.{_≡_, refl}
 use mathlib.Core.Bool.{true, false, false≢true}
 use mathlib.Core.List.{List, [], _∷_, map}
 use Prim.Native.Nat.{ℕ, zero, suc, _-_}
+use Rattle.arith.specs.Align.{alignUp}
 use Rattle.lists.specs.Lists.{All, keep, front, any}
-use Rattle.plan_rule.specs.Align.{alignUp}
 use Rattle.plan_rule.specs.Pools.{Pool, low, high, io}
 use Rattle.plan_rule.specs.Records.{Host, Function, Bar, DepthFirst, onlyHost, Lawful}
 use Rattle.plan_rule.specs.Layout.{Placed, endOf, layoutEnd, largestAlign}

@@ -10,7 +10,7 @@ use native.Mathlib.Nat.{add-zero}
 use lib.Dec.{eqb, leb}
 use lib.ListN.{length, drop}
 use borrow.Author.Tests.{eq-eqb, ne-eqb, leb-true, le-leb}
-use Rattle.plan_rule.specs.Order.{true-or-false}
+use Rattle.arith.specs.BoolLaws.{true-or-false}
 use Rattle.lists.specs.Lists.{All, keep, front}
 use Rattle.lists.specs.ListLaws.{all-imp}
 use Rattle.lists.specs.KeepLaws.{all-keep, keep-none, keep-append}

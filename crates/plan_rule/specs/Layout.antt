@@ -4,8 +4,8 @@ use mathlib.Core.Bool.{Bool, true, false, _&&_}
 use mathlib.Core.List.{List, [], _∷_}
 use Prim.Native.Nat.{ℕ, _+_, max}
 use lib.Dec.{eqb}
+use Rattle.arith.specs.Align.{alignUp}
 use Rattle.lists.specs.Lists.{keep}
-use Rattle.plan_rule.specs.Align.{alignUp}
 use Rattle.plan_rule.specs.Pools.{Pool, samePool}
 
 -- A BAR by its slot, or the window of the piece's pool

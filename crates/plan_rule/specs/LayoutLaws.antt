@@ -5,10 +5,12 @@ use mathlib.Core.List.{List, [], _∷_, _++_, map}
 use Prim.Native.Nat.{ℕ, _+_, _≤_, _<_, max}
 use native.Mathlib.Omega.{arith}
 use native.Mathlib.Nat.{add-zero}
+use Rattle.arith.specs.Align.{Multiple}
+use Rattle.arith.specs.Powers.{PowerOfTwo}
+use Rattle.arith.specs.AlignLaws.{le-align-up, align-up-multiple, align-up-add}
+use Rattle.arith.specs.PowersLaws.{power-max}
 use Rattle.lists.specs.Lists.{All, Pairwise}
 use Rattle.lists.specs.ListLaws.{all-imp}
-use Rattle.plan_rule.specs.Align.{Multiple, PowerOfTwo}
-use Rattle.plan_rule.specs.AlignLaws.{le-align-up, align-up-multiple, align-up-add, power-max}
 use Rattle.plan_rule.specs.Layout.{Piece, Placed, endOf, startAt, endAt, layout, layoutEnd, largestAlign}
 
 pub record Within (from to : ℕ) (x : Placed) : Type 0 where

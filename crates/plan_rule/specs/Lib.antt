@@ -1,6 +1,5 @@
 -- Numbering and placing of a board in whole numbers. First the definitions, in the order of the house rules; then the laws; then the
 -- theorems that others cite: Placed, RefusalLaws, Numbered, SizingLaws, Cap, Siblings, Preorder, AboveLaws.
-pub mod Align
 pub mod Pools
 pub mod Records
 pub mod Layout
@@ -11,8 +10,6 @@ pub mod Refusals
 pub mod Sizing
 pub mod Above
 pub mod Examples
-pub mod Order
-pub mod AlignLaws
 pub mod PoolLaws
 pub mod RecordLaws
 pub mod LayoutLaws

@@ -10,7 +10,8 @@ use lib.Dec.{eqb, leb}
 use lib.ListN.{length, getD, take, drop}
 use lib.Seq.{drop-cons}
 use borrow.Author.Tests.{eqb-true, eq-eqb, leb-true, leb-false}
-use Rattle.plan_rule.specs.Order.{le-or-lt, eq-or-ne, true-or-false}
+use Rattle.arith.specs.Order.{le-or-lt, eq-or-ne}
+use Rattle.arith.specs.BoolLaws.{true-or-false}
 use Rattle.lists.specs.Lists.{All, Some, Pairwise, front}
 use Rattle.lists.specs.ListLaws.{all-imp, all-imp₂, all-and, drop-suc}
 use Rattle.lists.specs.KeepLaws.{front-yes, front-no, take-front}

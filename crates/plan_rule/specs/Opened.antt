@@ -6,11 +6,12 @@ use mathlib.Core.Bool.{Bool, true, false}
 use mathlib.Core.List.{List, [], _∷_, _++_, map}
 use Prim.Native.Nat.{ℕ, suc, _≤_, _<_}
 use native.Mathlib.Omega.{arith}
-use Rattle.plan_rule.specs.Order.{le-or-lt}
+use Rattle.arith.specs.Order.{le-or-lt}
+use Rattle.arith.specs.PowersLaws.{pos-of-power, multiple-of-le}
+use Rattle.arith.specs.AlignLaws.{multiple-trans, le-align-up}
 use Rattle.lists.specs.Lists.{All, keep}
 use Rattle.lists.specs.ListLaws.{all-imp, all-imp₂, all-forall, all-append, all-left}
 use Rattle.lists.specs.KeepLaws.{all-keep, all-of-keep, keep-none, keep-append}
-use Rattle.plan_rule.specs.AlignLaws.{pos-of-power, multiple-of-le, multiple-trans, le-align-up}
 use Rattle.plan_rule.specs.Pools.{Pool, granule}
 use Rattle.plan_rule.specs.PoolLaws.{granule-power, is-on-of-ne}
 use Rattle.plan_rule.specs.Records.{Function, DepthFirst, parentsAfter, Sized}

@@ -8,12 +8,15 @@ use native.Mathlib.Nat.{suc-mul, mod-self, mul-mod-left}
 use native.Mathlib.Omega.{arith}
 use lib.Dec.{eqb}
 use borrow.Author.Tests.{eqb-true, eqb-false, eq-eqb}
-use Rattle.plan_rule.specs.Order.{le-or-lt, true-or-false, both-of-and}
+use Rattle.arith.specs.Order.{le-or-lt}
+use Rattle.arith.specs.BoolLaws.{true-or-false, both-of-and}
+use Rattle.arith.specs.Align.{Multiple}
+use Rattle.arith.specs.Powers.{PowerOfTwo}
+use Rattle.arith.specs.PowersLaws.{pos-of-power, multiple-of-le}
+use Rattle.arith.specs.AlignLaws.{align-up-multiple, le-align-up, align-le-align-up}
 use Rattle.lists.specs.Lists.{All, Some, Pairwise}
 use Rattle.lists.specs.ListLaws.{all-imp, all-imp₂, all-forall, all-of, all-append, some-left, some-right, pairwise-append}
 use Rattle.lists.specs.KeepLaws.{all-keep, keep-none, none-of-keep}
-use Rattle.plan_rule.specs.Align.{Multiple, PowerOfTwo}
-use Rattle.plan_rule.specs.AlignLaws.{pos-of-power, multiple-of-le, align-up-multiple, le-align-up, align-le-align-up}
 use Rattle.plan_rule.specs.Pools.{Pool, low, high, io, granule, samePool}
 use Rattle.plan_rule.specs.PoolLaws.{granule-power, same-pool-refl, eq-of-same-pool, is-on-of-on, is-on-of-ne}
 use Rattle.plan_rule.specs.Records.{Bar, Function, DepthFirst, parentsAfter, Sized}

@@ -4,7 +4,7 @@ use mathlib.Core.Bool.{Bool, true, false, cond}
 use mathlib.Core.List.{List, [], _∷_, _++_}
 use Prim.Native.Nat.{ℕ, suc, _*_, max}
 use lib.Dec.{eqb}
-use Rattle.plan_rule.specs.Align.{alignUp}
+use Rattle.arith.specs.Align.{alignUp}
 use Rattle.plan_rule.specs.Pools.{Pool, low, high, io, granule}
 use Rattle.plan_rule.specs.Records.{Bar, Function}
 use Rattle.plan_rule.specs.Layout.{bar, window, Piece, select, layoutEnd, largestAlign}

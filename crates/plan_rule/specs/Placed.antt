@@ -6,12 +6,12 @@ use mathlib.Core.Bool.{true, false, true≢false}
 use mathlib.Core.List.{List, map}
 use Prim.Native.Nat.{ℕ, zero, suc, _≤_, _<_}
 use native.Mathlib.Omega.{arith}
-use Rattle.plan_rule.specs.Order.{true-or-false}
+use Rattle.arith.specs.BoolLaws.{true-or-false}
+use Rattle.arith.specs.Align.{Multiple}
+use Rattle.arith.specs.AlignLaws.{multiple-trans, multiple-add}
 use Rattle.lists.specs.Lists.{All, Some, Pairwise}
 use Rattle.lists.specs.ListLaws.{all-imp, all-imp₂, all-and, all-of, all-forall, all-swap, some-and, some-imp, some-elim, pairwise-imp}
 use Rattle.lists.specs.KeepLaws.{all-keep, all-of-keep, pairwise-of-keep}
-use Rattle.plan_rule.specs.Align.{Multiple}
-use Rattle.plan_rule.specs.AlignLaws.{multiple-trans, multiple-add}
 use Rattle.plan_rule.specs.Pools.{Pool, granule}
 use Rattle.plan_rule.specs.PoolLaws.{is-on-self, is-on-of-on}
 use Rattle.plan_rule.specs.Records.{Host, Function, onlyHost, Lawful}

@@ -5,11 +5,11 @@ use mathlib.Core.Logic.{inl, inr, ⊎-elim}
 use mathlib.Core.Bool.{true, false}
 use mathlib.Core.List.{List, [], _∷_, _++_}
 use Prim.Native.Nat.{ℕ, suc}
-use Rattle.plan_rule.specs.Order.{true-or-false}
+use Rattle.arith.specs.BoolLaws.{true-or-false}
+use Rattle.arith.specs.AlignLaws.{align-up-multiple}
 use Rattle.lists.specs.Lists.{All, Some, Pairwise, keep}
 use Rattle.lists.specs.ListLaws.{all-imp}
 use Rattle.lists.specs.KeepLaws.{keep-none}
-use Rattle.plan_rule.specs.AlignLaws.{align-up-multiple}
 use Rattle.plan_rule.specs.Pools.{Pool}
 use Rattle.plan_rule.specs.PoolLaws.{on-of-is-on}
 use Rattle.plan_rule.specs.Layout.{Piece, Placed, isOn, select, selectPlaced, startAt, endAt, layout, layoutEnd}

@@ -4,8 +4,8 @@ use mathlib.Core.Bool.{true, false, false≢true}
 use Prim.Native.Nat.{ℕ}
 use lib.Dec.{eqb}
 use borrow.Author.Tests.{eqb-true, eq-eqb, ne-eqb}
-use Rattle.plan_rule.specs.Order.{both-of-and}
-use Rattle.plan_rule.specs.Align.{PowerOfTwo}
+use Rattle.arith.specs.BoolLaws.{both-of-and}
+use Rattle.arith.specs.Powers.{PowerOfTwo}
 use Rattle.plan_rule.specs.Pools.{Pool, low, high, io, granule, samePool}
 use Rattle.plan_rule.specs.Layout.{Piece, isOn}
 

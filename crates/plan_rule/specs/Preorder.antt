@@ -9,7 +9,7 @@ use Prim.Native.Nat.{ℕ, zero, suc, _≤_, _<_}
 use native.Mathlib.Omega.{arith}
 use lib.ListN.{length, getD, drop, length-drop}
 use borrow.Author.Tests.{eqb-true, eq-eqb}
-use Rattle.plan_rule.specs.Order.{eq-or-ne}
+use Rattle.arith.specs.Order.{eq-or-ne}
 use Rattle.lists.specs.ListLaws.{drop-suc}
 use Rattle.plan_rule.specs.Records.{Function, DepthFirst, parentsAfter, onlyHost}
 use Rattle.plan_rule.specs.RecordLaws.{parent-cases, parent-new, parent-kept}

@@ -10,7 +10,7 @@ use lib.ListN.{drop}
 use native.Mathlib.Omega.{arith}
 use lib.Dec.{eqb, leb}
 use borrow.Author.Tests.{eqb-true, eq-eqb, leb-true, le-leb}
-use Rattle.plan_rule.specs.Order.{true-or-false, both-of-and, either-of-or}
+use Rattle.arith.specs.BoolLaws.{true-or-false, both-of-and, either-of-or}
 use Rattle.plan_rule.specs.Records.{Function, DepthFirst, parentsAfter, onlyHost}
 
 -- After record k a parent is k itself, a bridge, or was one before and is not past k's own

@@ -5,8 +5,8 @@ use mathlib.Core.Bool.{Bool, true, _&&_, _||_}
 use mathlib.Core.List.{List, [], _∷_}
 use Prim.Native.Nat.{ℕ, suc}
 use lib.Dec.{eqb, leb}
+use Rattle.arith.specs.Powers.{PowerOfTwo}
 use Rattle.lists.specs.Lists.{All, front}
-use Rattle.plan_rule.specs.Align.{PowerOfTwo}
 use Rattle.plan_rule.specs.Pools.{Pool}
 
 pub record Bar : Type 0 where

@@ -8,7 +8,7 @@ use Prim.Native.Nat.{ℕ, suc, _+_, _≤_, _<_, max}
 use native.Mathlib.Omega.{arith}
 use lib.Dec.{ltb}
 use borrow.Author.Tests.{ltb-true, ltb-false, lt-ltb, le-ltb}
-use Rattle.plan_rule.specs.Order.{true-or-false, both-of-and}
+use Rattle.arith.specs.BoolLaws.{true-or-false, both-of-and}
 use Rattle.lists.specs.Lists.{All, Some, any}
 use Rattle.lists.specs.ListLaws.{all-imp, some-imp}
 use Rattle.lists.specs.KeepLaws.{all-keep, any-of-some, some-of-any, all-of-none, none-of-all, any-keep}

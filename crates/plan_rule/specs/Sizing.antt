@@ -6,7 +6,7 @@ use mathlib.Core.List.{List, [], _∷_, _++_}
 use Prim.Native.Nat.{ℕ, suc, _+_, _*_, max}
 use lib.Dec.{eqb, ltb}
 use lib.ListN.{length, drop}
-use Rattle.plan_rule.specs.Align.{alignUp}
+use Rattle.arith.specs.Align.{alignUp}
 use Rattle.plan_rule.specs.Pools.{Pool, low, high, io, granule, samePool}
 use Rattle.plan_rule.specs.Records.{Host, Bar, Function, run}
 use Rattle.plan_rule.specs.Layout.{Piece, select}

@@ -11,7 +11,7 @@ use lib.Dec.{leb, ltb}
 use lib.ListN.{length, drop, length-drop}
 use lib.Seq.{drop-drop}
 use borrow.Author.Tests.{eqb-true, leb-true, leb-false, le-leb, lt-leb}
-use Rattle.plan_rule.specs.Order.{true-or-false, both-of-and}
+use Rattle.arith.specs.BoolLaws.{true-or-false, both-of-and}
 use Rattle.lists.specs.Lists.{keep, front}
 use Rattle.lists.specs.ListLaws.{all-imp, all-drop}
 use Rattle.lists.specs.KeepLaws.{all-keep, front-yes, front-no, length-front-le}

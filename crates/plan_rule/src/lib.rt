@@ -3,7 +3,8 @@
 // with.
 ghost use mathlib.Core.Path.{_≡_};
 ghost use Prim.Native.Nat.{_+_, _≤_, max};
-ghost use Rattle.plan_rule.specs.Align.{alignUp, PowerOfTwo};
+ghost use Rattle.arith.specs.Align.{alignUp};
+ghost use Rattle.arith.specs.Powers.{PowerOfTwo};
 ghost use Rattle.plan_rule.specs.Cap.{limit, cap as capOf};
 ghost use Rattle.plan_rule.specs.Pieces.{windowSize, windowAlign};
 use pools::Pool;

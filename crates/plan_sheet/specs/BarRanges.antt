@@ -12,7 +12,7 @@ use Rattle.pools.specs.declared.Space.{Space}
 use Rattle.pools.specs.Pools.{inSpace}
 use Rattle.bar.specs.declared.Slot.{Slot}
 use Rattle.bar.specs.declared.Slot.the-variants.{Unused, Bar, Upper, Bad}
-use Rattle.bar.specs.Bars.{barsFrom}
+use Rattle.plan_bars.specs.Bars.{barsFrom}
 use Rattle.bar.specs.Values.{valueHere, baseOf}
 use Rattle.lists.specs.Lists.{keep}
 use Rattle.walk.specs.Ranges.{Pool as RangePool}

@@ -17,7 +17,7 @@ use Rattle.pools.specs.declared.Pool.the-variants.{Low, High, Io}
 use Rattle.bar.specs.declared.Slot.{Slot}
 use Rattle.bar.specs.declared.Slot.the-variants.{Unused, Bar, Upper, Bad}
 use Rattle.bar.specs.Bar.{width, slots}
-use Rattle.bar.specs.Bars.{barsFrom}
+use Rattle.plan_bars.specs.Bars.{barsFrom}
 use Rattle.bar.specs.PlacedLaws.{PlacedSlot, AllPlaced}
 use Rattle.lists.specs.Lists.{_∈_, All, Pairwise, keep}
 use Rattle.lists.specs.ListLaws.{all-imp, all-elim}

@@ -5,6 +5,7 @@ use mathlib.Core.List.{List, [], _∷_, _++_, map, cons≢nil, head-eq-of-cons-e
 use Prim.Native.Nat.{ℕ}
 use lib.Dec.{eqb}
 use borrow.Author.Tests.{eqb-true, eq-eqb}
+use Rattle.arith.specs.BoolLaws.{both-of-and}
 use Rattle.pools.specs.declared.Pool.{Pool}
 use Rattle.pools.specs.declared.Pool.the-variants.{Low, High, Io}
 use Rattle.pools.specs.Pools.{samePool}
@@ -12,7 +13,6 @@ use Rattle.pools.specs.declared.Space.{Space}
 use Rattle.pools.specs.Pools.{inSpace}
 use Rattle.window.specs.Window.{closed, opened}
 use Rattle.window.specs.WindowLaws.{Edges, closed-shut, opened-start, opened-stop, opened-open}
-use Rattle.plan_rule.specs.Order.{both-of-and}
 use Rattle.plan_rule.specs.Pools.{low, high, io}
 use Rattle.plan_rule.specs.PoolLaws.{same-pool-refl, eq-of-same-pool}
 use Rattle.plan_rule.specs.RecordLaws.{false-of-not}

@@ -7,17 +7,17 @@ use mathlib.Core.List.{List, [], _∷_, List·Memᴰ·head, List·Memᴰ·tail}
 use Prim.Native.Nat.{ℕ, _^_, _≤_}
 use native.Mathlib.Omega.{arith}
 use lib.Dec.{eqb}
+use Rattle.arith.specs.BoolLaws.{both-of-and}
+use Rattle.arith.specs.Align.{Multiple}
 use Rattle.pools.specs.declared.Pool.{Pool}
 use Rattle.pools.specs.declared.Pool.the-variants.{Low, High, Io}
 use Rattle.pools.specs.Pools.{granule, samePool}
 use Rattle.window.specs.declared.Window.{Window}
 use Rattle.window.specs.Window.{closed, opened, bound, isNibbled, Fits}
 use Rattle.window.specs.WindowLaws.{Edges, closed-nibbled, closed-fits, opened-fits, opened-nibbled}
-use Rattle.plan_rule.specs.Order.{both-of-and}
 use Rattle.plan_rule.specs.PoolLaws.{eq-of-same-pool}
 use Rattle.plan_rule.specs.Records as placing
 use Rattle.plan_rule.specs.Records.{Host}
-use Rattle.plan_rule.specs.Align.{Multiple}
 use Rattle.plan_rule.specs.Layout.{Placed, endOf, isWindow}
 use Rattle.plan_rule.specs.Placing.{placed}
 use Rattle.plan_rule.specs.Placed.{well-placed}

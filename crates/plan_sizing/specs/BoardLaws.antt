@@ -10,9 +10,9 @@ use lib.Dec.{ltb, leb·zero}
 use lib.ListN.{length, getD}
 use lib.Seq.{sets}
 use borrow.Author.Tests.{lt-ltb, le-ltb}
+use Rattle.arith.specs.Order.{le-or-lt}
 use Rattle.pools.specs.declared.Pool.{Pool}
 use Rattle.bar.specs.Header.{isBridge}
-use Rattle.plan_rule.specs.Order.{le-or-lt}
 use Rattle.lists.specs.Lists.{front}
 use Rattle.plan_rule.specs.Records.{Host, Function, Lawful, run}
 use Rattle.plan_rule.specs.declared.Extent.{Extent}

@@ -7,12 +7,12 @@ use native.Mathlib.Numerals.{add-one}
 use native.Mathlib.Omega.{arith}
 use lib.ListN.{length, getD, drop}
 use lib.Seq.{sets}
+use Rattle.arith.specs.Powers.{PowerOfTwo}
 use Rattle.pools.specs.declared.Pool.{Pool}
 use Rattle.pools.specs.declared.Pool.the-variants.{Low, High, Io}
 use Rattle.pools.specs.Pools.{granule}
 use Rattle.lists.specs.ListLaws.{all-imp, all-drop}
 use Rattle.bar.specs.Header.{isBridge}
-use Rattle.plan_rule.specs.Align.{PowerOfTwo}
 use Rattle.plan_rule.specs.PoolLaws.{granule-power}
 use Rattle.plan_rule.specs.Records.{Function, Lawful, Sized}
 use Rattle.plan_rule.specs.RecordLaws.{IsAt}

@@ -9,7 +9,8 @@ use lib.Dec.{eqb, ltb}
 use lib.ListN.{length, getD, drop-of-length-le}
 use lib.Seq.{sets, length-sets}
 use borrow.Author.Tests.{ltb-true, lt-ltb, eqb-true, eqb-false}
-use Rattle.plan_rule.specs.Order.{le-or-lt, both-of-and}
+use Rattle.arith.specs.Order.{le-or-lt}
+use Rattle.arith.specs.BoolLaws.{both-of-and}
 use Rattle.plan_rule.specs.Records.{Function, Lawful}
 use Rattle.plan_rule.specs.RecordLaws.{IsAt}
 use Rattle.plan_rule.specs.Sizing.{busLaid, functionLaid}

@@ -8,15 +8,15 @@ use native.Mathlib.Numerals.{add-one, add-two}
 use native.Mathlib.Omega.{arith}
 use borrow.Author.Tests.{eq-eqb, ne-eqb}
 use lib.ListN.{length, drop, drop-of-length-le}
+use Rattle.arith.specs.PowersLaws.{pos-of-power}
 use Rattle.pools.specs.declared.Pool.{Pool}
 use Rattle.pools.specs.declared.Pool.the-variants.{Low, High, Io}
 use Rattle.pools.specs.Pools.{granule}
 use Rattle.bar.specs.declared.Slot.{Slot}
 use Rattle.bar.specs.declared.Slot.the-variants.{Unused, Bar, Upper, Bad}
 use Rattle.bar.specs.Bar.{slotHere, slots, isBad, anyBad, takesNext, span}
-use Rattle.bar.specs.Bars.{barsFrom}
+use Rattle.plan_bars.specs.Bars.{barsFrom}
 use Rattle.bar.specs.BarLaws.{slots-at-step, any-bad-of-bad}
-use Rattle.plan_rule.specs.AlignLaws.{pos-of-power}
 use Rattle.plan_rule.specs.PoolLaws.{granule-power}
 use Rattle.plan_rule.specs.Pieces.{windowSize, windowAlign}
 use Rattle.plan_rule.specs.Records as records

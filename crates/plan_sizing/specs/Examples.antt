@@ -3,9 +3,9 @@
 use mathlib.Core.Path.{_≡_, refl}
 use mathlib.Core.List.{List, [], _∷_, map}
 use Prim.Native.Nat.{ℕ}
+use Rattle.arith.specs.Align.{alignUp}
 use Rattle.bar.specs.Bar.{sizeFrom, sized, ioSlot, narrowSlot, wideSlot, slotHere, slots}
-use Rattle.bar.specs.Bars.{barsFrom}
-use Rattle.plan_rule.specs.Align.{alignUp}
+use Rattle.plan_bars.specs.Bars.{barsFrom}
 use Rattle.lists.specs.Lists.{keep, front}
 use Rattle.plan_rule.specs.Pieces.{barPieces, windowPieces, ownPieces, pieces}
 use Rattle.plan_rule.specs.Layout.{layoutEnd, largestAlign}

@@ -6,7 +6,7 @@ use lib.ListN.{getD, take, drop}
 use Rattle.bar.specs.declared.Slot.{Slot}
 use Rattle.bar.specs.Header.{isBridge, slotCount}
 use Rattle.bar.specs.Bar.{slots}
-use Rattle.bar.specs.Bars.{barsFrom}
+use Rattle.plan_bars.specs.Bars.{barsFrom}
 use Rattle.plan_rule.specs.Records.{Function}
 
 -- the slots that count

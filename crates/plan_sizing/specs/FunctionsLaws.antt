@@ -6,7 +6,7 @@ use native.Mathlib.Omega.{arith}
 use native.Mathlib.Numerals.{add-one, add-two, add-three, add-four, add-five}
 use lib.ListN.{length, getD, take, drop}
 use lib.Seq.{drop-drop, drop-cons, getD-drop}
-pub use Rattle.bar.specs.BarsLaws.{AllSized, bars-from-sized}
+pub use Rattle.plan_bars.specs.BarsLaws.{AllSized, bars-from-sized}
 use Rattle.plan_rule.specs.Records.{Function, Sized}
 use Rattle.plan_rule.specs.RecordLaws.{IsAt}
 use Rattle.plan_sizing.specs.Functions.{functionIn, functionsIn, setAt, functionAt}

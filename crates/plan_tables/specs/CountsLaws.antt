@@ -9,8 +9,8 @@ use native.Mathlib.Numerals.{add-one}
 use native.Mathlib.Omega.{arith}
 use lib.ListN.{length, getD, take, drop}
 use lib.Seq.{sets, take-length}
+use Rattle.arith.specs.Order.{eq-or-ne}
 use Rattle.endian.specs.SetsLaws.{getD-sets-before, getD-sets-at}
-use Rattle.plan_rule.specs.Order.{eq-or-ne}
 use Rattle.plan_rule.specs.Records.{Function}
 use Rattle.plan_rule.specs.RecordLaws.{IsAt}
 use Rattle.plan_rule.specs.Numbering.{weight, ownSpare, bridges, over}

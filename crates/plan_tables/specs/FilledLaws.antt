@@ -11,7 +11,7 @@ use Rattle.records.specs.Records.{partsOf, partsFrom}
 use Rattle.records.specs.RecordsLaws.{false-of-or}
 use Rattle.records.specs.Limits.{mostFunctions}
 use Rattle.bar.specs.Bar.{slots, anyBad}
-use Rattle.bar.specs.Bars.{barsFrom}
+use Rattle.plan_bars.specs.Bars.{barsFrom}
 use Rattle.bar.specs.Header.{isBridge as isBridgeHeader}
 use Rattle.lists.specs.Lists.{All, any}
 use Rattle.plan_rule.specs.Records as placing

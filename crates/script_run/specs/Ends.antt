@@ -10,12 +10,12 @@ use lib.Dec.{eqb, leb, ltb}
 use lib.ListN.{length, getD, take, drop, length-take, List·getD-eq-default}
 use lib.Seq.{getD-take}
 use borrow.Author.Tests.{eqb-true, eqb-false, ltb-true, ltb-false, leb-false, not-false}
+use Rattle.arith.specs.BoolLaws.{false-of-or}
 use Rattle.endian.specs.Endian.{Bytes, be, le, beBytes, leBytes}
 use Rattle.endian.specs.EndianLaws.{be-lt}
 use Rattle.endian.specs.BytesLaws.{bytes-take, bytes-drop}
 use Rattle.lists.specs.Lists.{_∈_, All}
 use Rattle.lists.specs.ListLaws.{all-elim, all-intro}
-use Rattle.lists.specs.BoolLaws.{false-of-or}
 use Rattle.bar.specs.Bar.{slots}
 use Rattle.bar.specs.Values.{valuesFit}
 use Rattle.sheet_record.specs.Places.{recordSize, valuesAt, readbacksAt}

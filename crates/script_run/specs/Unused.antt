@@ -9,6 +9,7 @@ use lib.ListN.{length, getD, drop}
 use lib.Pow.{pow-mono}
 use lib.Seq.{getD-drop}
 use borrow.Author.Tests.{eqb-true, eqb-false, ne-eqb}
+use Rattle.arith.specs.BoolLaws.{false-of-or}
 use Rattle.pools.specs.declared.Pool.{Pool}
 use Rattle.pools.specs.declared.Pool.the-variants.{Low, High, Io}
 use Rattle.bar.specs.declared.Slot.{Slot}
@@ -19,7 +20,6 @@ use Rattle.bar.specs.Bar.{slots, isBad}
 use Rattle.bar.specs.Values.{valueHere, isValue, valuesFit}
 use Rattle.bar.specs.ValuesLaws.{not-bad-of-value}
 use Rattle.bar.specs.BarLaws.{cond-intro}
-use Rattle.lists.specs.BoolLaws.{false-of-or}
 use Rattle.bar.specs.SizeLaws.{power-of-size}
 
 -- ones to the top of 64 bits reach the upper half

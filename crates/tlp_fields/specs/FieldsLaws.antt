@@ -12,7 +12,7 @@ use borrow.Author.Tests.{eq-eqb, ne-eqb, eqb-true, eqb-false, not-false}
 use lib.Dec.{eqb}
 use lib.ListN.{length, getD, take, drop}
 use lib.Seq.{drop-cons, drop-drop, take-add}
-use Rattle.lists.specs.BoolLaws.{false-of-or}
+use Rattle.arith.specs.BoolLaws.{false-of-or}
 use Rattle.endian.specs.Endian.{Bytes, be, beBytes}
 use Rattle.endian.specs.EndianLaws.{be-lt, be-beBytes-at, beBytes-be}
 use Rattle.pairs.specs.declared.Row.{Row}

@@ -6,7 +6,7 @@ use lib.Dec.{ltb}
 use lib.ListN.{getD}
 use mathlib.Core.Path.{_∙_}
 use native.Mathlib.Omega.{arith}
-use Rattle.lists.specs.BoolLaws.{false-of-or}
+use Rattle.arith.specs.BoolLaws.{false-of-or}
 use Rattle.packet_numbers.specs.NumbersLaws.{too-few, outside-list, inside-list}
 use Rattle.packet_numbers.specs.Parsing.{lastKind}
 use Rattle.packet_numbers.proofs.fields_of.Statement.{statement}

@@ -2,8 +2,8 @@
 use Prim.Native.Nat.{ℕ}
 use mathlib.Core.Path.{refl, ap, subst, _∙_}
 use native.Mathlib.Omega.{arith}
+use Rattle.arith.specs.Align.{alignUp}
 use Rattle.bar.specs.Bar.{SizedSlot}
-use Rattle.plan_rule.specs.Align.{alignUp}
 use Rattle.plan_rule.specs.Cap.{cap}
 use borrow.Author.Needs.{needs}
 use Rattle.plan_function.proofs.bar_start.Statement.{statement}

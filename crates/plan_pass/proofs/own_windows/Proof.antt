@@ -1,10 +1,10 @@
 -- `plan_pass::own_windows` meets its contract. Assumes nothing.
+use Rattle.arith.specs.Powers.{PowerOfTwo}
 use Rattle.plan_pass.specs.CallLaws.{windows-in}
 use mathlib.Core.Path.{sym, subst}
 use Prim.Native.Nat.{max}
 use native.Mathlib.Numerals.{add-one}
 use Rattle.pools.specs.Pools.{granule}
-use Rattle.plan_rule.specs.Align.{PowerOfTwo}
 use Rattle.plan_function.specs.declared.Extents.{Extents}
 use Rattle.plan_function.specs.Kept.{extentIn}
 use borrow.Author.Needs.{needs}

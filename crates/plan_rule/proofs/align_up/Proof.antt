@@ -1,9 +1,10 @@
 -- `plan_rule::align_up` meets its contract: of a power of two the mask takes the remainder, and no sum passes 2^62 + 2^63. Assumes nothing.
+use Rattle.arith.specs.PowersLaws.{pos-of-power, le-of-power}
+use Rattle.arith.specs.AlignLaws.{align-up-mask}
 use Rattle.plan_rule.proofs.align_up.Statement.{statement}
 use Rattle.plan_rule.proofs.align_up.Tie as tie
 use native.Mathlib.Omega.{arith}
 use lib.Bits.{and-le-l}
-use Rattle.plan_rule.specs.AlignLaws.{pos-of-power, le-of-power, align-up-mask}
 use Prim.Native.Nat.{_+_, _-_}
 
 sub-y : tie.Need-sub-y

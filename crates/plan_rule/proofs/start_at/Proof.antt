@@ -1,7 +1,7 @@
 -- `plan_rule::start_at` meets its contract: a cut taken before rounding up changes nothing after it. Assumes nothing.
 use mathlib.Core.Path.{ap, _∙_}
-use Rattle.plan_rule.specs.AlignLaws.{pos-of-power}
-use Rattle.plan_rule.specs.Align.{alignUp}
+use Rattle.arith.specs.PowersLaws.{pos-of-power}
+use Rattle.arith.specs.Align.{alignUp}
 use Rattle.plan_rule.specs.Cap.{cap, cap-align}
 use borrow.Author.Needs.{needs}
 use Rattle.plan_rule.proofs.start_at.Statement.{statement}

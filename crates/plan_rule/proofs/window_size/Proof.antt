@@ -1,9 +1,9 @@
 -- `plan_rule::window_size` meets its contract: a granule is a power of two. Assumes nothing.
 use mathlib.Core.Path.{ap₂, _∙_}
 use borrow.Author.Needs.{needs}
+use Rattle.arith.specs.Align.{alignUp}
 use Rattle.plan_rule.proofs.window_size.Statement.{statement}
 use Rattle.plan_rule.proofs.window_size.Tie as tie
-use Rattle.plan_rule.specs.Align.{alignUp}
 use Rattle.plan_rule.specs.PoolLaws.{granule-power}
 
 granule-requires : tie.Need-granule-requires

@@ -10,7 +10,7 @@ use native.Mathlib.Omega.{arith}
 use lib.ListN.{length, take, drop, length-take}
 use Rattle.bar.specs.Bar.{slots, anyBad}
 use Rattle.bar.specs.BarLaws.{length-first, sized-here, any-bad-step}
-use Rattle.bar.specs.Bars.{barsFrom}
+use Rattle.plan_bars.specs.Bars.{barsFrom}
 use Rattle.plan_sizing.specs.Cut.{says, cut, Whole, addSlot, addBars}
 use Rattle.plan_sizing.specs.CutLaws.{restOf, not-bad-of-lawful, whole-of-cut, bars-turn, bars-done}
 

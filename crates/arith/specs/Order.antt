@@ -1,7 +1,7 @@
--- Cases on two numbers, and both sides of a test joined by &&. Assumes nothing.
+-- Cases on two numbers. Assumes nothing.
 use mathlib.Core.Path.{_≡_, refl}
 use mathlib.Core.Logic.{_⊎_, inl, inr}
-use mathlib.Core.Bool.{Bool, true, false, _&&_, _||_, false≢true}
+use mathlib.Core.Bool.{Bool, true, false}
 use Prim.Native.Nat.{ℕ, _≤_, _<_}
 use lib.Dec.{leb, eqb}
 use borrow.Author.Tests.{leb-true, leb-false, eqb-true, eqb-false}
@@ -19,16 +19,3 @@ eq-or-ne a b = go (eqb a b) refl
     go : (t : Bool) → eqb a b ≡ t → (a ≡ b) ⊎ (a ≡ b → ⊥)
     go true e = inl (eqb-true a b e)
     go false e = inr (eqb-false a b e)
-
--- A test is true or false, with the equation
-pub true-or-false : (t : Bool) → (t ≡ true) ⊎ (t ≡ false)
-true-or-false true = inl refl
-true-or-false false = inr refl
-
-pub both-of-and : (s t : Bool) → (s && t) ≡ true → (s ≡ true) × (t ≡ true)
-both-of-and true t e = (refl, e)
-both-of-and false t e = absurd (false≢true e)
-
-pub either-of-or : (s t : Bool) → (s || t) ≡ true → (s ≡ true) ⊎ (t ≡ true)
-either-of-or true t e = inl refl
-either-of-or false t e = inr e

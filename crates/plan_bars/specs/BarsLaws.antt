@@ -2,14 +2,14 @@
 use mathlib.Core.List.{List, [], _∷_}
 use Prim.Native.Nat.{ℕ, suc}
 use lib.ListN.{getD}
+use Rattle.arith.specs.Powers.{PowerOfTwo}
 use Rattle.lists.specs.Lists.{All}
-use Rattle.plan_rule.specs.Align.{PowerOfTwo}
 use Rattle.plan_rule.specs.Records as placing
 use Rattle.bar.specs.declared.Slot.{Slot}
 use Rattle.bar.specs.declared.Slot.the-variants.{Unused, Bar, Upper, Bad}
 use Rattle.bar.specs.Bar.{slots, SizedSlot}
 use Rattle.bar.specs.BarLaws.{sized-slots}
-use Rattle.bar.specs.Bars.{barsFrom}
+use Rattle.plan_bars.specs.Bars.{barsFrom}
 
 abbrev pub AllSized : List placing.Bar → Type 0
 AllSized = All (λ b. PowerOfTwo (b .size))
