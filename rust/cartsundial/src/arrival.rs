@@ -1,10 +1,11 @@
 //! Where a packet goes.
 
 use crate::calls::{self, ANY_ROUTE, ROUTE, SHORT};
-use crate::{functions, Id, Packet, Refusal};
+use crate::{functions, refused, Id, Packet, Refusal};
 
 /// Where a packet that comes from the host arrives.
 #[derive(Clone, Copy, Debug, PartialEq, Eq, Hash)]
+#[non_exhaustive]
 pub enum Arrival {
     /// At one function.
     Function(Delivery),
@@ -68,7 +69,7 @@ pub(crate) fn asked(header: &[u8], sheet: &[u8], call: impl Fn(&mut [u64]) -> u3
         0 => Ok(arrival(header, sheet, &numbers)),
         // Only a broadcast's answer is longer than this.
         SHORT => to_every(header, sheet, call),
-        number => Err(Refusal::of_call(number)),
+        number => Err(refused(number)),
     }
 }
 
@@ -78,7 +79,7 @@ fn to_every(header: &[u8], sheet: &[u8], call: impl Fn(&mut [u64]) -> u32) -> Re
     let mut numbers = [0; ANY_ROUTE];
     match call(&mut numbers) {
         0 => Ok(arrival(header, sheet, &numbers)),
-        number => Err(Refusal::of_call(number)),
+        number => Err(refused(number)),
     }
 }
 

@@ -57,11 +57,11 @@ pub struct Bridge {
 /// ```
 pub fn bridges(board: &[u8]) -> Result<impl Iterator<Item = Bridge> + '_, Refusal> {
     lawful(board)?;
-    Ok(records(board).enumerate().skip(1).filter_map(|(record, (part, _))| {
-        (part.get(HEADER_TYPE)? & 0x7F == 1).then(|| {
-            let end = part.get(SPARES..).and_then(<[u8]>::first_chunk);
-            Bridge { record: record as u16, spares: end.map_or(Spares::default(), Spares::from_bytes) }
-        })
+    let is_bridge = |part: &[u8]| part.get(HEADER_TYPE).is_some_and(|byte| byte & 0x7F == 1);
+    let of_bridges = records(board).enumerate().skip(1).filter(move |(_, (part, _))| is_bridge(part));
+    Ok(of_bridges.map(|(record, (part, _))| {
+        let end = part.get(SPARES..).and_then(<[u8]>::first_chunk);
+        Bridge { record: record as u16, spares: end.map_or(Spares::default(), Spares::from_bytes) }
     }))
 }
 

@@ -2,7 +2,7 @@
 
 use crate::calls::{self, PACKET};
 use crate::kind::{CompletionKind, ConfigurationKind, Form, IoKind, MemoryKind, MessageKind, Routing};
-use crate::{Id, Refusal};
+use crate::{refused, Id, Refusal};
 
 /// The fields of a packet, for [`Packet::new`](crate::Packet::new). Every kind has its own fields only. A field may hold
 /// a value that its bits in the header cannot: no packet is made of it then, and the refusal is 10.
@@ -107,7 +107,7 @@ impl Fields {
         let mut written = [0];
         match calls::write(&self.to_numbers(), room, &mut written) {
             0 => Ok(written[0] as usize),
-            number => Err(Refusal::of_call(number)),
+            number => Err(refused(number)),
         }
     }
 

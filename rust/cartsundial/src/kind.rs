@@ -1,6 +1,8 @@
 //! The kinds of packets, numbered as the library numbers them.
 
+use core::error::Error;
 use core::fmt;
+use core::str::FromStr;
 
 /// What a packet is, of all kinds that are carried.
 #[derive(Clone, Copy, Debug, PartialEq, Eq, PartialOrd, Ord, Hash)]
@@ -82,6 +84,27 @@ impl Kind {
             Kind::Msg => "Msg",
             Kind::MsgD => "MsgD",
         }
+    }
+}
+
+/// The text is no kind's name.
+#[derive(Clone, Copy, Debug, PartialEq, Eq)]
+pub struct NoKind;
+
+impl fmt::Display for NoKind {
+    fn fmt(&self, f: &mut fmt::Formatter<'_>) -> fmt::Result {
+        f.write_str("not a packet's kind, as MRd or CplD")
+    }
+}
+
+impl Error for NoKind {}
+
+/// `MRd`.
+impl FromStr for Kind {
+    type Err = NoKind;
+
+    fn from_str(name: &str) -> Result<Kind, NoKind> {
+        Kind::ALL.into_iter().find(|kind| kind.name() == name).ok_or(NoKind)
     }
 }
 

@@ -1,10 +1,13 @@
 //! What a line of an annotated trace says.
 
 use crate::{Kind, Refusal};
+use core::error::Error;
 use core::fmt;
+use core::str::FromStr;
 
 /// What a line of an annotated trace says.
 #[derive(Clone, Copy, Debug, PartialEq, Eq, Hash)]
+#[non_exhaustive]
 pub enum Label {
     /// `1 MRd owner 2`: a record whose packet has an owner.
     Owned {
@@ -41,42 +44,57 @@ pub enum Owner {
     Port,
 }
 
-impl Label {
-    /// What a line says, without its newline. `None` where it is no line of the library.
-    pub fn of_line(line: &str) -> Option<Label> {
+/// The text is no line of an annotated trace.
+#[derive(Clone, Copy, Debug, PartialEq, Eq)]
+pub struct NoLabel;
+
+impl fmt::Display for NoLabel {
+    fn fmt(&self, f: &mut fmt::Formatter<'_>) -> fmt::Result {
+        f.write_str("not a line of an annotated trace, as `1 MRd owner 2` or `2 IOWr refused 40`")
+    }
+}
+
+impl Error for NoLabel {}
+
+/// The line, without its newline.
+impl FromStr for Label {
+    type Err = NoLabel;
+
+    fn from_str(line: &str) -> Result<Label, NoLabel> {
         let mut words = line.split(' ');
-        Some(match (words.next()?, words.next(), words.next(), words.next()) {
-            ("cut", None, None, None) => Label::Cut,
-            ("refused", Some(refusal), None, None) => Label::NoTrace(refusal_of(refusal)?),
-            (number, Some(kind), Some("owner"), Some(owner)) => {
-                Label::Owned { number: number.parse().ok()?, kind: kind_of(kind)?, owner: Owner::of_word(owner)? }
+        let first = words.next().ok_or(NoLabel)?;
+        Ok(match (first, words.next(), words.next(), words.next(), words.next()) {
+            ("cut", None, None, None, None) => Label::Cut,
+            ("refused", Some(refusal), None, None, None) => Label::NoTrace(part(refusal)?),
+            (number, Some(kind), Some("owner"), Some(owner), None) => {
+                Label::Owned { number: part(number)?, kind: part(kind)?, owner: owner.parse()? }
             }
-            (number, Some(kind), Some("refused"), Some(refusal)) => Label::Refused {
-                number: number.parse().ok()?,
-                kind: if kind == "-" { None } else { Some(kind_of(kind)?) },
-                refusal: refusal_of(refusal)?,
+            (number, Some(kind), Some("refused"), Some(refusal), None) => Label::Refused {
+                number: part(number)?,
+                kind: if kind == "-" { None } else { Some(part(kind)?) },
+                refusal: part(refusal)?,
             },
-            _ => return None,
+            _ => return Err(NoLabel),
         })
     }
 }
 
-impl Owner {
-    fn of_word(word: &str) -> Option<Owner> {
-        Some(match word {
+/// `2`, `all` or `port`.
+impl FromStr for Owner {
+    type Err = NoLabel;
+
+    fn from_str(word: &str) -> Result<Owner, NoLabel> {
+        Ok(match word {
             "all" => Owner::Every,
             "port" => Owner::Port,
-            record => Owner::Function(record.parse().ok()?),
+            record => Owner::Function(part(record)?),
         })
     }
 }
 
-fn kind_of(name: &str) -> Option<Kind> {
-    Kind::ALL.into_iter().find(|kind| kind.name() == name)
-}
-
-fn refusal_of(number: &str) -> Option<Refusal> {
-    Refusal::from_number(number.parse().ok()?)
+/// A word of a line.
+fn part<T: FromStr>(word: &str) -> Result<T, NoLabel> {
+    word.parse().map_err(|_| NoLabel)
 }
 
 /// The line, without its newline.

@@ -58,7 +58,7 @@
 //! ```
 
 #![no_std]
-#![deny(unsafe_code, missing_docs)]
+#![deny(missing_docs)]
 
 #[cfg(feature = "alloc")]
 extern crate alloc;
@@ -111,14 +111,14 @@ pub use functions::{functions, Buses, Function, PlacedBar, Windows};
 pub use host::{audit, HostRecord};
 pub use id::{Id, NoId};
 pub use index::{index_length, Index, FULL_INDEX};
-pub use kind::{CompletionKind, ConfigurationKind, Form, IoKind, Kind, MemoryKind, MessageKind, Routing};
-pub use label::{Label, Owner};
+pub use kind::{CompletionKind, ConfigurationKind, Form, IoKind, Kind, MemoryKind, MessageKind, NoKind, Routing};
+pub use label::{Label, NoLabel, Owner};
 #[cfg(feature = "std")]
 pub use labeller::Labeller;
 pub use ledger::{Completed, Ledger, OpenRequest, RequestKind};
 pub use lines::{lines, Line, Lines};
 pub use packet::{read, write, Packet};
-pub use refusal::Refusal;
+pub use refusal::{NoRefusal, Refusal};
 pub use script::{write_script, writes, RegisterWrite, Writes, FULL_SCRIPT};
 pub use sheet::Sheet;
 pub use size::{NoSize, Size};
@@ -167,9 +167,16 @@ pub fn set_command(sheet: &mut [u8], id: Id, command: u16) -> Result<(), Refusal
 }
 
 /// 0 is accepted, any other number the refusal.
+#[inline]
 fn accepted(number: u32) -> Result<(), Refusal> {
     match number {
         0 => Ok(()),
-        _ => Err(Refusal::of_call(number)),
+        _ => Err(refused(number)),
     }
+}
+
+/// The refusal that a call answered with.
+#[inline]
+fn refused(number: u32) -> Refusal {
+    Refusal::try_from(number).expect("the library answers with document 01's numbers")
 }

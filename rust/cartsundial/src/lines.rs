@@ -28,7 +28,7 @@ impl Line {
 
     /// What the line says.
     pub fn label(&self) -> Label {
-        Label::of_line(self).expect("a line of the library")
+        self.parse().expect("a line of the library")
     }
 }
 

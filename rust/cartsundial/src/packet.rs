@@ -17,7 +17,7 @@
 
 use crate::calls::{self, PACKET, SHORT};
 use crate::kind::{CompletionKind, ConfigurationKind, IoKind, MemoryKind, MessageKind};
-use crate::{Body, Enables, Fields, Form, Id, Kind, Refusal, Routing};
+use crate::{refused, Body, Enables, Fields, Form, Id, Kind, Refusal, Routing};
 use core::fmt;
 
 /// The longest header.
@@ -65,7 +65,7 @@ pub fn read(header: &[u8]) -> Result<Packet, Refusal> {
     // Twenty numbers do not fit an empty slice: an accepted header is short of room, and none of them is stored.
     match calls::read(header, &mut []) {
         SHORT => Ok(Packet::of_accepted(header)),
-        number => Err(Refusal::of_call(number)),
+        number => Err(refused(number)),
     }
 }
 
@@ -96,7 +96,7 @@ impl Packet {
         let mut bytes = [0; LONGEST];
         match calls::write(numbers, &mut bytes, &mut [0]) {
             0 => Ok(Packet { bytes }),
-            number => Err(Refusal::of_call(number)),
+            number => Err(refused(number)),
         }
     }
 

@@ -110,7 +110,7 @@ fn configuration(
     offset: u16,
     root_bus: u8,
 ) -> Result<Packet, Refusal> {
-    if offset % 4 != 0 {
+    if !offset.is_multiple_of(4) {
         return Err(Refusal::ReservedBits);
     }
     let kind = if target.bus() == root_bus { type0 } else { type1 };

@@ -53,7 +53,7 @@ impl fmt::Display for Size {
         let mut number = self.0;
         let mut unit = None;
         for one in UNITS {
-            if number == 0 || number % 1024 != 0 {
+            if number == 0 || !number.is_multiple_of(1024) {
                 break;
             }
             (number, unit) = (number / 1024, Some(one));

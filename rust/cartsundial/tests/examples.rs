@@ -1,7 +1,8 @@
 //! Document 01's examples P1 to P10 by the types, empty slices, and the refusals' numbers and words.
 
 use cartsundial::{
-    calls, check, plan, read, registers, route, set_command, write, Arrival, Delivery, Id, Kind, Refusal, FULL_SHEET,
+    calls, check, plan, read, registers, route, set_command, write, Arrival, Delivery, Id, Kind, NoRefusal, Refusal,
+    FULL_SHEET,
 };
 use inputs::board::{self, io, memory, Board};
 use inputs::foreign::{configuration, message, request, sheet, Record, CFGRD0, CFGRD1, MRD, MSG, MSGD, MWR};
@@ -186,11 +187,11 @@ fn deep_on_a_small_stack() {
 
 #[test]
 fn refusals() {
-    for refusal in Refusal::ALL {
-        assert_eq!(Refusal::from_number(refusal.number().into()), Some(refusal));
+    for &refusal in Refusal::ALL {
+        assert_eq!(Refusal::try_from(u32::from(refusal.number())), Ok(refusal));
     }
     for number in [0, 12, 19, 34, 39, 49, 53, 66, 256 + 40] {
-        assert_eq!(Refusal::from_number(number), None);
+        assert_eq!(Refusal::try_from(number), Err(NoRefusal));
     }
     assert!(Refusal::ALL.is_sorted());
     assert_eq!(Refusal::NoOwner.to_string(), "refused 40: no owner");

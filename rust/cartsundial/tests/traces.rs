@@ -1,6 +1,8 @@
 //! A trace's lines by the types: what each says, record numbers that wrap, empty slices, and a small stack.
 
-use cartsundial::{calls, lines, plan, Annotator, Kind, Label, Owner, Refusal, FULL_SHEET, LONGEST_LINE};
+use cartsundial::{
+    calls, lines, plan, Annotator, Kind, Label, NoKind, NoLabel, Owner, Refusal, FULL_SHEET, LONGEST_LINE,
+};
 use inputs::board::{self, memory};
 use inputs::foreign::{configuration, message, request, sheet, Record, CFGRD1, IOWR, MRD, MSG};
 use inputs::trace;
@@ -57,6 +59,26 @@ fn labels() {
 fn kinds_by_name() {
     for kind in Kind::ALL {
         assert_eq!((kind.name(), kind.to_string()), (&*format!("{kind:?}"), format!("{kind:?}")));
+        assert_eq!(kind.name().parse(), Ok(kind));
+    }
+    assert_eq!("mrd".parse::<Kind>(), Err(NoKind));
+}
+
+#[test]
+fn no_lines() {
+    assert_eq!("refused 20".parse(), Ok(Label::NoTrace(Refusal::Frame)));
+    for text in [
+        "",
+        "cut ",
+        "refused",
+        "refused 12",
+        "1 MRd",
+        "1 MRd owner",
+        "1 MRd owner 2 3",
+        "1 - owner 2",
+        "x MRd refused 40",
+    ] {
+        assert_eq!(text.parse::<Label>(), Err(NoLabel), "{text}");
     }
 }
 

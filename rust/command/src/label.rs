@@ -92,7 +92,7 @@ impl Labels<'_> {
         let last = parts.last_line(self.by);
         out.write_all(&last).and_then(|()| out.flush()).map_err(output_failed)?;
         let last = std::str::from_utf8(&last).expect("lines are text");
-        Ok((Label::of_line(last.trim_end()), tally))
+        Ok((last.trim_end().parse().ok(), tally))
     }
 
     /// The lines of a part.
@@ -111,7 +111,7 @@ impl Labels<'_> {
         let mut named = Vec::new();
         let text = std::str::from_utf8(&lines).expect("lines are text");
         for (line, header) in text.lines().zip(Headers::of_records(part.bytes)) {
-            let label = Label::of_line(line).expect("a line of the library");
+            let label = line.parse().expect("a line of the library");
             tally.count(&label);
             named.extend(format!("{line}{}\n", self.addition(&label, header)).into_bytes());
         }

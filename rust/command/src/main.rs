@@ -1,8 +1,6 @@
 //! The command `cartsundial`: the proved library at a shell. Text or bytes go in, words come out; the exit status is 0 for
 //! accepted, 1 for refused, 2 for usage or a stream that failed.
 
-#![forbid(unsafe_code)]
-
 mod arguments;
 mod audit;
 mod convert;

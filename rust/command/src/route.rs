@@ -59,6 +59,7 @@ fn from_host(named: &NamedSheet, header: &[u8]) -> Result<String, String> {
             }
             Arrival::Every { functions, .. } => format!("every function, {functions} of them"),
             Arrival::Port { .. } => "the port that receives it".to_string(),
+            other => format!("{other:?}"),
         })
 }
 

@@ -185,7 +185,7 @@ pub fn kind_of(bytes: &[u8]) -> Option<Kind> {
         [1] => Some(Kind::Sheet),
         [1 | 2, 0, 30, ..] if Board::of_bytes(front).is_ok() => Some(Kind::Board),
         [1, 0, 90, ..] if check(front).is_ok() => Some(Kind::Sheet),
-        [0, 16, 0x44 | 0x45, ..] if front.len() % 18 == 0 || bytes.len() > FRONT => Some(Kind::Script),
+        [0, 16, 0x44 | 0x45, ..] if front.len().is_multiple_of(18) || bytes.len() > FRONT => Some(Kind::Script),
         [1, 0, 12..=20, ..] => Some(Kind::Trace),
         _ if bytes.len() == HostRecord::BYTES => Some(Kind::Host),
         _ => None,

@@ -20,7 +20,7 @@ impl Tally {
             Label::Owned { owner: Owner::Every, .. } => self.every += 1,
             Label::Owned { owner: Owner::Port, .. } => self.port += 1,
             Label::Refused { refusal, .. } => *self.refused.entry(*refusal).or_default() += 1,
-            Label::NoTrace(_) | Label::Cut => {}
+            _ => {}
         }
     }
 

@@ -46,7 +46,7 @@ fn owner_of(board: &[u8], sheet: &mut [u8], header: &[u8]) -> Result<u16, Refusa
     let length = plan(board, sheet)?;
     Ok(match route(header, &sheet[..length])? {
         Arrival::Function(delivery) => delivery.record,
-        Arrival::Every { .. } | Arrival::Port { .. } => 0,
+        _ => 0,
     })
 }
 

@@ -1,7 +1,5 @@
 //! Inputs for the tests: chosen ones, and random ones that are the same at every run with the same seed.
 
-#![forbid(unsafe_code)]
-
 pub mod aim;
 pub mod audit;
 pub mod board;

@@ -6,8 +6,6 @@
 //! proved library is compared with it, and the stored answers of the test programs come from it. Every refusal is the
 //! documents' number.
 
-#![forbid(unsafe_code)]
-
 mod audit;
 mod bar;
 mod board;

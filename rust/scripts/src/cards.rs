@@ -141,7 +141,7 @@ fn ways_up(script: &mut Script) {
         ("no bridge above: 40", vec![end(0x0000), end(0x0500)], 2),
         ("two bridges above: 41", vec![bridge(0x0000, 1, 1), bridge(0x0008, 1, 1), end(0x0100)], 3),
         ("two, and one of them no master", vec![bridge(0x0000, 1, 1).command(3), bridge(0x0008, 1, 1), end(0x0100)], 3),
-        ("a bridge to the root bus: the host is above it", vec![end(0x0300), bridge(0x0000, 3, 3), end(0x0000 | 8)], 1),
+        ("a bridge to the root bus: the host is above it", vec![end(0x0300), bridge(0x0000, 3, 3), end(0x0008)], 1),
         ("from below the bus of the first record", vec![end(0x0300), bridge(0x0000, 3, 3), end(0x0008)], 3),
         ("a bridge whose range leaves the bus out", vec![bridge(0x0000, 1, 1), bridge(0x0100, 2, 3), end(0x0200)], 3),
         ("a bridge that stands behind its card", vec![end(0x0000), end(0x0100), bridge(0x0008, 1, 1)], 2),

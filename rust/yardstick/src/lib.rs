@@ -6,8 +6,6 @@
 //! Written from the documents. It is for sheets that the audit accepts (E6) and checks nothing of them. Built with
 //! `--profile lto`, as the measurement is, it is one optimised whole.
 
-#![forbid(unsafe_code)]
-
 mod index;
 mod packet;
 mod program;

@@ -13,9 +13,9 @@ pub fn compare(random: &mut Random, rounds: u64, tally: &mut Tally) {
         let mut sheet = sheets::any(random);
         cards::enable(&mut sheet, random);
         for _ in 0..12 {
-            route(sheets::any_record(&sheet, random), &aim::header(&sheet, random), &sheet, random, tally);
+            let _ = route(sheets::any_record(&sheet, random), &aim::header(&sheet, random), &sheet, random, tally);
         }
-        route(sheets::any_record(&sheet, random), &header::any(random), &sheet, random, tally);
+        let _ = route(sheets::any_record(&sheet, random), &header::any(random), &sheet, random, tally);
     }
 }
 

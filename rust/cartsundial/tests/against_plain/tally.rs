@@ -165,6 +165,7 @@ impl Tally {
             Label::NoTrace(Refusal::Frame) => 5,
             Label::NoTrace(_) => 6,
             Label::Cut => 7,
+            other => panic!("{other:?}"),
         };
         self.labels[kind] += 1;
     }
