@@ -42,8 +42,8 @@
  * enabled, and a handler that calls it has to save them.
  *
  * Answer slices (packet of cartsundial_read, answer, written, offset, id, count). The call writes the numbers that it names, and leaves the
- * numbers past them as they were. A slice too short for them is CARTSUNDIAL_SHORT, tried last: a header, board or sheet that is refused
- * gets its own number first.
+ * numbers past them as they were. A slice too short for them is CARTSUNDIAL_E_SHORT_ROOM, tried last: a header, board or sheet that is
+ * refused gets its own number first.
  */
 #ifndef CARTSUNDIAL_H
 #define CARTSUNDIAL_H
@@ -70,49 +70,51 @@ extern "C" {
 
 /* ---- numbers given back ---- */
 
+/* 0, or why a call was refused: CARTSUNDIAL_E_ and the words that Rust's Refusal has. */
 enum cartsundial_number {
     CARTSUNDIAL_ACCEPTED = 0,
-    CARTSUNDIAL_HEADER_SHORT = 1,      /* header under 12 bytes, or under 16 in the four-dword form */
-    CARTSUNDIAL_PAIR_UNKNOWN = 2,      /* Fmt and Type unknown, a message's routing 6 or 7 among them; written: kind and form not carried */
-    CARTSUNDIAL_NOT_CARRIED = 3,       /* AtomicOps, prefixes */
-    CARTSUNDIAL_RESERVED = 4,          /* an unnamed bit, TH, an address's low two bits, memory AT 11, completion or message AT not 00;
-                                          tag bits 9 and 8 of a memory write or message */
-    CARTSUNDIAL_FIXED = 5,             /* I/O and configuration: TC, Attr, AT 0, Length 1, last enables 0; Cpl, CplLk and Msg: no Length */
-    CARTSUNDIAL_UPPER_ZERO = 6,        /* a memory request in the 64-bit form with upper half zero */
-    CARTSUNDIAL_ENABLES = 7,           /* memory byte enables */
-    CARTSUNDIAL_PAGE = 8,              /* a memory request crosses a 4 KiB boundary */
-    CARTSUNDIAL_STATUS = 9,            /* completion status not 000, 001, 010 or 100 */
-    CARTSUNDIAL_WIDTH = 10,            /* a value that its place does not take: too wide, a wrong Length, no such field; a trace's state */
-    CARTSUNDIAL_SHORT = 11,            /* a lent slice is too short */
-    CARTSUNDIAL_FRAME = 20,            /* empty; lengths not ending at the end; no host of 30; function under 6; sheet record not 90 */
-    CARTSUNDIAL_VERSION = 21,          /* version not 1, and of a board not 2 either */
-    CARTSUNDIAL_FUNCTIONS = 22,        /* over 512 functions */
-    CARTSUNDIAL_ORDER = 23,            /* parent, order, depth or function 0 */
-    CARTSUNDIAL_HEADER_TYPE = 24,      /* header type not 0 or 1, or a wrong length for it */
-    CARTSUNDIAL_READBACK = 25,         /* read-back, of memory also one under 128 bytes; on a sheet also a BAR value */
-    CARTSUNDIAL_HOST = 26,             /* first bus above last, or a pool's edges */
-    CARTSUNDIAL_BUSES = 27,            /* sheet: not own bus = primary < secondary <= subordinate */
-    CARTSUNDIAL_ID_TWICE = 28,         /* sheet: an ID twice */
-    CARTSUNDIAL_NIBBLES = 29,          /* sheet: window nibbles */
-    CARTSUNDIAL_OUT_OF_BUSES = 30,     /* bus numbers run out: bridges and their spare buses */
-    CARTSUNDIAL_OUT_OF_LOW = 31,       /* the low memory pool runs out */
-    CARTSUNDIAL_OUT_OF_HIGH = 32,      /* the high memory pool runs out */
-    CARTSUNDIAL_OUT_OF_IO = 33,        /* the I/O pool runs out */
-    CARTSUNDIAL_NO_OWNER = 40,         /* no function has the address or the ID */
-    CARTSUNDIAL_CONTESTED = 41,        /* two claims to it on one bus */
-    CARTSUNDIAL_CONFIG_TYPE = 42,      /* configuration type 0 for another bus than the root bus, or type 1 for the root bus */
-    CARTSUNDIAL_UPWARD = 43,           /* a message that only travels up: routing 0, to the root complex, or 5, gathered on the way there */
-    CARTSUNDIAL_NOT_MASTER = 44,       /* from a card: it, or a bridge on its way up, is no bus master (command bit 2) */
-    CARTSUNDIAL_NO_START = 45,         /* from a card: no type 0 function's record, or no memory or I/O request */
-    CARTSUNDIAL_BUS_TREE = 50,         /* audit: first record not on the host's first bus; not one bridge to a bus; a bridge's buses */
-    CARTSUNDIAL_PLACE = 51,            /* audit: a BAR or open window outside the window above, or the pool, of its kind */
-    CARTSUNDIAL_OVERLAP = 52,          /* audit: two BARs or open windows of one space overlap on a bus */
-    CARTSUNDIAL_LEDGER_KIND = 60,      /* ledger: no non-posted request to open, or no completion */
-    CARTSUNDIAL_ALREADY_OPEN = 61,     /* ledger: a request with this requester and tag is open */
-    CARTSUNDIAL_LEDGER_FULL = 62,      /* ledger: 256 requests are open */
-    CARTSUNDIAL_NOT_OPEN = 63,         /* ledger: no request with this requester and tag is open */
-    CARTSUNDIAL_MISMATCH = 64,         /* ledger: retry for other than configuration, or a success in a form that is not the request's */
-    CARTSUNDIAL_TOO_MUCH_DATA = 65     /* ledger: a success with more dwords than are still to come */
+    CARTSUNDIAL_E_SHORT_HEADER = 1,         /* header under 12 bytes, or under 16 in the four-dword form */
+    CARTSUNDIAL_E_UNKNOWN_PAIR = 2,         /* Fmt and Type unknown, a message's routing 6 or 7 too; written: kind and form not carried */
+    CARTSUNDIAL_E_NOT_CARRIED = 3,          /* AtomicOps, prefixes */
+    CARTSUNDIAL_E_RESERVED_BITS = 4,        /* an unnamed bit, TH, an address's low two bits, memory AT 11, completion or message AT not 00;
+                                               tag bits 9 and 8 of a memory write or message */
+    CARTSUNDIAL_E_FIXED_FIELDS = 5,         /* I/O and configuration: TC, Attr, AT 0, Length 1, last enables 0; Cpl, CplLk, Msg no Length */
+    CARTSUNDIAL_E_UPPER_HALF_ZERO = 6,      /* a memory request in the 64-bit form with upper half zero */
+    CARTSUNDIAL_E_BYTE_ENABLES = 7,         /* memory byte enables */
+    CARTSUNDIAL_E_BOUNDARY_CROSSED = 8,     /* a memory request crosses a 4 KiB boundary */
+    CARTSUNDIAL_E_STATUS = 9,               /* completion status not 000, 001, 010 or 100 */
+    CARTSUNDIAL_E_TOO_WIDE = 10,            /* a value that its place does not take: too wide, a wrong Length, no such field;
+                                               a trace's state */
+    CARTSUNDIAL_E_SHORT_ROOM = 11,          /* a lent slice is too short */
+    CARTSUNDIAL_E_FRAME = 20,               /* empty; lengths not ending at the end; no host of 30; function under 6; sheet record not 90 */
+    CARTSUNDIAL_E_VERSION = 21,             /* version not 1, and of a board not 2 either */
+    CARTSUNDIAL_E_TOO_MANY_FUNCTIONS = 22,  /* over 512 functions */
+    CARTSUNDIAL_E_TREE = 23,                /* parent, order, depth or function 0 */
+    CARTSUNDIAL_E_HEADER_TYPE = 24,         /* header type not 0 or 1, or a wrong length for it */
+    CARTSUNDIAL_E_READ_BACK = 25,           /* read-back, of memory also one under 128 bytes; on a sheet also a BAR value */
+    CARTSUNDIAL_E_HOST = 26,                /* first bus above last, or a pool's edges */
+    CARTSUNDIAL_E_BUS_RANGE = 27,           /* sheet: not own bus = primary < secondary <= subordinate */
+    CARTSUNDIAL_E_ID_TWICE = 28,            /* sheet: an ID twice */
+    CARTSUNDIAL_E_WINDOW_NIBBLES = 29,      /* sheet: window nibbles */
+    CARTSUNDIAL_E_NO_BUSES = 30,            /* bus numbers run out: bridges and their spare buses */
+    CARTSUNDIAL_E_NO_LOW_ROOM = 31,         /* the low memory pool runs out */
+    CARTSUNDIAL_E_NO_HIGH_ROOM = 32,        /* the high memory pool runs out */
+    CARTSUNDIAL_E_NO_IO_ROOM = 33,          /* the I/O pool runs out */
+    CARTSUNDIAL_E_NO_OWNER = 40,            /* no function has the address or the ID */
+    CARTSUNDIAL_E_CONTESTED = 41,           /* two claims to it on one bus */
+    CARTSUNDIAL_E_CONFIGURATION_TYPE = 42,  /* configuration type 0 for another bus than the root bus, or type 1 for the root bus */
+    CARTSUNDIAL_E_UPWARD = 43,              /* a message that only travels up: routing 0, to the root complex, or 5, gathered */
+    CARTSUNDIAL_E_NO_BUS_MASTER = 44,       /* from a card: it, or a bridge on its way up, is no bus master (command bit 2) */
+    CARTSUNDIAL_E_NO_START = 45,            /* from a card: no type 0 function's record, or no memory or I/O request */
+    CARTSUNDIAL_E_BUS_TREE = 50,            /* audit: first record not on the host's first bus; not one bridge to a bus; a bridge's buses */
+    CARTSUNDIAL_E_PLACE = 51,               /* audit: a BAR or open window outside the window above, or the pool, of its kind */
+    CARTSUNDIAL_E_OVERLAP = 52,             /* audit: two BARs or open windows of one space overlap on a bus */
+    CARTSUNDIAL_E_LEDGER_KIND = 60,         /* ledger: no non-posted request to open, or no completion */
+    CARTSUNDIAL_E_ALREADY_OPEN = 61,        /* ledger: a request with this requester and tag is open */
+    CARTSUNDIAL_E_LEDGER_FULL = 62,         /* ledger: 256 requests are open */
+    CARTSUNDIAL_E_NOT_OPEN = 63,            /* ledger: no request with this requester and tag is open */
+    CARTSUNDIAL_E_MISMATCH = 64,            /* ledger: retry for other than configuration, or a success not in the request's form */
+    CARTSUNDIAL_E_TOO_MUCH_DATA = 65        /* ledger: a success with more dwords than are still to come */
 };
 
 /* ---- a packet as twenty numbers ---- */

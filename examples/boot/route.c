@@ -50,7 +50,7 @@ static void route_read(bool io, uint64_t address, unsigned record)
     uint8_t header[CARTSUNDIAL_HEADER_BYTES];
     uint64_t answer[3][CARTSUNDIAL_ROUTE_NUMBERS];
     size_t length = read_header(io, address, header);
-    uint32_t expected = record != 0 ? CARTSUNDIAL_ACCEPTED : CARTSUNDIAL_NO_OWNER;
+    uint32_t expected = record != 0 ? CARTSUNDIAL_ACCEPTED : CARTSUNDIAL_E_NO_OWNER;
     unsigned from = other_card(record);
 
     if (cartsundial_route(header, length, registers, registers_len, answer[0], CARTSUNDIAL_ROUTE_NUMBERS) != expected
