@@ -119,6 +119,7 @@ enum cartsundial_number {
 
 /* ---- a packet as twenty numbers ---- */
 
+/* A kind's code. A message has one code, whatever its routing, which stands apart in CARTSUNDIAL_ROUTING. */
 enum cartsundial_kind {
     CARTSUNDIAL_MRD = 0,
     CARTSUNDIAL_MRDLK = 1,

@@ -1,4 +1,4 @@
-//! The kinds of packets, numbered as the library numbers them.
+//! The kinds of packets, with the codes that they have in the first of a packet's twenty numbers.
 
 use core::error::Error;
 use core::fmt;
@@ -41,7 +41,7 @@ pub enum Kind {
 }
 
 impl Kind {
-    /// Every kind, by rising number.
+    /// Every kind, by rising code.
     pub const ALL: [Kind; 15] = [
         Kind::MRd,
         Kind::MRdLk,
@@ -60,8 +60,9 @@ impl Kind {
         Kind::MsgD,
     ];
 
-    /// The library's number for the kind.
-    pub const fn number(self) -> u8 {
+    /// The first of a packet's twenty numbers, as in C's `enum cartsundial_kind`. A message has one code, whatever its
+    /// routing, which is another of the twenty. (Inside the library a kind's number tells the routings apart too.)
+    pub const fn code(self) -> u8 {
         self as u8
     }
 

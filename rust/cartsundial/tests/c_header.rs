@@ -1,6 +1,6 @@
 //! The archive, the C header and this crate are of one version and have the same names and numbers.
 
-use cartsundial::{calls, HostRecord, Refusal, FULL_INDEX, FULL_SCRIPT, FULL_SHEET, LONGEST_LINE, REGISTERS};
+use cartsundial::{calls, HostRecord, Kind, Refusal, FULL_INDEX, FULL_SCRIPT, FULL_SHEET, LONGEST_LINE, REGISTERS};
 use std::fs;
 
 fn header() -> String {
@@ -49,6 +49,12 @@ fn names_of_refusals() {
     for other in ["kind", "routing", "field", "size"] {
         assert!(enumerators(other).iter().all(|(name, _)| !name.starts_with("E_")), "{other}");
     }
+}
+
+#[test]
+fn names_of_kinds() {
+    let here = Kind::ALL.map(|kind| (kind.name().to_uppercase(), kind.code().into()));
+    assert_eq!(enumerators("kind"), here);
 }
 
 #[test]

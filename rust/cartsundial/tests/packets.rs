@@ -155,8 +155,8 @@ fn messages() {
 
 #[test]
 fn kinds() {
-    for (number, kind) in (0..).zip(Kind::ALL) {
-        assert_eq!(kind.number(), number);
+    for (code, kind) in (0..).zip(Kind::ALL) {
+        assert_eq!(kind.code(), code);
     }
     assert_eq!(Kind::from(MemoryKind::MWr), Kind::MWr);
     assert_eq!(Kind::from(MessageKind::MsgD), Kind::MsgD);
