@@ -11,16 +11,6 @@ pub fn audit(host: &[u8], sheet: &[u8]) -> u8 {
     judge(host, sheet).err().unwrap_or(0)
 }
 
-/// What the program `audit` prints for its whole standard input: the 30 bytes of a host record, then a sheet.
-pub fn program(input: &[u8]) -> Vec<u8> {
-    let (host, sheet) = input.split_at(input.len().min(HOST));
-    let line = match audit(host, sheet) {
-        0 => "accepted\n".to_string(),
-        number => format!("refused {number}\n"),
-    };
-    line.into_bytes()
-}
-
 /// The host record's 20 and 26, the sheet's own checks, then 50, 51 and 52.
 fn judge(host: &[u8], sheet: &[u8]) -> Result<(), u8> {
     let host: &[u8; HOST] = host.try_into().map_err(|_| 20)?;

@@ -3,31 +3,30 @@
 //! open requests and the write script.
 //!
 //! Written from the documents and the readings of their open points in docs/DECISIONS.md, not from the proved code. The
-//! proved library is compared with it, and the stored answers of the test programs come from it. Every refusal is the
-//! documents' number.
+//! proved library is compared with it, and the stored answers of the programs come from it ([`programs`]). Every refusal is
+//! the documents' number.
 
 mod audit;
 mod bar;
 mod board;
 mod cards;
 mod index;
-mod label;
 pub mod ledger;
 mod packet;
 mod plan;
 mod pool;
+pub mod programs;
 mod route;
 mod script;
 mod sheet;
 mod trace;
 
-pub use audit::{audit, program as audit_program};
+pub use audit::audit;
 pub use cards::{route_from, Sending};
 pub use index::{build, find};
-pub use label::program as label_program;
 pub use packet::{read, to_numbers, write, write_numbers, Form, Kind, Packet};
 pub use plan::plan;
 pub use route::{route, Arrival};
-pub use script::{program as script_program, script};
+pub use script::script;
 pub use sheet::{check, id_of, listing, lookup, set_command, Sheet, FULL_SHEET};
-pub use trace::{annotate, label, program, Annotator};
+pub use trace::{annotate, label, Annotator};

@@ -6,7 +6,7 @@ use crate::plan::plan;
 use crate::sheet::{Record, Sheet, FULL_SHEET};
 
 /// One write's record: a two-byte length, 12 header bytes, 4 data bytes.
-const RECORD: usize = 18;
+pub(crate) const RECORD: usize = 18;
 
 /// Registers, by their offset in the configuration header.
 const COMMAND: u8 = 0x04;
@@ -40,20 +40,6 @@ pub fn script(board: &[u8], requester: u16, first_tag: u8, room: &mut [u8]) -> R
         tag = tag.wrapping_add(1);
     }
     Ok(room.len())
-}
-
-/// What the program `script` prints for its whole standard input: a requester ID, a tag, then a board.
-pub fn program(input: &[u8]) -> Vec<u8> {
-    let mut room = vec![0; RECORD * 9 * 512];
-    let (start, board) = input.split_first_chunk().map_or(([0; 3], &[][..]), |(start, board)| (*start, board));
-    let [high, low, tag] = start;
-    match script(board, u16::from_be_bytes([high, low]), tag, &mut room) {
-        Ok(length) => {
-            room.truncate(length);
-            room
-        }
-        Err(number) => format!("refused {number}\n").into_bytes(),
-    }
 }
 
 /// The used BARs of a record, both halves of a wide one, and all windows of a bridge, by rising offset.

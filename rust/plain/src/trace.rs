@@ -8,7 +8,7 @@ use std::mem;
 use crate::index::Index;
 use crate::packet;
 use crate::route::{Arrival, Owners};
-use crate::sheet::{Sheet, FULL_SHEET};
+use crate::sheet::Sheet;
 
 const VERSION: u8 = 1;
 /// The longest header. What a record has beyond it is not looked at.
@@ -42,26 +42,6 @@ fn whole(owners: Result<impl Owners + Copy, u8>, trace: &[u8]) -> String {
         lines += CUT;
     }
     lines
-}
-
-/// What the program `annotate` prints for its whole standard input: a sheet after its two-byte length, then a trace.
-pub fn program(input: &[u8]) -> Vec<u8> {
-    let lines = match sheet_and_trace(input) {
-        Ok((sheet, trace)) => annotate(sheet, trace),
-        Err(number) => refused(number),
-    };
-    lines.into_bytes()
-}
-
-/// A sheet after its two-byte length, and what follows it.
-pub(crate) fn sheet_and_trace(input: &[u8]) -> Result<(&[u8], &[u8]), u8> {
-    let (&length, rest) = input.split_first_chunk().ok_or(20)?;
-    let length = usize::from(u16::from_be_bytes(length));
-    // At once, whatever follows.
-    if length > FULL_SHEET {
-        return Err(22);
-    }
-    rest.split_at_checked(length).ok_or(20)
 }
 
 const CUT: &str = "cut\n";

@@ -2,7 +2,7 @@
 
 use inputs::board::{self, high, io, memory, prefetchable, Board, CLOSED_HIGH, CLOSED_IO, CLOSED_LOW};
 use inputs::foreign::{request, sheet, Record, IORD, MRD};
-use plain::{audit, audit_program, Arrival};
+use plain::{audit, programs, Arrival};
 
 /// The host of [`records`], whose root bus fills the pools from edge to edge.
 fn host() -> Board {
@@ -638,7 +638,7 @@ fn bridges_in_a_row() {
 #[test]
 fn the_program() {
     let (host, sheet) = (host().host(), sheet(&records()));
-    let printed = |host: &[u8], sheet: &[u8]| String::from_utf8(audit_program(&[host, sheet].concat())).unwrap();
+    let printed = |host: &[u8], sheet: &[u8]| String::from_utf8(programs::audit(&[host, sheet].concat())).unwrap();
     assert_eq!(printed(&host, &sheet), "accepted\n");
     assert_eq!(printed(&host, &[1]), "accepted\n");
     // All that there is, is the host record.

@@ -5,7 +5,7 @@ use inputs::board::{self, Board};
 use inputs::foreign::*;
 use inputs::random::Random;
 use inputs::{audit, labels, trace};
-use plain::{label_program, Arrival};
+use plain::{programs, Arrival};
 
 fn plan(board: &[u8]) -> Option<Vec<u8>> {
     let mut room = vec![0; plain::FULL_SHEET];
@@ -19,7 +19,7 @@ fn p10() -> Vec<u8> {
 }
 
 fn printed(input: &[u8]) -> String {
-    String::from_utf8(label_program(input)).unwrap()
+    String::from_utf8(programs::label(input)).unwrap()
 }
 
 fn input(host: &[u8], sheet: &[u8], trace: &[u8]) -> Vec<u8> {
@@ -142,7 +142,7 @@ fn any_input() {
             match plain::audit(&host, &sheet) {
                 // By its length, before its own checks.
                 refused if refused != 26 && sheet.len() > plain::FULL_SHEET => assert_eq!(number, Some(22)),
-                0 => assert_eq!(printed.as_bytes(), plain::program(&read)),
+                0 => assert_eq!(printed.as_bytes(), programs::annotate(&read)),
                 refused => assert_eq!(number, Some(refused.into())),
             }
             labelled += u32::from(number.is_none());

@@ -7,7 +7,7 @@ use inputs::foreign::*;
 use inputs::random::Random;
 use inputs::registers;
 use inputs::trace::{self, input};
-use plain::{annotate, program, Annotator, Kind};
+use plain::{annotate, programs, Annotator, Kind};
 
 const MRDLK: u8 = 0x01;
 
@@ -366,7 +366,7 @@ fn numbers_wrap() {
 }
 
 fn printed(input: &[u8]) -> String {
-    String::from_utf8(program(input)).unwrap()
+    String::from_utf8(programs::annotate(input)).unwrap()
 }
 
 #[test]

@@ -97,7 +97,7 @@ fn program() {
         let input = &whole[..cut.min(whole.len())];
         let mut lines = Vec::new();
         yardstick::label(&mut &input[..], &mut lines).unwrap();
-        assert!(lines == plain::label_program(input), "{input:02X?}");
+        assert!(lines == plain::programs::label(input), "{input:02X?}");
     }
     // Longer than a piece, with records that lie across its end.
     let board = labels::board(16, 8);
@@ -108,5 +108,5 @@ fn program() {
     let input = [&board.host()[..], &trace::input(&sheet, &trace::of(&headers))].concat();
     let mut lines = Vec::new();
     yardstick::label(&mut &input[..], &mut lines).unwrap();
-    assert!(lines == plain::label_program(&input));
+    assert!(lines == plain::programs::label(&input));
 }

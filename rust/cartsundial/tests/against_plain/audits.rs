@@ -27,11 +27,11 @@ pub fn compare(random: &mut Random, rounds: u64, tally: &mut Tally) {
 
 /// The runs of tests/audit, and the sheets there that real firmware left.
 pub fn chosen(random: &mut Random, tally: &mut Tally) {
-    for (_, input) in scripts::audits() {
+    for (_, input) in stored::audits() {
         let (host, sheet) = input.split_at(input.len().min(HostRecord::BYTES));
         audit(host, sheet, random, tally);
     }
-    for name in scripts::CAPTURES {
+    for name in stored::CAPTURES {
         let read = |extension: &str| {
             fs::read(format!("{}/../../tests/audit/{name}.{extension}", env!("CARGO_MANIFEST_DIR"))).unwrap()
         };

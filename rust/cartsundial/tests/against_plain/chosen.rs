@@ -1,4 +1,4 @@
-//! The chosen cases of the scripts, the runs of the annotator, the labeller and the audit, and full indexes, once, whatever
+//! The chosen lines of the test programs, the runs of the annotator, the labeller and the audit, and full indexes, once, whatever
 //! the rounds.
 
 use crate::tally::Tally;
@@ -6,19 +6,19 @@ use crate::{audits, boards, cards, headers, indexes, ledgers, routes, sheets, tr
 use inputs::random::Random;
 
 pub fn compare(random: &mut Random, _: u64, tally: &mut Tally) {
-    for script in [scripts::boards(), scripts::routes()] {
+    for lines in [stored::boards(), stored::routes()] {
         let mut sheet = Vec::new();
-        for line in script.lines() {
+        for line in lines.lines() {
             request(line, &mut sheet, random, tally);
         }
     }
-    for (_, input) in scripts::traces() {
+    for (_, input) in stored::traces() {
         let sheet = input.split_first_chunk().map(|(length, rest)| (u16::from_be_bytes(*length), rest));
         if let Some((sheet, trace)) = sheet.and_then(|(length, rest)| rest.split_at_checked(length.into())) {
             traces::annotate(sheet, trace, random, tally);
         }
     }
-    for (_, input) in scripts::labels() {
+    for (_, input) in stored::labels() {
         labelled(&input, random, tally);
     }
     audits::chosen(random, tally);

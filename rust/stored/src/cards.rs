@@ -1,6 +1,6 @@
 //! Requests from card to card (E11): to siblings, up and down again, to the host, and every refusal in its order.
 
-use crate::script::Script;
+use crate::lines::Lines;
 use inputs::board::{self, high, io, memory, Board};
 use inputs::cards;
 use inputs::foreign::*;
@@ -8,15 +8,15 @@ use inputs::foreign::*;
 /// I/O, memory and bus master.
 const ALL: u16 = 7;
 
-pub fn groups(script: &mut Script) {
-    switch(script);
-    masters(script);
-    enables(script);
-    no_start(script);
-    order(script);
-    ways_up(script);
-    claims(script);
-    depth(script);
+pub fn groups(lines: &mut Lines) {
+    switch(lines);
+    masters(lines);
+    enables(lines);
+    no_start(lines);
+    order(lines);
+    ways_up(lines);
+    claims(lines);
+    depth(lines);
 }
 
 /// A switch with two cards below it, and a card beside it. Records: 1 the switch's upper bridge, 2 a lower one, 3 its card,
@@ -41,51 +41,51 @@ const LOW: [u64; 8] =
     [0x8000_0000, 0x8010_0000, 0x8020_0000, 0x8020_1000, 0x8030_0000, 0x8031_0000, 0x8040_0000, 0x9000_0000];
 const IO: [u64; 5] = [0x1000, 0x2000, 0x2100, 0x3000, 0xF000];
 
-fn everywhere(script: &mut Script, start: u16) {
+fn everywhere(lines: &mut Lines, start: u16) {
     for address in LOW {
-        script.from(start, &request(MWR, address));
+        lines.from(start, &request(MWR, address));
     }
     for address in IO {
-        script.from(start, &request(IOWR, address));
+        lines.from(start, &request(IOWR, address));
     }
-    script.from(start, &request(MRD, 0x10_0000_0000));
-    script.from(start, &request(MRD, 0x10_0010_0000));
+    lines.from(start, &request(MRD, 0x10_0000_0000));
+    lines.from(start, &request(MRD, 0x10_0010_0000));
 }
 
-fn switch(script: &mut Script) {
-    script.note("card to card over a switch: from each function to every BAR, and to addresses that nobody has");
-    script.board(&backplane().bytes());
+fn switch(lines: &mut Lines) {
+    lines.note("card to card over a switch: from each function to every BAR, and to addresses that nobody has");
+    lines.board(&backplane().bytes());
     for start in [3, 5, 6, 7] {
-        everywhere(script, start);
+        everywhere(lines, start);
     }
 }
 
-fn masters(script: &mut Script) {
+fn masters(lines: &mut Lines) {
     for id in [0x0000, 0x0100, 0x0200, 0x0108, 0x0300] {
-        script.note("one function without bus master: 44 from it and for what goes up through it");
-        script.board(&backplane().bytes());
-        script.command(id, 3);
-        everywhere(script, 3);
-        everywhere(script, 5);
+        lines.note("one function without bus master: 44 from it and for what goes up through it");
+        lines.board(&backplane().bytes());
+        lines.command(id, 3);
+        everywhere(lines, 3);
+        everywhere(lines, 5);
     }
 }
 
-fn enables(script: &mut Script) {
+fn enables(lines: &mut Lines) {
     for (id, command) in [(0x0000, 4), (0x0108, 4), (0x0300, 4), (0x0300, 5), (0x0300, 6), (0x0008, 4), (0x0200, 4)] {
-        script.note("one function without a space: nobody claims for it, and its own BAR is still its own");
-        script.board(&backplane().bytes());
-        script.command(id, command);
-        everywhere(script, 3);
-        everywhere(script, 5);
-        everywhere(script, 7);
+        lines.note("one function without a space: nobody claims for it, and its own BAR is still its own");
+        lines.board(&backplane().bytes());
+        lines.command(id, command);
+        everywhere(lines, 3);
+        everywhere(lines, 5);
+        everywhere(lines, 7);
     }
 }
 
-fn no_start(script: &mut Script) {
-    script.note("45: record 0, a bridge, a record that is not there, a packet that is no memory or I/O request");
-    script.board(&backplane().bytes());
+fn no_start(lines: &mut Lines) {
+    lines.note("45: record 0, a bridge, a record that is not there, a packet that is no memory or I/O request");
+    lines.board(&backplane().bytes());
     for start in [0, 1, 2, 4, 8, 9, 0x0102, 0xFFFF] {
-        script.from(start, &request(MRD, LOW[0]));
+        lines.from(start, &request(MRD, LOW[0]));
     }
     for header in [
         configuration(CFGRD0, 0x0008, 0),
@@ -95,46 +95,46 @@ fn no_start(script: &mut Script) {
         message(MSG, 0b100, 0x20, 0),
         message(MSGD, 0b010, 0, 0x0300 << 48),
     ] {
-        script.from(3, &header);
+        lines.from(3, &header);
     }
-    script.note("45 before 40: a sheet with no functions");
-    script.sheet(&sheet(&[]));
-    script.from(1, &request(MRD, LOW[0]));
-    script.from(0, &request(MRD, LOW[0]));
+    lines.note("45 before 40: a sheet with no functions");
+    lines.sheet(&sheet(&[]));
+    lines.from(1, &request(MRD, LOW[0]));
+    lines.from(0, &request(MRD, LOW[0]));
 }
 
-fn order(script: &mut Script) {
-    script.note("the header's number, the sheet's, 45, the start's 44, its own BAR 40");
+fn order(lines: &mut Lines) {
+    lines.note("the header's number, the sheet's, 45, the start's 44, its own BAR 40");
     let spoiled = |sheet: &mut Vec<u8>| sheet[0] = 2;
     let card = |command: u16| Record::end(0x0000).bar(0, memory(12), 0xF900_0000).command(command);
     let mut bad = sheet(&[card(3)]);
     spoiled(&mut bad);
-    script.sheet(&bad);
-    script.from(0, &request(MRD, 0xF900_0001));
-    script.from(0, &request(MRD, 0xF900_0000));
-    script.sheet(&sheet(&[card(3)]));
-    script.from(0, &request(MRD, 0xF900_0000));
-    script.from(1, &request(MRD, 0xF900_0000));
+    lines.sheet(&bad);
+    lines.from(0, &request(MRD, 0xF900_0001));
+    lines.from(0, &request(MRD, 0xF900_0000));
+    lines.sheet(&sheet(&[card(3)]));
+    lines.from(0, &request(MRD, 0xF900_0000));
+    lines.from(1, &request(MRD, 0xF900_0000));
     for command in [4, 7] {
-        script.sheet(&sheet(&[card(command)]));
-        script.from(1, &request(MRD, 0xF900_0000));
-        script.from(1, &request(MRD, 0xF900_1000));
-        script.from(1, &request(IORD, 0x1000));
+        lines.sheet(&sheet(&[card(command)]));
+        lines.from(1, &request(MRD, 0xF900_0000));
+        lines.from(1, &request(MRD, 0xF900_1000));
+        lines.from(1, &request(IORD, 0x1000));
     }
-    script.note("a window of the bridge above holds the address, enabled or not: 40, before that bridge's 44");
+    lines.note("a window of the bridge above holds the address, enabled or not: 40, before that bridge's 44");
     for command in [0, 2, 4, 6] {
         let bridge = Record::bridge(0x0000, 1, 1).low(0xF900, 0xF910).io(0x10, 0x10).command(command);
-        script.sheet(&sheet(&[bridge, Record::end(0x0100).command(ALL)]));
+        lines.sheet(&sheet(&[bridge, Record::end(0x0100).command(ALL)]));
         for header in
             [request(MWR, 0xF91F_FFFC), request(MWR, 0xF920_0000), request(IOWR, 0x1FFC), request(IOWR, 0x2000)]
         {
-            script.from(2, &header);
+            lines.from(2, &header);
         }
     }
 }
 
 /// Bridges above that are none, two, or lead to the root bus.
-fn ways_up(script: &mut Script) {
+fn ways_up(lines: &mut Lines) {
     let end = |id: u16| Record::end(id).command(ALL);
     let bridge = |id: u16, secondary: u8, last: u8| Record::bridge(id, secondary, last).command(ALL);
     let sheets = [
@@ -147,15 +147,15 @@ fn ways_up(script: &mut Script) {
         ("a bridge that stands behind its card", vec![end(0x0000), end(0x0100), bridge(0x0008, 1, 1)], 2),
     ];
     for (why, records, start) in sheets {
-        script.note(why);
-        script.sheet(&sheet(&records));
-        script.from(start, &request(MWR, 0xF900_0000));
-        script.from(start, &request(IORD, 0x4000));
+        lines.note(why);
+        lines.sheet(&sheet(&records));
+        lines.from(start, &request(MWR, 0xF900_0000));
+        lines.from(start, &request(IORD, 0x4000));
     }
 }
 
 /// Two claims on a bus on the way, and what the walk down finds.
-fn claims(script: &mut Script) {
+fn claims(lines: &mut Lines) {
     let card = |id: u16| Record::end(id).bar(0, memory(20), 0xF900_0000).command(ALL);
     let start = |id: u16| Record::end(id).command(ALL);
     let bridge = |id: u16, secondary: u8| Record::bridge(id, secondary, secondary).low(0xF900, 0xF900).command(ALL);
@@ -180,35 +180,35 @@ fn claims(script: &mut Script) {
         ("a card disabled on the bus: up it goes", vec![closed(0x0000, 1), start(0x0100), card(0x0108).command(4)], 2),
     ];
     for (why, records, from) in sheets {
-        script.note(why);
-        script.sheet(&sheet(&records));
-        script.from(from, &request(MRD, 0xF900_0000));
-        script.from(from, &request(MRD, 0xF90F_FFFC));
-        script.from(from, &request(MRD, 0xF910_0000));
+        lines.note(why);
+        lines.sheet(&sheet(&records));
+        lines.from(from, &request(MRD, 0xF900_0000));
+        lines.from(from, &request(MRD, 0xF90F_FFFC));
+        lines.from(from, &request(MRD, 0xF910_0000));
     }
 }
 
-fn depth(script: &mut Script) {
-    script.note("32 bridges up and 32 down; none up, none down");
+fn depth(lines: &mut Lines) {
+    lines.note("32 bridges up and 32 down; none up, none down");
     for (up, down) in [(32, 32), (0, 32), (32, 0), (0, 0)] {
         let (planned, start, _) = cards::apart(up, down);
-        script.board(&planned.bytes());
-        script.from(start, &request(MWR, planned.low.0.into()));
-        script.from(start, &request(MWR, u64::from(planned.low.0) + 0x1000));
-        script.from(start, &request(MWR, u64::from(planned.low.1) + 1));
+        lines.board(&planned.bytes());
+        lines.from(start, &request(MWR, planned.low.0.into()));
+        lines.from(start, &request(MWR, u64::from(planned.low.0) + 0x1000));
+        lines.from(start, &request(MWR, u64::from(planned.low.1) + 1));
     }
-    script.note("127 bridges up and 128 down");
-    script.sheet(&cards::furthest());
-    script.from(cards::FURTHEST_START, &request(MWR, cards::FURTHEST));
-    script.from(cards::FURTHEST_START, &request(MWR, cards::FURTHEST + 0x1000));
-    script.note("source document 001's tree, from one card to all");
+    lines.note("127 bridges up and 128 down");
+    lines.sheet(&cards::furthest());
+    lines.from(cards::FURTHEST_START, &request(MWR, cards::FURTHEST));
+    lines.from(cards::FURTHEST_START, &request(MWR, cards::FURTHEST + 0x1000));
+    lines.note("source document 001's tree, from one card to all");
     let mut tree = board::document_001();
     for function in &mut tree.functions {
         function.command = ALL;
     }
-    script.board(&tree.bytes());
+    lines.board(&tree.bytes());
     for megabytes in 0..8 {
-        script.from(4, &request(MRD, 0x8000_0000 + (megabytes << 20)));
-        script.from(14, &request(MRD, 0x8000_0000 + (megabytes << 20)));
+        lines.from(4, &request(MRD, 0x8000_0000 + (megabytes << 20)));
+        lines.from(14, &request(MRD, 0x8000_0000 + (megabytes << 20)));
     }
 }

@@ -1,20 +1,10 @@
-//! Runs of the program `plan`: the board that each reads, and what it prints.
+//! Runs of the program `plan`: the board that each reads.
 
 use crate::traces::Run;
 use inputs::board::*;
 
 pub fn runs() -> Vec<Run> {
     [planned(), refused(), edges(), spares(), long()].concat()
-}
-
-/// What the program `plan` prints for its whole standard input.
-pub fn program(board: &[u8]) -> Vec<u8> {
-    let mut room = vec![0; plain::FULL_SHEET];
-    let text = match plain::plan(board, &mut room) {
-        Ok(length) => plain::listing(&room[..length]),
-        Err(number) => format!("refused {number}\n"),
-    };
-    text.into_bytes()
 }
 
 fn of(board: Board, change: impl Fn(&mut Board)) -> Vec<u8> {

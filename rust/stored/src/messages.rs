@@ -1,20 +1,20 @@
-//! The router's script for messages: every routing over planned sheets and others, and what is refused.
+//! The router's lines for messages: every routing over planned sheets and others, and what is refused.
 
+use crate::lines::Lines;
 use crate::routing::{bridge_and_end, changed, put};
-use crate::script::Script;
 use inputs::board::{self, memory, Board};
 use inputs::foreign::*;
 
-pub fn groups(script: &mut Script) {
-    every_routing(script);
-    by_address_and_by_id(script);
-    fields(script);
-    command_words(script);
-    planned_trees(script);
-    foreign_windows(script);
-    foreign_buses(script);
-    no_functions(script);
-    damaged(script);
+pub fn groups(lines: &mut Lines) {
+    every_routing(lines);
+    by_address_and_by_id(lines);
+    fields(lines);
+    command_words(lines);
+    planned_trees(lines);
+    foreign_windows(lines);
+    foreign_buses(lines);
+    no_functions(lines);
+    damaged(lines);
 }
 
 /// A code that the Base Specification sends by each routing: PM_PME, none by address, Vendor_Defined, PME_Turn_Off,
@@ -43,52 +43,52 @@ fn broadcast() -> Vec<u8> {
     any(MSG, 0b011)
 }
 
-fn put_every(script: &mut Script) {
+fn put_every(lines: &mut Lines) {
     for byte0 in [MSG, MSGD] {
         for routing in 0..6 {
-            script.header(&any(byte0, routing));
+            lines.header(&any(byte0, routing));
         }
     }
 }
 
-fn every_routing(script: &mut Script) {
-    script.note("messages: P10, Msg and MsgD, routing 000 to 101; then 110 and 111 (2)");
-    script.board(&board::p10().bytes());
-    put_every(script);
+fn every_routing(lines: &mut Lines) {
+    lines.note("messages: P10, Msg and MsgD, routing 000 to 101; then 110 and 111 (2)");
+    lines.board(&board::p10().bytes());
+    put_every(lines);
     for byte0 in [MSG, MSGD] {
         for routing in [0b110, 0b111] {
-            script.header(&message(byte0, routing, 0x20, 0));
+            lines.header(&message(byte0, routing, 0x20, 0));
         }
     }
-    script.note("what bytes 8 to 15 hold is free where nothing is routed by them");
+    lines.note("what bytes 8 to 15 hold is free where nothing is routed by them");
     for routing in [0b000, 0b011, 0b100, 0b101] {
-        script.header(&message(MSG, routing, 0xFF, u64::MAX));
-        script.header(&message(MSGD, routing, 0x00, 0xF900_0001));
+        lines.header(&message(MSG, routing, 0xFF, u64::MAX));
+        lines.header(&message(MSGD, routing, 0x00, 0xF900_0001));
     }
 }
 
-fn by_address_and_by_id(script: &mut Script) {
-    script.note("messages by address: P10's memory BARs, their edges, and its I/O BAR's address");
+fn by_address_and_by_id(lines: &mut Lines) {
+    lines.note("messages by address: P10's memory BARs, their edges, and its I/O BAR's address");
     for address in [0xF900_0000, 0xF900_0FFC, 0xF900_1000, 0xF8FF_FFFC, 0xF90F_FFFC, 0xF910_0000] {
-        script.header(&by_address(address));
+        lines.header(&by_address(address));
     }
     for address in [0x2_4000_0000, 0x2_43FF_FFFC, 0x2_4400_0000, 0x2_3FFF_FFFC, 0x1_F900_0000, 0x4000_0000] {
-        script.header(&message(MSGD, 0b001, 0x50, address));
+        lines.header(&message(MSGD, 0b001, 0x50, address));
     }
     for address in [0x4000, 0, u64::MAX - 3] {
-        script.header(&by_address(address));
+        lines.header(&by_address(address));
     }
-    script.note("messages by ID: the bridge, the function, and nobody; only bytes 8 and 9 are the ID");
+    lines.note("messages by ID: the bridge, the function, and nobody; only bytes 8 and 9 are the ID");
     for id in [0x0000, 0x0100, 0x0001, 0x0008, 0x0101, 0x0108, 0x0200, 0x00FF, 0xFF00, 0xFFFF] {
-        script.header(&by_id(id));
+        lines.header(&by_id(id));
     }
     for tail in [0x0100_FFFF_FFFF_FFFF, 0x0000_0100_0100_0100, 0x0001_0000_0000_0000, 0x0000_0000_0000_0100] {
-        script.header(&message(MSG, 0b010, 0x7E, tail));
+        lines.header(&message(MSG, 0b010, 0x7E, tail));
     }
 }
 
-fn fields(script: &mut Script) {
-    script.note("a message arrives with every field as it was");
+fn fields(lines: &mut Lines) {
+    lines.note("a message arrives with every field as it was");
     let tail = [0x01, 0x23, 0x45, 0x67, 0x89, 0xAB, 0xCD, 0xEF];
     for (byte0, tail) in [
         (0x71, [0, 0, 0, 2, 0x40, 0x00, 0x0F, 0xFC]),
@@ -97,18 +97,18 @@ fn fields(script: &mut Script) {
         (0x74, tail),
         (0x70, tail),
     ] {
-        script.header(&[&[byte0, 0x54, 0xF1, 0x05, 0xBE, 0xEF, 0xA5, 0x1E][..], &tail, &[0xFF, 0x00]].concat());
+        lines.header(&[&[byte0, 0x54, 0xF1, 0x05, 0xBE, 0xEF, 0xA5, 0x1E][..], &tail, &[0xFF, 0x00]].concat());
     }
     for byte0 in [0x31, 0x32, 0x33, 0x34, 0x35] {
-        script.header(&[byte0, 0x20, 0x40, 0x00, 0x12, 0x34, 0xFF, 0xFF, 0, 0, 0, 0, 0, 0, 0, 0]);
+        lines.header(&[byte0, 0x20, 0x40, 0x00, 0x12, 0x34, 0xFF, 0xFF, 0, 0, 0, 0, 0, 0, 0, 0]);
     }
-    script.note("1,024 dwords");
-    script.header(&changed(by_id(0x0100), &[(3, 0)]));
+    lines.note("1,024 dwords");
+    lines.header(&changed(by_id(0x0100), &[(3, 0)]));
 }
 
-fn command_words(script: &mut Script) {
-    script.note("messages: P10 with command words rewritten; only by address do they matter");
-    script.board(&board::p10().bytes());
+fn command_words(lines: &mut Lines) {
+    lines.note("messages: P10 with command words rewritten; only by address do they matter");
+    lines.board(&board::p10().bytes());
     for (id, word) in [
         (0x0100, 0x0001),
         (0x0100, 0x0002),
@@ -118,40 +118,40 @@ fn command_words(script: &mut Script) {
         (0x0100, 0x0000),
         (0x0000, 0x0000),
     ] {
-        script.command(id, word);
-        script.header(&by_address(0xF900_0000));
-        script.header(&by_address(0x2_4000_0000));
-        script.header(&by_id(0x0100));
+        lines.command(id, word);
+        lines.header(&by_address(0xF900_0000));
+        lines.header(&by_address(0x2_4000_0000));
+        lines.header(&by_id(0x0100));
     }
-    script.note("and with nothing enabled");
-    put_every(script);
+    lines.note("and with nothing enabled");
+    put_every(lines);
     let mut board = Board::new();
     let bridge = board.add(0, 0, 1, &[memory(12), board::io(4)]);
     board.end(bridge, 0, &[memory(12), board::io(4)]);
-    script.note("messages: a bridge with BARs of its own");
-    script.board(&board.bytes());
+    lines.note("messages: a bridge with BARs of its own");
+    lines.board(&board.bytes());
     for address in [0x8000_0000, 0x8000_0FFC, 0x8000_1000, 0x8010_0000, 0x1000, 0x2000] {
-        script.header(&by_address(address));
+        lines.header(&by_address(address));
     }
-    script.command(0x0000, 0x0005);
-    script.header(&by_address(0x8000_0000));
-    script.header(&by_address(0x8010_0000));
-    script.header(&by_id(0x0000));
+    lines.command(0x0000, 0x0005);
+    lines.header(&by_address(0x8000_0000));
+    lines.header(&by_address(0x8010_0000));
+    lines.header(&by_id(0x0000));
 }
 
-fn planned_trees(script: &mut Script) {
-    script.note("messages: source document 001's tree, every bus, and all its functions");
-    script.board(&board::document_001().bytes());
+fn planned_trees(lines: &mut Lines) {
+    lines.note("messages: source document 001's tree, every bus, and all its functions");
+    lines.board(&board::document_001().bytes());
     for bus in 0..=11 {
-        script.header(&by_id(bus << 8));
-        script.header(&by_id(bus << 8 | 8));
+        lines.header(&by_id(bus << 8));
+        lines.header(&by_id(bus << 8 | 8));
     }
-    put_every(script);
+    put_every(lines);
     let mut board = Board::new();
     let last = board.chain(0, 0, 32);
     board.end(last, 0x18, &[memory(12), board::io(8), board::high(24)[0], board::high(24)[1]]);
-    script.note("messages: 32 bridges");
-    script.board(&board.bytes());
+    lines.note("messages: 32 bridges");
+    lines.board(&board.bytes());
     for header in [
         by_address(0x8000_0FFC),
         by_address(0x8000_1000),
@@ -163,32 +163,32 @@ fn planned_trees(script: &mut Script) {
         by_id(0x2100),
         broadcast(),
     ] {
-        script.header(&header);
+        lines.header(&header);
     }
-    script.command(0x0800, 0x0005);
-    script.header(&by_address(0x8000_0FFC));
-    script.header(&by_id(0x2018));
-    script.header(&broadcast());
+    lines.command(0x0800, 0x0005);
+    lines.header(&by_address(0x8000_0FFC));
+    lines.header(&by_id(0x2018));
+    lines.header(&broadcast());
 }
 
-fn foreign_windows(script: &mut Script) {
+fn foreign_windows(lines: &mut Lines) {
     let [bridge, end] = bridge_and_end();
     put(
-        script,
+        lines,
         "messages: a BAR outside the window above it: 40",
         &[bridge.clone(), end.clone().value(0, 0xFA00_0000)],
         &[by_address(0xFA00_0000), by_address(0xF900_0000), by_id(0x0100), broadcast()],
     );
     put(
-        script,
+        lines,
         "messages: two windows over one address: 41",
         &[bridge.clone(), end.clone(), Record::bridge(0x0008, 2, 2).low(0xF9F0, 0xFA00)],
         &[by_address(0xF9F0_0000), by_address(0xF900_0000), by_address(0xFA00_0000), by_id(0x0008), broadcast()],
     );
-    script.command(0x0008, 0x0001);
-    script.header(&by_address(0xF9F0_0000));
+    lines.command(0x0008, 0x0001);
+    lines.header(&by_address(0xF9F0_0000));
     put(
-        script,
+        lines,
         "messages: two functions' BARs, a bridge's BAR inside its own window, and both its windows",
         &[
             bridge.clone().bar(1, memory(20), 0xF910_0000).high(0xF921, 0xF921, 0, 0),
@@ -198,7 +198,7 @@ fn foreign_windows(script: &mut Script) {
         &[by_address(0xF900_0000), by_address(0xF900_1000), by_address(0xF910_0000), by_address(0xF920_0000)],
     );
     put(
-        script,
+        lines,
         "messages: an I/O BAR is no claim, a memory BAR at the same address is",
         &[
             Record::end(0x0000).bar(0, 0xFFFF_FF01, 0x4001).bar(1, memory(7), 0x4080),
@@ -207,7 +207,7 @@ fn foreign_windows(script: &mut Script) {
         &[by_address(0x4000), by_address(0x407C), by_address(0x4080), by_address(0x40FC), by_address(0x4100)],
     );
     put(
-        script,
+        lines,
         "messages: a BAR at address 0, and BARs that end at 4 GiB and at 2^64",
         &[Record::end(0x0000).bar(5, memory(7), 0).bar(0, memory(7), 0xFFFF_FF80).wide(1, 12, 7, u64::MAX - 0x7F)],
         &[
@@ -223,9 +223,9 @@ fn foreign_windows(script: &mut Script) {
     );
 }
 
-fn foreign_buses(script: &mut Script) {
+fn foreign_buses(lines: &mut Lines) {
     put(
-        script,
+        lines,
         "messages: bus ranges that overlap",
         &[
             Record::bridge(0x0000, 1, 6),
@@ -238,7 +238,7 @@ fn foreign_buses(script: &mut Script) {
         &[by_id(0x0100), by_id(0x0500), by_id(0x0600), by_id(0x0700), by_id(0x0800), by_id(0x0008), broadcast()],
     );
     put(
-        script,
+        lines,
         "messages: the first record is on bus 5; a broadcast lists also what no walk reaches",
         &[
             Record::end(0x0500).bar(0, memory(20), 0x1000_0000),
@@ -262,15 +262,15 @@ fn foreign_buses(script: &mut Script) {
     );
 }
 
-fn no_functions(script: &mut Script) {
-    script.note("messages: no functions: 40, before 43");
-    script.board(&Board::new().bytes());
-    put_every(script);
-    script.header(&message(MSG, 0b110, 0x20, 0));
-    script.header(&by_address(1));
+fn no_functions(lines: &mut Lines) {
+    lines.note("messages: no functions: 40, before 43");
+    lines.board(&Board::new().bytes());
+    put_every(lines);
+    lines.header(&message(MSG, 0b110, 0x20, 0));
+    lines.header(&by_address(1));
 }
 
-fn damaged(script: &mut Script) {
+fn damaged(lines: &mut Lines) {
     let headers: Vec<Vec<u8>> = vec![
         any(MSG, 0b100)[..11].to_vec(),
         any(MSG, 0b100)[..12].to_vec(),
@@ -295,18 +295,18 @@ fn damaged(script: &mut Script) {
         changed(by_address(0xF900_0003), &[(3, 1)]),
         changed(any(MSG, 0b101), &[(2, 0x04), (3, 1)]),
     ];
-    script.note("damaged messages over P10's sheet");
-    script.board(&board::p10().bytes());
+    lines.note("damaged messages over P10's sheet");
+    lines.board(&board::p10().bytes());
     for header in &headers {
-        script.header(header);
+        lines.header(header);
     }
-    script.note("messages over a sheet that fails its checks, and over no bytes");
-    script.sheet(&sheet(&[Record::end(0x0100), Record::end(0x0100)]));
-    put_every(script);
+    lines.note("messages over a sheet that fails its checks, and over no bytes");
+    lines.sheet(&sheet(&[Record::end(0x0100), Record::end(0x0100)]));
+    put_every(lines);
     for header in headers.iter().step_by(3) {
-        script.header(header);
+        lines.header(header);
     }
-    script.sheet(&[]);
-    put_every(script);
-    script.header(&by_address(0xF900_0001));
+    lines.sheet(&[]);
+    put_every(lines);
+    lines.header(&by_address(0xF900_0001));
 }

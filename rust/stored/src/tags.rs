@@ -1,16 +1,16 @@
-//! The router's script for tags of ten bits: delivered as they are, and refused where a tag has eight.
+//! The router's lines for tags of ten bits: delivered as they are, and refused where a tag has eight.
 
+use crate::lines::Lines;
 use crate::routing::{bridge_and_end, changed, put};
-use crate::script::Script;
 use inputs::board::{self, Board};
 use inputs::foreign::*;
 
-pub fn groups(script: &mut Script) {
-    every_kind(script);
-    edges(script);
-    eight_bits(script);
-    refused(script);
-    deep(script);
+pub fn groups(lines: &mut Lines) {
+    every_kind(lines);
+    edges(lines);
+    eight_bits(lines);
+    refused(lines);
+    deep(lines);
 }
 
 /// A request or completion of every kind whose tag has ten bits, each with an owner on P10's sheet.
@@ -52,37 +52,37 @@ pub fn with_eight_bits() -> [Vec<u8>; 8] {
     ]
 }
 
-fn every_kind(script: &mut Script) {
-    script.note("tags of ten bits: P10, every kind that has them");
-    script.board(&board::p10().bytes());
+fn every_kind(lines: &mut Lines) {
+    lines.note("tags of ten bits: P10, every kind that has them");
+    lines.board(&board::p10().bytes());
     for header in with_ten_bits() {
-        script.header(&tagged(header, 0x321));
+        lines.header(&tagged(header, 0x321));
     }
 }
 
-fn edges(script: &mut Script) {
-    script.note("0, 255, 256, 511, 512, 767, 768 and 1,023: a read, a configuration read of type 1, a completion");
+fn edges(lines: &mut Lines) {
+    lines.note("0, 255, 256, 511, 512, 767, 768 and 1,023: a read, a configuration read of type 1, a completion");
     for header in [request(MRD, 0xF900_0000), configuration(CFGRD1, 0x0100, 0), completion(CPLD, 0x0100)] {
         for tag in [0, 255, 256, 511, 512, 767, 768, 1023] {
-            script.header(&tagged(header.clone(), tag));
+            lines.header(&tagged(header.clone(), tag));
         }
     }
-    script.note("beside TC, Attr2 and other fields");
-    script.header(&[0x01, 0xFC, 0xF8, 0x02, 0xBE, 0xEF, 0xFF, 0x5A, 0xF9, 0x00, 0x0F, 0xF8]);
-    script.header(&[0x4A, 0xFC, 0xF3, 0xFF, 0xFE, 0xDC, 0x9F, 0xFF, 0x01, 0x00, 0xFF, 0x7F]);
+    lines.note("beside TC, Attr2 and other fields");
+    lines.header(&[0x01, 0xFC, 0xF8, 0x02, 0xBE, 0xEF, 0xFF, 0x5A, 0xF9, 0x00, 0x0F, 0xF8]);
+    lines.header(&[0x4A, 0xFC, 0xF3, 0xFF, 0xFE, 0xDC, 0x9F, 0xFF, 0x01, 0x00, 0xFF, 0x7F]);
 }
 
-fn eight_bits(script: &mut Script) {
-    script.note("memory writes and messages have no bits 8 and 9 (4); 255 is lawful");
+fn eight_bits(lines: &mut Lines) {
+    lines.note("memory writes and messages have no bits 8 and 9 (4); 255 is lawful");
     for header in with_eight_bits() {
         for tag in [255, 256, 512] {
-            script.header(&tagged(header.clone(), tag));
+            lines.header(&tagged(header.clone(), tag));
         }
     }
 }
 
-fn refused(script: &mut Script) {
-    script.note("tags of ten bits: no owner, the wrong type, and wrong in another way");
+fn refused(lines: &mut Lines) {
+    lines.note("tags of ten bits: no owner, the wrong type, and wrong in another way");
     for header in [
         request(MRD, 0xF900_1000),
         request(IOWR, 0x4100),
@@ -97,18 +97,18 @@ fn refused(script: &mut Script) {
         changed(request(MRD, 0xF900_0FFC), &[(3, 2), (7, 0xFF)]),
         changed(completion(CPL, 0x0100), &[(6, 0x60)]),
     ] {
-        script.header(&tagged(header, 0x3A5));
+        lines.header(&tagged(header, 0x3A5));
     }
     for header in [request(MRD, 0xF900_0000), request(MWR, 0xF900_0000)] {
         for byte1 in [0x8A, 0x89] {
-            script.header(&changed(header.clone(), &[(1, byte1)]));
+            lines.header(&changed(header.clone(), &[(1, byte1)]));
         }
     }
     let [bridge, end] = bridge_and_end();
     let headers =
         [request(MRD, 0xF9F0_0000), request(MRD, 0xF900_0000), request(MWR, 0xF9F0_0000), completion(CPL, 0x0008)];
     put(
-        script,
+        lines,
         "tags of ten bits: two windows over one address: 41, but 4 for a write",
         &[bridge, end, Record::bridge(0x0008, 2, 2).low(0xF9F0, 0xFA00)],
         &headers.map(|header| tagged(header, 0x2C3)),
@@ -117,21 +117,21 @@ fn refused(script: &mut Script) {
         ("over a sheet that fails its checks", sheet(&[Record::end(0x0100), Record::end(0x0100)])),
         ("over a sheet with no functions", vec![1]),
     ] {
-        script.note(why);
-        script.sheet(&sheet);
-        script.header(&tagged(request(MRD, 0xF900_0000), 0x100));
-        script.header(&tagged(configuration(CFGRD0, 0x0200, 0), 0x200));
-        script.header(&tagged(request(MWR, 0xF900_0000), 0x100));
-        script.header(&tagged(message(MSG, 0b011, 0x19, 0), 0x200));
+        lines.note(why);
+        lines.sheet(&sheet);
+        lines.header(&tagged(request(MRD, 0xF900_0000), 0x100));
+        lines.header(&tagged(configuration(CFGRD0, 0x0200, 0), 0x200));
+        lines.header(&tagged(request(MWR, 0xF900_0000), 0x100));
+        lines.header(&tagged(message(MSG, 0b011, 0x19, 0), 0x200));
     }
 }
 
-fn deep(script: &mut Script) {
+fn deep(lines: &mut Lines) {
     let mut board = Board::new();
     let last = board.chain(0, 0, 32);
     board.end(last, 0x18, &[board::memory(12), board::io(8)]);
-    script.note("tags of ten bits: 32 bridges");
-    script.board(&board.bytes());
+    lines.note("tags of ten bits: 32 bridges");
+    lines.board(&board.bytes());
     for header in [
         request(MRD, 0x8000_0FFC),
         request(IORD, 0x10FC),
@@ -140,6 +140,6 @@ fn deep(script: &mut Script) {
         completion(CPLDLK, 0x2018),
         request(MWR, 0x8000_0FFC),
     ] {
-        script.header(&tagged(header, 0x35A));
+        lines.header(&tagged(header, 0x35A));
     }
 }

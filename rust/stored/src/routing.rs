@@ -1,71 +1,71 @@
-//! The router's script: planned sheets at their edges, command words, sheets that no planner wrote, refusals,
+//! The router's lines: planned sheets at their edges, command words, sheets that no planner wrote, refusals,
 //! messages, tags of ten bits, spare room, and card to card last.
 
 use crate::cards;
+use crate::lines::Lines;
 use crate::messages;
-use crate::script::Script;
 use crate::spares;
 use crate::tags;
 use inputs::board::{self, memory, wide, Board, Style};
 use inputs::foreign::*;
 use inputs::random::Random;
 
-pub fn script() -> String {
-    let mut script = Script::default();
-    no_sheet(&mut script);
-    example(&mut script);
-    command_words(&mut script);
-    tree(&mut script);
-    depth(&mut script);
-    edges(&mut script);
-    outside(&mut script);
-    contested(&mut script);
-    tops(&mut script);
-    io_windows(&mut script);
-    closed_spellings(&mut script);
-    odd_buses(&mut script);
-    long_chains(&mut script);
-    no_functions(&mut script);
-    damaged_headers(&mut script);
-    damaged_sheets(&mut script);
-    two_faults(&mut script);
-    full_sheets(&mut script);
-    messages::groups(&mut script);
-    tags::groups(&mut script);
-    spares::routes(&mut script);
-    cards::groups(&mut script);
-    script.0
+pub fn lines() -> String {
+    let mut lines = Lines::default();
+    no_sheet(&mut lines);
+    example(&mut lines);
+    command_words(&mut lines);
+    tree(&mut lines);
+    depth(&mut lines);
+    edges(&mut lines);
+    outside(&mut lines);
+    contested(&mut lines);
+    tops(&mut lines);
+    io_windows(&mut lines);
+    closed_spellings(&mut lines);
+    odd_buses(&mut lines);
+    long_chains(&mut lines);
+    no_functions(&mut lines);
+    damaged_headers(&mut lines);
+    damaged_sheets(&mut lines);
+    two_faults(&mut lines);
+    full_sheets(&mut lines);
+    messages::groups(&mut lines);
+    tags::groups(&mut lines);
+    spares::routes(&mut lines);
+    cards::groups(&mut lines);
+    lines.0
 }
 
 /// A sheet, then headers over it.
-pub fn put(script: &mut Script, why: &str, records: &[Record], headers: &[Vec<u8>]) {
-    script.note(why);
-    script.sheet(&sheet(records));
+pub fn put(lines: &mut Lines, why: &str, records: &[Record], headers: &[Vec<u8>]) {
+    lines.note(why);
+    lines.sheet(&sheet(records));
     for header in headers {
-        script.header(header);
+        lines.header(header);
     }
 }
 
-fn no_sheet(script: &mut Script) {
-    script.note("before any sheet");
-    script.header(&request(MRD, 0xF900_0FFC));
-    script.header(&request(MRD, 0xF900_0FFD));
-    script.header(&[]);
-    script.lookup(0x0000);
-    script.command(0x0000, 0x0003);
+fn no_sheet(lines: &mut Lines) {
+    lines.note("before any sheet");
+    lines.header(&request(MRD, 0xF900_0FFC));
+    lines.header(&request(MRD, 0xF900_0FFD));
+    lines.header(&[]);
+    lines.lookup(0x0000);
+    lines.command(0x0000, 0x0003);
 }
 
-fn example(script: &mut Script) {
-    script.note("P10");
-    script.board(&board::p10().bytes());
+fn example(lines: &mut Lines) {
+    lines.note("P10");
+    lines.board(&board::p10().bytes());
     for address in [0xF900_0FFC, 0xF900_1000, 0xF900_0000, 0xF8FF_FFFC, 0xF90F_FFFC] {
-        script.header(&request(MRD, address));
+        lines.header(&request(MRD, address));
     }
     for address in [0x2_4000_0000, 0x2_43FF_FFFC, 0x2_4400_0000, 0x2_3FFF_FFFC, 0x1_F900_0000, 0x4000_0000] {
-        script.header(&request(MWR, address));
+        lines.header(&request(MWR, address));
     }
     for address in [0x4000, 0x40FC, 0x4100, 0x3FFC, 0x1_4000 & 0xFFFF_FFFF] {
-        script.header(&request(IORD, address));
+        lines.header(&request(IORD, address));
     }
     for header in [
         configuration(CFGRD0, 0x0000, 0),
@@ -84,24 +84,24 @@ fn example(script: &mut Script) {
         completion(CPLDLK, 0x0108),
         completion(CPLD, 0x0200),
     ] {
-        script.header(&header);
+        lines.header(&header);
     }
-    script.note("small letters and spaces");
-    script.raw("header 00 00 00 01 00 00 21 0f f9 00 0f fc");
-    script.raw("header 0000 0001 0000210F  f9000FfC");
-    script.note("a request arrives with every field as it was");
-    script.header(&[0x60, 0x54, 0xF4, 0x10, 0xBE, 0xEF, 0xA5, 0x1E, 0, 0, 0, 2, 0x40, 0, 0x0F, 0xC0, 0xDE, 0xAD]);
-    script.header(&[0x01, 0x70, 0x48, 0x02, 0x12, 0x34, 0x00, 0x5A, 0xF9, 0x00, 0x0F, 0xF8]);
-    script.header(&[0x20, 0x00, 0x00, 0x00, 0x00, 0x08, 0x80, 0xFF, 0, 0, 0, 2, 0x42, 0x00, 0x00, 0x00]);
-    script.header(&[0x4A, 0x34, 0xD0, 0x00, 0xFE, 0xDC, 0x5F, 0xFF, 0x01, 0x00, 0xFF, 0x7F]);
+    lines.note("small letters and spaces");
+    lines.raw("header 00 00 00 01 00 00 21 0f f9 00 0f fc");
+    lines.raw("header 0000 0001 0000210F  f9000FfC");
+    lines.note("a request arrives with every field as it was");
+    lines.header(&[0x60, 0x54, 0xF4, 0x10, 0xBE, 0xEF, 0xA5, 0x1E, 0, 0, 0, 2, 0x40, 0, 0x0F, 0xC0, 0xDE, 0xAD]);
+    lines.header(&[0x01, 0x70, 0x48, 0x02, 0x12, 0x34, 0x00, 0x5A, 0xF9, 0x00, 0x0F, 0xF8]);
+    lines.header(&[0x20, 0x00, 0x00, 0x00, 0x00, 0x08, 0x80, 0xFF, 0, 0, 0, 2, 0x42, 0x00, 0x00, 0x00]);
+    lines.header(&[0x4A, 0x34, 0xD0, 0x00, 0xFE, 0xDC, 0x5F, 0xFF, 0x01, 0x00, 0xFF, 0x7F]);
     for id in [0x0000, 0x0100, 0x0101, 0xFFFF] {
-        script.lookup(id);
+        lines.lookup(id);
     }
 }
 
-fn command_words(script: &mut Script) {
-    script.note("P10 with command words rewritten");
-    script.board(&board::p10().bytes());
+fn command_words(lines: &mut Lines) {
+    lines.note("P10 with command words rewritten");
+    lines.board(&board::p10().bytes());
     let words = [
         (0x0000, 0x0000),
         (0x0000, 0x0001),
@@ -114,57 +114,57 @@ fn command_words(script: &mut Script) {
         (0x0100, 0x0403),
     ];
     for (id, word) in words {
-        script.command(id, word);
-        script.header(&request(MRD, 0xF900_0000));
-        script.header(&request(MRD, 0x2_4000_0000));
-        script.header(&request(IOWR, 0x4000));
-        script.header(&configuration(CFGRD1, 0x0100, 1));
+        lines.command(id, word);
+        lines.header(&request(MRD, 0xF900_0000));
+        lines.header(&request(MRD, 0x2_4000_0000));
+        lines.header(&request(IOWR, 0x4000));
+        lines.header(&configuration(CFGRD1, 0x0100, 1));
     }
-    script.header(&completion(CPL, 0x0100));
-    script.command(0x0200, 0x0003);
-    script.command(0x0001, 0x0003);
-    script.header(&request(MRD, 0xF900_0000));
+    lines.header(&completion(CPL, 0x0100));
+    lines.command(0x0200, 0x0003);
+    lines.command(0x0001, 0x0003);
+    lines.header(&request(MRD, 0xF900_0000));
     let mut board = Board::new();
     let bridge = board.add(0, 0, 1, &[memory(12), board::io(4)]);
     board.end(bridge, 0, &[memory(12), board::io(4)]);
     board.functions[0].command = 0;
     board.functions[1].command = 0;
-    script.note("a bridge with BARs of its own, nothing enabled");
-    script.board(&board.bytes());
+    lines.note("a bridge with BARs of its own, nothing enabled");
+    lines.board(&board.bytes());
     for (id, word) in [(0x0000, 0), (0x0000, 1), (0x0000, 2), (0x0100, 2), (0x0100, 1), (0x0000, 3), (0x0100, 3)] {
-        script.command(id, word);
+        lines.command(id, word);
         for address in [0x8000_0000, 0x8010_0000] {
-            script.header(&request(MRD, address));
+            lines.header(&request(MRD, address));
         }
         for address in [0x1000, 0x2000] {
-            script.header(&request(IORD, address));
+            lines.header(&request(IORD, address));
         }
     }
 }
 
-fn tree(script: &mut Script) {
-    script.note("source document 001's tree: every bus");
-    script.board(&board::document_001().bytes());
+fn tree(lines: &mut Lines) {
+    lines.note("source document 001's tree: every bus");
+    lines.board(&board::document_001().bytes());
     for bus in 0..=11 {
-        script.header(&configuration(CFGRD1, bus << 8, 2));
-        script.header(&configuration(CFGWR0, bus << 8, 2));
-        script.header(&completion(CPLD, bus << 8 | 8));
+        lines.header(&configuration(CFGRD1, bus << 8, 2));
+        lines.header(&configuration(CFGWR0, bus << 8, 2));
+        lines.header(&completion(CPLD, bus << 8 | 8));
     }
-    script.header(&completion(CPL, 0x0301));
-    script.header(&configuration(CFGRD1, 0x0301, 2));
-    script.header(&configuration(CFGRD1, 0x0610, 2));
-    script.header(&configuration(CFGRD1, 0xFF00, 2));
+    lines.header(&completion(CPL, 0x0301));
+    lines.header(&configuration(CFGRD1, 0x0301, 2));
+    lines.header(&configuration(CFGRD1, 0x0610, 2));
+    lines.header(&configuration(CFGRD1, 0xFF00, 2));
     for id in [0x0000, 0x0008, 0x0610, 0x0A00, 0x0A08] {
-        script.lookup(id);
+        lines.lookup(id);
     }
 }
 
-fn depth(script: &mut Script) {
+fn depth(lines: &mut Lines) {
     let mut board = Board::new();
     let last = board.chain(0, 0, 32);
     board.end(last, 0x18, &[memory(12), board::io(8), board::high(24)[0], board::high(24)[1]]);
-    script.note("32 bridges");
-    script.board(&board.bytes());
+    lines.note("32 bridges");
+    lines.board(&board.bytes());
     for header in [
         request(MRD, 0x8000_0FFC),
         request(MRD, 0x8000_1000),
@@ -177,18 +177,18 @@ fn depth(script: &mut Script) {
         completion(CPL, 0x2018),
         completion(CPL, 0x2100),
     ] {
-        script.header(&header);
+        lines.header(&header);
     }
-    script.command(0x0800, 0x0001);
-    script.header(&request(MRD, 0x8000_0000));
-    script.header(&request(IORD, 0x1000));
-    script.header(&configuration(CFGRD1, 0x2018, 0));
-    script.command(0x2018, 0x0002);
-    script.header(&request(IORD, 0x1000));
+    lines.command(0x0800, 0x0001);
+    lines.header(&request(MRD, 0x8000_0000));
+    lines.header(&request(IORD, 0x1000));
+    lines.header(&configuration(CFGRD1, 0x2018, 0));
+    lines.command(0x2018, 0x0002);
+    lines.header(&request(IORD, 0x1000));
 }
 
 /// The first, last and next dword of every BAR and window of planned sheets, each register read from the sheet.
-fn edges(script: &mut Script) {
+fn edges(lines: &mut Lines) {
     let mut numbers = Random::new(10_004);
     let styles = [
         Style { functions: 5, bridges: 40, memory_bits: 20, io_bits: 8 },
@@ -203,8 +203,8 @@ fn edges(script: &mut Script) {
             function.command |= if numbers.chance(5, 6) { 3 } else { 0 };
         }
         let Ok(length) = plain::plan(&board.bytes(), &mut room) else { continue };
-        script.note("a planned sheet: first, last and next dword of BARs and windows");
-        script.board(&board.bytes());
+        lines.note("a planned sheet: first, last and next dword of BARs and windows");
+        lines.board(&board.bytes());
         let mut requests = Vec::new();
         for record in room[1..length].chunks_exact(92) {
             bar_edges(record, &mut requests);
@@ -213,7 +213,7 @@ fn edges(script: &mut Script) {
         let keep = requests.len().div_ceil(30);
         let start = numbers.below(keep as u64) as usize;
         for header in requests.iter().skip(start).step_by(keep) {
-            script.header(header);
+            lines.header(header);
         }
     }
 }
@@ -272,23 +272,23 @@ pub fn bridge_and_end() -> [Record; 2] {
     [Record::bridge(0x0000, 1, 1).low(0xF900, 0xF9F0), Record::end(0x0100).bar(0, memory(12), 0xF900_0000)]
 }
 
-fn outside(script: &mut Script) {
+fn outside(lines: &mut Lines) {
     let [bridge, end] = bridge_and_end();
     let wide_end = |start| Record::end(0x0100).wide(2, 12, 20, start);
     put(
-        script,
+        lines,
         "a BAR outside the window above it: 40",
         &[bridge.clone(), end.clone().value(0, 0xFA00_0000)],
         &[request(MRD, 0xFA00_0000), request(MRD, 0xF900_0000)],
     );
     put(
-        script,
+        lines,
         "half of a BAR outside the window above it",
         &[bridge.clone().low(0xF900, 0xF900), Record::end(0x0100).bar(1, memory(21), 0xF900_0000 & !0x1F_FFFF)],
         &[request(MRD, 0xF900_0000), request(MRD, 0xF90F_FFFC), request(MRD, 0xF910_0000)],
     );
     put(
-        script,
+        lines,
         "a 64-bit BAR in the low window, and one in the high",
         &[
             bridge.clone().high(0x0011, 0x0011, 9, 9),
@@ -298,19 +298,19 @@ fn outside(script: &mut Script) {
         &[request(MRD, 0xF9F0_0000), request(MWR, 0x9_0010_0000), request(MWR, 0x9_0020_0000), request(MRD, 0x10_0000)],
     );
     put(
-        script,
+        lines,
         "a 32-bit BAR holds nothing above 4 GiB",
         &[bridge.clone().high(0xF901, 0xF901, 1, 1), end.clone()],
         &[request(MRD, 0xF900_0000), request(MRD, 0x1_F900_0000)],
     );
     put(
-        script,
+        lines,
         "a BAR at address 0 and an unused slot",
         &[Record::end(0x0000).bar(5, memory(7), 0).bar(1, 0xFFFF_FFFD, 1)],
         &[request(MRD, 0), request(MRD, 124), request(MRD, 128), request(IORD, 0), request(IORD, 4)],
     );
     put(
-        script,
+        lines,
         "every byte that no rule names is free",
         &[
             bridge.set(0x00, 0x86).set(0x06, 0xFF).set(0x1B, 9).set(0x1E, 0xA0).set(0x30, 0x11).set(0x3F, 0xFF),
@@ -320,27 +320,27 @@ fn outside(script: &mut Script) {
     );
 }
 
-fn contested(script: &mut Script) {
+fn contested(lines: &mut Lines) {
     let [bridge, end] = bridge_and_end();
     let twin = Record::bridge(0x0008, 2, 2).low(0xF9F0, 0xFA00);
     put(
-        script,
+        lines,
         "two windows over one address: 41",
         &[bridge.clone(), end.clone(), twin.clone()],
         &[request(MRD, 0xF9F0_0000), request(MRD, 0xF900_0000), request(MRD, 0xFA00_0000), request(MRD, 0xF9EF_FFFC)],
     );
     put(
-        script,
+        lines,
         "the same with the second disabled, then the first",
         &[bridge.clone().low(0xF900, 0xFA00), end.clone(), twin.clone().low(0xF900, 0xFA00).command(1)],
         &[request(MRD, 0xF900_0000)],
     );
-    script.command(0x0008, 0x0002);
-    script.header(&request(MRD, 0xF900_0000));
-    script.command(0x0000, 0x0001);
-    script.header(&request(MRD, 0xF900_0000));
+    lines.command(0x0008, 0x0002);
+    lines.header(&request(MRD, 0xF900_0000));
+    lines.command(0x0000, 0x0001);
+    lines.header(&request(MRD, 0xF900_0000));
     put(
-        script,
+        lines,
         "two functions' BARs over one address",
         &[
             bridge.clone(),
@@ -350,35 +350,35 @@ fn contested(script: &mut Script) {
         ],
         &[request(MRD, 0xF900_0000), request(MRD, 0xF900_0FFC), request(MRD, 0xF900_1000)],
     );
-    script.command(0x0101, 0x0000);
-    script.header(&request(MRD, 0xF900_0000));
-    script.header(&request(MRD, 0xF900_1000));
+    lines.command(0x0101, 0x0000);
+    lines.header(&request(MRD, 0xF900_0000));
+    lines.header(&request(MRD, 0xF900_1000));
     put(
-        script,
+        lines,
         "two BARs of one function",
         &[Record::end(0x0000).bar(0, memory(12), 0x1000).bar(1, memory(7), 0x1F80).wide(3, 12, 7, 0x1000)],
         &[request(MRD, 0x1000), request(MRD, 0x1080), request(MRD, 0x1F7C), request(MRD, 0x1F80)],
     );
     put(
-        script,
+        lines,
         "a bridge's BAR inside its own window",
         &[bridge.clone().bar(1, memory(20), 0xF900_0000), end.clone()],
         &[request(MRD, 0xF900_0000), request(MRD, 0xF910_0000)],
     );
     put(
-        script,
+        lines,
         "low and high window of one bridge over one address",
         &[bridge.clone().high(0xF901, 0xF911, 0, 0), Record::end(0x0100).bar(0, memory(22), 0xF900_0000)],
         &[request(MRD, 0xF900_0000), request(MRD, 0xF91F_FFFC), request(MRD, 0xF920_0000)],
     );
     put(
-        script,
+        lines,
         "a BAR of the other space is no claim",
         &[Record::end(0x0000).bar(0, memory(8), 0x4000).bar(1, 0xFFFF_FF01, 0x4001)],
         &[request(MRD, 0x4000), request(IORD, 0x4000), request(IORD, 0x40FC), request(IORD, 0x4100)],
     );
     put(
-        script,
+        lines,
         "contested on the second bus only",
         &[
             bridge.clone(),
@@ -389,7 +389,7 @@ fn contested(script: &mut Script) {
         &[request(MRD, 0xF900_0000), request(MRD, 0xF910_0000)],
     );
     put(
-        script,
+        lines,
         "two I/O windows, and an I/O BAR beside one",
         &[
             Record::bridge(0x0000, 1, 1).io(0x20, 0x30),
@@ -401,10 +401,10 @@ fn contested(script: &mut Script) {
     );
 }
 
-fn tops(script: &mut Script) {
+fn tops(lines: &mut Lines) {
     let top = u64::MAX - 0x7F;
     put(
-        script,
+        lines,
         "BARs that end at 2^64",
         &[
             Record::end(0x0000).wide(0, 12, 7, top).wide(2, 4, 62, 1 << 63),
@@ -422,7 +422,7 @@ fn tops(script: &mut Script) {
         ],
     );
     put(
-        script,
+        lines,
         "a BAR of 2^63 bytes, and both halves",
         &[Record::end(0x0000).wide(0, 12, 63, 1 << 63), Record::end(0x0008).wide(1, 12, 63, 0)],
         &[
@@ -434,7 +434,7 @@ fn tops(script: &mut Script) {
         ],
     );
     put(
-        script,
+        lines,
         "windows that end at 2^64 and at 2^32",
         &[
             Record::bridge(0x0000, 1, 1).high(0x0001, 0xFFF1, 0xFFFF_FFFF, 0xFFFF_FFFF).low(0x8000, 0xFFF0),
@@ -450,7 +450,7 @@ fn tops(script: &mut Script) {
         ],
     );
     put(
-        script,
+        lines,
         "a high window over everything",
         &[
             Record::bridge(0x0000, 1, 1).high(0x0001, 0xFFF1, 0, 0xFFFF_FFFF),
@@ -466,9 +466,9 @@ fn tops(script: &mut Script) {
     );
 }
 
-fn io_windows(script: &mut Script) {
+fn io_windows(lines: &mut Lines) {
     put(
-        script,
+        lines,
         "I/O windows hold nothing above FFFFh",
         &[
             Record::bridge(0x0000, 1, 1).io(0xF0, 0xF0),
@@ -491,7 +491,7 @@ fn io_windows(script: &mut Script) {
         ],
     );
     put(
-        script,
+        lines,
         "I/O BARs on the root bus hold nothing above FFFFh",
         &[Record::end(0x0000).bar(0, 0xFFFF_8001, 0x8001).bar(2, 0x0000_8001, 0x0001)],
         &[
@@ -504,7 +504,7 @@ fn io_windows(script: &mut Script) {
     );
 }
 
-fn closed_spellings(script: &mut Script) {
+fn closed_spellings(lines: &mut Lines) {
     let behind =
         Record::end(0x0100).bar(0, memory(20), 0x8000_0000).bar(1, 0xFFFF_F001, 0x2001).wide(2, 12, 20, 0x1_8000_0000);
     let headers = [request(MRD, 0x8000_0000), request(IORD, 0x2000), request(MRD, 0x1_8000_0000)];
@@ -519,21 +519,21 @@ fn closed_spellings(script: &mut Script) {
         ("the usual spelling with upper words", bridge().high(0xFFF1, 0x0001, 0xFFFF_FFFF, 0)),
     ];
     for (why, bridge) in spellings {
-        put(script, &format!("windows: {why}"), &[bridge, behind.clone()], &headers);
+        put(lines, &format!("windows: {why}"), &[bridge, behind.clone()], &headers);
     }
-    script.header(&request(MRD, 0));
+    lines.header(&request(MRD, 0));
     put(
-        script,
+        lines,
         "registers of 0 contest the first MiB",
         &[bridge().low(0, 0).high(1, 1, 0, 0), Record::end(0x0100).bar(0, memory(20), 0)],
         &[request(MRD, 0), request(MRD, 0x10_0000)],
     );
 }
 
-fn odd_buses(script: &mut Script) {
+fn odd_buses(lines: &mut Lines) {
     let card = |id: u16, start| Record::end(id).bar(0, memory(20), start);
     put(
-        script,
+        lines,
         "two bridges to one bus",
         &[
             Record::bridge(0x0000, 3, 3).low(0x1000, 0x1000),
@@ -550,7 +550,7 @@ fn odd_buses(script: &mut Script) {
         ],
     );
     put(
-        script,
+        lines,
         "the first record is on bus 5, a bridge above it is never met",
         &[
             card(0x0500, 0x1000_0000),
@@ -572,10 +572,10 @@ fn odd_buses(script: &mut Script) {
             completion(CPLD, 0x0508),
         ],
     );
-    script.lookup(0x0008);
-    script.lookup(0x0900);
+    lines.lookup(0x0008);
+    lines.lookup(0x0900);
     put(
-        script,
+        lines,
         "bus ranges that overlap, and one that promises too much",
         &[
             Record::bridge(0x0000, 1, 6),
@@ -604,12 +604,12 @@ fn odd_buses(script: &mut Script) {
             completion(CPL, 0x0018),
         ],
     );
-    script.command(0x0008, 0);
-    script.command(0x0508, 0);
-    script.header(&configuration(CFGWR1, 0x0700, 0));
-    script.header(&completion(CPL, 0x0700));
+    lines.command(0x0008, 0);
+    lines.command(0x0508, 0);
+    lines.header(&configuration(CFGWR1, 0x0700, 0));
+    lines.header(&completion(CPL, 0x0700));
     put(
-        script,
+        lines,
         "buses up to 255",
         &[
             Record::bridge(0xFD00, 0xFE, 0xFF).low(0x1000, 0x1000),
@@ -627,21 +627,21 @@ fn odd_buses(script: &mut Script) {
         ],
     );
     put(
-        script,
+        lines,
         "a window to a bus without functions",
         &[Record::bridge(0x0000, 1, 3).low(0x1000, 0x1000), card(0x0200, 0x1000_0000)],
         &[request(MRD, 0x1000_0000), configuration(CFGRD1, 0x0200, 0), configuration(CFGRD1, 0x0100, 0)],
     );
 }
 
-fn long_chains(script: &mut Script) {
+fn long_chains(lines: &mut Lines) {
     for count in [40, 255] {
         let mut records: Vec<Record> = (0..count)
             .map(|bus: u16| Record::bridge(bus << 8, bus as u8 + 1, count as u8).low(0x1000, 0x1000).io(0x30, 0x30))
             .collect();
         records.push(Record::end(count << 8).bar(0, memory(7), 0x1000_0080).bar(1, 0xFFFF_FFFD, 0x3001));
         put(
-            script,
+            lines,
             &format!("{count} bridges in a row"),
             &records,
             &[
@@ -655,16 +655,16 @@ fn long_chains(script: &mut Script) {
                 message(MSG, 0b011, 0x19, 0),
             ],
         );
-        script.command((count - 1) << 8, 2);
-        script.header(&request(MRD, 0x1000_0080));
-        script.header(&request(IORD, 0x3000));
-        script.lookup(count << 8);
+        lines.command((count - 1) << 8, 2);
+        lines.header(&request(MRD, 0x1000_0080));
+        lines.header(&request(IORD, 0x3000));
+        lines.lookup(count << 8);
     }
 }
 
-fn no_functions(script: &mut Script) {
-    script.note("no functions: 40 before 42");
-    script.board(&Board::new().bytes());
+fn no_functions(lines: &mut Lines) {
+    lines.note("no functions: 40 before 42");
+    lines.board(&Board::new().bytes());
     for header in [
         request(MRD, 0x8000_0000),
         request(IORD, 0x1000),
@@ -674,10 +674,10 @@ fn no_functions(script: &mut Script) {
         completion(CPL, 0x0000),
         request(MRD, 0x8000_0001),
     ] {
-        script.header(&header);
+        lines.header(&header);
     }
-    script.lookup(0x0000);
-    script.command(0x0000, 0x0003);
+    lines.lookup(0x0000);
+    lines.command(0x0000, 0x0003);
 }
 
 /// A header with some of its bytes changed.
@@ -688,7 +688,7 @@ pub fn changed(mut header: Vec<u8>, changes: &[(usize, u8)]) -> Vec<u8> {
     header
 }
 
-fn damaged_headers(script: &mut Script) {
+fn damaged_headers(lines: &mut Lines) {
     let low = || request(MRD, 0xF900_0000);
     let high = || request(MRD, 0x2_4000_0000);
     let headers: Vec<Vec<u8>> = vec![
@@ -722,35 +722,35 @@ fn damaged_headers(script: &mut Script) {
         changed(completion(CPL, 0x0100), &[(6, 0x60)]),
         changed(completion(CPLD, 0x0100), &[(6, 0xA0)]),
     ];
-    script.note("damaged headers over P10's sheet");
-    script.board(&board::p10().bytes());
+    lines.note("damaged headers over P10's sheet");
+    lines.board(&board::p10().bytes());
     for header in &headers {
-        script.header(header);
+        lines.header(header);
     }
-    script.note("and over a sheet that fails its checks");
-    script.sheet(&sheet(&[Record::end(0x0100), Record::end(0x0100)]));
+    lines.note("and over a sheet that fails its checks");
+    lines.sheet(&sheet(&[Record::end(0x0100), Record::end(0x0100)]));
     for header in headers.iter().step_by(4) {
-        script.header(header);
+        lines.header(header);
     }
-    script.header(&low());
-    script.header(&configuration(CFGRD0, 0x0200, 0));
-    script.lookup(0x0100);
-    script.lookup(0x0200);
-    script.command(0x0100, 0x0000);
-    script.note("a refused board leaves the sheet before it");
-    script.board(&board::p10().bytes());
-    script.board(&[1]);
-    script.header(&low());
+    lines.header(&low());
+    lines.header(&configuration(CFGRD0, 0x0200, 0));
+    lines.lookup(0x0100);
+    lines.lookup(0x0200);
+    lines.command(0x0100, 0x0000);
+    lines.note("a refused board leaves the sheet before it");
+    lines.board(&board::p10().bytes());
+    lines.board(&[1]);
+    lines.header(&low());
 }
 
-fn damaged_sheets(script: &mut Script) {
+fn damaged_sheets(lines: &mut Lines) {
     let good = || {
         vec![
             Record::bridge(0x0000, 1, 2).low(0xF900, 0xF900).bar(0, 0xFFFF_FF01, 0x4001),
             Record::end(0x0100).bar(0, memory(12), 0xF900_0000).wide(1, 12, 33, 0x6_0000_0000),
         ]
     };
-    put(script, "a good sheet, damaged below", &good(), &[request(MRD, 0xF900_0000)]);
+    put(lines, "a good sheet, damaged below", &good(), &[request(MRD, 0xF900_0000)]);
     let bytes = sheet(&good());
     let shortened = |mut bytes: Vec<u8>, at: usize, byte: u8| {
         bytes[at] = byte;
@@ -770,8 +770,8 @@ fn damaged_sheets(script: &mut Script) {
         ("the version alone", vec![1]),
     ];
     for (why, bytes) in raw {
-        script.note(why);
-        script.sheet(&bytes);
+        lines.note(why);
+        lines.sheet(&bytes);
     }
     let change = |index: usize, change: &dyn Fn(Record) -> Record| {
         let mut records = good();
@@ -825,15 +825,15 @@ fn damaged_sheets(script: &mut Script) {
         ("29: high limit", change(0, &|r| r.high(0xFFF1, 0x0003, 0, 0))),
     ];
     for (why, records) in sheets {
-        put(script, why, &records, &[]);
+        put(lines, why, &records, &[]);
     }
-    script.header(&request(MRD, 0xF900_0000));
-    script.lookup(0x0000);
-    script.command(0x0000, 0);
+    lines.header(&request(MRD, 0xF900_0000));
+    lines.lookup(0x0000);
+    lines.command(0x0000, 0);
 }
 
 /// Sheets with two faults, whose numbers show the order of the checks.
-fn two_faults(script: &mut Script) {
+fn two_faults(lines: &mut Lines) {
     type Damage = fn(&mut Vec<Record>);
     let good = vec![
         Record::end(0x0008).bar(0, memory(12), 0xF900_0000),
@@ -852,21 +852,21 @@ fn two_faults(script: &mut Script) {
     let mut bytes = sheet(&good);
     bytes[0] = 2;
     bytes.push(0);
-    script.note("21 before 20");
-    script.sheet(&bytes);
+    lines.note("21 before 20");
+    lines.sheet(&bytes);
     for (i, (first, damage)) in faults.iter().enumerate() {
         for (second, other) in &faults[i + 1..] {
             let mut records = good.clone();
             other(&mut records);
             damage(&mut records);
-            script.note(&format!("{first} before {second}"));
-            script.sheet(&sheet(&records));
+            lines.note(&format!("{first} before {second}"));
+            lines.sheet(&sheet(&records));
         }
     }
 }
 
 /// A full sheet, and one record more.
-fn full_sheets(script: &mut Script) {
+fn full_sheets(lines: &mut Lines) {
     let mut board = Board { io: (0, 0xFFFF), ..Board::new() };
     for device in 0..32 {
         let bridge = board.bridge(0, device << 3);
@@ -874,8 +874,8 @@ fn full_sheets(script: &mut Script) {
             board.end(bridge, end << 3, &[memory(12), if device % 2 == 0 { board::io(4) } else { 0 }]);
         }
     }
-    script.note("a full sheet");
-    script.board(&board.bytes());
+    lines.note("a full sheet");
+    lines.board(&board.bytes());
     for header in [
         request(MRD, 0x8000_0000),
         request(MRD, 0x81F0_EFFC),
@@ -891,15 +891,15 @@ fn full_sheets(script: &mut Script) {
         message(MSG, 0b100, 0x20, 0),
         message(MSG, 0b000, 0x18, 0),
     ] {
-        script.header(&header);
+        lines.header(&header);
     }
     for id in [0x0000, 0x0170, 0x2070, 0x2078] {
-        script.lookup(id);
+        lines.lookup(id);
     }
-    script.command(0x2070, 0);
-    script.header(&request(MRD, 0x81F0_EFFC));
+    lines.command(0x2070, 0);
+    lines.header(&request(MRD, 0x81F0_EFFC));
     let mut records: Vec<Record> = (0..513).map(Record::end).collect();
     records[200].registers[0x0E] = 5;
     records[512].id = 0;
-    put(script, "22 before 24 and 28", &records, &[request(MRD, 0), message(MSG, 0b011, 0x19, 0)]);
+    put(lines, "22 before 24 and 28", &records, &[request(MRD, 0), message(MSG, 0b011, 0x19, 0)]);
 }

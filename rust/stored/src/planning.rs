@@ -1,58 +1,58 @@
-//! The planner's script: every shape of board, every pool to its last byte, every refusal.
+//! The planner's lines: every shape of board, every pool to its last byte, every refusal.
 
-use crate::script::Script;
+use crate::lines::Lines;
 use crate::spares;
 use inputs::board::*;
 use inputs::random::Random;
 
 const MIB: u32 = 1 << 20;
 
-pub fn script() -> String {
-    let mut script = Script::default();
-    examples(&mut script);
-    shapes(&mut script);
-    buses(&mut script);
-    low_pool(&mut script);
-    high_pool(&mut script);
-    io_pool(&mut script);
-    closed_pools(&mut script);
-    huge_sizes(&mut script);
-    slots(&mut script);
-    io_read_backs(&mut script);
-    memory_read_backs(&mut script);
-    least_bars(&mut script);
-    refused_20_21(&mut script);
-    refused_22_24(&mut script);
-    refused_26(&mut script);
-    refused_23(&mut script);
-    two_faults(&mut script);
-    random_boards(&mut script);
-    long_boards(&mut script);
-    spares::boards(&mut script);
-    script.0
+pub fn lines() -> String {
+    let mut lines = Lines::default();
+    examples(&mut lines);
+    shapes(&mut lines);
+    buses(&mut lines);
+    low_pool(&mut lines);
+    high_pool(&mut lines);
+    io_pool(&mut lines);
+    closed_pools(&mut lines);
+    huge_sizes(&mut lines);
+    slots(&mut lines);
+    io_read_backs(&mut lines);
+    memory_read_backs(&mut lines);
+    least_bars(&mut lines);
+    refused_20_21(&mut lines);
+    refused_22_24(&mut lines);
+    refused_26(&mut lines);
+    refused_23(&mut lines);
+    two_faults(&mut lines);
+    random_boards(&mut lines);
+    long_boards(&mut lines);
+    spares::boards(&mut lines);
+    lines.0
 }
 
 /// Notes what the board shows and writes it.
-pub fn put(script: &mut Script, why: &str, board: &Board) {
-    script.note(why);
-    script.board(&board.bytes());
+pub fn put(lines: &mut Lines, why: &str, board: &Board) {
+    lines.note(why);
+    lines.board(&board.bytes());
 }
 
-fn examples(script: &mut Script) {
-    put(script, "P10", &p10());
-    put(script, "source document 001's tree", &document_001());
-    put(script, "P8: no functions", &Board::new());
-    put(script, "P8 with all pools closed", &Board::closed());
+fn examples(lines: &mut Lines) {
+    put(lines, "P10", &p10());
+    put(lines, "source document 001's tree", &document_001());
+    put(lines, "P8: no functions", &Board::new());
+    put(lines, "P8 with all pools closed", &Board::closed());
     let mut p7 = Board { low: (0xF900_0000, 0xF90F_FFFF), ..Board::new() };
     p7.end(0, 0, &[memory(20)]);
-    put(script, "P7: one BAR of 1 MiB in a low pool of 1 MiB", &p7);
+    put(lines, "P7: one BAR of 1 MiB in a low pool of 1 MiB", &p7);
     p7.end(0, 8, &[memory(20)]);
-    put(script, "P7: two: 31", &p7);
+    put(lines, "P7: two: 31", &p7);
     let mut p9 = Board::new();
     p9.end(0, 0, &[0xF0FF_F000]);
-    put(script, "P9: 25", &p9);
+    put(lines, "P9: 25", &p9);
     for count in [255, 256] {
-        put(script, &format!("P6: {count} bridges on buses 0 to 255"), &flat_bridges(count));
+        put(lines, &format!("P6: {count} bridges on buses 0 to 255"), &flat_bridges(count));
     }
 }
 
@@ -65,12 +65,12 @@ fn flat_bridges(count: usize) -> Board {
     board
 }
 
-fn shapes(script: &mut Script) {
+fn shapes(lines: &mut Lines) {
     let card = [memory(12), 0, io(4), prefetchable(16), high(21)[0], high(21)[1]];
     let mut board = Board::new();
     let last = board.chain(0, 0, 32);
     board.end(last, 0, &card);
-    put(script, "32 bridges above an endpoint", &board);
+    put(lines, "32 bridges above an endpoint", &board);
 
     let mut board = Board::new();
     let mut above = 0;
@@ -84,38 +84,38 @@ fn shapes(script: &mut Script) {
     for level in levels.into_iter().rev() {
         board.end(level, 0xF8, &[memory(7), high(7)[0], high(7)[1]]);
     }
-    put(script, "32 bridges with endpoints before and after each", &board);
+    put(lines, "32 bridges with endpoints before and after each", &board);
 
     let mut board = Board::new();
     board.chain(0, 0, 33);
-    put(script, "a chain of 33 bridges with nothing below", &board);
+    put(lines, "a chain of 33 bridges with nothing below", &board);
     board.end(0, 0x08, &card);
-    put(script, "the same with an endpoint on the root bus after it", &board);
+    put(lines, "the same with an endpoint on the root bus after it", &board);
     let mut board = Board::new();
     let last = board.chain(0, 0, 33);
     board.end(last, 0, &card);
-    put(script, "an endpoint below 33 bridges: 23", &board);
+    put(lines, "an endpoint below 33 bridges: 23", &board);
     let mut board = Board::new();
     board.chain(0, 0, 34);
-    put(script, "a chain of 34 bridges: 23", &board);
+    put(lines, "a chain of 34 bridges: 23", &board);
     let mut board = Board::new();
     for device_function in [0x00, 0x08, 0x10] {
         let last = board.chain(0, device_function, 32);
         board.end(last, 0x10, &card);
     }
-    put(script, "three chains of 32 bridges", &board);
+    put(lines, "three chains of 32 bridges", &board);
 
     let mut board = Board::new();
     for device in 0..32 {
         board.end(0, device << 3, &[memory(7 + u32::from(device) % 14), io(2 + u32::from(device) % 6)]);
     }
-    put(script, "32 devices on the root bus", &board);
+    put(lines, "32 devices on the root bus", &board);
     let mut board = Board::new();
     for device_function in 0..=255 {
         board.add(0, device_function, 0x80, &[0, 0, 0, 0, 0, memory(12)]);
     }
-    put(script, "256 functions on the root bus", &board);
-    put(script, "512 functions: 255 and a bridge on the root bus, 256 below it", &full(&[0, 0, 0, 0, 0, memory(12)]));
+    put(lines, "256 functions on the root bus", &board);
+    put(lines, "512 functions: 255 and a bridge on the root bus, 256 below it", &full(&[0, 0, 0, 0, 0, memory(12)]));
     let mut board = Board { io: (0, 0xFFFF), ..Board::new() };
     for device in 0..32 {
         let bridge = board.bridge(0, device << 3);
@@ -124,10 +124,10 @@ fn shapes(script: &mut Script) {
             board.end(bridge, end << 3, &[prefetchable(14), if device % 2 == 0 { io(4) } else { 0 }]);
         }
     }
-    put(script, "512 functions: 32 bridges with 15 endpoints each", &board);
+    put(lines, "512 functions: 32 bridges with 15 endpoints each", &board);
     let mut board = Board::new();
     halves(&mut board, 0, 0, 7);
-    put(script, "bridges in pairs, seven deep, 128 endpoints", &board);
+    put(lines, "bridges in pairs, seven deep, 128 endpoints", &board);
     let mut board = Board::new();
     let mut bridges = 0;
     for device in 0..31 {
@@ -138,7 +138,7 @@ fn shapes(script: &mut Script) {
             bridges += 1;
         }
     }
-    put(script, &format!("{bridges} bridges on the root bus with one endpoint each"), &board);
+    put(lines, &format!("{bridges} bridges on the root bus with one endpoint each"), &board);
     for shift in 0..2 {
         let mut board = Board::new();
         for function in 0..8 {
@@ -151,7 +151,7 @@ fn shapes(script: &mut Script) {
                 board.add(0, 0x18 | function, multiple, &[memory(15), 0, io(6)]);
             }
         }
-        put(script, "eight functions of a device, every second a bridge", &board);
+        put(lines, "eight functions of a device, every second a bridge", &board);
     }
     let mut board = Board::new();
     let a = board.bridge(0, 0);
@@ -162,13 +162,13 @@ fn shapes(script: &mut Script) {
     let d = board.bridge(a, 8);
     board.bridge(d, 0);
     board.end(0, 8, &[memory(22)]);
-    put(script, "back from the depth one bridge, then two", &board);
+    put(lines, "back from the depth one bridge, then two", &board);
     let mut board = Board::new();
     for device in 0..4 {
         let bridge = board.bridge(0, device << 3);
         board.bridge(bridge, 0);
     }
-    put(script, "bridges with nothing below: every window closed", &board);
+    put(lines, "bridges with nothing below: every window closed", &board);
     let mut board = Board::new();
     board.add(0, 0x00, 0x81, &[]);
     board.add(0, 0x08, 0x80, &[]);
@@ -176,13 +176,13 @@ fn shapes(script: &mut Script) {
     board.add(0, 0x11, 0x80, &[]);
     board.add(0, 0x17, 0x81, &[]);
     board.add(5, 0xF8, 0x80, &[io(2)]);
-    put(script, "bit 7 where it is free", &board);
+    put(lines, "bit 7 where it is free", &board);
     let mut board = Board::new();
     let bridge = board.bridge(0, 0);
     board.end(bridge, 0, &[memory(12)]);
     board.functions[0].command = 0;
     board.functions[1].command = 0xFFFF;
-    put(script, "command words as given", &board);
+    put(lines, "command words as given", &board);
 }
 
 /// Two bridges below `parent`, and so on; two endpoints at the bottom.
@@ -197,13 +197,13 @@ fn halves(board: &mut Board, parent: u16, level: u32, levels: u32) {
     }
 }
 
-fn buses(script: &mut Script) {
+fn buses(lines: &mut Lines) {
     for (buses, bridges) in
         [((0, 0), 0), ((0, 0), 1), ((255, 255), 0), ((255, 255), 1), ((250, 255), 5), ((250, 255), 6)]
     {
         let mut board = Board { buses, ..Board::new() };
         board.chain(0, 0, bridges);
-        put(script, &format!("buses {} to {}, {bridges} bridges", buses.0, buses.1), &board);
+        put(lines, &format!("buses {} to {}, {bridges} bridges", buses.0, buses.1), &board);
     }
     for last in [17, 16, 15] {
         let mut board = Board { buses: (7, last), ..Board::new() };
@@ -211,11 +211,11 @@ fn buses(script: &mut Script) {
             board.chain(0, device << 3, 3);
         }
         board.end(9, 0, &[memory(12)]);
-        put(script, &format!("nine bridges in chains of three on buses 7 to {last}"), &board);
+        put(lines, &format!("nine bridges in chains of three on buses 7 to {last}"), &board);
     }
 }
 
-fn low_pool(script: &mut Script) {
+fn low_pool(lines: &mut Lines) {
     let pool = |first: u32, count: u32| Board { low: (first, first + (count * MIB - 1)), ..Board::new() };
     let bars: [(&str, &[u32]); 6] = [
         ("512 KiB, 256 KiB, 256 KiB fill 1 MiB", &[memory(19), memory(18), memory(18)]),
@@ -228,29 +228,29 @@ fn low_pool(script: &mut Script) {
     for (why, read_backs) in bars {
         let mut board = pool(0xA000_0000, 1);
         board.end(0, 0, read_backs);
-        put(script, &format!("low: {why}"), &board);
+        put(lines, &format!("low: {why}"), &board);
     }
     for (count, first) in [(1, 0), (1, 0xFFF0_0000), (2, 0xFFE0_0000)] {
         let mut board = pool(first, count);
         let bridge = board.bridge(0, 0);
         board.end(bridge, 0, &[memory(7)]);
-        put(script, &format!("low: 128 bytes behind a bridge, {count} MiB at {first:08X}"), &board);
+        put(lines, &format!("low: 128 bytes behind a bridge, {count} MiB at {first:08X}"), &board);
         let bridge = board.bridge(0, 8);
         board.end(bridge, 0, &[memory(7)]);
-        put(script, "low: and 128 bytes behind a second one", &board);
+        put(lines, "low: and 128 bytes behind a second one", &board);
     }
     for count in [1, 2] {
         let mut board = pool(0x1000_0000, count);
         let bridge = board.add(0, 0, 1, &[memory(7)]);
         board.end(bridge, 0, &[memory(20)]);
-        put(script, &format!("low: a bridge's own BAR beside its window, {count} MiB"), &board);
+        put(lines, &format!("low: a bridge's own BAR beside its window, {count} MiB"), &board);
     }
     for count in [16, 17] {
         let mut board = pool(0x0010_0000, count);
         let bridge = board.bridge(0, 0);
         board.end(bridge, 0, &[memory(23), memory(7)]);
         board.end(0, 8, &[memory(20)]);
-        put(script, &format!("low: 8 MiB behind a bridge, pool of {count} MiB from 1 MiB"), &board);
+        put(lines, &format!("low: 8 MiB behind a bridge, pool of {count} MiB from 1 MiB"), &board);
     }
     let mut board = pool(0, 64);
     let outer = board.bridge(0, 0);
@@ -259,158 +259,158 @@ fn low_pool(script: &mut Script) {
     board.end(inner, 0, &[memory(20), memory(23)]);
     board.end(outer, 0x10, &[memory(20)]);
     board.end(0, 8, &[memory(21)]);
-    put(script, "low: the inner window's alignment counts outside", &board);
+    put(lines, "low: the inner window's alignment counts outside", &board);
     let four_gib = wide(32);
     let mut board = Board { low: (0, 0xFFFF_FFFF), ..Board::new() };
     board.end(0, 0, &four_gib);
-    put(script, "low: 4 GiB on the root bus fill the whole pool", &board);
+    put(lines, "low: 4 GiB on the root bus fill the whole pool", &board);
     board.end(0, 8, &[memory(7)]);
-    put(script, "low: and 128 bytes more: 31", &board);
+    put(lines, "low: and 128 bytes more: 31", &board);
     let mut board = Board { low: (0, 0xFFFF_FFFF), ..Board::new() };
     let last = board.chain(0, 0, 2);
     board.end(last, 0, &four_gib);
-    put(script, "low: 4 GiB behind two bridges", &board);
+    put(lines, "low: 4 GiB behind two bridges", &board);
     let mut board = Board { low: (MIB, 0xFFFF_FFFF), ..Board::new() };
     board.end(0, 0, &four_gib);
-    put(script, "low: 4 GiB in a pool from 1 MiB: 31", &board);
+    put(lines, "low: 4 GiB in a pool from 1 MiB: 31", &board);
     let mut board = Board { low: (0, 0xFFFF_FFFF), ..Board::new() };
     let bridge = board.bridge(0, 0);
     board.end(bridge, 0, &[memory(31)]);
     board.end(0, 8, &[prefetchable(31)]);
-    put(script, "low: 2 GiB twice fill the whole pool", &board);
+    put(lines, "low: 2 GiB twice fill the whole pool", &board);
 }
 
-fn high_pool(script: &mut Script) {
+fn high_pool(lines: &mut Lines) {
     let gib = 1 << 30;
     let pool = |first: u64, length: u64| Board { high: (first, first + (length - 1)), ..Board::new() };
     for bits in [28, 7] {
         let mut board = pool(1 << 32, gib);
         board.end(0, 0, &[high(29), high(28), high(bits)].concat());
-        put(script, "high: 512 MiB, 256 MiB and one more in 1 GiB", &board);
+        put(lines, "high: 512 MiB, 256 MiB and one more in 1 GiB", &board);
         board.end(0, 8, &high(bits));
-        put(script, "high: and once more", &board);
+        put(lines, "high: and once more", &board);
     }
     for count in [1, 2] {
         let mut board = pool(0xF_FFE0_0000, count << 20);
         let bridge = board.bridge(0, 0);
         board.end(bridge, 0, &high(7));
-        put(script, &format!("high: 128 bytes behind a bridge, {count} MiB up to a 4 GiB edge"), &board);
+        put(lines, &format!("high: 128 bytes behind a bridge, {count} MiB up to a 4 GiB edge"), &board);
         let other = board.bridge(bridge, 8);
         board.end(other, 0, &high(8));
-        put(script, "high: and 256 behind a bridge below it", &board);
+        put(lines, "high: and 256 behind a bridge below it", &board);
     }
     let whole = pool(1 << 32, (1 << 52) - (1 << 32));
     let mut board = whole.clone();
     board.end(0, 0, &high(51));
-    put(script, "high: 2^51 bytes end at the last byte below 2^52", &board);
+    put(lines, "high: 2^51 bytes end at the last byte below 2^52", &board);
     board.end(0, 8, &high(7));
-    put(script, "high: and 128 bytes: 32", &board);
+    put(lines, "high: and 128 bytes: 32", &board);
     let mut board = whole.clone();
     let bridge = board.bridge(0, 0);
     board.end(bridge, 0, &high(51));
-    put(script, "high: 2^51 bytes behind a bridge", &board);
+    put(lines, "high: 2^51 bytes behind a bridge", &board);
     let mut board = whole.clone();
     board.end(0, 0, &high(52));
-    put(script, "high: 2^52 bytes: 32", &board);
+    put(lines, "high: 2^52 bytes: 32", &board);
     let mut board = pool(0x1_FFF0_0000, 0x20_0000);
     let bridge = board.bridge(0, 0);
     board.end(bridge, 0, &[high(20), high(20)].concat());
-    put(script, "high: a window across a 4 GiB edge", &board);
+    put(lines, "high: a window across a 4 GiB edge", &board);
     let mut board = pool(3 << 32, 5 << 32);
     let bridge = board.add(0, 0, 1, &high(32));
     board.end(bridge, 0, &[high(20), high(33)].concat());
-    put(script, "high: BARs of 4 and 8 GiB, the window ends at the pool's last byte", &board);
+    put(lines, "high: BARs of 4 and 8 GiB, the window ends at the pool's last byte", &board);
     board.functions[1].read_backs[4..6].copy_from_slice(&high(7));
-    put(script, "high: one granule over: 32", &board);
+    put(lines, "high: one granule over: 32", &board);
 }
 
-fn io_pool(script: &mut Script) {
+fn io_pool(lines: &mut Lines) {
     let pool = |base, last| Board { io: (base, last), ..Board::new() };
     for more in [10, 2] {
         let mut board = pool(0x4000, 0x4FFF);
         board.end(0, 0, &[io(11), io(10), short_io(more)]);
-        put(script, "I/O: 2048, 1024 and one more in 4 KiB", &board);
+        put(lines, "I/O: 2048, 1024 and one more in 4 KiB", &board);
         board.end(0, 8, &[short_io(more)]);
-        put(script, "I/O: and once more", &board);
+        put(lines, "I/O: and once more", &board);
     }
     for (base, last) in [(0, 0xFFF), (0xF000, 0xFFFF), (0xE000, 0xFFFF)] {
         let mut board = pool(base, last);
         let bridge = board.bridge(0, 0);
         board.end(bridge, 0, &[io(2)]);
-        put(script, &format!("I/O: 4 bytes behind a bridge, {base:04X} to {last:04X}"), &board);
+        put(lines, &format!("I/O: 4 bytes behind a bridge, {base:04X} to {last:04X}"), &board);
         let bridge = board.add(0, 8, 1, &[0, io(2)]);
-        put(script, "I/O: and 4 of a bridge's own", &board);
+        put(lines, "I/O: and 4 of a bridge's own", &board);
         board.end(bridge, 0, &[io(2)]);
-        put(script, "I/O: and 4 behind that one", &board);
+        put(lines, "I/O: and 4 behind that one", &board);
     }
     let mut board = pool(0, 0xFFFF);
     let bridge = board.bridge(0, 0);
     board.end(bridge, 0, &[io(15)]);
     board.end(0, 8, &[io(15)]);
-    put(script, "I/O: 32 KiB twice fill the whole pool", &board);
+    put(lines, "I/O: 32 KiB twice fill the whole pool", &board);
     board.end(0, 16, &[io(2)]);
-    put(script, "I/O: and 4 bytes: 33", &board);
+    put(lines, "I/O: and 4 bytes: 33", &board);
     let mut board = pool(0x1000, 0xFFFF);
     let bridge = board.bridge(0, 0);
     board.end(bridge, 0, &[io(2), io(15)]);
-    put(script, "I/O: 32 KiB after 4 bytes behind a bridge: 33", &board);
+    put(lines, "I/O: 32 KiB after 4 bytes behind a bridge: 33", &board);
     board.functions[1].read_backs.swap(0, 1);
-    put(script, "I/O: 32 KiB before 4 bytes behind a bridge: 33", &board);
+    put(lines, "I/O: 32 KiB before 4 bytes behind a bridge: 33", &board);
     board.functions[1].read_backs[1] = 0;
-    put(script, "I/O: 32 KiB alone behind a bridge", &board);
+    put(lines, "I/O: 32 KiB alone behind a bridge", &board);
 }
 
-fn closed_pools(script: &mut Script) {
+fn closed_pools(lines: &mut Lines) {
     let items: [(&str, [u32; 2]); 3] = [("low", [memory(7), 0]), ("high", high(7)), ("I/O", [io(2), 0])];
     for (name, read_backs) in items {
         let mut board = Board::closed();
         let bridge = board.bridge(0, 0);
         board.end(bridge, 8, &read_backs);
-        put(script, &format!("{name}: an item while the pools are closed"), &board);
+        put(lines, &format!("{name}: an item while the pools are closed"), &board);
     }
     let mut board = Board::closed();
     board.chain(0, 0, 3);
     board.end(3, 0, &[]);
-    put(script, "closed pools and no item", &board);
+    put(lines, "closed pools and no item", &board);
     let mut board = Board { low: (0x1000_0001, 0x1000_0000), high: (2, 1), io: (1, 0), ..Board::new() };
-    put(script, "closed pools off every edge", &board);
+    put(lines, "closed pools off every edge", &board);
     board.end(0, 0, &[io(2), 0, 0, 0, high(7)[0], high(7)[1]]);
-    put(script, "closed pools off every edge: 32 before 33", &board);
+    put(lines, "closed pools off every edge: 32 before 33", &board);
     let mut board = Board { low: (0x1000_0000, 0x0FFF_FFFF), ..Board::new() };
     board.end(0, 0, &[memory(7)]);
-    put(script, "a closed low pool, last just below base: 31", &board);
+    put(lines, "a closed low pool, last just below base: 31", &board);
     let mut board = Board { high: (u64::MAX, u64::MAX - 1), ..Board::new() };
-    put(script, "a closed high pool at the top", &board);
+    put(lines, "a closed high pool at the top", &board);
     board.end(0, 0, &high(63));
-    put(script, "and an item that starts past 2^64: 32", &board);
+    put(lines, "and an item that starts past 2^64: 32", &board);
     let mut board = Board { high: (u64::MAX, u64::MAX - 1), ..Board::new() };
     board.chain(0, 0, 2);
     board.end(2, 0, &high(7));
-    put(script, "and 128 bytes behind bridges: 32", &board);
+    put(lines, "and 128 bytes behind bridges: 32", &board);
     let mut board = Board { low: (0xFFFF_FFFF, 0xFFFF_FFFE), ..Board::new() };
     board.end(0, 0, &[memory(31)]);
-    put(script, "a closed low pool at the top: 31", &board);
+    put(lines, "a closed low pool at the top: 31", &board);
     let mut board = Board { io: (0xFFFF, 0xFFFE), ..Board::new() };
     board.end(0, 0, &[io(15)]);
-    put(script, "a closed I/O pool at the top: 33", &board);
+    put(lines, "a closed I/O pool at the top: 33", &board);
     let mut board = Board { low: (0, 0xFFFF_FFFF), high: CLOSED_HIGH, io: CLOSED_IO, ..Board::new() };
     board.end(0, 0, &[memory(12), io(2), high(12)[0], high(12)[1]]);
-    put(script, "low open, high and I/O closed: 32", &board);
+    put(lines, "low open, high and I/O closed: 32", &board);
     let mut board = Board { low: CLOSED_LOW, io: CLOSED_IO, ..Board::new() };
     let bridge = board.bridge(0, 0);
     board.end(bridge, 0, &high(12));
-    put(script, "only the high pool open", &board);
+    put(lines, "only the high pool open", &board);
 }
 
-fn huge_sizes(script: &mut Script) {
+fn huge_sizes(lines: &mut Lines) {
     for (name, bar) in [("low", wide as fn(u32) -> [u32; 2]), ("high", high)] {
         for behind in [0, 2] {
             let mut board = Board::new();
             let parent = board.chain(0, 0, behind);
             board.end(parent, 0, &bar(63));
-            put(script, &format!("{name}: 2^63 bytes behind {behind} bridges"), &board);
+            put(lines, &format!("{name}: 2^63 bytes behind {behind} bridges"), &board);
             board.end(parent, 8, &bar(63));
-            put(script, &format!("{name}: 2^64 bytes in two BARs behind {behind} bridges"), &board);
+            put(lines, &format!("{name}: 2^64 bytes in two BARs behind {behind} bridges"), &board);
         }
         for behind in [0, 2] {
             let mut board = Board::new();
@@ -420,26 +420,26 @@ fn huge_sizes(script: &mut Script) {
                 let bits = 63 - 3 * u32::from(device);
                 board.end(parent, device << 3, &[bar(bits), bar(bits - 1), bar(bits - 2)].concat());
             }
-            put(script, &format!("{name}: 2^64 - 128 bytes in 57 BARs behind {behind} bridges"), &board);
+            put(lines, &format!("{name}: 2^64 - 128 bytes in 57 BARs behind {behind} bridges"), &board);
         }
         let mut board = Board { low: (0, 0xFFFF_FFFF), ..Board::new() };
         board.end(0, 0, &[bar(7), bar(63), bar(63)].concat());
         board.end(0, 8, &[bar(63), bar(63), bar(20)].concat());
-        put(script, &format!("{name}: sums past 2^65, a small BAR last"), &board);
+        put(lines, &format!("{name}: sums past 2^65, a small BAR last"), &board);
         let mut board = Board { low: (0, 0xFFFF_FFFF), ..Board::new() };
         for device in 0..2 {
             let bridge = board.bridge(0, device << 3);
             board.end(bridge, 0, &[bar(63), bar(63)].concat());
             board.end(bridge, 8, &bar(12));
         }
-        put(script, &format!("{name}: two windows of more than 2^64 bytes"), &board);
+        put(lines, &format!("{name}: two windows of more than 2^64 bytes"), &board);
         let mut board = Board { low: (0, 0xFFFF_FFFF), ..Board::new() };
         board.end(0, 0, &bar(33));
-        put(script, &format!("{name}: 8 GiB"), &board);
+        put(lines, &format!("{name}: 8 GiB"), &board);
     }
 }
 
-fn slots(script: &mut Script) {
+fn slots(lines: &mut Lines) {
     for slot in 0..6 {
         let bar = if slot % 2 == 0 { wide(13) } else { high(24) };
         let mut read_backs = vec![0; slot];
@@ -447,58 +447,58 @@ fn slots(script: &mut Script) {
         read_backs.truncate(6);
         let mut board = Board::new();
         board.end(0, 0, &read_backs);
-        put(script, &format!("a 64-bit BAR in slot {slot}"), &board);
+        put(lines, &format!("a 64-bit BAR in slot {slot}"), &board);
     }
     let mut board = Board::new();
     board.end(0, 0, &[high(63 - 30), wide(20), high(20)].concat());
-    put(script, "three 64-bit BARs", &board);
+    put(lines, "three 64-bit BARs", &board);
     board.functions[0].read_backs = vec![memory(14), wide(14)[0], u32::MAX, high(30)[0], u32::MAX, io(8)];
-    put(script, "32-bit, 64-bit, 64-bit, I/O", &board);
+    put(lines, "32-bit, 64-bit, 64-bit, I/O", &board);
     board.functions[0].read_backs[4] = 0;
-    put(script, "the second one's upper half is 0: 25", &board);
+    put(lines, "the second one's upper half is 0: 25", &board);
     for read_backs in [high(22).to_vec(), wide(22).to_vec(), vec![io(8), memory(22)]] {
         let mut board = Board::new();
         let bridge = board.add(0, 0, 1, &read_backs);
         board.add(bridge, 0, 0, &[memory(12)]);
-        put(script, "a bridge's BARs", &board);
+        put(lines, "a bridge's BARs", &board);
     }
     for read_backs in [[0, high(22)[0]], [memory(12), wide(12)[0]]] {
         let mut board = Board::new();
         board.add(0, 0, 1, &read_backs);
-        put(script, "a 64-bit BAR in a bridge's slot 1: 25", &board);
+        put(lines, "a 64-bit BAR in a bridge's slot 1: 25", &board);
     }
 }
 
-fn io_read_backs(script: &mut Script) {
+fn io_read_backs(lines: &mut Lines) {
     let mut board = Board { io: (0, 0xFFFF), ..Board::new() };
     for (device, bits) in (2..8).zip((2..14).step_by(2)) {
         let both = [io(bits), short_io(bits), io(bits + 1), short_io(bits + 1)];
         board.end(0, device << 3, &both[..if bits < 12 { 4 } else { 3 }]);
     }
-    put(script, "I/O BARs of 4 to 8192 bytes in both spellings", &board);
+    put(lines, "I/O BARs of 4 to 8192 bytes in both spellings", &board);
     let mut board = Board { io: (0, 0xFFFF), ..Board::new() };
     board.end(0, 0, &[0x8001, 0xC001, 0xE001]);
-    put(script, "I/O BARs of 32, 16 and 8 KiB, upper half zero", &board);
+    put(lines, "I/O BARs of 32, 16 and 8 KiB, upper half zero", &board);
     let bad = [0x0000_0001, 0xFFFF_0001, 0x0001_FF01, 0xFFFF_FFFF, 0xFFFF_FF03, 0xFFFF_7F01, 0x8000_FF01];
     for read_back in bad {
         let mut board = Board::new();
         board.end(0, 0, &[0, 0, read_back]);
-        put(script, &format!("I/O read-back {read_back:08X}: 25"), &board);
+        put(lines, &format!("I/O read-back {read_back:08X}: 25"), &board);
     }
 }
 
-fn memory_read_backs(script: &mut Script) {
+fn memory_read_backs(lines: &mut Lines) {
     let mut board = Board { low: (0, 0xFFFF_FFFF), ..Board::new() };
     let sizes: Vec<u32> = (7..29).map(memory).collect();
     for (device, sizes) in (0..).zip(sizes.chunks(5)) {
         board.end(0, device << 3, sizes);
     }
-    put(script, "memory BARs of 2^7 to 2^28 bytes in rising order", &board);
+    put(lines, "memory BARs of 2^7 to 2^28 bytes in rising order", &board);
     for function in &mut board.functions {
         function.read_backs.reverse();
         function.read_backs.iter_mut().filter(|read_back| **read_back != 0).for_each(|read_back| *read_back |= 8);
     }
-    put(script, "the same falling in each function and prefetchable", &board);
+    put(lines, "the same falling in each function and prefetchable", &board);
     let bad = [
         [0xF0FF_F000, 0],
         [0x0000_0008, 0],
@@ -513,12 +513,12 @@ fn memory_read_backs(script: &mut Script) {
         let mut board = Board::new();
         board.end(0, 0, &[memory(12)]);
         board.end(0, 8, &[0, first, second]);
-        put(script, &format!("memory read-back {first:08X} {second:08X}: 25"), &board);
+        put(lines, &format!("memory read-back {first:08X} {second:08X}: 25"), &board);
     }
 }
 
 /// Memory BARs of 128 bytes in every form, smaller ones, and I/O BARs, which may be smaller (document 02, E9).
-fn least_bars(script: &mut Script) {
+fn least_bars(lines: &mut Lines) {
     let bars = |bits| [&[memory(bits), prefetchable(bits)][..], &wide(bits), &high(bits)].concat();
     let mut board = Board::new();
     board.end(0, 0, &bars(7));
@@ -526,26 +526,26 @@ fn least_bars(script: &mut Script) {
     board.end(bridge, 0, &bars(7));
     let bridge = board.add(0, 16, 1, &[memory(7), prefetchable(7)]);
     board.end(bridge, 0, &[io(2), io(3), io(4), short_io(5), short_io(6), memory(7)]);
-    put(script, "memory BARs of 128 bytes in every form, I/O BARs of 4 to 64", &board);
+    put(lines, "memory BARs of 128 bytes in every form, I/O BARs of 4 to 64", &board);
     for bits in 4..7 {
         for read_backs in [vec![memory(bits)], vec![prefetchable(bits)], wide(bits).to_vec(), high(bits).to_vec()] {
             for is_bridge in [false, true] {
                 let mut board = Board::new();
                 board.add(0, 0, u8::from(is_bridge), &read_backs);
                 let whose = if is_bridge { "a bridge's" } else { "a" };
-                put(script, &format!("{whose} memory BAR of {} bytes, {:08X}: 25", 1 << bits, read_backs[0]), &board);
+                put(lines, &format!("{whose} memory BAR of {} bytes, {:08X}: 25", 1 << bits, read_backs[0]), &board);
             }
         }
     }
     let mut board = Board { low: CLOSED_LOW, ..Board::new() };
     board.end(0, 0, &[memory(7)]);
     board.end(0, 8, &[0, 0, 0, 0, 0, memory(6)]);
-    put(script, "64 bytes in the last slot: 25 before 31", &board);
+    put(lines, "64 bytes in the last slot: 25 before 31", &board);
     board.functions[1].device_function = 0;
-    put(script, "23 before 64 bytes", &board);
+    put(lines, "23 before 64 bytes", &board);
 }
 
-fn refused_20_21(script: &mut Script) {
+fn refused_20_21(lines: &mut Lines) {
     let good = p10().bytes();
     let function = 1 + 32;
     let changed = |at: usize, byte: u8| {
@@ -581,20 +581,20 @@ fn refused_20_21(script: &mut Script) {
         ("20: a host of 29 bytes, whole", [&[1, 0, 29], &good[4..33]].concat()),
     ];
     for (why, bytes) in boards {
-        script.note(why);
-        script.board(&bytes);
+        lines.note(why);
+        lines.board(&bytes);
     }
 }
 
-fn refused_22_24(script: &mut Script) {
+fn refused_22_24(lines: &mut Lines) {
     let mut board = full(&[]);
     board.bridge(1, 0);
-    put(script, "22: 513 functions", &board);
+    put(lines, "22: 513 functions", &board);
     board.functions[3].header_type = 2;
     board.buses = (9, 3);
-    put(script, "22 before 24 and 26", &board);
+    put(lines, "22 before 24 and 26", &board);
     board.tail = vec![0];
-    put(script, "20 before 22", &board);
+    put(lines, "20 before 22", &board);
     for (header_type, slots) in [(2, 6), (0x82, 2), (0x7F, 6), (0, 2), (1, 6), (0x81, 0), (0, 7), (3, 4)] {
         let mut board = p10();
         board.functions.truncate(1);
@@ -602,17 +602,17 @@ fn refused_22_24(script: &mut Script) {
         board.end(0, 8, &[]);
         board.functions[1].header_type = header_type;
         board.functions[1].read_backs.resize(slots, 0);
-        put(script, &format!("24: header type {header_type:02X} with {slots} read-backs"), &board);
+        put(lines, &format!("24: header type {header_type:02X} with {slots} read-backs"), &board);
     }
     let mut bytes = p10().bytes();
     let length = bytes.len();
     bytes[33 + 16 + 1] = 31;
     bytes.insert(length, 0);
-    script.note("24: a type 0 function of 31 bytes");
-    script.board(&bytes);
+    lines.note("24: a type 0 function of 31 bytes");
+    lines.board(&bytes);
 }
 
-fn refused_26(script: &mut Script) {
+fn refused_26(lines: &mut Lines) {
     let good = p10();
     let low = |base, last| Board { low: (base, last), ..good.clone() };
     let high = |base, last| Board { high: (base, last), ..good.clone() };
@@ -634,11 +634,11 @@ fn refused_26(script: &mut Script) {
         ("I/O shifted by four", io(0x4004, 0x5003)),
     ];
     for (why, board) in boards {
-        put(script, &format!("26: {why}"), &board);
+        put(lines, &format!("26: {why}"), &board);
     }
 }
 
-fn refused_23(script: &mut Script) {
+fn refused_23(lines: &mut Lines) {
     // A bridge with two endpoints, a second bridge with one, an endpoint.
     let mut good = Board::new();
     let a = good.bridge(0, 0x00);
@@ -647,45 +647,45 @@ fn refused_23(script: &mut Script) {
     let b = good.bridge(0, 0x08);
     good.end(b, 0x00, &[memory(12)]);
     good.end(0, 0x10, &[memory(12)]);
-    put(script, "a lawful tree, damaged below", &good);
+    put(lines, "a lawful tree, damaged below", &good);
     let parents: [(usize, u16); 7] = [(0, 1), (0, 2), (1, 3), (2, 2), (4, 1), (5, 7), (5, 0xFFFF)];
     for (index, parent) in parents {
         let mut board = good.clone();
         board.functions[index].parent = parent;
-        put(script, &format!("23: record {} below {parent}", index + 1), &board);
+        put(lines, &format!("23: record {} below {parent}", index + 1), &board);
     }
     let mut board = good.clone();
     board.functions[5].parent = 1;
     board.functions[5].device_function = 0x18;
-    put(script, "23: back to a bridge that was left", &board);
+    put(lines, "23: back to a bridge that was left", &board);
     for (index, byte) in [(2, 0x00), (2, 0x08), (2, 0x09), (3, 0x00), (3, 0x04), (5, 0x08), (5, 0x09), (4, 0x01)] {
         let mut board = good.clone();
         board.functions[index].device_function = byte;
-        put(script, &format!("record {} at {byte:02X}", index + 1), &board);
+        put(lines, &format!("record {} at {byte:02X}", index + 1), &board);
     }
     let mut board = good.clone();
     board.functions[1].header_type = 0;
-    put(script, "23: function 1 while function 0 lacks bit 7", &board);
+    put(lines, "23: function 1 while function 0 lacks bit 7", &board);
     board.functions[2].header_type = 0x80;
-    put(script, "23: bit 7 on function 1 instead", &board);
+    put(lines, "23: bit 7 on function 1 instead", &board);
     let mut board = good.clone();
     board.functions[3].header_type = 0x81;
     board.functions[5].device_function = 0x0F;
-    put(script, "function 7 of a bridge's device, after its subtree", &board);
+    put(lines, "function 7 of a bridge's device, after its subtree", &board);
     board.functions[3].header_type = 1;
-    put(script, "23: the same while the bridge lacks bit 7", &board);
+    put(lines, "23: the same while the bridge lacks bit 7", &board);
     let mut board = Board::new();
     let last = board.chain(0, 0, 32);
     board.add(last, 0x00, 0x81, &[]);
     board.end(last, 0x03, &[]);
-    put(script, "32 bridges above two functions, one a bridge", &board);
+    put(lines, "32 bridges above two functions, one a bridge", &board);
     board.functions[33].parent = 33;
     board.functions[33].device_function = 0;
-    put(script, "23: 33 above one of them", &board);
+    put(lines, "23: 33 above one of them", &board);
 }
 
 /// Boards with two faults, whose numbers show the order of the checks.
-fn two_faults(script: &mut Script) {
+fn two_faults(lines: &mut Lines) {
     type Damage = fn(&mut Board);
     let faults: [(u8, Damage); 10] = [
         (21, |board| board.version = 0),
@@ -704,19 +704,19 @@ fn two_faults(script: &mut Script) {
     good.end(bridge, 0, &[memory(12)]);
     good.end(bridge, 8, &[io(4)]);
     good.end(0, 8, &[0, memory(14), high(20)[0], high(20)[1]]);
-    put(script, "a lawful board, damaged twice below", &good);
+    put(lines, "a lawful board, damaged twice below", &good);
     for (i, (first, damage)) in faults.iter().enumerate() {
         for (second, other) in faults.iter().skip(i + 1).step_by(4).take(2) {
             let mut board = good.clone();
             other(&mut board);
             damage(&mut board);
-            put(script, &format!("{first} before {second}"), &board);
+            put(lines, &format!("{first} before {second}"), &board);
         }
     }
 }
 
 /// Random boards, with each pool cut to what the board needs and then one granule shorter.
-fn random_boards(script: &mut Script) {
+fn random_boards(lines: &mut Lines) {
     let mut random_numbers = Random::new(20_011);
     let styles = [
         Style { functions: 5, bridges: 40, memory_bits: 22, io_bits: 8 },
@@ -731,20 +731,20 @@ fn random_boards(script: &mut Script) {
             let bridges = board.bus_numbers() as u8;
             board.buses = (spread, spread.saturating_add(bridges));
             let why = format!("random, round {round}, {} functions", board.functions.len());
-            put(script, &why, &tighten(&mut random_numbers, &board));
+            put(lines, &why, &tighten(&mut random_numbers, &board));
             let tight = tighten(&mut random_numbers, &board);
             let short = match random_numbers.below(3) {
                 0 => Board { low: (tight.low.0, tight.low.1.wrapping_sub(MIB)), ..tight },
                 1 => Board { high: (tight.high.0, tight.high.1.wrapping_sub(1 << 20)), ..tight },
                 _ => Board { io: (tight.io.0, tight.io.1.wrapping_sub(1 << 12)), ..tight },
             };
-            put(script, "one granule less", &short);
+            put(lines, "one granule less", &short);
         }
     }
 }
 
 /// As long as a lawful board can be, of 16,417 bytes, and longer.
-fn long_boards(script: &mut Script) {
+fn long_boards(lines: &mut Lines) {
     let longest = {
         let mut board = Board { functions: vec![], ..p10() };
         for _ in 0..512 {
@@ -752,21 +752,21 @@ fn long_boards(script: &mut Script) {
         }
         board
     };
-    put(script, "23: as long as a lawful board, 512 functions of one device/function", &longest);
+    put(lines, "23: as long as a lawful board, 512 functions of one device/function", &longest);
     let mut board = longest.clone();
     board.tail = vec![0];
-    put(script, "20: a byte after 512 functions of 30 bytes", &board);
+    put(lines, "20: a byte after 512 functions of 30 bytes", &board);
     board.version = 3;
-    put(script, "21: the same of another version", &board);
+    put(lines, "21: the same of another version", &board);
     let mut board = longest.clone();
     board.end(0, 8, &[]);
-    put(script, "22: 513 functions of 30 bytes", &board);
+    put(lines, "22: 513 functions of 30 bytes", &board);
     let mut board = longest;
     board.tail = vec![0, 5, 0, 0, 0, 0, 0];
-    put(script, "20: 513 functions, the last under 6 bytes", &board);
+    put(lines, "20: 513 functions, the last under 6 bytes", &board);
     let mut board = Board { functions: vec![], ..p10() };
     board.tail = [&16_384u16.to_be_bytes()[..], &[0; 16_384]].concat();
-    put(script, "24: one function of 16,384 bytes", &board);
+    put(lines, "24: one function of 16,384 bytes", &board);
 }
 
 /// Moves each pool's base and takes the least last address with which the board is planned.

@@ -1,11 +1,11 @@
-//! The text of a script.
+//! Lines for the test programs, one request each.
 
 use std::fmt::Write;
 
 #[derive(Default)]
-pub struct Script(pub String);
+pub struct Lines(pub String);
 
-impl Script {
+impl Lines {
     pub fn note(&mut self, text: &str) {
         self.line(&format!("# {text}"));
     }
