@@ -89,7 +89,7 @@ enum cartsundial_number {
     CARTSUNDIAL_E_FRAME = 20,               /* empty; lengths not ending at the end; no host of 30; function under 6; sheet record not 90 */
     CARTSUNDIAL_E_VERSION = 21,             /* version not 1, and of a board not 2 either */
     CARTSUNDIAL_E_TOO_MANY_FUNCTIONS = 22,  /* over 512 functions */
-    CARTSUNDIAL_E_TREE = 23,                /* parent, order, depth or function 0 */
+    CARTSUNDIAL_E_ORDER = 23,               /* parent, order, depth or function 0 */
     CARTSUNDIAL_E_HEADER_TYPE = 24,         /* header type not 0 or 1, or a wrong length for it */
     CARTSUNDIAL_E_READ_BACK = 25,           /* read-back, of memory also one under 128 bytes; on a sheet also a BAR value */
     CARTSUNDIAL_E_HOST = 26,                /* first bus above last, or a pool's edges */
@@ -106,9 +106,9 @@ enum cartsundial_number {
     CARTSUNDIAL_E_UPWARD = 43,              /* a message that only travels up: routing 0, to the root complex, or 5, gathered */
     CARTSUNDIAL_E_NO_BUS_MASTER = 44,       /* from a card: it, or a bridge on its way up, is no bus master (command bit 2) */
     CARTSUNDIAL_E_NO_START = 45,            /* from a card: no type 0 function's record, or no memory or I/O request */
-    CARTSUNDIAL_E_BUS_TREE = 50,            /* audit: first record not on the host's first bus; not one bridge to a bus; a bridge's buses */
-    CARTSUNDIAL_E_PLACE = 51,               /* audit: a BAR or open window outside the window above, or the pool, of its kind */
-    CARTSUNDIAL_E_OVERLAP = 52,             /* audit: two BARs or open windows of one space overlap on a bus */
+    CARTSUNDIAL_E_NOT_TREE = 50,            /* audit: first record not on the host's first bus; not one bridge to a bus; a bridge's buses */
+    CARTSUNDIAL_E_NOT_NESTED = 51,          /* audit: a BAR or open window outside the window above, or the pool, of its kind */
+    CARTSUNDIAL_E_NOT_DISJOINT = 52,        /* audit: two BARs or open windows of one space overlap on a bus */
     CARTSUNDIAL_E_LEDGER_KIND = 60,         /* ledger: no non-posted request to open, or no completion */
     CARTSUNDIAL_E_ALREADY_OPEN = 61,        /* ledger: a request with this requester and tag is open */
     CARTSUNDIAL_E_LEDGER_FULL = 62,         /* ledger: 256 requests are open */

@@ -84,7 +84,7 @@ impl HostRecord {
 /// sheet[69..73].copy_from_slice(&0xFFFF_F000_u32.to_be_bytes());
 /// assert_eq!(audit(&host, &sheet), Ok(()));
 /// sheet[5 + 0x10..][..4].copy_from_slice(&0xFA00_0000_u32.to_le_bytes());
-/// assert_eq!(audit(&host, &sheet), Err(Refusal::Place));
+/// assert_eq!(audit(&host, &sheet), Err(Refusal::NotNested));
 /// ```
 pub fn audit(host: &HostRecord, sheet: &[u8]) -> Result<(), Refusal> {
     accepted(calls::audit(&host.bytes(), sheet))

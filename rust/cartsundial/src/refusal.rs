@@ -81,7 +81,7 @@ refusals! {
     /// Over 512 functions.
     TooManyFunctions = 22, "over 512 functions";
     /// Parent, order, depth or function 0.
-    Tree = 23, "parent, order, depth or function 0";
+    Order = 23, "parent, order, depth or function 0";
     /// Header type's low seven bits not 0 or 1, or wrong length for it.
     HeaderType = 24, "header type, or wrong length for it";
     /// A read-back, of memory also one under 128 bytes; on a sheet also a BAR value that does not fit its read-back.
@@ -116,11 +116,11 @@ refusals! {
     NoStart = 45, "no start: the record is no type 0 function, or the packet no memory or I/O request";
     /// Audit: the first record is not on the host's first bus, not exactly one bridge leads to a function's bus, or a
     /// bridge's buses lie outside the parent's or the host's or meet a sibling's.
-    BusTree = 50, "first record's bus, the bridge to a bus, or a bridge's buses";
+    NotTree = 50, "first record's bus, the bridge to a bus, or a bridge's buses";
     /// Audit: a BAR or open window outside the window above, or the pool, of its kind.
-    Place = 51, "a BAR or window outside the window or pool above";
+    NotNested = 51, "a BAR or window outside the window or pool above";
     /// Audit: two BARs or open windows of one space overlap on a bus.
-    Overlap = 52, "two BARs or windows overlap on a bus";
+    NotDisjoint = 52, "two BARs or windows overlap on a bus";
     /// Ledger: opened with anything but a non-posted request, or completed with anything but a completion.
     LedgerKind = 60, "no non-posted request to open, or no completion";
     /// Ledger: a request with this requester and tag is open already.

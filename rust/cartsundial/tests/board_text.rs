@@ -104,7 +104,7 @@ fn built() {
     assert_eq!(sheet.bridges_above(1).map(|bridge| bridge.record).collect::<Vec<_>>(), [1]);
     // A second card in the same place.
     board.card(bridge, 0, 0, &[]).unwrap();
-    assert_eq!(board.plan(), Err(Refusal::Tree));
+    assert_eq!(board.plan(), Err(Refusal::Order));
     assert_eq!(refused_record(&board.bytes()), Some(3));
 }
 

@@ -33,7 +33,7 @@ fn fault(refusal: Refusal, what: String) -> Fault {
 
 fn bus_faults(named: &NamedSheet, host: &HostRecord) -> Vec<Fault> {
     let mut faults = Vec::new();
-    let mut add = |what: String| faults.push(fault(Refusal::BusTree, what));
+    let mut add = |what: String| faults.push(fault(Refusal::NotTree, what));
     let (root, last) = host.buses;
     for function in named.sheet.functions() {
         let (title, bus) = (named.title(&function), function.id.bus());
@@ -70,7 +70,7 @@ fn shared_buses(named: &NamedSheet) -> Vec<Fault> {
             let meet = range.secondary <= beside.subordinate && beside.secondary <= range.subordinate;
             if meet && one.id.bus() == other.id.bus() {
                 let what = format!("{} and {} have buses in common", named.title(other), named.title(one));
-                faults.push(fault(Refusal::BusTree, what));
+                faults.push(fault(Refusal::NotTree, what));
             }
         }
     }
@@ -94,7 +94,7 @@ fn place_faults(named: &NamedSheet, host: &HostRecord) -> Vec<Fault> {
             if !window.is_some_and(holds) {
                 let is = window.map_or("closed".to_string(), text);
                 let what = format!("{} outside {above} for {}, which is {is}", item.what, word(item.pool));
-                faults.push(fault(Refusal::Place, what));
+                faults.push(fault(Refusal::NotNested, what));
             }
         }
     }
@@ -113,7 +113,7 @@ fn overlap_faults(named: &NamedSheet) -> Vec<Fault> {
             let is_one_space = (one.pool == Pool::Io) == (other.pool == Pool::Io);
             let meet = one.range.start() <= other.range.end() && other.range.start() <= one.range.end();
             if bus == beside && is_one_space && meet {
-                faults.push(fault(Refusal::Overlap, format!("{} and {}", other.what, one.what)));
+                faults.push(fault(Refusal::NotDisjoint, format!("{} and {}", other.what, one.what)));
             }
         }
     }
