@@ -22,9 +22,14 @@
  * Slices. A pointer and the number of elements behind it, bytes or 64-bit numbers. The proofs stand on what C promises here and nothing
  * checks:
  *   - the pointer is not null, is aligned for its type, and the elements are there, also for a length of 0;
- *   - a slice that a call may write overlaps no other slice of that call, and nobody else touches it until the call returns.
+ *   - a slice that a call may write overlaps no other slice of that call;
+ *   - until the call returns, nobody else (no other thread, no handler, no device) writes to any slice of it, also to one that it only
+ *     reads, and nobody else reads one that it may write.
+ * A call counts on what it found in a slice when it looks again: a board that another thread changed during cartsundial_plan let it write
+ * over the caller's stack. So copy first what a device or another thread can still write, as a header log or a ring of captured headers.
+ * Where the compiler can see such a mistake at a call, it warns (CARTSUNDIAL_READS and those beside it, below).
  * Nothing is kept after a call returns: how far a trace was read, and which requests are open, is in numbers that the caller lends. There
- * is no allocation and no I/O, so calls on different slices may run at the same time.
+ * is no allocation and no I/O, so calls may run at the same time where none writes to a slice of another.
  *
  * Stack to allow, measured (examples/c/stack.c) and not proved: 64 KiB for any call. cartsundial_plan and cartsundial_script 60 KiB each,
  * of which a board with few bridges in a row needs 50; cartsundial_route, cartsundial_route_from and cartsundial_annotate 12 KiB over a
@@ -66,6 +71,29 @@ extern "C" {
 #define CARTSUNDIAL_CALL __attribute__((sysv_abi))
 #else
 #define CARTSUNDIAL_CALL
+#endif
+
+/*
+ * What a compiler can hold a caller to, where it knows how: pointers are not null, lengths lie within what is pointed to, a slice that is
+ * written is no other argument, what is read was set before, and the number is looked at. (p, n): the places of a slice's pointer and of
+ * its length. A call reads, writes, or reads and changes a slice; what it does not write stays as it was. examples/c/misuse.c has what is
+ * seen.
+ */
+#if defined(__GNUC__)
+#define CARTSUNDIAL_CHECKED CARTSUNDIAL_CALL __attribute__((nonnull, warn_unused_result))
+#define CARTSUNDIAL_RESTRICT __restrict__
+#else
+#define CARTSUNDIAL_CHECKED CARTSUNDIAL_CALL
+#define CARTSUNDIAL_RESTRICT
+#endif
+#if defined(__GNUC__) && !defined(__clang__) && __GNUC__ >= 10
+#define CARTSUNDIAL_READS(p, n) __attribute__((access(read_only, p, n)))
+#define CARTSUNDIAL_WRITES(p, n) __attribute__((access(write_only, p, n)))
+#define CARTSUNDIAL_CHANGES(p, n) __attribute__((access(read_write, p, n)))
+#else
+#define CARTSUNDIAL_READS(p, n)
+#define CARTSUNDIAL_WRITES(p, n)
+#define CARTSUNDIAL_CHANGES(p, n)
 #endif
 
 /* ---- numbers given back ---- */
@@ -205,7 +233,9 @@ CARTSUNDIAL_CALL uint32_t cartsundial_version(void);
  * Reads the header at the front of any bytes. packet: its twenty numbers. Later bytes are not looked at.
  * Refused: 1 to 9, then 11 for a packet slice of fewer than twenty numbers.
  */
-CARTSUNDIAL_CALL uint32_t cartsundial_read(const uint8_t *header, size_t header_len, uint64_t *packet, size_t packet_len);
+CARTSUNDIAL_CHECKED uint32_t cartsundial_read(const uint8_t *header, size_t header_len,
+                                              uint64_t *CARTSUNDIAL_RESTRICT packet, size_t packet_len)
+    CARTSUNDIAL_READS(1, 2) CARTSUNDIAL_WRITES(3, 4);
 
 /*
  * Writes the packet that the first twenty numbers are, 12 or 16 bytes at the front of the room and nothing past them. written: how many.
@@ -214,8 +244,10 @@ CARTSUNDIAL_CALL uint32_t cartsundial_read(const uint8_t *header, size_t header_
  * than 0), or other than 0 in a field that the kind does not have; 4 to 9; 11 for a short room, or a written slice of no numbers.
  * What cartsundial_read gave is written back to the same bytes, and what was written is read back as the same twenty numbers.
  */
-CARTSUNDIAL_CALL uint32_t cartsundial_write(const uint64_t *packet, size_t packet_len, uint8_t *room, size_t room_len, uint64_t *written,
-                                            size_t written_len);
+CARTSUNDIAL_CHECKED uint32_t cartsundial_write(const uint64_t *packet, size_t packet_len,
+                                               uint8_t *CARTSUNDIAL_RESTRICT room, size_t room_len,
+                                               uint64_t *CARTSUNDIAL_RESTRICT written, size_t written_len)
+    CARTSUNDIAL_READS(1, 2) CARTSUNDIAL_WRITES(3, 4) CARTSUNDIAL_WRITES(5, 6);
 
 /* ---- boards and sheets ---- */
 
@@ -227,8 +259,9 @@ CARTSUNDIAL_CALL uint32_t cartsundial_write(const uint64_t *packet, size_t packe
  * Which record finds no room, at 31, 32 or 33: plan the board's fronts, each cut after a whole record, with a sheet_len of 0. The shortest
  * one that gets the same number ends with that record. (A front that has room for everything gets 11.)
  */
-CARTSUNDIAL_CALL uint32_t cartsundial_plan(const uint8_t *board, size_t board_len, uint8_t *sheet, size_t sheet_len, uint64_t *written,
-                                           size_t written_len);
+CARTSUNDIAL_CHECKED uint32_t cartsundial_plan(const uint8_t *board, size_t board_len, uint8_t *CARTSUNDIAL_RESTRICT sheet, size_t sheet_len,
+                                              uint64_t *CARTSUNDIAL_RESTRICT written, size_t written_len)
+    CARTSUNDIAL_READS(1, 2) CARTSUNDIAL_WRITES(3, 4) CARTSUNDIAL_WRITES(5, 6);
 
 /*
  * Writes a board's plan as the configuration writes that boot code makes, at the front of script and nothing past them: a record for each
@@ -241,13 +274,16 @@ CARTSUNDIAL_CALL uint32_t cartsundial_plan(const uint8_t *board, size_t board_le
  * Refused: 10 for a requester above FFFFh or a first_tag above FFh, tried first; 20 to 26 and 30 to 33, as cartsundial_plan; then 11 for a
  * short script slice, or a written slice of no numbers.
  */
-CARTSUNDIAL_CALL uint32_t cartsundial_script(const uint8_t *board, size_t board_len, uint32_t requester, uint32_t first_tag,
-                                             uint8_t *script, size_t script_len, uint64_t *written, size_t written_len);
+CARTSUNDIAL_CHECKED uint32_t cartsundial_script(const uint8_t *board, size_t board_len, uint32_t requester, uint32_t first_tag,
+                                                uint8_t *CARTSUNDIAL_RESTRICT script, size_t script_len,
+                                                uint64_t *CARTSUNDIAL_RESTRICT written, size_t written_len)
+    CARTSUNDIAL_READS(1, 2) CARTSUNDIAL_WRITES(5, 6) CARTSUNDIAL_WRITES(7, 8);
 
 /*
  * 0 for a sheet that passes its checks, or the number of the first that it fails, 20 to 29. Give the sheet's own length, not the buffer's.
  */
-CARTSUNDIAL_CALL uint32_t cartsundial_check(const uint8_t *sheet, size_t sheet_len);
+CARTSUNDIAL_CHECKED uint32_t cartsundial_check(const uint8_t *sheet, size_t sheet_len)
+    CARTSUNDIAL_READS(1, 2);
 
 /*
  * Judges a sheet, whoever wrote it, for a host: 0 for one that is accepted, or the number of the first check that fails. host: the
@@ -262,27 +298,33 @@ CARTSUNDIAL_CALL uint32_t cartsundial_check(const uint8_t *sheet, size_t sheet_l
  * request to the one function whose BAR holds the address, where that function and all bridges above it are enabled, and else answers 40,
  * never 41. Both are proved.
  */
-CARTSUNDIAL_CALL uint32_t cartsundial_audit(const uint8_t *host, size_t host_len, const uint8_t *sheet, size_t sheet_len);
+CARTSUNDIAL_CHECKED uint32_t cartsundial_audit(const uint8_t *host, size_t host_len, const uint8_t *sheet, size_t sheet_len)
+    CARTSUNDIAL_READS(1, 2) CARTSUNDIAL_READS(3, 4);
 
 /*
  * Finds the function with an ID. offset: where its 64 register bytes start in the sheet.
  * Refused: the sheet's number, then 40 where no function has the ID (an ID above FFFFh is no function's), then 11 for an offset slice of no
  * numbers.
  */
-CARTSUNDIAL_CALL uint32_t cartsundial_lookup(const uint8_t *sheet, size_t sheet_len, uint32_t id, uint64_t *offset, size_t offset_len);
+CARTSUNDIAL_CHECKED uint32_t cartsundial_lookup(const uint8_t *sheet, size_t sheet_len, uint32_t id,
+                                                uint64_t *CARTSUNDIAL_RESTRICT offset, size_t offset_len)
+    CARTSUNDIAL_READS(1, 2) CARTSUNDIAL_WRITES(4, 5);
 
 /*
  * The ID of the function with a record number, from 1 on: bus in bits 15:8, device in 7:3, function in 2:0. It turns the record that
  * cartsundial_route answers into an ID.
  * Refused: the sheet's number, then 40 where there is no such record (0 is none), then 11 for an id slice of no numbers.
  */
-CARTSUNDIAL_CALL uint32_t cartsundial_id(const uint8_t *sheet, size_t sheet_len, uint32_t record, uint64_t *id, size_t id_len);
+CARTSUNDIAL_CHECKED uint32_t cartsundial_id(const uint8_t *sheet, size_t sheet_len, uint32_t record,
+                                            uint64_t *CARTSUNDIAL_RESTRICT id, size_t id_len)
+    CARTSUNDIAL_READS(1, 2) CARTSUNDIAL_WRITES(4, 5);
 
 /*
  * Rewrites the command word of the function with an ID, and no other byte.
  * Refused: 10 for a command above FFFFh, tried before the sheet is read, then the sheet's number, then 40.
  */
-CARTSUNDIAL_CALL uint32_t cartsundial_command(uint8_t *sheet, size_t sheet_len, uint32_t id, uint32_t command);
+CARTSUNDIAL_CHECKED uint32_t cartsundial_command(uint8_t *CARTSUNDIAL_RESTRICT sheet, size_t sheet_len, uint32_t id, uint32_t command)
+    CARTSUNDIAL_CHANGES(1, 2);
 
 /* ---- routing ---- */
 
@@ -299,8 +341,9 @@ CARTSUNDIAL_CALL uint32_t cartsundial_command(uint8_t *sheet, size_t sheet_len, 
  * Refused: the header's number, 1 to 9, before the sheet is read; the sheet's number, 20 to 29; 40, 41, 42 or 43; then 11 for fewer numbers
  * than the answer has. Over 22 numbers, then, 11 is a broadcast that would be answered.
  */
-CARTSUNDIAL_CALL uint32_t cartsundial_route(const uint8_t *header, size_t header_len, const uint8_t *sheet, size_t sheet_len,
-                                            uint64_t *answer, size_t answer_len);
+CARTSUNDIAL_CHECKED uint32_t cartsundial_route(const uint8_t *header, size_t header_len, const uint8_t *sheet, size_t sheet_len,
+                                               uint64_t *CARTSUNDIAL_RESTRICT answer, size_t answer_len)
+    CARTSUNDIAL_READS(1, 2) CARTSUNDIAL_READS(3, 4) CARTSUNDIAL_WRITES(5, 6);
 
 /*
  * Walks a memory or I/O request that starts at a type 0 function of the sheet, a card that writes or reads by itself. record: that
@@ -320,8 +363,10 @@ CARTSUNDIAL_CALL uint32_t cartsundial_route(const uint8_t *header, size_t header
  * Over a sheet that cartsundial_audit accepts, and so over a planned one, it is never 41, and over a planned one at most 64 bridges are
  * crossed. Both are proved.
  */
-CARTSUNDIAL_CALL uint32_t cartsundial_route_from(uint32_t record, const uint8_t *header, size_t header_len, const uint8_t *sheet,
-                                                 size_t sheet_len, uint64_t *answer, size_t answer_len);
+CARTSUNDIAL_CHECKED uint32_t cartsundial_route_from(uint32_t record, const uint8_t *header, size_t header_len,
+                                                    const uint8_t *sheet, size_t sheet_len,
+                                                    uint64_t *CARTSUNDIAL_RESTRICT answer, size_t answer_len)
+    CARTSUNDIAL_READS(2, 3) CARTSUNDIAL_READS(4, 5) CARTSUNDIAL_WRITES(6, 7);
 
 /* ---- routing by an index ---- */
 
@@ -333,8 +378,9 @@ CARTSUNDIAL_CALL uint32_t cartsundial_route_from(uint32_t record, const uint8_t 
  * Refused: the audit's number, 20 to 29 and 50 to 52; then 11 for a shorter slice.
  * The index is of the sheet as it is now: build it again after cartsundial_command. It holds no addresses of memory, so it may be copied.
  */
-CARTSUNDIAL_CALL uint32_t cartsundial_index(const uint8_t *host, size_t host_len, const uint8_t *sheet, size_t sheet_len, uint8_t *index,
-                                            size_t index_len);
+CARTSUNDIAL_CHECKED uint32_t cartsundial_index(const uint8_t *host, size_t host_len, const uint8_t *sheet, size_t sheet_len,
+                                               uint8_t *CARTSUNDIAL_RESTRICT index, size_t index_len)
+    CARTSUNDIAL_READS(1, 2) CARTSUNDIAL_READS(3, 4) CARTSUNDIAL_WRITES(5, 6);
 
 /*
  * Where a header goes, by an index that cartsundial_index left: for every header the answer and the number of cartsundial_route over the
@@ -344,8 +390,9 @@ CARTSUNDIAL_CALL uint32_t cartsundial_index(const uint8_t *host, size_t host_len
  * A broadcast's n is at most 65,535 then, and at most 512 for an index that was built.
  * Refused: the header's number, 1 to 9, before the index is read; 40, 42 or 43; then 11 for fewer numbers than the answer has.
  */
-CARTSUNDIAL_CALL uint32_t cartsundial_find(const uint8_t *header, size_t header_len, const uint8_t *index, size_t index_len,
-                                           uint64_t *answer, size_t answer_len);
+CARTSUNDIAL_CHECKED uint32_t cartsundial_find(const uint8_t *header, size_t header_len, const uint8_t *index, size_t index_len,
+                                              uint64_t *CARTSUNDIAL_RESTRICT answer, size_t answer_len)
+    CARTSUNDIAL_READS(1, 2) CARTSUNDIAL_READS(3, 4) CARTSUNDIAL_WRITES(5, 6);
 
 /* ---- traces ---- */
 
@@ -387,9 +434,11 @@ CARTSUNDIAL_CALL uint32_t cartsundial_find(const uint8_t *header, size_t header_
  * Room for CARTSUNDIAL_LINE_BYTES a record is always enough, and so for piece_len / 2 + 1 lines whatever the piece holds; with less, each
  * line may have to be made twice. The sheet is checked once a call, so pieces of some KiB are better than single records.
  */
-CARTSUNDIAL_CALL uint32_t cartsundial_annotate(uint64_t *state, size_t state_len, const uint8_t *sheet, size_t sheet_len,
-                                               const uint8_t *piece, size_t piece_len, uint8_t *lines, size_t lines_len, uint64_t *written,
-                                               size_t written_len);
+CARTSUNDIAL_CHECKED uint32_t cartsundial_annotate(uint64_t *CARTSUNDIAL_RESTRICT state, size_t state_len,
+                                                  const uint8_t *sheet, size_t sheet_len, const uint8_t *piece, size_t piece_len,
+                                                  uint8_t *CARTSUNDIAL_RESTRICT lines, size_t lines_len,
+                                                  uint64_t *CARTSUNDIAL_RESTRICT written, size_t written_len)
+    CARTSUNDIAL_CHANGES(1, 2) CARTSUNDIAL_READS(3, 4) CARTSUNDIAL_READS(5, 6) CARTSUNDIAL_WRITES(7, 8) CARTSUNDIAL_WRITES(9, 10);
 
 /*
  * The same by an index in place of the sheet. By an index that cartsundial_index left, the call returns and writes what
@@ -398,8 +447,11 @@ CARTSUNDIAL_CALL uint32_t cartsundial_annotate(uint64_t *state, size_t state_len
  * Any other bytes may be given too: the lines then say what cartsundial_find answers over them.
  * Refused: as cartsundial_annotate. The index is not checked, so single records cost no more than larger pieces.
  */
-CARTSUNDIAL_CALL uint32_t cartsundial_label(uint64_t *state, size_t state_len, const uint8_t *index, size_t index_len, const uint8_t *piece,
-                                            size_t piece_len, uint8_t *lines, size_t lines_len, uint64_t *written, size_t written_len);
+CARTSUNDIAL_CHECKED uint32_t cartsundial_label(uint64_t *CARTSUNDIAL_RESTRICT state, size_t state_len,
+                                               const uint8_t *index, size_t index_len, const uint8_t *piece, size_t piece_len,
+                                               uint8_t *CARTSUNDIAL_RESTRICT lines, size_t lines_len,
+                                               uint64_t *CARTSUNDIAL_RESTRICT written, size_t written_len)
+    CARTSUNDIAL_CHANGES(1, 2) CARTSUNDIAL_READS(3, 4) CARTSUNDIAL_READS(5, 6) CARTSUNDIAL_WRITES(7, 8) CARTSUNDIAL_WRITES(9, 10);
 
 /*
  * The line that a trace gets if it ends here, at the front of lines: `cut` inside a record or its length, `refused 20` where there was no
@@ -407,8 +459,10 @@ CARTSUNDIAL_CALL uint32_t cartsundial_label(uint64_t *state, size_t state_len, c
  * ends a trace of either call.
  * Refused: as cartsundial_annotate.
  */
-CARTSUNDIAL_CALL uint32_t cartsundial_annotate_end(const uint64_t *state, size_t state_len, uint8_t *lines, size_t lines_len,
-                                                   uint64_t *written, size_t written_len);
+CARTSUNDIAL_CHECKED uint32_t cartsundial_annotate_end(const uint64_t *state, size_t state_len,
+                                                      uint8_t *CARTSUNDIAL_RESTRICT lines, size_t lines_len,
+                                                      uint64_t *CARTSUNDIAL_RESTRICT written, size_t written_len)
+    CARTSUNDIAL_READS(1, 2) CARTSUNDIAL_WRITES(3, 4) CARTSUNDIAL_WRITES(5, 6);
 
 /* ---- open requests ---- */
 
@@ -424,7 +478,9 @@ CARTSUNDIAL_CALL uint32_t cartsundial_annotate_end(const uint64_t *state, size_t
  * Refused: 11 for fewer than 256 numbers, tried first; then the header's number, 1 to 9; 60 for any other kind; 61 where its requester and
  * tag are open already; 62 where 256 requests are open.
  */
-CARTSUNDIAL_CALL uint32_t cartsundial_ledger_open(uint64_t *ledger, size_t ledger_len, const uint8_t *header, size_t header_len);
+CARTSUNDIAL_CHECKED uint32_t cartsundial_ledger_open(uint64_t *CARTSUNDIAL_RESTRICT ledger, size_t ledger_len,
+                                                     const uint8_t *header, size_t header_len)
+    CARTSUNDIAL_CHANGES(1, 2) CARTSUNDIAL_READS(3, 4);
 
 /*
  * Completes the request with the requester and the tag of a completion.
@@ -432,13 +488,17 @@ CARTSUNDIAL_CALL uint32_t cartsundial_ledger_open(uint64_t *ledger, size_t ledge
  * open; 64 for retry (status 010) where it is not configuration, and for a success with data for a write, without data for a read, in the
  * locked form for any but MRdLk, or not in it for MRdLk; 65 for a success with more dwords than are still to come.
  */
-CARTSUNDIAL_CALL uint32_t cartsundial_ledger_complete(uint64_t *ledger, size_t ledger_len, const uint8_t *header, size_t header_len);
+CARTSUNDIAL_CHECKED uint32_t cartsundial_ledger_complete(uint64_t *CARTSUNDIAL_RESTRICT ledger, size_t ledger_len,
+                                                         const uint8_t *header, size_t header_len)
+    CARTSUNDIAL_CHANGES(1, 2) CARTSUNDIAL_READS(3, 4);
 
 /*
  * count: how many requests are open.
  * Refused: 11 for fewer than 256 numbers, or a count slice of no numbers.
  */
-CARTSUNDIAL_CALL uint32_t cartsundial_ledger_count(const uint64_t *ledger, size_t ledger_len, uint64_t *count, size_t count_len);
+CARTSUNDIAL_CHECKED uint32_t cartsundial_ledger_count(const uint64_t *ledger, size_t ledger_len,
+                                                      uint64_t *CARTSUNDIAL_RESTRICT count, size_t count_len)
+    CARTSUNDIAL_READS(1, 2) CARTSUNDIAL_WRITES(3, 4);
 
 #ifdef __cplusplus
 }

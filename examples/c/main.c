@@ -144,8 +144,9 @@ static void match(void)
     printf("opened: %" PRIu32 "\n", number);
     for (i = 0; i < 3; i++) {
         number = cartsundial_ledger_complete(ledger, CARTSUNDIAL_LEDGER_NUMBERS, completion, sizeof completion);
-        cartsundial_ledger_count(ledger, CARTSUNDIAL_LEDGER_NUMBERS, open, 1);
-        printf("completed: %" PRIu32 ", open %" PRIu64 "\n", number, open[0]);
+        printf("completed: %" PRIu32, number);
+        if (cartsundial_ledger_count(ledger, CARTSUNDIAL_LEDGER_NUMBERS, open, 1) == CARTSUNDIAL_ACCEPTED)
+            printf(", open %" PRIu64 "\n", open[0]);
     }
 }
 

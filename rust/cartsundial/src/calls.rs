@@ -14,7 +14,8 @@ pub const PACKET: usize = 20;
 /// there more.
 pub const ROUTE: usize = 2 + PACKET;
 
-/// How many numbers are always enough for [`route`], and for [`find`] in an index that was built: a broadcast's answer ends with the record of every function.
+/// How many numbers are always enough for [`route`], and for [`find`] in an index that was built: a broadcast's answer ends
+/// with the record of every function.
 pub const ANY_ROUTE: usize = ROUTE + 512;
 
 /// How many numbers the state of a trace has, in [`annotate`], [`label`] and [`annotate_end`]. All zero is a trace of which
@@ -160,8 +161,8 @@ mod c {
 }
 
 // SAFETY, of every call below: each pointer comes from a slice and goes with that slice's length; a slice's pointer is
-// never null, not even of an empty one. The borrows last for the call, and a slice that is written is borrowed alone.
-// The library is proved to touch nothing else, for any contents and any lengths.
+// never null, not even of an empty one. The borrows last for the call: nobody changes what it reads, and a slice that is
+// written is borrowed alone. The library is proved to touch nothing else, for any contents and any lengths.
 
 /// The version of the archive: 10,000 times the major number, 100 times the minor one, and the patch. [`VERSION`] is the one
 /// that this crate is for.

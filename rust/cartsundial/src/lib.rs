@@ -9,6 +9,11 @@
 //! function's registers boot code is to write, and every rule. A header is given in the order of the link, byte 0 first
 //! and each number's high byte first.
 //!
+//! Nobody may change a slice of a call while it runs, also one that is only read: a call counts on what it found when it looks
+//! again, and writes anywhere if that has changed. For a program's own memory the borrows see to it. Memory that a device or
+//! another process can still write (a ring of captured headers, a mapped file) is none that a slice may be made of: copy it
+//! first.
+//!
 //! Nothing but `core` is needed, so boot code can use it. No call allocates, keeps anything or waits. A stack of 128 KiB
 //! holds the deepest board and the deepest sheet; that is tested, not proved. A call that runs where interrupts are
 //! handled on the same stack (ring 0) must not be interrupted: the archive uses the red zone; include/cartsundial.h says

@@ -14,7 +14,8 @@ use core::slice;
 ///
 /// # Safety
 ///
-/// Each pointer has so many bytes behind it as its length says, `owner` is valid, and what is written overlaps nothing.
+/// Each pointer has so many bytes behind it as its length says, `owner` is valid, what is written overlaps nothing, and
+/// nobody else changes any of it until the call returns.
 #[no_mangle]
 pub unsafe extern "C" fn firmware_owner(
     board: *const u8,
