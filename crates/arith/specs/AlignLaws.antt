@@ -1,6 +1,6 @@
 -- The laws of multiples and of `alignUp`, once over the alignment and by a mask. Assumes nothing.
 use mathlib.Core.Path.{_≡_, ap, _∙_}
-use Prim.Native.Nat.{ℕ, suc, _+_, _-_, _*_, _/_, _%_, _≤_, _<_}
+use Prim.Native.Nat.{ℕ, suc, _+_, _-_, _*_, _/_, _≤_, _<_}
 use native.Mathlib.Omega.{arith}
 use native.Mathlib.Nat.{div-add-mod', mod-lt, mod-eq-zero-of-dvd, dvd-of-mod-eq-zero, dvd-trans, mul-mod-left, zero-mod, add-mod}
 use native.Mathlib.Nat.{mul-add-div-right, add-mul, le-antisymm, lt-of-mul-lt-mul-right, le-of-dvd, mul-le-mul-right}
@@ -27,10 +27,6 @@ module _ (a : ℕ) (pos : 0 < a) where
   unfolding alignUp
   le-align-up x = omega (arith, div-add-mod' (x + (a - 1)) a, mod-lt (x + (a - 1)) pos)
 
-  pub align-up-lt : (x : ℕ) → alignUp a x < x + a
-  unfolding alignUp
-  align-up-lt x = omega (arith, div-add-mod' (x + (a - 1)) a)
-
   pub align-up-multiple : (x : ℕ) → Multiple a (alignUp a x)
   unfolding alignUp
   align-up-multiple x = mul-mod-left ((x + (a - 1)) / a) a
@@ -47,9 +43,6 @@ module _ (a : ℕ) (pos : 0 < a) where
       let k : q < suc (m / a) = lt-of-mul-lt-mul-right a l in
       let n : q ≤ m / a = omega arith in
       omega (arith, mul-le-mul-right a n, div-add-mod' m a)
-
-  pub align-up-mono : {x y : ℕ} → x ≤ y → alignUp a x ≤ alignUp a y
-  align-up-mono {x} {y} h = align-up-least x (alignUp a y) (omega (arith, le-align-up y)) (align-up-multiple y)
 
   pub align-up-of-multiple : (x : ℕ) → Multiple a x → alignUp a x ≡ x
   align-up-of-multiple x h = le-antisymm (align-up-least x x (omega arith) h) (le-align-up x)

@@ -1,7 +1,9 @@
--- A test's two cases, and both sides of tests joined by && and ||. Assumes nothing.
+-- A test's two cases, both sides of tests joined by && and ||, and a number of 0 behind a test. Assumes nothing.
 use mathlib.Core.Path.{_≡_, refl}
 use mathlib.Core.Logic.{_⊎_, inl, inr}
-use mathlib.Core.Bool.{Bool, true, false, _&&_, _||_, true≢false, false≢true}
+use mathlib.Core.Bool.{Bool, true, false, cond, _&&_, _||_, true≢false, false≢true}
+use Prim.Native.Nat.{ℕ, suc}
+use native.Mathlib.Omega.{arith}
 
 -- A test is true or false, with the equation
 pub true-or-false : (t : Bool) → (t ≡ true) ⊎ (t ≡ false)
@@ -19,3 +21,8 @@ either-of-or false t e = inr e
 pub false-of-or : (a b : Bool) → (a || b) ≡ false → (a ≡ false) × (b ≡ false)
 false-of-or true b e = absurd (true≢false e)
 false-of-or false b e = (refl, e)
+
+-- A number given back is not 0, so a number of 0 says that the test failed
+pub past-test : (t : Bool) (n rest : ℕ) → cond t (suc n) rest ≡ 0 → (t ≡ false) × (rest ≡ 0)
+past-test true n rest e = absurd (omega arith)
+past-test false n rest e = (refl, e)

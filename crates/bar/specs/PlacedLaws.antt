@@ -1,7 +1,7 @@
 -- A set whose BARs are placed: each slot's registers hold the value of its base, so the values are lawful and say the bases again. Assumes
 -- nothing.
 use mathlib.Core.Path.{_≡_, refl, ap, _∙_, subst}
-use mathlib.Core.Bool.{Bool, true, false, true≢false, cond, _||_}
+use mathlib.Core.Bool.{Bool, true, false, true≢false, cond}
 use mathlib.Core.List.{List, [], _∷_}
 use Prim.Native.Nat.{ℕ, zero, suc, _/_, _%_, _^_, _<_, _≤_}
 use native.Mathlib.Nat.{div-add-mod', le-refl, lt-of-lt-of-le}
@@ -11,6 +11,7 @@ use lib.Dec.{eqb}
 use lib.ListN.{length, getD, drop}
 use lib.Pow.{pow-mono}
 use lib.Seq.{drop-nil}
+use Rattle.arith.specs.BoolLaws.{false-of-or}
 use Rattle.pools.specs.declared.Pool.{Pool}
 use Rattle.pools.specs.declared.Pool.the-variants.{Low, High, Io}
 use Rattle.bar.specs.declared.Slot.{Slot}
@@ -80,10 +81,6 @@ kept-two base x xs r u rs t o k zero h = rw (o r (base 0), t) (div-add-mod' (val
 kept-two base x xs r u rs t o k (suc zero) h = absurd (true≢false h)
 kept-two base x xs r u rs t o k (suc (suc i)) h = rw (o r (base 0)) (k i h)
 
-or-false-elim : (a b : Bool) → (a || b) ≡ false → (a ≡ false) × (b ≡ false)
-or-false-elim true b e = absurd (true≢false e)
-or-false-elim false b e = (refl, e)
-
 kept-slots : (base : ℕ → ℕ) (rs : List ℕ) → anyBad (slots rs) ≡ false → Kept base (slots rs) rs
 unfolding slots slotHere anyBad
 kept-slots base [] l = kept-none base []
@@ -95,17 +92,17 @@ kept-slots base (r ∷ u ∷ us) l = go (isWide r) l (kept-slots (λ j. base (su
         → (anyBad (slots (u ∷ us)) ≡ false → Kept (λ j. base (suc j)) (slots (u ∷ us)) (u ∷ us))
         → Kept base (cond b (wideSlot r u) (narrowSlot r) ∷ cond b (Upper ∷ slots us) (slots (u ∷ us))) (r ∷ u ∷ us)
     go true m after next =
-        let (w, f) = or-false-elim (isBad (wideSlot r u)) (anyBad (slots us)) m in
+        let (w, f) = false-of-or (isBad (wideSlot r u)) (anyBad (slots us)) m in
         kept-two base (wideSlot r u) (slots us) r u us (wide-takes-next r u w) (wide-has-two r u w) (after f)
     go false m after next =
-        let (w, f) = or-false-elim (isBad (narrowSlot r)) (anyBad (slots (u ∷ us))) m in
+        let (w, f) = false-of-or (isBad (narrowSlot r)) (anyBad (slots (u ∷ us))) m in
         kept-one base (narrowSlot r) (slots (u ∷ us)) r (u ∷ us) (narrow-takes-one r) (narrow-has-one r) (next f)
 
 not-bad-at : (xs : List Slot) → anyBad xs ≡ false → (i : ℕ) → isBad (getD xs i Unused) ≡ false
 unfolding anyBad
 not-bad-at [] l i = refl
-not-bad-at (x ∷ xs) l zero = or-false-elim (isBad x) (anyBad xs) l .0
-not-bad-at (x ∷ xs) l (suc i) = not-bad-at xs (or-false-elim (isBad x) (anyBad xs) l .1) i
+not-bad-at (x ∷ xs) l zero = false-of-or (isBad x) (anyBad xs) l .0
+not-bad-at (x ∷ xs) l (suc i) = not-bad-at xs (false-of-or (isBad x) (anyBad xs) l .1) i
 
 -- ## Placed sets
 
@@ -177,10 +174,10 @@ whole-slots base (r ∷ u ∷ us) l f = go (isWide r) l f (whole-slots (λ j. ba
         → Whole (λ j. base (suc j)) (slots (u ∷ us)) (u ∷ us))
         → Whole base (cond b (wideSlot r u) (narrowSlot r) ∷ cond b (Upper ∷ slots us) (slots (u ∷ us))) (r ∷ u ∷ us)
     go true m q after next =
-        let (w, n) = or-false-elim (isBad (wideSlot r u)) (anyBad (slots us)) m in
+        let (w, n) = false-of-or (isBad (wideSlot r u)) (anyBad (slots us)) m in
         whole-two base (wideSlot r u) (slots us) r u us (wide-has-two r u w) (wide-lt r u w (base 0) (q 0)) (after n (λ j. q (suc (suc j))))
     go false m q after next =
-        let (w, n) = or-false-elim (isBad (narrowSlot r)) (anyBad (slots (u ∷ us))) m in
+        let (w, n) = false-of-or (isBad (narrowSlot r)) (anyBad (slots (u ∷ us))) m in
         whole-one base (narrowSlot r) (slots (u ∷ us)) r (u ∷ us) (narrow-has-one r) (narrow-lt r (base 0) (q 0)) (next n (λ j. q (suc j)))
 
 -- where every BAR fits its base, the registers are lawful and each BAR's say its base

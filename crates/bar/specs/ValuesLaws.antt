@@ -1,10 +1,9 @@
 -- Values: the loop over a set's slots, and the round trip between a value and its base, once over pool and width. Assumes nothing.
 use mathlib.Core.Path.{_≡_, refl, sym, ap, ap₂, _∙_, transport}
 use mathlib.Core.Bool.{Bool, true, false, false≢true, cond, not, _&&_, _||_, and-eq-true-iff}
-use mathlib.Core.List.{List, [], _∷_, _++_}
-use Prim.Native.Nat.{ℕ, zero, suc, _+_, _-_, _*_, _/_, _%_, _^_, _<_, _≤_, min}
-use native.Mathlib.Nat.{add-zero, mod-lt, div-add-mod', div-mul-le-self, div-lt-iff-lt-mul, mul-div-cancel, zero-mod, le-trans, le-of-lt}
-use native.Mathlib.Nat.{lt-of-le-of-lt}
+use mathlib.Core.List.{List, [], _∷_}
+use Prim.Native.Nat.{ℕ, suc, _+_, _-_, _*_, _/_, _%_, _^_, _<_, _≤_, min}
+use native.Mathlib.Nat.{add-zero, mod-lt, div-add-mod', div-lt-iff-lt-mul, zero-mod, le-trans, le-of-lt}
 use native.Mathlib.Numerals.{one-add}
 use native.Mathlib.Omega.{arith}
 use borrow.Author.Tests.{eqb-true, eq-eqb, leb-true, le-leb}
@@ -24,7 +23,7 @@ use Rattle.bar.specs.declared.Slot.the-variants.{Unused, Bar, Upper, Bad
 use Rattle.bar.specs.Bar.{typeBits, leastBit, width, typeOf, withoutType, joined, slotHere, slots, isBad, anyBad, takesNext, span}
 use Rattle.bar.specs.Bar.{BarSize}
 use Rattle.bar.specs.BarLaws.{length-first, slots-head, slots-at-step}
-use Rattle.bar.specs.Values.{valueHere, isBarValue, isValue, valuesFit, baseOf, valueOf, registersOf}
+use Rattle.bar.specs.Values.{valueHere, isBarValue, isValue, valuesFit, baseOf, valueOf}
 
 -- ## Multiples of powers of two
 
@@ -124,32 +123,6 @@ pub is-bar-value-masked : (pool : Pool) (size r v t u w : ℕ) (io : Bool) → P
 unfolding isBarValue
 is-bar-value-masked pool size r v t u w io p e f g h = rw (and-pred-power w size p, e, f, g, h)
 
--- the base written again gives the value back
-pub value-base : (pool : Pool) (wide : Bool) (size r v : ℕ) → BarValue pool size r v
-    → valueOf (Bar pool wide size) r (baseOf (Bar pool wide size) v) ≡ v
-value-base pool wide size r v b =
-    ap₂ (λ (x y : ℕ). x * 2 ^ typeBits pool + y) (mul-div-cancel (v / 2 ^ typeBits pool) (pow-pos (typeBits pool))) (sym (b .typed))
-    ∙ div-add-mod' v (2 ^ typeBits pool)
-
--- a BAR's addresses lie within its width
-pub end-le-of-value : (pool : Pool) (wide : Bool) (size r v : ℕ) → BarSize pool wide size → BarValue pool size r v → v < 2 ^ width pool wide
-    → baseOf (Bar pool wide size) v + size ≤ 2 ^ width pool wide
-end-le-of-value pool wide size r v z b h =
-    let e : withoutType pool v % 2 ^ z .bit ≡ 0 = ap (λ (x : ℕ). withoutType pool v % x) (sym (z .power)) ∙ b .multiple in
-    let f = lt-of-le-of-lt (div-mul-le-self v (2 ^ typeBits pool)) h in
-    omega (arith, z .power, end-le-of-multiple (z .bit) (width pool wide) (withoutType pool v) (le-of-lt (z .most)) e f)
-
--- the registers hold the number
-pub value-registers : (x : Slot) (v : ℕ) (rest : List ℕ) → valueHere x (registersOf x v ++ rest) ≡ v
-value-registers x v rest = go (takesNext x)
-  where
-    go : (b : Bool) → cond b
-        (joined (getD (cond b (v % 4294967296 ∷ v / 4294967296 ∷ []) (v ∷ []) ++ rest) 0 0)
-        (getD (cond b (v % 4294967296 ∷ v / 4294967296 ∷ []) (v ∷ []) ++ rest) 1 0))
-        (getD (cond b (v % 4294967296 ∷ v / 4294967296 ∷ []) (v ∷ []) ++ rest) 0 0) ≡ v
-    go true = div-add-mod' v 4294967296
-    go false = refl
-
 -- ## The loop over a set's slots
 
 pub head-at : (s : List ℕ) (i : ℕ) → getD (drop i s) 0 0 ≡ getD s i 0
@@ -167,7 +140,7 @@ not-bad-of-value (Bar pool wide size) r v e = refl
 not-bad-of-value Upper r v e = refl
 not-bad-of-value Bad r v e = absurd (false≢true e)
 
--- every slot of lawful values has its lawful value, and back
+-- the slot at a place has its lawful value
 abbrev pub ValueAt : List Slot → List ℕ → List ℕ → ℕ → Type 0
 ValueAt xs rs vs i = isValue (getD xs i Unused) (getD rs i 0) (valueHere (getD xs i Unused) (drop i vs)) ≡ true
 
@@ -178,15 +151,6 @@ values-fit-cons : (x : Slot) (xs : List Slot) (rs vs : List ℕ) → valuesFit (
     → (isValue x (getD rs 0 0) (valueHere x vs) ≡ true) × (valuesFit xs (drop 1 rs) (drop 1 vs) ≡ true)
 unfolding valuesFit
 values-fit-cons x xs rs vs e = and-eq-true-iff _ _ .0 e
-
-pub values-fit-elim : (xs : List Slot) (rs vs : List ℕ) → valuesFit xs rs vs ≡ true → (i : ℕ) → i < length xs → ValueAt xs rs vs i
-values-fit-elim [] rs vs e i h = absurd none
-  where
-    none : ⊥
-    none = omega arith
-values-fit-elim (x ∷ xs) rs vs e zero h = values-fit-cons x xs rs vs e .0
-values-fit-elim (x ∷ xs) rs vs e (suc i) h =
-    transport (value-at-suc x xs rs vs i) (values-fit-elim xs (drop 1 rs) (drop 1 vs) (values-fit-cons x xs rs vs e .1) i (omega arith))
 
 pub values-fit-intro : (xs : List Slot) (rs vs : List ℕ) → ((i : ℕ) → i < length xs → ValueAt xs rs vs i) → valuesFit xs rs vs ≡ true
 unfolding valuesFit

@@ -7,7 +7,7 @@ use native.Mathlib.Numerals.{add-one}
 use native.Mathlib.Omega.{arith}
 use mathlib.Core.List.{List, [], _∷_, _++_}
 use lib.ListN.{length, getD, take, drop, length-append, List·getD-append}
-use lib.Seq.{sets, take-all, drop-cons, getD-drop, getD-take, getD-append-add}
+use lib.Seq.{sets, drop-cons, getD-drop, getD-take, getD-append-add}
 use Rattle.endian.specs.Endian.{Bytes}
 use Rattle.endian.specs.BytesLaws.{bytes-nil, bytes-cons}
 use Rattle.endian.specs.SetsLaws.{getD-sets-before, getD-sets-after, getD-sets-at}
@@ -112,9 +112,3 @@ module _ {read : ℕ → List ℕ → ℕ → ℕ} {write : ℕ → ℕ → List
     where
       small : read n s (at + 1) < 256 ^ n
       small = read-lt n s (at + 1) b
-
-  pub write-mod : (n x : ℕ) → write n (x % 256 ^ n) ≡ write n x
-  write-mod n x =
-      ap (write n) (sym (read-write n x))
-      ∙ write-read n (write n x) 0 (bytes-write n x) (omega (arith, length-write n x))
-      ∙ take-all n (write n x) (omega (arith, length-write n x))

@@ -3,7 +3,7 @@ use Prim.Native.Nat.{ℕ, zero, suc, _+_, _<_}
 use native.Mathlib.Omega.{arith}
 use mathlib.Core.List.{List, [], _∷_, _++_}
 use lib.ListN.{set, take, drop}
-use lib.Seq.{sets, getD-drop}
+use lib.Seq.{getD-drop}
 use Rattle.endian.specs.Endian.{Bytes}
 
 pub bytes-nil : Bytes []
@@ -33,7 +33,3 @@ pub bytes-set : (s : List ℕ) (i v : ℕ) → Bytes s → v < 256 → Bytes (se
 bytes-set [] i v b h = b
 bytes-set (x ∷ s) zero v b h = bytes-cons v s h (bytes-tail x s b)
 bytes-set (x ∷ s) (suc i) v b h = bytes-cons x (set s i v) (b 0) (bytes-set s i v (bytes-tail x s b) h)
-
-pub bytes-sets : (s : List ℕ) (i : ℕ) (vs : List ℕ) → Bytes s → Bytes vs → Bytes (sets s i vs)
-bytes-sets s i [] b b′ = b
-bytes-sets s i (v ∷ vs) b b′ = bytes-sets (set s i v) (suc i) vs (bytes-set s i v b (b′ 0)) (bytes-tail v vs b′)

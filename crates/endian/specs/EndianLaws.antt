@@ -56,23 +56,11 @@ be-lt = order.read-lt big-endian
 pub be-agree : (n : ℕ) (s t : List ℕ) (i j : ℕ) → ((k : ℕ) → k < n → getD s (i + k) 0 ≡ getD t (j + k) 0) → be n s i ≡ be n t j
 be-agree = order.read-agree big-endian
 
-pub be-drop : (n k : ℕ) (s : List ℕ) (at : ℕ) → be n (drop k s) at ≡ be n s (k + at)
-be-drop = order.read-drop big-endian
-
-pub be-take : (n k : ℕ) (s : List ℕ) (at : ℕ) → at + n ≤ k → be n (take k s) at ≡ be n s at
-be-take = order.read-take big-endian
-
 pub be-append : (n : ℕ) (a b : List ℕ) (at : ℕ) → at + n ≤ length a → be n (a ++ b) at ≡ be n a at
 be-append = order.read-append big-endian
 
 pub be-append-add : (n : ℕ) (a b : List ℕ) (at : ℕ) → be n (a ++ b) (length a + at) ≡ be n b at
 be-append-add = order.read-append-add big-endian
-
-pub be-sets-before : (n : ℕ) (s : List ℕ) (i : ℕ) (vs : List ℕ) (at : ℕ) → at + n ≤ i → be n (sets s i vs) at ≡ be n s at
-be-sets-before = order.read-sets-before big-endian
-
-pub be-sets-after : (n : ℕ) (s : List ℕ) (i : ℕ) (vs : List ℕ) (at : ℕ) → i + length vs ≤ at → be n (sets s i vs) at ≡ be n s at
-be-sets-after = order.read-sets-after big-endian
 
 -- bytes that follow each other
 pub be-add : (m n : ℕ) (s : List ℕ) (at : ℕ) → be (m + n) s at ≡ be m s at * 256 ^ n + be n s (at + m)
@@ -107,16 +95,8 @@ be-beBytes = order.read-write big-endian
 pub be-beBytes-at : (n x : ℕ) (before after : List ℕ) → x < 256 ^ n → be n (before ++ beBytes n x ++ after) (length before) ≡ x
 be-beBytes-at = order.read-write-at big-endian
 
--- what was stored is read back
-pub be-sets : (n : ℕ) (s : List ℕ) (at x : ℕ) → at + n ≤ length s → x < 256 ^ n → be n (sets s at (beBytes n x)) at ≡ x
-be-sets = order.read-sets big-endian
-
 pub beBytes-be : (n : ℕ) (s : List ℕ) (at : ℕ) → Bytes s → at + n ≤ length s → beBytes n (be n s at) ≡ take n (drop at s)
 beBytes-be = order.write-read big-endian
-
--- n bytes show a number up to multiples of 256 ^ n
-pub beBytes-mod : (n x : ℕ) → beBytes n (x % 256 ^ n) ≡ beBytes n x
-beBytes-mod = order.write-mod big-endian
 
 -- ---- little-endian
 
@@ -138,9 +118,6 @@ little-endian =
       write-rest-step = λ n b r h l. ap (leBytes n) (omega arith);
     }
 
-pub le-lt : (n : ℕ) (s : List ℕ) (at : ℕ) → Bytes s → le n s at < 256 ^ n
-le-lt = order.read-lt little-endian
-
 pub le-agree : (n : ℕ) (s t : List ℕ) (i j : ℕ) → ((k : ℕ) → k < n → getD s (i + k) 0 ≡ getD t (j + k) 0) → le n s i ≡ le n t j
 le-agree = order.read-agree little-endian
 
@@ -149,12 +126,6 @@ le-drop = order.read-drop little-endian
 
 pub le-take : (n k : ℕ) (s : List ℕ) (at : ℕ) → at + n ≤ k → le n (take k s) at ≡ le n s at
 le-take = order.read-take little-endian
-
-pub le-append : (n : ℕ) (a b : List ℕ) (at : ℕ) → at + n ≤ length a → le n (a ++ b) at ≡ le n a at
-le-append = order.read-append little-endian
-
-pub le-append-add : (n : ℕ) (a b : List ℕ) (at : ℕ) → le n (a ++ b) (length a + at) ≡ le n b at
-le-append-add = order.read-append-add little-endian
 
 pub le-sets-before : (n : ℕ) (s : List ℕ) (i : ℕ) (vs : List ℕ) (at : ℕ) → at + n ≤ i → le n (sets s i vs) at ≡ le n s at
 le-sets-before = order.read-sets-before little-endian
@@ -190,14 +161,5 @@ sets-leBytes m n o i x p q =
 pub le-leBytes : (n x : ℕ) → le n (leBytes n x) 0 ≡ x % 256 ^ n
 le-leBytes = order.read-write little-endian
 
-pub le-leBytes-at : (n x : ℕ) (before after : List ℕ) → x < 256 ^ n → le n (before ++ leBytes n x ++ after) (length before) ≡ x
-le-leBytes-at = order.read-write-at little-endian
-
 pub le-sets : (n : ℕ) (s : List ℕ) (at x : ℕ) → at + n ≤ length s → x < 256 ^ n → le n (sets s at (leBytes n x)) at ≡ x
 le-sets = order.read-sets little-endian
-
-pub leBytes-le : (n : ℕ) (s : List ℕ) (at : ℕ) → Bytes s → at + n ≤ length s → leBytes n (le n s at) ≡ take n (drop at s)
-leBytes-le = order.write-read little-endian
-
-pub leBytes-mod : (n x : ℕ) → leBytes n (x % 256 ^ n) ≡ leBytes n x
-leBytes-mod = order.write-mod little-endian

@@ -10,7 +10,6 @@ use borrow.Author.Tests.{leb-true, eqb-true}
 use Rattle.text.specs.Digits.{isWithin, valueOf}
 use Rattle.text.specs.declared.digits.Digit.{Digit}
 use Rattle.text.specs.declared.digits.Digit.the-variants.{Value, Nothing}
-use Rattle.lines.specs.declared.Stage.{Stage}
 use Rattle.lines.specs.declared.Stage.the-variants.{Space, Half, Byte, Wrong}
 use Rattle.lines.specs.declared.Ended.{Ended}
 use Rattle.lines.specs.declared.Ended.the-variants.{Passed, Whole, Wrong as NotWhole}

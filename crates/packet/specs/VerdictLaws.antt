@@ -5,6 +5,7 @@ use mathlib.Core.Bool.{Bool, true, false, cond}
 use borrow.Author.Tests.{eqb-true}
 use native.Mathlib.Omega.{arith}
 use lib.Dec.{eqb}
+use Rattle.arith.specs.BoolLaws.{both-of-and}
 use Rattle.pairs.specs.declared.Row.{Row}
 use Rattle.pairs.specs.declared.Pair.{Pair}
 use Rattle.pairs.specs.declared.Pair.the-variants.{Carried, NotCarried, Unknown}
@@ -24,7 +25,7 @@ use Rattle.packet.specs.declared.Packet.the-variants.{Memory, Io, Config
 use Rattle.packet.specs.declared.Verdict.the-variants.{Lawful, Refused}
 use Rattle.packet.specs.Fields.{kindOf, headOf, isPosted}
 use Rattle.packet.specs.Widths.{enablesFit, addressFits, targetFits, bodyFits, fieldsFit}
-use Rattle.packet.specs.WidthsLaws.{and-elim, HeadBounds, head-bounds-elim, enables-fit-elim, target-fits-elim, OutcomeBounds}
+use Rattle.packet.specs.WidthsLaws.{HeadBounds, head-bounds-elim, enables-fit-elim, target-fits-elim, OutcomeBounds}
 use Rattle.packet.specs.WidthsLaws.{outcome-bounds-elim, content-fits-elim, tag-fits-elim, FieldsFit, fields-fit-elim}
 use Rattle.packet.specs.Rules.{ruleNumber}
 use Rattle.packet.specs.Verdict.{verdictOf, onPair, onFields, onRules}
@@ -83,21 +84,21 @@ pub memory-of-lawful : (row : Row) (k : MemoryKind) (h : Head) (e : Enables) (a 
     → RequestBounds h e × (addressFits h a ≡ true)
 unfolding bodyFits
 memory-of-lawful row k h e a l =
-    let b = and-elim (enablesFit e) (addressFits h a) (fit-of-lawful row (Memory k h e a) l .body) in
+    let b = both-of-and (enablesFit e) (addressFits h a) (fit-of-lawful row (Memory k h e a) l .body) in
     (request-bounds row (Memory k h e a) e l (b .0), b .1)
 
 pub io-of-lawful : (row : Row) (k : IoKind) (h : Head) (e : Enables) (a : ℕ) → verdictOf (Io k h e a) ≡ Lawful row
     → RequestBounds h e × (addressFits h a ≡ true)
 unfolding bodyFits
 io-of-lawful row k h e a l =
-    let b = and-elim (enablesFit e) (addressFits h a) (fit-of-lawful row (Io k h e a) l .body) in
+    let b = both-of-and (enablesFit e) (addressFits h a) (fit-of-lawful row (Io k h e a) l .body) in
     (request-bounds row (Io k h e a) e l (b .0), b .1)
 
 pub config-of-lawful : (row : Row) (k : ConfigKind) (h : Head) (e : Enables) (t : Target) → verdictOf (Config k h e t) ≡ Lawful row
     → RequestBounds h e × (t .id < 65536) × (t .register < 1024)
 unfolding bodyFits
 config-of-lawful row k h e t l =
-    let b = and-elim (enablesFit e) (targetFits t) (fit-of-lawful row (Config k h e t) l .body) in
+    let b = both-of-and (enablesFit e) (targetFits t) (fit-of-lawful row (Config k h e t) l .body) in
     let c = target-fits-elim t (b .1) in
     (request-bounds row (Config k h e t) e l (b .0), c .0, c .1)
 

@@ -2,8 +2,8 @@
 -- Assumes nothing.
 use mathlib.Core.Path.{_≡_, refl, ap, sym, _∙_}
 use mathlib.Core.List.{List, [], _∷_}
-use mathlib.Core.Bool.{Bool, true, false, cond, _&&_}
-use Prim.Native.Nat.{ℕ, _+_, _*_, _<_}
+use mathlib.Core.Bool.{Bool, true, false, _&&_}
+use Prim.Native.Nat.{ℕ, _<_}
 use native.Mathlib.Omega.{arith}
 use borrow.Author.Tests.{eqb-true, eqb-false, eq-eqb, ne-eqb, ltb-true}
 use lib.Dec.{eqb, ltb}
@@ -19,7 +19,7 @@ use Rattle.pairs.specs.declared.MessageKind.the-variants.{Msg, MsgD}
 use Rattle.pairs.specs.declared.MessageRouting.the-variants.{ToRoot, ByAddress, ById, Broadcast, Local, Gathered}
 use Rattle.pairs.specs.declared.Name.{Name}
 use Rattle.pairs.specs.declared.Name.the-variants as name
-use Rattle.pairs.specs.Pairs.{table, kindNamed, kindNumber, keyOf, isKind, isKey, first, findKind, findKey}
+use Rattle.pairs.specs.Pairs.{table, kindNamed, kindNumber, keyOf, isKind, isKey, findKind, findKey}
 use Rattle.pairs.specs.FirstLaws.{first-same}
 
 names : List Name

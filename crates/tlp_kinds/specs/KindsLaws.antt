@@ -24,7 +24,6 @@ use Rattle.packet.specs.Fields.{isPosted}
 use Rattle.packet.specs.Rules.{ruleNumber}
 use Rattle.tlp_fields.specs.Fields.{requestHeadAt, completionHeadAt, enablesAt, addressAt, targetAt, outcomeAt}
 use Rattle.tlp_fields.specs.Fields.{unnamed, unnamedTarget, unnamedLower}
-use Rattle.tlp.specs.declared.Reading.{Reading}
 use Rattle.tlp.specs.declared.Reading.the-variants.{Accepted, Refused as NotRead}
 use Rattle.tlp.specs.Reading.{judged, readAs, readPair, readOf}
 use Rattle.tlp_kinds.specs.Kinds.{isMemory, memoryKind, memoryForm, isIo, ioKind, isConfig, configKind, isCompletion, completionKind}

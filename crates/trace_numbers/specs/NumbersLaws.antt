@@ -2,12 +2,13 @@
 use Prim.Native.Nat.{ℕ, zero, suc, _<_, _≤_}
 use native.Mathlib.Omega.{arith}
 use mathlib.Core.Path.{_≡_, refl, sym, ap, subst, _∙_}
-use mathlib.Core.Bool.{Bool, true, false, cond, _&&_, _||_, or-false, true≢false}
+use mathlib.Core.Bool.{Bool, true, false, cond, _||_, or-false, true≢false}
 use mathlib.Core.List.{List}
 use lib.ListN.{length, getD, replicate}
 use lib.Seq.{sets}
 use lib.Dec.{ltb, leb, eqb}
 use borrow.Author.Tests.{lt-ltb, le-ltb, ltb-true, ltb-false, leb-true, eqb-true, ne-eqb}
+use Rattle.arith.specs.BoolLaws.{both-of-and}
 use Rattle.endian.specs.Endian.{beBytes}
 use Rattle.endian.specs.SetsLaws.{sets-append}
 use Rattle.trace.specs.declared.Trace.{Trace}
@@ -17,10 +18,6 @@ use Rattle.trace_numbers.specs.Numbers.{numbersOf}
 use Rattle.trace_numbers.specs.Parsing.{size, isStage, isState, stateAt, headAt, Parsed, Accepted, Refused, traceOf, takenAs}
 
 -- ## What the tests say
-
-pub true-of-and : (a b : Bool) → (a && b) ≡ true → (a ≡ true) × (b ≡ true)
-true-of-and true b e = (refl, e)
-true-of-and false b e = absurd (true≢false (sym e))
 
 no-value : (v : ℕ) → (eqb v 0 || false || false) ≡ true → v ≡ 0
 no-value v e = eqb-true v 0 (sym (or-false (eqb v 0)) ∙ sym (or-false (eqb v 0 || false)) ∙ e)
@@ -36,7 +33,7 @@ stage-elim P start other between half inside (suc zero) v e = subst (P 1) (sym (
 stage-elim P start other between half inside (suc (suc zero)) v e = subst (P 2) (sym (no-value v e)) between
 stage-elim P start other between half inside (suc (suc (suc zero))) v e = half v (leb-true v 255 (sym (or-false (leb v 255)) ∙ e))
 stage-elim P start other between half inside (suc (suc (suc (suc zero)))) v e =
-    let both = true-of-and (ltb 0 v) (leb v 65535) e in
+    let both = both-of-and (ltb 0 v) (leb v 65535) e in
     inside v (ltb-true 0 v (both .0)) (leb-true v 65535 (both .1))
 stage-elim P start other between half inside (suc (suc (suc (suc (suc n))))) v e =
     absurd (true≢false (sym e ∙ no-stage (suc (suc (suc (suc (suc n))))) v (omega arith)))
@@ -60,12 +57,12 @@ inner-of-stage =
 -- the two tests of a state
 pub stage-of-state : (ns : List ℕ) → isState ns ≡ true → isStage (getD ns 0 0) (getD ns 1 0) ≡ true
 unfolding isState
-stage-of-state ns e = true-of-and (isStage (getD ns 0 0) (getD ns 1 0)) (leb (getD ns 3 0) frontLength) e .0
+stage-of-state ns e = both-of-and (isStage (getD ns 0 0) (getD ns 1 0)) (leb (getD ns 3 0) frontLength) e .0
 
 pub kept-of-state : (ns : List ℕ) → isState ns ≡ true → getD ns 3 0 ≤ frontLength
 unfolding isState
 kept-of-state ns e =
-    leb-true (getD ns 3 0) frontLength (true-of-and (isStage (getD ns 0 0) (getD ns 1 0)) (leb (getD ns 3 0) frontLength) e .1)
+    leb-true (getD ns 3 0) frontLength (both-of-and (isStage (getD ns 0 0) (getD ns 1 0)) (leb (getD ns 3 0) frontLength) e .1)
 
 -- ## The six numbers
 

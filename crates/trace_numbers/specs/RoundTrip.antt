@@ -10,6 +10,7 @@ use lib.ListN.{length, getD, take, drop, set, replicate, length-drop, length-set
 use lib.Seq.{take-all}
 use lib.Dec.{ltb, leb, eqb}
 use borrow.Author.Tests.{leb-true, le-ltb, lt-ltb, le-leb, eqb-false}
+use Rattle.arith.specs.BoolLaws.{both-of-and}
 use Rattle.endian.specs.Endian.{Bytes, be, beBytes}
 use Rattle.endian.specs.EndianLaws.{be-append, be-append-add, be-beBytes, beBytes-be, length-beBytes, bytes-beBytes}
 use Rattle.endian.specs.BytesLaws.{bytes-append, bytes-set}
@@ -25,7 +26,7 @@ use Rattle.trace.specs.declared.Emits.the-variants.{Nothing, Refusal, Line}
 use Rattle.trace.specs.Trace.{fresh, lineAt, keptAfter, headAfter, Account, accountOf, heardBy, stateOf}
 use Rattle.trace_numbers.specs.Numbers.{stageNumber, stageValue, numbersOf}
 use Rattle.trace_numbers.specs.Parsing.{size, isStage, stages, stageAt, headAt, stateAt, isState, Accepted, Refused, traceOf}
-use Rattle.trace_numbers.specs.NumbersLaws.{true-of-and, stage-elim, stage-of-state, kept-of-state, length-headAt, passed}
+use Rattle.trace_numbers.specs.NumbersLaws.{stage-elim, stage-of-state, kept-of-state, length-headAt, passed}
 use Rattle.trace_numbers.specs.NumbersLaws.{enough-of-accepted}
 
 -- ## Bounds
@@ -191,7 +192,7 @@ event-fits Start b s h = go (eqb b 1)
 event-fits Other b s h = tt
 event-fits Between b s h = omega arith
 event-fits (Length high) b s h = let byte = leb-true high 255 (sym (or-false (leb high 255)) ∙ s) in omega arith
-event-fits (Inside left) b s h = let word = leb-true left 65535 (true-of-and (ltb 0 left) (leb left 65535) s .1) in (h, omega arith)
+event-fits (Inside left) b s h = let word = leb-true left 65535 (both-of-and (ltb 0 left) (leb left 65535) s .1) in (h, omega arith)
 
 inside-staged : (left : ℕ) → left ≤ 65535 → Staged (insideOf left)
 unfolding insideOf

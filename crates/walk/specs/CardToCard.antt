@@ -35,7 +35,7 @@ use Rattle.walk.specs.MeetingLaws.{node-same, way-of, Meeting, meeting, 
 
 -- ## Lists of bridges, by number
 
-all-of-numbers : (P : ℕ → Type 0) (us : List Node) → All P (numbersOf us) → All (λ u. P (u .number)) us
+pub all-of-numbers : (P : ℕ → Type 0) (us : List Node) → All P (numbersOf us) → All (λ u. P (u .number)) us
 all-of-numbers P [] h = tt
 all-of-numbers P (u ∷ us) h = (h .0, all-of-numbers P us (h .1))
 

@@ -30,15 +30,6 @@ join-append none (c ∷ cs) ds = join-append (one c) cs ds
 join-append (one d) (c ∷ cs) ds = sym (join-several ds)
 join-append several (c ∷ cs) ds = sym (join-several ds)
 
--- the turns of a search: the first claim, and the second, which ends it
-pub join-first : (c : Claim) (cs : List Claim) → join none (c ∷ cs) ≡ join (one c) cs
-unfolding join
-join-first c cs = refl
-
-pub join-second : (d c : Claim) (cs : List Claim) → join (one d) (c ∷ cs) ≡ several
-unfolding join
-join-second d c cs = refl
-
 pub claims-of-one : (cs : List Claim) (c : Claim) → join none cs ≡ one c → cs ≡ c ∷ []
 unfolding join
 claims-of-one [] c e = cc

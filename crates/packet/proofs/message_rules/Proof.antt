@@ -4,7 +4,7 @@ use Rattle.packet.proofs.message_rules.Statement.{statement}
 use Rattle.packet.proofs.message_rules.Tie as tie
 use Rattle.packet.specs.declared.Head.{Head}
 use Prim.Native.Nat.{ℕ, _%_}
-use mathlib.Core.Path.{_≡_, refl, sym, ap, _∙_}
+use mathlib.Core.Path.{_≡_, sym, ap, _∙_}
 use mathlib.Core.Bool.{Bool, not, _&&_, _||_}
 use lib.Dec.{eqb}
 use Rattle.packet.specs.RulesLaws.{passed, stopped, rule-number-message}

@@ -2,7 +2,6 @@
 use borrow.Author.Needs.{needs}
 use Rattle.pairs.proofs.kind_number.Statement.{statement}
 use Rattle.pairs.proofs.kind_number.Tie as tie
-use Rattle.pairs.proofs.routing_number.Reads as routing-number-reads
 
 enum-known-kind : tie.Need-enum-known-kind
 enum-known-kind c = search needs

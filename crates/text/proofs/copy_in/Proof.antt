@@ -3,10 +3,9 @@
 use Rattle.text.proofs.copy_in.Statement.{statement}
 use Rattle.text.proofs.copy_in.Tie as tie
 use native.Mathlib.Omega.{arith}
-use borrow.Author.Needs.{needs}
 use mathlib.Core.List.{List}
 use Prim.Native.Nat.{ℕ, _+_, _-_, _≤_}
-use mathlib.Core.Path.{_≡_, refl, sym, ap, _∙_}
+use mathlib.Core.Path.{_≡_, refl, ap, _∙_}
 use lib.ListN.{length, take, set, getD, length-set}
 use lib.Seq.{sets, take-all}
 use Rattle.text.specs.TextLaws.{copied-more}

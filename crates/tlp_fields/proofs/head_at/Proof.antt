@@ -3,7 +3,6 @@ use borrow.Author.Needs.{needs}
 use Rattle.tlp_fields.proofs.head_at.Statement.{statement}
 use Rattle.tlp_fields.proofs.head_at.Tie as tie
 use Rattle.tlp_fields.specs.Fields.{headAt}
-use mathlib.Core.Path.{refl}
 
 shared-slice-read-wide : tie.Need-shared-slice-read-wide
 shared-slice-read-wide c = search needs

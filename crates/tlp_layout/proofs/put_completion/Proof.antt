@@ -9,7 +9,7 @@ use native.Mathlib.Omega.{arith}
 use Rattle.endian.specs.SetsLaws.{sets-append}
 use Rattle.endian.specs.Endian.{beBytes}
 use mathlib.Core.List.{[], _∷_, _++_}
-use Prim.Native.Nat.{_+_, _%_}
+use Prim.Native.Nat.{_%_}
 use mathlib.Core.Path.{refl}
 
 put-outcome-requires : tie.Need-put-outcome-requires
