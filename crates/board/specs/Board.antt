@@ -1,6 +1,6 @@
 -- Document 01, "The board" and "Numbers given back": the number of the first check that a board's bytes fail, 0 where they are lawful, and
 -- what a lawful board says. Each check covers all records before the next starts. Assumes nothing.
-use Prim.Native.Nat.{ℕ, _+_, _*_}
+use Prim.Native.Nat.{ℕ}
 use mathlib.Core.Bool.{Bool, true, cond, not, _||_}
 use mathlib.Core.List.{List, [], _∷_, map}
 use lib.ListN.{length, getD, drop}
@@ -13,10 +13,6 @@ use Rattle.board_record.specs.declared.Function.{Function}
 use Rattle.board_record.specs.Host.{hostLength, hostOfPart, hostWrong}
 use Rattle.board_record.specs.Function.{isShort, functionOfPart, wrongIn, readbacksWrong}
 use Rattle.board_order.specs.Order.{anyMisplaced}
-
--- the most bytes of a lawful board: its version, its host and functions of 30 bytes, each after its own length
-abbrev pub mostBytes : ℕ
-mostBytes = 1 + 32 * (1 + mostFunctions)
 
 -- "no host record, or host not 30"
 abbrev pub noHost : List (List ℕ) → Bool

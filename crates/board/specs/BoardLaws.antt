@@ -7,11 +7,12 @@ use native.Mathlib.Omega.{arith}
 use lib.ListN.{length, getD, take, drop}
 use lib.Dec.{eqb, ltb}
 use borrow.Author.Tests.{eq-eqb, ne-eqb, eqb-true, ltb-false, not-false}
+use Rattle.arith.specs.BoolLaws.{past-test, false-of-or}
 use Rattle.lists.specs.Lists.{any}
 use Rattle.records.specs.declared.Next.{Next}
 use Rattle.records.specs.declared.Next.the-variants.{End, Record, Broken}
 use Rattle.records.specs.Records.{nextOf, Parts, partsOf, partsFrom, anyPart}
-use Rattle.records.specs.RecordsLaws.{length-part, parts-record, parts-end, parts-broken, pass-record, false-of-or}
+use Rattle.records.specs.RecordsLaws.{length-part, parts-record, parts-end, parts-broken, pass-record}
 use Rattle.records.specs.Limits.{mostFunctions}
 use Rattle.board_record.specs.declared.Host.{Host}
 use Rattle.board_record.specs.declared.Function.{Function}
@@ -159,15 +160,10 @@ pub record Accepted (b : List ℕ) : Type 0 where
   pub order : anyMisplaced 0 [] (functionsOf b) ≡ false
   pub readbacks : any readbacksWrong (functionsOf b) ≡ false
 
--- a test that gives a number other than 0 was not true
-passed : (t : Bool) (n k : ℕ) → cond t (suc n) k ≡ 0 → (t ≡ false) × (k ≡ 0)
-passed true n k e = absurd (omega arith)
-passed false n k e = (refl, e)
-
 version-of-zero : (b : List ℕ) → boardNumber b ≡ 0 → (isVersion (getD b 0 0) ≡ true) × (fromFrame (getD b 0 0) (partsOf (drop 1 b)) ≡ 0)
 unfolding boardNumber fromVersion
 version-of-zero b e =
-    let rest = passed (eqb (length b) 0) 19 (cond (isVersion (getD b 0 0)) (fromFrame (getD b 0 0) (partsOf (drop 1 b))) 21) e .1 in
+    let rest = past-test (eqb (length b) 0) 19 (cond (isVersion (getD b 0 0)) (fromFrame (getD b 0 0) (partsOf (drop 1 b))) 21) e .1 in
     go (isVersion (getD b 0 0)) refl rest
   where
     go : (t : Bool) → isVersion (getD b 0 0) ≡ t → cond t (fromFrame (getD b 0 0) (partsOf (drop 1 b))) 21 ≡ 0
@@ -177,7 +173,7 @@ version-of-zero b e =
 
 framed-of-zero : (v : ℕ) (r : Parts) → fromFrame v r ≡ 0 → misframed r ≡ false
 unfolding fromFrame
-framed-of-zero v r e = passed (misframed r) 19 (fromCount v (hostOfPart (getD (r .parts) 0 [])) (drop 1 (r .parts))) e .0
+framed-of-zero v r e = past-test (misframed r) 19 (fromCount v (hostOfPart (getD (r .parts) 0 [])) (drop 1 (r .parts))) e .0
 
 count-of-zero : (v : ℕ) (h : Host) (ps : List (List ℕ)) → fromCount v h ps ≡ 0
     → (ltb mostFunctions (length ps) ≡ false)
@@ -188,11 +184,11 @@ count-of-zero : (v : ℕ) (h : Host) (ps : List (List ℕ)) → fromCount v h ps
 unfolding fromCount fromHeaders fromEdges fromOrder fromReadbacks
 count-of-zero v h ps e =
     let fs = map functionOfPart ps in
-    let a = passed (ltb mostFunctions (length ps)) 21 (fromHeaders v h ps) e in
-    let b = passed (anyPart (wrongIn v) ps) 23 (fromEdges h fs) (a .1) in
-    let c = passed (hostWrong h) 25 (fromOrder fs) (b .1) in
-    let d = passed (anyMisplaced 0 [] fs) 22 (fromReadbacks fs) (c .1) in
-    (a .0, b .0, c .0, d .0, passed (any readbacksWrong fs) 24 0 (d .1) .0)
+    let a = past-test (ltb mostFunctions (length ps)) 21 (fromHeaders v h ps) e in
+    let b = past-test (anyPart (wrongIn v) ps) 23 (fromEdges h fs) (a .1) in
+    let c = past-test (hostWrong h) 25 (fromOrder fs) (b .1) in
+    let d = past-test (anyMisplaced 0 [] fs) 22 (fromReadbacks fs) (c .1) in
+    (a .0, b .0, c .0, d .0, past-test (any readbacksWrong fs) 24 0 (d .1) .0)
 
 pub accepted-of-zero : (b : List ℕ) → boardNumber b ≡ 0 → Accepted b
 unfolding hostOf functionsOf
@@ -217,6 +213,3 @@ accepted-of-zero b e =
       order = ap (anyMisplaced 0 []) functions ∙ c .3;
       readbacks = ap (any readbacksWrong) functions ∙ c .4;
     }
-
-pub framed-of-accepted : (b : List ℕ) → boardNumber b ≡ 0 → misframed (partsOf (drop 1 b)) ≡ false
-framed-of-accepted b e = framed-of-zero (getD b 0 0) (partsOf (drop 1 b)) (version-of-zero b e .1)

@@ -10,8 +10,8 @@ use lib.ListN.{length, getD, length-map, List·getD-eq-default}
 use lib.Dec.{eqb}
 use borrow.Author.Tests.{eqb-true, eqb-false}
 use Rattle.arith.specs.Order.{le-or-lt}
+use Rattle.arith.specs.BoolLaws.{false-of-or}
 use Rattle.records.specs.Limits.{mostAbove}
-use Rattle.records.specs.RecordsLaws.{false-of-or}
 use Rattle.plan_rule.specs.Records.{Lawful}
 use Rattle.plan_rule.specs.Records as placing
 use Rattle.plan_rule.specs.Preorder.{noFunction, parentOf}

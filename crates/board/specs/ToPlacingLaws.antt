@@ -7,7 +7,7 @@ use native.Mathlib.Omega.{arith}
 use lib.ListN.{length, take}
 use lib.Dec.{eqb}
 use borrow.Author.Tests.{eqb-true}
-use Rattle.records.specs.RecordsLaws.{false-of-or}
+use Rattle.arith.specs.BoolLaws.{false-of-or}
 use Rattle.plan_bars.specs.BarsLaws.{bars-from-sized}
 use Rattle.lists.specs.Lists.{any}
 use Rattle.lists.specs.ListLaws.{all-imp}

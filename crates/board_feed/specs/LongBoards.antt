@@ -7,13 +7,14 @@ use native.Mathlib.Omega.{arith}
 use borrow.Author.Tests.{ne-eqb, lt-ltb, le-ltb, ltb-true, ltb-false, eqb-true, not-false}
 use lib.Dec.{eqb, ltb}
 use lib.ListN.{length}
+use Rattle.arith.specs.BoolLaws.{false-of-or}
 use Rattle.records.specs.declared.frame.Stage.{Stage}
 use Rattle.records.specs.declared.frame.Stage.the-variants.{Other, Between}
 use Rattle.records.specs.declared.frame.Event.the-variants.{Version, Foreign}
 use Rattle.records.specs.declared.frame.Ending.{Ending}
 use Rattle.records.specs.declared.frame.Ending.the-variants.{Whole, Cut}
 use Rattle.records.specs.Records.{partsOf, anyPart, total}
-use Rattle.records.specs.RecordsLaws.{length-of-whole, false-of-or}
+use Rattle.records.specs.RecordsLaws.{length-of-whole}
 use Rattle.records.specs.Frame.{versionOf, stageAfter, stageOf, heardOf, endingOf, heardBytes, heardPart}
 use Rattle.records.specs.FrameLaws.{stage-other, heard-whole, ending-parts}
 use Rattle.board_record.specs.Host.{hostLength}

@@ -10,9 +10,10 @@ use lib.ListN.{length, getD, take, drop, set, length-set}
 use lib.Seq.{getD-set-same, getD-set-other}
 use lib.Dec.{eqb, ltb}
 use borrow.Author.Tests.{eq-eqb, ne-eqb, ltb-false}
+use Rattle.arith.specs.BoolLaws.{false-of-or}
 use Rattle.records.specs.declared.Next.the-variants.{Record}
 use Rattle.records.specs.Records.{nextOf, partsFrom}
-use Rattle.records.specs.RecordsLaws.{pass-record, false-of-or}
+use Rattle.records.specs.RecordsLaws.{pass-record}
 use Rattle.records.specs.Limits.{mostAbove}
 use Rattle.board_record.specs.declared.Function.{Function}
 use Rattle.board_order.specs.declared.Found.the-variants.{At, Nowhere}

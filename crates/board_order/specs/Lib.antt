@@ -3,6 +3,5 @@ pub mod Order
 pub mod OrderLaws
 pub mod Stack
 pub mod StackLaws
-pub mod OrderedLaws
 pub mod Levels
 pub mod LevelsLaws

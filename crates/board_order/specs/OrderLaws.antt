@@ -5,7 +5,7 @@ use mathlib.Core.List.{List, [], _∷_, _++_}
 use Prim.Native.Nat.{ℕ, zero, suc, _≤_, _<_}
 use native.Mathlib.Omega.{arith}
 use lib.ListN.{length, drop}
-use lib.Dec.{eqb, ltb, eqb·zero-suc}
+use lib.Dec.{eqb, ltb}
 use borrow.Author.Tests.{eqb-true, eq-eqb, ne-eqb, eqb-false, ltb-false}
 use Rattle.lists.specs.Lists.{All, any}
 use Rattle.lists.specs.ListLaws.{all-imp, all-append}
@@ -56,12 +56,6 @@ module _ (n p : ℕ) (g : Function) (before : List Function) where
   pub above-later : eqb p (suc n) ≡ false → above (suc n) p (g ∷ before) ≡ above n p before
   unfolding above
   above-later e = rw e
-
-pub above-host : (n : ℕ) (before : List Function) → above n 0 before ≡ []
-unfolding above
-above-host zero before = refl
-above-host (suc n) [] = refl
-above-host (suc n) (g ∷ before) = above-later n 0 g before (eqb·zero-suc n) ∙ above-host n before
 
 -- records above are no later than the nearest
 pub le-of-above : (n p : ℕ) (before : List Function) → All (λ b. b ≤ n) (above n p before)

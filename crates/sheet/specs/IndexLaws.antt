@@ -58,6 +58,10 @@ command-index s k f h =
 
 -- ## Records and functions
 
+pub entry-index : (s : List ℕ) (i : ℕ) → Framed 1 s → i < length (entriesOf s) → getD (entriesOf s) i (entryOf []) ≡ entryOf (partAt s i)
+unfolding entriesFrom
+entry-index s i f h = List·getD-map entryOf (partsIn s) i [] ∙ ap entryOf (part-index s i f (omega (arith, length-entries s)))
+
 module _ (s : List ℕ) (f : Framed 1 s) where
   lt-of-index : (k : ℕ) → k < length (entriesOf s) → recordAt k < length s
   lt-of-index k h = omega (arith, count-entries s f)

@@ -4,14 +4,13 @@ use mathlib.Core.Path.{_≡_, refl, sym, ap, _∙_}
 use mathlib.Core.List.{List, [], _∷_}
 use Prim.Native.Nat.{ℕ, zero, suc, _-_, _≤_, _<_}
 use native.Mathlib.Omega.{arith}
-use lib.ListN.{length, getD, List·getD-map}
+use lib.ListN.{length, getD}
 use borrow.Author.Tests.{eq-eqb, ne-eqb}
 use Rattle.sheet.specs.declared.RecordId.the-variants.{Id, Refused}
 use Rattle.sheet_record.specs.Entry.{Entry, entryOf, idOf}
-use Rattle.sheet.specs.Sheet.{Framed, entriesFrom, entriesOf, partsIn, partAt, sheetNumber}
+use Rattle.sheet.specs.Sheet.{Framed, entriesOf, partAt, sheetNumber}
 use Rattle.sheet.specs.Lookup.{idAt, idOfRecord, recordId}
-use Rattle.sheet.specs.FrameLaws.{part-index}
-use Rattle.sheet.specs.IndexLaws.{length-entries}
+use Rattle.sheet.specs.IndexLaws.{entry-index}
 use Rattle.sheet.specs.LookupLaws.{id-of-entry}
 
 id-past : (es : List Entry) (i : ℕ) → length es ≤ i → idAt es i ≡ Refused 40
@@ -25,10 +24,6 @@ unfolding idAt
 id-here [] i d h = absurd (omega arith)
 id-here (e ∷ es) zero d h = refl
 id-here (e ∷ es) (suc i) d h = id-here es i d (omega arith)
-
-entry-index : (s : List ℕ) (i : ℕ) → Framed 1 s → i < length (entriesOf s) → getD (entriesOf s) i (entryOf []) ≡ entryOf (partAt s i)
-unfolding entriesFrom
-entry-index s i f h = List·getD-map entryOf (partsIn s) i [] ∙ ap entryOf (part-index s i f (omega (arith, length-entries s)))
 
 module _ (s : List ℕ) {n : ℕ} (is-number : n ≡ sheetNumber s) where
   pub record-id-bad : (k : ℕ) → (n ≡ 0 → ⊥) → Refused n ≡ recordId s k

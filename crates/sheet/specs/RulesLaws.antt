@@ -6,7 +6,7 @@ use Prim.Native.Nat.{ℕ, zero, suc, _+_, _≤_, _<_}
 use native.Mathlib.Omega.{arith}
 use lib.ListN.{length, take, drop}
 use borrow.Author.Tests.{not-false}
-use Rattle.records.specs.RecordsLaws.{false-of-or}
+use Rattle.arith.specs.BoolLaws.{false-of-or}
 use Rattle.bar.specs.Bar.{slots, anyBad}
 use Rattle.bar.specs.Values.{valuesLawful}
 use Rattle.bar.specs.ValuesLaws.{lawful-of-values}

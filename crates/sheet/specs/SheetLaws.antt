@@ -8,11 +8,11 @@ use native.Mathlib.Omega.{arith}
 use lib.ListN.{length, getD, drop}
 use lib.Dec.{eqb, leb, ltb}
 use borrow.Author.Tests.{ltb-true, ltb-false, leb-true, eqb-true, eqb-false, eq-eqb, ne-eqb, le-ltb, not-false}
+use Rattle.arith.specs.BoolLaws.{past-test, false-of-or}
 use Rattle.endian.specs.Endian.{Bytes}
 use Rattle.endian.specs.BytesLaws.{bytes-take, bytes-drop}
 use Rattle.pools.specs.declared.Space.{Space}
 use Rattle.records.specs.Limits.{mostFunctions}
-use Rattle.records.specs.RecordsLaws.{false-of-or}
 use Rattle.lists.specs.Lists.{All}
 use Rattle.walk.specs.Registers.{nodes, NumberedFrom}
 use Rattle.walk.specs.Good.{Rises, BridgesRise}
@@ -39,11 +39,6 @@ pub record Checked (s : List ℕ) : Type 0 where
   pub ids : idTwice (entriesOf s) ≡ false
   pub readbacks : anyBreaks ReadBacks (entriesOf s) ≡ false
   pub nibbles : anyBreaks Nibbles (entriesOf s) ≡ false
-
--- a number given back is not 0, so a number of 0 says that the test failed
-past-test : (t : Bool) (n rest : ℕ) → cond t (suc n) rest ≡ 0 → (t ≡ false) × (rest ≡ 0)
-past-test true n rest e = absurd (omega arith)
-past-test false n rest e = (refl, e)
 
 past-else : (t : Bool) (n rest : ℕ) → cond t rest (suc n) ≡ 0 → (t ≡ true) × (rest ≡ 0)
 past-else true n rest e = (refl, e)

@@ -1,9 +1,9 @@
 -- A record's BARs as the code reads them from the record's bytes: the first of six slots. Assumes nothing.
-use mathlib.Core.Path.{_≡_, refl}
+use mathlib.Core.Path.{_≡_, refl, ap}
 use mathlib.Core.Bool.{Bool, true, false, cond}
 use mathlib.Core.List.{List}
-use Prim.Native.Nat.{ℕ}
-use lib.ListN.{take}
+use Prim.Native.Nat.{ℕ, zero, suc, _+_}
+use lib.ListN.{length, take}
 use Rattle.endian.specs.Endian.{be, le}
 use Rattle.pools.specs.declared.Space.{Space}
 use Rattle.bar.specs.Bar.{slots}
@@ -11,6 +11,11 @@ use Rattle.sheet_record.specs.Places.{valuesAt, readbacksAt}
 use Rattle.sheet_record.specs.Entry.{dwords, headerOf, isBridge, slotCount, entryOf}
 use Rattle.sheet_record.specs.Spaces.{slotsOf, barsOf}
 use Rattle.sheet_record.specs.SpacesLaws.{barsAt}
+
+pub length-dwords : (read : List ℕ → ℕ → ℕ) (n : ℕ) (p : List ℕ) (at : ℕ) → length (dwords read n p at) ≡ n
+unfolding dwords
+length-dwords read zero p at = refl
+length-dwords read (suc n) p at = ap suc (length-dwords read n p (at + 4))
 
 module _ (p : List ℕ) where
   -- the first read-backs and values of the six that the code reads

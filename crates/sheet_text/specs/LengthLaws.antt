@@ -3,7 +3,7 @@
 use mathlib.Core.Path.{_≡_, refl, sym, ap, _∙_}
 use mathlib.Core.Bool.{Bool, true, false, cond}
 use mathlib.Core.List.{List, [], _∷_, _++_, map, flatMap}
-use Prim.Native.Nat.{ℕ, zero, suc, _+_, _*_, _/_, _%_, _≤_, _<_}
+use Prim.Native.Nat.{ℕ, zero, suc, _*_, _/_, _%_, _≤_, _<_}
 use native.Mathlib.Nat.{zero-add, zero-mul, suc-mul}
 use native.Mathlib.Omega.{arith}
 use lib.ListN.{length, getD, drop, length-append}
@@ -16,7 +16,8 @@ use Rattle.text.specs.TextLaws.{decimal-one, decimal-more}
 use Rattle.records.specs.Limits.{mostFunctions}
 use Rattle.sheet.specs.declared.Rule.the-variants.{HeaderType, Buses, ReadBacks, Nibbles}
 use Rattle.sheet_record.specs.Places.{valuesAt}
-use Rattle.sheet_record.specs.Entry.{Entry, dwords, idOf, headerOf, isBridge, slotCount, entryOf}
+use Rattle.sheet_record.specs.Entry.{Entry, idOf, headerOf, isBridge, slotCount, entryOf}
+use Rattle.sheet_record.specs.EntryLaws.{length-dwords}
 use Rattle.sheet.specs.Sheet.{isFramed, partsIn, entriesFrom, entriesOf, anyBreaks, idTwice, from29, from25, from28, from27, from24, from22}
 use Rattle.sheet.specs.Sheet.{from20, from21, sheetNumber}
 use Rattle.sheet.specs.IndexLaws.{length-entries}
@@ -101,11 +102,6 @@ length-endText e six =
     let n : List ℕ = ascii " end" in
     let v = words 8 (e .values) in
     omega (arith, length-append (n ++ v) newline, length-append n v, length-words 8 (e .values))
-
-length-dwords : (read : List ℕ → ℕ → ℕ) (n : ℕ) (p : List ℕ) (at : ℕ) → length (dwords read n p at) ≡ n
-unfolding dwords
-length-dwords read zero p at = refl
-length-dwords read (suc n) p at = ap suc (length-dwords read n p (at + 4))
 
 length-values : (p : List ℕ) → length (entryOf p .values) ≡ slotCount (headerOf p)
 unfolding entryOf

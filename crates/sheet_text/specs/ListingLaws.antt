@@ -5,7 +5,7 @@ use mathlib.Core.List.{List, [], _∷_, _++_, flatMap, append-assoc, append-nil}
 use Prim.Native.Nat.{ℕ, _+_, _<_, min}
 use native.Mathlib.Numerals.{add-one}
 use native.Mathlib.Omega.{arith}
-use lib.ListN.{length, getD, take, List·getD-map}
+use lib.ListN.{length, getD, take}
 use lib.Seq.{take-suc}
 use borrow.Author.Tests.{eq-eqb, ne-eqb}
 use Rattle.endian.specs.Endian.{le}
@@ -15,9 +15,8 @@ use Rattle.pools.specs.declared.Pool.the-variants.{Low, High, Io}
 use Rattle.window.specs.declared.Window.{Window}
 use Rattle.sheet_record.specs.Places.{valuesAt}
 use Rattle.sheet_record.specs.Entry.{Entry, dwords, idOf, headerOf, isBridge, primaryOf, secondaryOf, subordinateOf, windowOf, entryOf}
-use Rattle.sheet.specs.Sheet.{Framed, partsIn, partAt, entriesFrom, entriesOf, sheetNumber}
-use Rattle.sheet.specs.FrameLaws.{part-index}
-use Rattle.sheet.specs.IndexLaws.{length-entries}
+use Rattle.sheet.specs.Sheet.{Framed, partAt, entriesOf, sheetNumber}
+use Rattle.sheet.specs.IndexLaws.{entry-index}
 use Rattle.sheet_text.specs.Listing.{newline, words, buses, edges, uppers, windowText, bridgeText, endText, lineOf, planText}
 use Rattle.sheet_text.specs.Listing.{refusalText, sheetText}
 
@@ -37,10 +36,6 @@ lines-snoc : (es : List Entry) (e : Entry) → flatMap lineOf (es ++ e ∷ []) �
 unfolding flatMap
 lines-snoc [] e = append-nil (lineOf e)
 lines-snoc (x ∷ es) e = ap (_++_ (lineOf x)) (lines-snoc es e) ∙ sym (append-assoc (lineOf x) (flatMap lineOf es) (lineOf e))
-
-entry-index : (s : List ℕ) (k : ℕ) → Framed 1 s → k < length (entriesOf s) → getD (entriesOf s) k (entryOf []) ≡ entryOf (partAt s k)
-unfolding entriesFrom
-entry-index s k f h = List·getD-map entryOf (partsIn s) k [] ∙ ap entryOf (part-index s k f (omega (arith, length-entries s)))
 
 -- one function more
 pub lines-index : (s : List ℕ) (k : ℕ) → Framed 1 s → k < length (entriesOf s)

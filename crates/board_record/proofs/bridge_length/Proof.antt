@@ -1,7 +1,6 @@
 -- `board_record::bridge_length` meets its contract. Assumes nothing.
 use Rattle.board_record.proofs.bridge_length.Statement.{statement}
 use Rattle.board_record.proofs.bridge_length.Tie as tie
-use mathlib.Core.Path.{sym}
 use borrow.Author.Tests.{eq-eqb, ne-eqb}
 
 returns : tie.Need-returns
