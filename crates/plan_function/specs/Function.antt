@@ -85,6 +85,3 @@ afterFunction bridge xs inner c q = let e = afterBars c xs q in cond bridge (aft
 
 abbrev pub belowFunction : Bool → List Slot → (Pool → Extent) → Ends → Ends → Ends
 belowFunction bridge xs inner c below q = cond bridge (belowWindow q (inner q) (afterBars c xs q) (below q)) (below q)
-
-abbrev pub windowOf : List Slot → (Pool → Extent) → Ends → Pool → Window
-windowOf xs inner c q = let e = afterBars c xs q in windowAt q (isEmpty (inner q)) (windowStart q (inner q) e) (windowStop q (inner q) e)

@@ -1,11 +1,10 @@
 -- A record's own pieces placed, in the words of one function: its BARs' starts, its windows, and the cursors after it. Assumes nothing.
 use mathlib.Core.Path.{_≡_, refl, sym, ap, ap₂, subst, _∙_}
 use mathlib.Core.Logic.{⊎-elim}
-use mathlib.Core.Bool.{Bool, true, false, cond, _&&_, and-false, true≢false, false≢true}
+use mathlib.Core.Bool.{Bool, true, false, cond, _&&_, true≢false}
 use mathlib.Core.List.{List, [], _∷_, _++_, map, append-nil}
-use Prim.Native.Nat.{ℕ, zero, suc, _+_, _≤_, _<_}
+use Prim.Native.Nat.{ℕ, suc, _+_, _≤_, _<_}
 use native.Mathlib.Omega.{arith}
-use native.Mathlib.Nat.{add-zero}
 use lib.Dec.{eqb}
 use lib.ListN.{getD, drop}
 use borrow.Author.Tests.{eq-eqb, ne-eqb}
@@ -24,7 +23,7 @@ use Rattle.plan_rule.specs.PoolLaws.{same-pool-refl, eq-of-same-pool, is-on-of-
 use Rattle.plan_rule.specs.Records.{Function}
 use Rattle.plan_rule.specs.Records as placing
 use Rattle.plan_rule.specs.RecordLaws.{false-of-not}
-use Rattle.plan_rule.specs.Layout.{Part, bar, window, Piece, Placed, isWindow, isOn, select, isPlacedOn, selectPlaced, startAt, endAt}
+use Rattle.plan_rule.specs.Layout.{Piece, Placed, isWindow, isOn, select, isPlacedOn, selectPlaced, startAt, endAt}
 use Rattle.plan_rule.specs.Layout.{layout, layoutEnd}
 use Rattle.plan_rule.specs.LayoutLaws.{layout-end-append}
 use Rattle.plan_rule.specs.Pieces.{windowPiece, windowOver, barPiece, barPieces, contentOf, windowPieces, ownPieces}
@@ -35,10 +34,10 @@ use Rattle.plan_rule.specs.declared.Extent.{Extent}
 use Rattle.plan_rule.specs.Sizing.{nothing, extend, withSpare}
 use Rattle.plan_rule.specs.Sizing as sizing
 use Rattle.plan_rule.specs.ExtentLaws.{window-over-extent, extend-content, select-windows}
-use Rattle.plan_function.specs.Registers.{barsFrom, isPart, isWindowIn, barStart, windowFor, valuesFrom}
+use Rattle.plan_function.specs.Registers.{barsFrom, isWindowIn, barStart, windowFor, valuesFrom}
 use Rattle.plan_function.specs.Function.{Ends, afterBar, barStarts, afterBars, valuesAt, isEmpty, windowStart, windowStop}
 use Rattle.plan_function.specs.Function.{afterFunction, belowFunction}
-use Rattle.plan_function.specs.PassLaws.{firstOf, first-none, bar-start-first}
+use Rattle.plan_function.specs.PassLaws.{firstOf}
 
 -- ## BARs
 
@@ -77,12 +76,7 @@ module _ (k b : ℕ) (xs : List Placed) (w : List Piece) (cut : ℕ → ℕ) (sa
       next : Left k b xs w (suc s) ss (after c p)
       next j m = h j (omega arith) ∙ rw (eq-eqb k k refl, ne-eqb s j (λ e. omega arith))
 
--- ## Where BAR j starts
-
-not-bar : (t : Part) (j : ℕ) → isWindow t ≡ true → isPart t j ≡ false
-not-bar (bar n) j e = absurd (false≢true e)
-not-bar window j e = refl
-
+-- what a record has besides are windows
 pub windows-only : (k b n : ℕ) (rest : List Piece) (t : Bool) → All (λ p. isWindow (p .part) ≡ true) (cond t (windowPieces k b n rest) [])
 unfolding windowPieces
 windows-only k b n rest false = tt
@@ -93,44 +87,6 @@ windows-only k b n rest true =
     over : (q : Pool) (content : List Piece) → All (λ p. isWindow (p .part) ≡ true) (windowOver k b q content)
     over q [] = tt
     over q (c ∷ cs) = (refl, tt)
-
-module _ (k b : ℕ) (w : List Piece) (windows : All (λ p. isWindow (p .part) ≡ true) w) where
-  -- none among later slots and windows
-  no-bar : (m s : ℕ) → m < s → (ss : List Slot) (c : Cursors) → barStart k m (place c (barPieces k b (barsFrom s ss) ++ w)) ≡ 0
-  unfolding barStart barsFrom barPieces place
-  no-bar m s l [] c =
-      bar-start-first k m (place c w)
-      ∙ first-none k (λ x. isPart (x .piece .part) m) (λ x. x .start) 0 (place c w)
-      (all-imp _ _ (place c w) (all-place (λ p. isWindow (p .part) ≡ true) c w windows)
-      (λ x e. rw (not-bar (x .piece .part) m e) (and-false (eqb (x .piece .owner) k))))
-  no-bar m s l (Unused ∷ ss) c = no-bar m (suc s) (omega arith) ss c
-  no-bar m s l (Upper ∷ ss) c = no-bar m (suc s) (omega arith) ss c
-  no-bar m s l (Bad ∷ ss) c = no-bar m (suc s) (omega arith) ss c
-  no-bar m s l (Bar q wide z ∷ ss) c =
-      rw (eq-eqb k k refl, ne-eqb s m (λ e. omega arith))
-      (no-bar m (suc s) (omega arith) ss (after c (barPiece k b (record { slot = s; pool = q; size = z }))))
-
-  pub starts-left : (xs : List Placed) (s : ℕ) (ss : List Slot) (c : Cursors) → Left k b xs w s ss c → (j : ℕ)
-      → barStart k (s + j) xs ≡ getD (barStarts (c b) ss) j 0
-  unfolding barStarts barsFrom barStart barPieces place
-  starts-left xs s [] c h j = h (s + j) (omega arith) ∙ no-bar (s + j) (suc (s + j)) (omega arith) [] c
-  starts-left xs s (Unused ∷ ss) c h zero = rw (add-zero s) (h s (omega arith) ∙ no-bar s (suc s) (omega arith) ss c)
-  starts-left xs s (Upper ∷ ss) c h zero = rw (add-zero s) (h s (omega arith) ∙ no-bar s (suc s) (omega arith) ss c)
-  starts-left xs s (Bad ∷ ss) c h zero = rw (add-zero s) (h s (omega arith) ∙ no-bar s (suc s) (omega arith) ss c)
-  starts-left xs s (Bar q wide z ∷ ss) c h zero = rw (add-zero s) (h s (omega arith) ∙ rw (eq-eqb k k refl, eq-eqb s s refl))
-  starts-left xs s (Unused ∷ ss) c h (suc j) =
-      let e : suc s + j ≡ s + suc j = omega arith in rw (← e) (starts-left xs (suc s) ss c (λ m l. h m (omega arith)) j)
-  starts-left xs s (Upper ∷ ss) c h (suc j) =
-      let e : suc s + j ≡ s + suc j = omega arith in rw (← e) (starts-left xs (suc s) ss c (λ m l. h m (omega arith)) j)
-  starts-left xs s (Bad ∷ ss) c h (suc j) =
-      let e : suc s + j ≡ s + suc j = omega arith in rw (← e) (starts-left xs (suc s) ss c (λ m l. h m (omega arith)) j)
-  starts-left xs s (Bar q wide z ∷ ss) c h (suc j) =
-      let e : suc s + j ≡ s + suc j = omega arith in
-      rw (← e)
-      (starts-left xs (suc s) ss (after c (barPiece k b (record { slot = s; pool = q; size = z })))
-      (λ m l. h m (omega arith) ∙ rw (eq-eqb k k refl, ne-eqb s m (λ e. omega arith)))
-      j
-      ∙ ap (λ (n : Ends). getD (barStarts n ss) j 0) (after-bar k b s q wide z c))
 
 -- where the BARs of pool q end
 module _ (k b : ℕ) (q : Pool) where
@@ -264,15 +220,6 @@ module _ (k : ℕ) (f : Function) (ss : List Slot) (rest : List Piece) (c : Curs
 
   bars-end : (q : Pool) → layoutEnd (c b q) (barsIn q) ≡ afterBars (c b) ss q
   bars-end q = layout-end-bars k b q (c b q) 0 ss (c b) refl
-
-  pub own-starts : (xs : List Placed) → ((j : ℕ) → barStart k j xs ≡ barStart k j (place c own)) → (j : ℕ) → barStart k j xs
-      ≡ getD (barStarts (c b) ss) j 0
-  unfolding ownPieces
-  own-starts xs h j =
-      let n : 0 + j ≡ j = omega arith in
-      rw n at (starts-left k b (cond (f .bridge) (windowPieces k (f .parent) (f .spareLow) rest) [])
-      (windows-only k (f .parent) (f .spareLow) rest (f .bridge)) xs 0 ss c
-      (λ m l. rw (← bars) (h m)) j)
 
   -- the search for a bridge's window in pool q
   pub own-window : {A : Type 0} (g : Placed → A) (d : A) → f .bridge ≡ true → (q : Pool)

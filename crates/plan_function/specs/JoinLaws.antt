@@ -6,12 +6,12 @@ use mathlib.Core.List.{List, [], _∷_, map}
 use Prim.Native.Nat.{ℕ, suc, _≤_, _<_}
 use native.Mathlib.Omega.{arith}
 use lib.Dec.{eqb}
-use lib.ListN.{getD, drop}
+use lib.ListN.{drop}
 use Rattle.pools.specs.declared.Pool.{Pool}
 use Rattle.bar.specs.declared.Slot.{Slot}
 use Rattle.window.specs.Window.{closed, opened, bound}
 use Rattle.lists.specs.Lists.{All}
-use Rattle.lists.specs.ListLaws.{all-of, all-imp, all-drop, all-forall}
+use Rattle.lists.specs.ListLaws.{all-imp, all-drop, all-forall}
 use Rattle.plan_rule.specs.Records.{Host, Function, Sized, Lawful, DepthFirst}
 use Rattle.plan_rule.specs.RecordLaws.{IsAt, ordered-from}
 use Rattle.plan_rule.specs.Layout.{Placed, endOf}
@@ -24,15 +24,11 @@ use Rattle.plan_rule.specs.declared.Extent.{Extent}
 use Rattle.plan_rule.specs.Sizing.{busLaid, laidFrom, spared}
 use Rattle.plan_rule.specs.Cap.{cap, cap-small}
 use Rattle.plan_function.specs.Registers.{barsFrom, isPart, isWindowIn, barStart, windowFor, valuesFrom}
-use Rattle.plan_function.specs.Function.{Ends, barStarts, afterBars, valuesAt, isEmpty, windowStart, windowStop, windowAt, windowOf}
+use Rattle.plan_function.specs.Function.{Ends, barStarts, afterBars, valuesAt, isEmpty, windowStart, windowStop, windowAt}
 use Rattle.plan_function.specs.Function.{afterFunction, belowFunction}
 use Rattle.plan_function.specs.Pass.{cursorsAt}
 use Rattle.plan_function.specs.PassLaws.{firstOf, first-split, bar-start-split, cursors-at-step, record-split}
-use Rattle.plan_function.specs.FunctionLaws.{values-left, own-starts, own-window, own-cursor, below-cursor, other-cursor}
-
-map-id : (xs : List ℕ) → map (λ x. x) xs ≡ xs
-map-id [] = refl
-map-id (x ∷ xs) = ap (λ (l : List ℕ). x ∷ l) (map-id xs)
+use Rattle.plan_function.specs.FunctionLaws.{values-left, own-window, own-cursor, below-cursor, other-cursor}
 
 -- ## Addresses that a cut leaves as they are
 
@@ -115,23 +111,6 @@ module _ (h : Host) (fs : List Function) (lawful : Lawful fs) (i : ℕ) (f : Fun
         ∙ first-split (record-split h fs lawful i f at) (isWindowIn q) (λ x. opened q (cut (x .start)) (cut (endOf x))) (closed q)
         ∙ own-window (suc i) f ss (pieces (suc (suc i)) (drop (suc i) fs)) (cursorsAt h fs i) bars parent-lt (sized-here .0) rest-shaped
         (λ x. opened q (cut (x .start)) (cut (endOf x))) (closed q) b q
-
-  -- ## In whole numbers
-
-  pub bar-start-join : (j : ℕ) → barStart (suc i) j (placed h fs) ≡ getD (barStarts before ss) j 0
-  bar-start-join =
-      own-starts (suc i) f ss (pieces (suc (suc i)) (drop (suc i) fs)) (cursorsAt h fs i) bars parent-lt (sized-here .0) rest-shaped
-      (placed h fs) (bar-start-split (record-split h fs lawful i f at))
-
-  pub values-join : (rs : List ℕ) → valuesFrom (suc i) 0 (placed h fs) ss rs ≡ valuesAt ss rs (barStarts before ss)
-  values-join rs =
-      values-cut (λ x. x) (record
-      { none = refl; starts = all-of _ (λ x. refl) (placed h fs); ends = all-of _ (λ x. refl) (placed h fs) }) rs
-      ∙ ap (valuesAt ss rs) (map-id (barStarts before ss))
-
-  pub window-join : f .bridge ≡ true → (q : Pool) → windowFor (suc i) q (placed h fs) ≡ windowOf ss inner before q
-  window-join =
-      window-cut (λ x. x) (record { none = refl; starts = all-of _ (λ x. refl) (placed h fs); ends = all-of _ (λ x. refl) (placed h fs) })
 
   -- ## The cursors after it
 

@@ -4,12 +4,11 @@ use mathlib.Core.Bool.{Bool, true, false, cond, true≢false}
 use mathlib.Core.List.{List, [], _∷_, _++_, map, map-append, append-assoc, append-nil}
 use Prim.Native.Nat.{ℕ, zero, suc, _+_, _-_, _/_, _%_, _^_, _≤_, _<_}
 use native.Mathlib.Omega.{arith}
-use native.Mathlib.Nat.{add-zero}
 use native.Mathlib.Numerals.{add-one}
 use borrow.Author.Tests.{eq-eqb, ne-eqb}
 use lib.Dec.{eqb}
 use lib.ListN.{length, getD, set, take, drop, replicate, length-append, length-take, length-drop, drop-of-length-le, take-append-drop}
-use lib.Seq.{sets, sets-eq, length-sets, length-take-le, take-at, drop-at, drop-drop, getD-drop}
+use lib.Seq.{sets, sets-eq, length-sets, length-take-le, take-at, drop-at, drop-drop}
 use Rattle.arith.specs.Align.{alignUp}
 use Rattle.pools.specs.declared.Pool.{Pool}
 use Rattle.pools.specs.declared.Pool.the-variants.{Low, High, Io}
@@ -22,6 +21,7 @@ use Rattle.bar.specs.Bar.{widePool}
 use Rattle.bar.specs.Bar.{SizedSlot}
 use Rattle.bar.specs.BarLaws.{sized-slots, length-first, length-slots, slots-at-step, any-bad-of-bad, any-bad-step}
 use Rattle.bar.specs.Values.{valueOf, registersOf}
+use Rattle.bar.specs.ValuesLaws.{head-at}
 use Rattle.window.specs.Window.{closed, opened}
 use Rattle.lists.specs.Lists.{All}
 use Rattle.plan_rule.specs.RecordLaws.{false-of-not}
@@ -62,9 +62,6 @@ drop-zeros n zero = let e : n - 0 ≡ n = omega arith in rw e
 drop-zeros zero (suc m) = let e : 0 - suc m ≡ 0 = omega arith in rw e
 drop-zeros (suc n) (suc m) = let e : suc n - suc m ≡ n - m = omega arith in rw e (drop-zeros n m)
 
-getD-head : (l : List ℕ) (i : ℕ) → getD (drop i l) 0 0 ≡ getD l i 0
-getD-head l i = getD-drop i l 0 0 ∙ ap (λ (k : ℕ). getD l k 0) (add-zero i)
-
 -- ## Slots
 
 all-of-at : (P : Slot → Type 0) (xs : List Slot) → ((i : ℕ) → P (getD xs i Unused)) → All P xs
@@ -96,7 +93,7 @@ starts-low : (z : ℕ) → Starts (sized Low false z)
 unfolding sized
 starts-low z = starts-cond (eqb z 0) Bad _ tt tt
 
-starts-narrow : (r : ℕ) → Starts (narrowSlot r)
+pub starts-narrow : (r : ℕ) → Starts (narrowSlot r)
 unfolding narrowSlot ioSlot
 starts-narrow r =
     starts-cond (eqb r 0) Unused _ tt
@@ -292,7 +289,7 @@ module _ (set : List ℕ) (n : ℕ) (c : Ends) (values : List ℕ) (at : Cursors
     head-same : registersAt x (getD (drop i set) 0 0) (cap (startOf e x)) ≡ registersOf x v
     head-same =
         registers-at x _ _ (rw here (starts-here (drop i first)))
-        ∙ ap (registersOf x) (ap₂ (valueOf x) (getD-head set i) (sym s) ∙ sym w)
+        ∙ ap (registersOf x) (ap₂ (valueOf x) (head-at set i) (sym s) ∙ sym w)
 
     split : keptFrom set n e i ≡ words ++ keptFrom set n (endsOf at') (i + span x)
     unfolding keptFrom valuesAt barStarts

@@ -16,11 +16,10 @@ use Rattle.bar.specs.Bar.{slots}
 use Rattle.bar.specs.Bar.{SizedSlot}
 use Rattle.lists.specs.Lists.{All}
 use Rattle.lists.specs.ListLaws.{all-imp, all-drop}
-use Rattle.lists.specs.KeepLaws.{all-keep}
 use Rattle.plan_rule.specs.PoolLaws.{granule-power}
 use Rattle.plan_rule.specs.Records.{Host, Function, Lawful, Sized}
 use Rattle.plan_rule.specs.RecordLaws.{IsAt}
-use Rattle.plan_rule.specs.Layout.{isOn, select, largestAlign}
+use Rattle.plan_rule.specs.Layout.{largestAlign}
 use Rattle.plan_rule.specs.LayoutLaws.{largest-align-power}
 use Rattle.plan_rule.specs.Pieces.{contentOf, pieces}
 use Rattle.plan_rule.specs.PieceLaws.{BarsSized, Shaped, content-shaped, pieces-shaped}

@@ -10,18 +10,16 @@ use lib.Dec.{eqb}
 use lib.ListN.{drop}
 use lib.Seq.{drop-nil}
 use borrow.Author.Tests.{ne-eqb}
-use Rattle.pools.specs.declared.Pool.{Pool}
-use Rattle.window.specs.Window.{closed, opened}
 use Rattle.lists.specs.Lists.{All}
 use Rattle.lists.specs.ListLaws.{all-imp, all-append}
 use Rattle.plan_rule.specs.Records.{Host, Function, Sized, Lawful}
 use Rattle.plan_rule.specs.RecordLaws.{IsAt}
-use Rattle.plan_rule.specs.Layout.{Piece, Placed, endOf}
+use Rattle.plan_rule.specs.Layout.{Piece, Placed}
 use Rattle.plan_rule.specs.Pieces.{ownPieces, pieces}
 use Rattle.plan_rule.specs.PieceLaws.{own-pieces, pieces-owner}
 use Rattle.plan_rule.specs.Placing.{Cursors, fromBases, place, cursorsAfter, placed}
 use Rattle.plan_rule.specs.PlacingLaws.{place-record, all-place}
-use Rattle.plan_function.specs.Registers.{isPart, isWindowIn, barStart, windowFor}
+use Rattle.plan_function.specs.Registers.{isPart, barStart}
 use Rattle.plan_function.specs.Pass.{cursorsFrom, cursorsAt}
 
 -- ## The first of record k that passes a test
@@ -51,13 +49,6 @@ unfolding barStart firstOf
 bar-start-first k j [] = refl
 bar-start-first k j (x ∷ xs) = ap (cond (eqb (x .piece .owner) k && isPart (x .piece .part) j) (x .start)) (bar-start-first k j xs)
 
-pub window-for-first : (k : ℕ) (q : Pool) (xs : List Placed)
-    → windowFor k q xs ≡ firstOf k (isWindowIn q) (λ x. opened q (x .start) (endOf x)) (closed q) xs
-unfolding windowFor firstOf
-window-for-first k q [] = refl
-window-for-first k q (x ∷ xs) =
-    ap (cond (eqb (x .piece .owner) k && isWindowIn q x) (opened q (x .start) (endOf x))) (window-for-first k q xs)
-
 -- ## What lies before record k, its own, and what comes after
 
 pub record Split (k : ℕ) (own xs : List Placed) : Type 0 where
@@ -79,9 +70,6 @@ module _ {A : Type 0} {k : ℕ} {own xs : List Placed} (s : Split k own xs) (t :
 
 pub bar-start-split : {k : ℕ} {own xs : List Placed} → Split k own xs → (j : ℕ) → barStart k j xs ≡ barStart k j own
 bar-start-split {k} {own} {xs} s j = bar-start-first k j xs ∙ first-split s _ _ 0 ∙ sym (bar-start-first k j own)
-
-pub window-for-split : {k : ℕ} {own xs : List Placed} → Split k own xs → (q : Pool) → windowFor k q xs ≡ windowFor k q own
-window-for-split {k} {own} {xs} s q = window-for-first k q xs ∙ first-split s _ _ (closed q) ∙ sym (window-for-first k q own)
 
 -- ## The record at index i
 

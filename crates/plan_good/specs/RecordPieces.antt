@@ -17,7 +17,6 @@ use Rattle.plan_rule.specs.Pools.{Pool, low, high, io}
 use Rattle.plan_rule.specs.Records.{Bar, Host, Function, Lawful, Sized}
 use Rattle.plan_rule.specs.RecordLaws.{IsAt}
 use Rattle.plan_rule.specs.Layout.{bar, window, Piece, Placed, isWindow}
-use Rattle.plan_rule.specs.Layout.{select}
 use Rattle.plan_rule.specs.Pieces.{barPiece, barPieces, windowOver, contentOf, windowPieces, ownPieces, pieces}
 use Rattle.plan_rule.specs.PieceLaws.{own-pieces, pieces-owner}
 use Rattle.plan_rule.specs.Placing.{Cursors, place, placed, fromBases}

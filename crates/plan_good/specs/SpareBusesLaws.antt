@@ -22,7 +22,7 @@ use Rattle.plan_rule.specs.Numbering.{weight, ownSpare, bridges, over, busNumbe
 use Rattle.plan_rule.specs.NumberingLaws.{bridges-take-suc, bridges-take-mono, weight-own, weight-bridge, over-record}
 use Rattle.plan_rule.specs.Numbered.{Rises, bridge-rises, spares-fit, over-le, subordinate-after}
 use Rattle.plan_rule.specs.NoSpares.{NoSpares, bus-number-counted, subordinate-counted}
-use Rattle.plan_good.specs.SpareBuses.{BridgeAt, SparesLast, NumberBelow, GreatestBelow}
+use Rattle.plan_good.specs.SpareBuses.{BridgeAt, SparesLast, GreatestBelow}
 
 -- ---- the longest front that passes a test: its elements pass, the next does not
 

@@ -2,36 +2,36 @@
 -- Assumes nothing.
 use mathlib.Core.Path.{_≡_, refl, sym, ap, subst, _∙_}
 use mathlib.Core.Logic.{_⊎_, inl, inr, ⊎-elim}
-use mathlib.Core.Bool.{Bool, true, false, cond, true≢false}
+use mathlib.Core.Bool.{Bool, true, false, true≢false}
 use mathlib.Core.List.{List, [], _∷_, _++_, map, append-nil, cons≢nil, Memᴰ·map, Memᴰ·of-map}
-use Prim.Native.Nat.{ℕ, zero, suc, _+_, _-_, _*_, _≤_, _<_, max}
+use Prim.Native.Nat.{ℕ, zero, suc, _+_, _*_, _≤_, _<_, max}
 use native.Mathlib.Nat.{add-zero, mul-mod-left}
 use native.Mathlib.Omega.{arith}
 use lib.Dec.{eqb}
 use lib.ListN.{length, drop}
-use borrow.Author.Tests.{eq-eqb, eqb-true, eqb-false}
+use borrow.Author.Tests.{eq-eqb, eqb-true}
 use Rattle.arith.specs.Order.{le-or-lt, eq-or-ne}
 use Rattle.arith.specs.Align.{alignUp, Multiple}
 use Rattle.arith.specs.PowersLaws.{pos-of-power}
 use Rattle.arith.specs.AlignLaws.{le-align-up, align-up-multiple, align-up-of-multiple, multiple-add}
 use Rattle.lists.specs.Lists.{_∈_, All, Some, keep}
-use Rattle.lists.specs.ListLaws.{all-imp, all-elim, all-drop, all-map-intro, some-left, some-right, some-imp, some-of-member}
+use Rattle.lists.specs.ListLaws.{all-imp, all-elim, all-drop, all-map-intro, some-left, some-right, some-of-member}
 use Rattle.lists.specs.ListLaws.{member-of-some, pairwise-members}
 use Rattle.lists.specs.KeepLaws.{all-keep, keep-intro, keep-elim}
 use Rattle.pools.specs.declared.Space.the-variants.{Memory as memorySpace}
 use Rattle.pools.specs.Pools.{inSpace}
-use Rattle.plan_rule.specs.Pools.{Pool, low, high, io, granule}
+use Rattle.plan_rule.specs.Pools.{Pool, low, granule}
 use Rattle.plan_rule.specs.PoolLaws.{granule-power, is-on-of-on}
 use Rattle.plan_rule.specs.Records.{Host, Function, DepthFirst, Sized, Lawful}
 use Rattle.plan_rule.specs.RecordLaws.{IsAt, ordered-from}
 use Rattle.plan_rule.specs.Layout.{Piece, Placed, endOf, isWindow, isOn, isPlacedOn, select, selectPlaced, layout, layoutEnd}
 use Rattle.plan_rule.specs.Layout.{largestAlign}
-use Rattle.plan_rule.specs.LayoutLaws.{Within, shift, HasAlign, layout-within, layout-end-append}
+use Rattle.plan_rule.specs.LayoutLaws.{shift, HasAlign, layout-within, layout-end-append}
 use Rattle.plan_rule.specs.Pieces.{windowSize, windowAlign, windowOver, sparePiece, spareIf, sparePieces, contentOf, barPieces}
 use Rattle.plan_rule.specs.Pieces.{windowPieces, ownPieces, pieces}
 use Rattle.plan_rule.specs.PieceLaws.{WindowOf, SizedBy, Own, BarsSized, own-pieces, Shaped, has-align, pieces-shaped}
 use Rattle.plan_rule.specs.Placing.{placed}
-use Rattle.plan_rule.specs.Placed.{Holds, WellPlaced, well-placed}
+use Rattle.plan_rule.specs.Placed.{Holds, well-placed}
 use Rattle.plan_rule.specs.ExtentLaws.{select-skip}
 use Rattle.plan_good.specs.RecordPieces.{pieces-of-record}
 use Rattle.plan_rule.specs.Siblings.{Disjoint}

@@ -5,8 +5,8 @@ use mathlib.Core.List.{List, [], _∷_, map, cons≢nil, head-eq-of-cons-eq}
 use Prim.Native.Nat.{ℕ, zero, suc, _+_, _*_, _%_, _≤_, _<_}
 use native.Mathlib.Omega.{arith}
 use lib.ListN.{length, getD, take, length-map}
+use Rattle.arith.specs.BoolLaws.{false-of-or}
 use Rattle.records.specs.Records.{partsFrom}
-use Rattle.records.specs.RecordsLaws.{false-of-or}
 use Rattle.bar.specs.Bar.{anyBad}
 use Rattle.lists.specs.Lists.{any}
 use Rattle.plan_rule.specs.Numbering.{bridges, over}

@@ -10,8 +10,8 @@ use native.Mathlib.Omega.{arith}
 use lib.ListN.{length, getD, take, drop, replicate, length-append}
 use lib.Seq.{sets, length-sets, take-at, length-take-le}
 use Rattle.arith.specs.Order.{le-or-lt}
+use Rattle.arith.specs.BoolLaws.{false-of-or}
 use Rattle.endian.specs.SetsLaws.{getD-sets-before, getD-sets-after, getD-sets-at}
-use Rattle.records.specs.RecordsLaws.{false-of-or}
 use Rattle.pools.specs.declared.Pool.{Pool}
 use Rattle.pools.specs.declared.Pool.the-variants.{Low, High, Io}
 use Rattle.bar.specs.declared.Slot.{Slot}
@@ -38,7 +38,7 @@ use Rattle.plan_function.specs.declared.Cursors.{Cursors}
 use Rattle.plan_function.specs.Function.{Ends, registersAt, valuesAt, barStarts, afterBars, afterWindow, belowWindow}
 use Rattle.plan_function.specs.Registers.{valuesFrom, windowFor}
 use Rattle.plan_function.specs.Kept.{word, endsOf, keptValues, keptWindow, extentIn}
-use Rattle.plan_function.specs.KeptLaws.{Starts, starts-here, ends-kept}
+use Rattle.plan_function.specs.KeptLaws.{Starts, starts-narrow, ends-kept}
 use Rattle.plan_function.specs.JoinLaws.{Room, insideOf, parent-lt}
 use Rattle.plan_function.specs.LoopLaws.{Agrees, values-planned, window-planned, agrees-leaf, agrees-bridge, align-power}
 use Rattle.sheet_bytes.specs.Layout.{plannedOf}
@@ -90,10 +90,6 @@ length-two (Bar q true z) r start e = refl
 length-two (Bar q false z) r start e = absurd (true≢false (sym e))
 length-two Upper r start e = absurd (true≢false (sym e))
 length-two Bad r start e = absurd (true≢false (sym e))
-
-starts-narrow : (r : ℕ) → Starts (narrowSlot r)
-unfolding slotHere
-starts-narrow r = starts-here (r ∷ [])
 
 length-valuesAt : (s rs starts : List ℕ) → anyBad (slots s) ≡ false → length (valuesAt (slots s) rs starts) ≡ length s
 unfolding slots slotHere valuesAt anyBad

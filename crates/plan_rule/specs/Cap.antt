@@ -135,9 +135,6 @@ pub cap-spared : (n : ℕ) (l : Laid) → cappedLaid (spared n (cappedLaid l)) �
 cap-spared n l = laid-ext _ _ refl (λ q. cap-spare q n (l .extent q))
 
 -- For all pools at once
-pub cap-bars-laid : (f : Function) (l : Laid) → BarsSized f → cappedLaid (barsLaid f (cappedLaid l)) ≡ cappedLaid (barsLaid f l)
-cap-bars-laid f l h = laid-ext _ _ refl (λ q. cap-with-bars q (l .extent q) (f .bars) h)
-
 pub cap-window-laid : (l inner : Laid) → cappedLaid (windowLaid (cappedLaid l) (cappedLaid inner)) ≡ cappedLaid (windowLaid l inner)
 cap-window-laid l inner = laid-ext _ _ refl (λ q. cap-with-window q (l .extent q) (inner .extent q))
 
@@ -152,23 +149,6 @@ cap-bus-laid fs h b l =
     (all-imp _ _ (select b q rest)
     (all-keep (isOn b q) Shaped rest (pieces-shaped (suc (l .next)) (drop (l .next) fs) (all-drop BarsSized (l .next) fs h)))
     has-align))
-
-pub cap-function-laid : (fs : List Function) (f : Function) (l : Laid) → BarsSized f
-    → cappedLaid (functionLaid fs f (cappedLaid l)) ≡ cappedLaid (functionLaid fs f l)
-unfolding functionLaid
-cap-function-laid fs f l h = go (f .bridge)
-  where
-    inner : Laid
-    inner = spared (f .spareLow) (busLaid fs (suc (l .next)) (laidFrom (suc (l .next))))
-
-    go : (t : Bool)
-        → cappedLaid (cond t (windowLaid (barsLaid f (cappedLaid l)) inner) (barsLaid f (cappedLaid l)))
-        ≡ cappedLaid (cond t (windowLaid (barsLaid f l) inner) (barsLaid f l))
-    go true =
-        sym (cap-window-laid (barsLaid f (cappedLaid l)) inner)
-        ∙ ap (λ (x : Laid). cappedLaid (windowLaid x (cappedLaid inner))) (cap-bars-laid f l h)
-        ∙ cap-window-laid (barsLaid f l) inner
-    go false = cap-bars-laid f l h
 
 -- Past a pool that ends below 2^52 is the same of both
 pub cap-past : (last x : ℕ) → last < 4503599627370496 → ltb (suc last) (cap x) ≡ ltb (suc last) x

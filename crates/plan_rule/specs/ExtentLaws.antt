@@ -13,7 +13,7 @@ use borrow.Author.Tests.{eq-eqb, ne-eqb, leb-true, le-leb}
 use Rattle.arith.specs.BoolLaws.{true-or-false}
 use Rattle.lists.specs.Lists.{All, keep, front}
 use Rattle.lists.specs.ListLaws.{all-imp}
-use Rattle.lists.specs.KeepLaws.{all-keep, keep-none, keep-append}
+use Rattle.lists.specs.KeepLaws.{keep-none, keep-append}
 use Rattle.plan_rule.specs.Pools.{Pool, low, high, io, samePool}
 use Rattle.plan_rule.specs.PoolLaws.{is-on-of-ne}
 use Rattle.plan_rule.specs.Records.{Bar, Function, Sized, run}

@@ -7,7 +7,7 @@ use native.Mathlib.Omega.{arith}
 use native.Mathlib.Nat.{add-zero}
 use Rattle.arith.specs.Align.{Multiple}
 use Rattle.arith.specs.Powers.{PowerOfTwo}
-use Rattle.arith.specs.AlignLaws.{le-align-up, align-up-multiple, align-up-add}
+use Rattle.arith.specs.AlignLaws.{le-align-up, align-up-add}
 use Rattle.arith.specs.PowersLaws.{power-max}
 use Rattle.lists.specs.Lists.{All, Pairwise}
 use Rattle.lists.specs.ListLaws.{all-imp}
@@ -55,11 +55,6 @@ layout-ordered e (p ∷ ps) h = (
   all-imp _ _ (layout (endAt e p) ps) (layout-within (endAt e p) ps (h .1)) (λ y w. w .from-start),
   layout-ordered (endAt e p) ps (h .1),
 )
-
-pub layout-aligned : (e : ℕ) (ps : List Piece) → All HasAlign ps → All Aligned (layout e ps)
-unfolding layout
-layout-aligned e [] h = tt
-layout-aligned e (p ∷ ps) h = (align-up-multiple (p .align) (h .0) e, layout-aligned (endAt e p) ps (h .1))
 
 -- s is a multiple of the piece's alignment
 abbrev pub Divides : ℕ → Piece → Type 0

@@ -6,22 +6,21 @@ use mathlib.Core.Bool.{Bool, true, false, cond, true≢false}
 use mathlib.Core.List.{List, [], _∷_, cons≢nil, head-eq-of-cons-eq}
 use Prim.Native.Nat.{ℕ, zero, suc, _+_, _-_, _≤_, _<_}
 use native.Mathlib.Omega.{arith}
-use lib.Dec.{eqb, leb}
+use lib.Dec.{leb}
 use lib.ListN.{length, getD, take, drop}
 use lib.Seq.{drop-cons}
-use borrow.Author.Tests.{eqb-true, eq-eqb, leb-true, leb-false}
+use borrow.Author.Tests.{eqb-true, leb-true, leb-false}
 use Rattle.arith.specs.Order.{le-or-lt, eq-or-ne}
-use Rattle.arith.specs.BoolLaws.{true-or-false}
 use Rattle.lists.specs.Lists.{All, Some, Pairwise, front}
 use Rattle.lists.specs.ListLaws.{all-imp, all-imp₂, all-and, drop-suc}
 use Rattle.lists.specs.KeepLaws.{front-yes, front-no, take-front}
 use Rattle.plan_rule.specs.Records.{Function, DepthFirst, parentsAfter, onlyHost, Lawful, run}
-use Rattle.plan_rule.specs.Preorder.{noFunction, parentOf}
+use Rattle.plan_rule.specs.Preorder.{noFunction}
 use Rattle.plan_rule.specs.Pieces.{pieces}
 use Rattle.plan_rule.specs.PieceLaws.{pieces-parent}
-use Rattle.plan_rule.specs.RecordLaws.{Bounded, bounded-start, bounded-step, parent-cases, false-of-not, IsAt, ordered-from}
+use Rattle.plan_rule.specs.RecordLaws.{parent-cases, false-of-not, IsAt, ordered-from}
 use Rattle.plan_rule.specs.Sizing.{laidFrom, busLaid}
-use Rattle.plan_rule.specs.Numbering.{weight, ownSpare, bridges, over, busNumber, lastBelow, subordinateOf, Numbered, rowOf}
+use Rattle.plan_rule.specs.Numbering.{ownSpare, bridges, over, busNumber, lastBelow, subordinateOf, Numbered}
 use Rattle.plan_rule.specs.Numbering.{numberedFrom, numbered}
 use Rattle.plan_rule.specs.NumberingLaws.{bridges-take-suc, bridges-split, bridges-take-mono, weight-own, weight-bridge, over-host}
 use Rattle.plan_rule.specs.NumberingLaws.{bridges-take-add, over-record}

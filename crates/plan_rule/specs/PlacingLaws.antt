@@ -28,11 +28,6 @@ place-append c [] qs = refl
 place-append c (p ∷ ps) qs =
     ap (λ (l : List Placed). record { piece = p; start = startAt (c (p .bus) (p .pool)) p } ∷ l) (place-append (after c p) ps qs)
 
-pub cursors-append : (c : Cursors) (ps qs : List Piece) → cursorsAfter c (ps ++ qs) ≡ cursorsAfter (cursorsAfter c ps) qs
-unfolding cursorsAfter
-cursors-append c [] qs = refl
-cursors-append c (p ∷ ps) qs = cursors-append (after c p) ps qs
-
 -- Record by record: a record's own pieces, then those of the later records
 pub place-record : (c : Cursors) (k : ℕ) (f : Function) (fs : List Function)
     → let own = ownPieces k f (pieces (suc k) fs) in

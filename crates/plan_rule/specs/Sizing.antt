@@ -2,7 +2,7 @@
 -- over the functions of one bus comes to, for all pools at once; `functionLaid` is one turn of that loop. A record has number i + 1 at
 -- index i. Assumes nothing.
 use mathlib.Core.Bool.{Bool, true, false, cond, _&&_}
-use mathlib.Core.List.{List, [], _∷_, _++_}
+use mathlib.Core.List.{List, [], _∷_}
 use Prim.Native.Nat.{ℕ, suc, _+_, _*_, max}
 use lib.Dec.{eqb, ltb}
 use lib.ListN.{length, drop}
@@ -86,6 +86,3 @@ endsPast last x = ltb 0 (x .align) && ltb (suc last) (x .end)
 -- The window of record k, itself on bus b, over what its bus comes to in pool q
 abbrev pub windowFor : ℕ → ℕ → Pool → Extent → List Piece
 windowFor k b q x = cond (eqb (x .align) 0) [] (windowPiece k b q (x .end) (x .align) ∷ [])
-
-abbrev pub windowsFor : ℕ → ℕ → Laid → List Piece
-windowsFor k b l = windowFor k b low (l .extent low) ++ (windowFor k b high (l .extent high) ++ windowFor k b io (l .extent io))

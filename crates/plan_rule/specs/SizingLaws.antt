@@ -3,7 +3,7 @@
 use mathlib.Core.Path.{_≡_, refl, sym, ap, ap₂, subst, subst₂, _∙_}
 use mathlib.Core.Logic.{_⊎_, inl, inr, ⊎-elim}
 use mathlib.Core.Bool.{Bool, true, false, cond, _&&_, true≢false, false≢true}
-use mathlib.Core.List.{List, [], _∷_, _++_}
+use mathlib.Core.List.{List, [], _∷_}
 use Prim.Native.Nat.{ℕ, suc, _+_, _≤_, _<_}
 use native.Mathlib.Omega.{arith}
 use native.Mathlib.Nat.{add-zero}
@@ -13,18 +13,18 @@ use lib.Seq.{drop-drop}
 use borrow.Author.Tests.{eqb-true, leb-true, leb-false, le-leb, lt-leb}
 use Rattle.arith.specs.BoolLaws.{true-or-false, both-of-and}
 use Rattle.lists.specs.Lists.{keep, front}
-use Rattle.lists.specs.ListLaws.{all-imp, all-drop}
-use Rattle.lists.specs.KeepLaws.{all-keep, front-yes, front-no, length-front-le}
-use Rattle.plan_rule.specs.Pools.{Pool, low, high, io}
+use Rattle.lists.specs.ListLaws.{all-drop}
+use Rattle.lists.specs.KeepLaws.{front-yes, front-no, length-front-le}
+use Rattle.plan_rule.specs.Pools.{Pool}
 use Rattle.plan_rule.specs.Records.{Host, Function, DepthFirst, parentsAfter, onlyHost, Sized, Lawful, run}
-use Rattle.plan_rule.specs.Layout.{Piece, isOn, select, largestAlign}
-use Rattle.plan_rule.specs.Pieces.{windowOver, contentOf, barPieces, windowPieces, ownPieces, pieces}
-use Rattle.plan_rule.specs.PieceLaws.{BarsSized, Shaped, has-align, content-shaped, pieces-shaped, select-closed}
+use Rattle.plan_rule.specs.Layout.{select, largestAlign}
+use Rattle.plan_rule.specs.Pieces.{ownPieces, pieces}
+use Rattle.plan_rule.specs.PieceLaws.{BarsSized, pieces-shaped, select-closed}
 use Rattle.plan_rule.specs.RecordLaws.{IsAt, Subset, parent-cases, parent-new, parent-kept, depth-first-mono, false-of-not}
 use Rattle.plan_rule.specs.Sizing.{nothing, extend, withBars, withWindow, withSpare, spared, Laid, laidFrom, busLaid, barsLaid}
 use Rattle.plan_rule.specs.Sizing.{windowLaid, functionLaid}
-use Rattle.plan_rule.specs.Sizing.{rootLaid, endsPast, windowFor, windowsFor}
-use Rattle.plan_rule.specs.ExtentLaws.{extend-end, extend-align, extend-nil, extend-append, window-over-extent, extend-content}
+use Rattle.plan_rule.specs.Sizing.{rootLaid, endsPast}
+use Rattle.plan_rule.specs.ExtentLaws.{extend-end, extend-align, extend-nil, extend-append}
 use Rattle.plan_rule.specs.ExtentLaws.{extend-own, select-skip, select-own}
 use Rattle.plan_rule.specs.ExtentLaws.{select-past-run, length-run-run}
 use Rattle.plan_rule.specs.Refusals.{outOfPool}
@@ -316,28 +316,6 @@ module _ (fs : List Function) (lawful : Lawful fs) where
       (λ e. rw (function-laid-bridge fs f l e) (next-le (suc (l .next)) (laidFrom (suc (l .next))) h))
       (λ e. omega (arith, next-leaf l f e))
       (true-or-false (f .bridge))
-
-  -- A record's own pieces, in the walk's words
-  pub own-pieces-laid : (i : ℕ) (f : Function) → IsAt fs i f
-      → ownPieces (suc i) f (pieces (suc (suc i)) (drop (suc i) fs))
-      ≡ barPieces (suc i) (f .parent) (f .bars) ++ cond (f .bridge)
-      (windowsFor (suc i) (f .parent) (spared (f .spareLow) (busLaid fs (suc i) (laidFrom (suc i))))) []
-  unfolding ownPieces windowPieces busLaid
-  own-pieces-laid i f e =
-      ap (λ (w : List Piece). barPieces (suc i) (f .parent) (f .bars) ++ cond (f .bridge) w [])
-      (ap₂ (λ (x y : List Piece). x ++ y) (each low) (ap₂ (λ (x y : List Piece). x ++ y) (each high) (each io)))
-    where
-      rest : List Piece
-      rest = pieces (suc (suc i)) (drop (suc i) fs)
-
-      each : (q : Pool)
-          → windowOver (suc i) (f .parent) q (contentOf (suc i) (f .spareLow) q rest)
-          ≡ windowFor (suc i) (f .parent) q (withSpare q (f .spareLow) (extend nothing (select (suc i) q rest)))
-      each q =
-          window-over-extent (suc i) (f .parent) q (contentOf (suc i) (f .spareLow) q rest)
-          (all-imp _ _ (contentOf (suc i) (f .spareLow) q rest) (content-shaped (suc i) (f .spareLow) q rest
-          (pieces-shaped (suc (suc i)) (drop (suc i) fs) (sized-at i f e .1))) has-align)
-          ∙ ap (windowFor (suc i) (f .parent) q) (extend-content (suc i) (f .spareLow) q rest)
 
   -- A pool runs out exactly when the walk over the root bus, from the pools' bases, ends past it
   pub out-of-pool-laid : (h : Host) (q : Pool) → outOfPool h fs q ≡ endsPast (h .last q) (busLaid fs 0 (rootLaid h) .extent q)

@@ -7,6 +7,7 @@ use native.Mathlib.Omega.{arith}
 use lib.ListN.{length, getD, drop}
 use lib.Dec.{eqb, leb, ltb}
 use borrow.Author.Tests.{eqb-true, le-leb, ltb-false, leb-false}
+use Rattle.arith.specs.BoolLaws.{false-of-or}
 use Rattle.endian.specs.Endian.{Bytes, be}
 use Rattle.endian.specs.BytesLaws.{bytes-take, bytes-drop}
 use Rattle.endian.specs.EndianLaws.{be-lt}
@@ -16,7 +17,6 @@ use Rattle.pools.specs.Pools.{granule}
 use Rattle.records.specs.declared.Next.{Next}
 use Rattle.records.specs.declared.Next.the-variants.{End, Record, Broken}
 use Rattle.records.specs.Records.{nextOf, step, partsOver, partsOf, anyPart}
-use Rattle.records.specs.RecordsLaws.{false-of-or}
 use Rattle.lists.specs.Lists.{All, any}
 use Rattle.bar.specs.Header.{headerType, isBridge as isBridgeHeader}
 use Rattle.board_record.specs.declared.Span.{Span}

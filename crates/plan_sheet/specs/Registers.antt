@@ -19,7 +19,7 @@ use Rattle.lists.specs.ListLaws.{drop-suc}
 use Rattle.lists.specs.KeepLaws.{keep-append, keep-elim, keep-nil}
 use Rattle.plan_rule.specs.Pools.{low, high, io}
 use Rattle.plan_rule.specs.Records as placing
-use Rattle.plan_rule.specs.Layout.{Piece, Placed, endOf, select}
+use Rattle.plan_rule.specs.Layout.{Piece, Placed, endOf}
 use Rattle.plan_rule.specs.Pieces.{windowOver, contentOf, windowPieces, pieces}
 use Rattle.plan_rule.specs.Placing.{placed}
 use Rattle.plan_rule.specs.Numbering.{busNumber, rowOf, numberedFrom}

@@ -7,7 +7,7 @@ use native.Mathlib.Omega.{arith}
 use lib.ListN.{length, length-map}
 use lib.Dec.{eqb}
 use borrow.Author.Tests.{eqb-true, eqb-false}
-use Rattle.records.specs.RecordsLaws.{false-of-or}
+use Rattle.arith.specs.BoolLaws.{false-of-or}
 use Rattle.lists.specs.Lists.{All, Pairwise}
 use Rattle.lists.specs.ListLaws.{all-imp, all-imp₂}
 use Rattle.plan_rule.specs.Preorder.{parentOf}

@@ -14,18 +14,17 @@ use Rattle.arith.specs.Order.{le-or-lt}
 use Rattle.pools.specs.declared.Pool.{Pool}
 use Rattle.bar.specs.Header.{isBridge}
 use Rattle.lists.specs.Lists.{front}
-use Rattle.plan_rule.specs.Records.{Host, Function, Lawful, run}
+use Rattle.plan_rule.specs.Records.{Function, run}
 use Rattle.plan_rule.specs.declared.Extent.{Extent}
 use Rattle.records.specs.Limits.{mostAbove}
 use Rattle.plan_rule.specs.Sizing as placing
-use Rattle.plan_rule.specs.Sizing.{busLaid, rootLaid, endsPast}
-use Rattle.plan_rule.specs.SizingLaws.{laid-ext, ready-start}
-use Rattle.plan_rule.specs.Cap.{cappedLaid, cap-bus-laid, out-of-pool-capped}
-use Rattle.plan_rule.specs.Refusals.{outOfPool}
+use Rattle.plan_rule.specs.Sizing.{busLaid, endsPast}
+use Rattle.plan_rule.specs.SizingLaws.{ready-start}
+use Rattle.plan_rule.specs.Cap.{cappedLaid, cap-bus-laid}
 use Rattle.plan_sizing.specs.declared.Laid.{Laid}
 use Rattle.plan_sizing.specs.Functions.{headerIn, functionsIn, functionAt}
 use Rattle.plan_sizing.specs.FunctionsLaws.{functions-sized, length-functions, functions-at}
-use Rattle.plan_sizing.specs.Cut.{extentIn, cut}
+use Rattle.plan_sizing.specs.Cut.{cut}
 use Rattle.plan_sizing.specs.CutLaws.{says-of-cut, cut-of-capped, whole-of-cut}
 use Rattle.plan_sizing.specs.Memo.{laidAt, below, memoFrom, memoBetween}
 use Rattle.plan_sizing.specs.MemoLaws.{memo-between-all, laid-at-bridge}
@@ -80,16 +79,6 @@ board-sized ps hs ss {memo} {memo'} bases {start} {r} e w = record { laid = laid
         ∙ ap (sets memo 0) (memo-between-all (functionsIn ps hs ss) memo)
 
 -- ## What the planner cites
-
--- a pool runs out exactly when the root bus ends past it
-pub out-of-pool-sized : (fs : List Function) (h : Host) (bases : Pool → ℕ) (memo memo' : List ℕ) (r : Laid) → Lawful fs
-    → ((q : Pool) → bases q ≡ h .base q) → BoardSized fs bases memo memo' r → (q : Pool) → h .last q < 4503599627370496
-    → outOfPool h fs q ≡ endsPast (h .last q) (extentIn r q)
-out-of-pool-sized fs h bases memo memo' r lawful same b q l =
-    out-of-pool-capped h fs lawful q l
-    ∙ ap (λ (x : placing.Laid). endsPast (h .last q) (cappedLaid (busLaid fs 0 x) .extent q))
-    (laid-ext (rootLaid h) (rootFrom bases) refl (λ p. ap (λ (n : ℕ). record { end = n; align = 0 }) (sym (same p))))
-    ∙ ap (λ (x : placing.Laid). endsPast (h .last q) (x .extent q)) (sym (says-of-cut r (busLaid fs 0 (rootFrom bases)) (b .laid)))
 
 -- what lies below each bridge can be read back
 pub stored-below : (ps hs ss memo memo' : List ℕ) (bases : Pool → ℕ) (r : Laid) → 7 * length ps ≤ length memo

@@ -1,6 +1,6 @@
 -- The laws of the functions that arrays say: by index, and the sizes of their BARs. Assumes nothing.
 use mathlib.Core.Path.{_≡_, refl, ap, ap₂, _∙_}
-use mathlib.Core.List.{List, [], _∷_, map}
+use mathlib.Core.List.{List, [], _∷_}
 use Prim.Native.Nat.{ℕ, zero, suc, _+_, _*_, _≤_, _<_}
 use native.Mathlib.Omega.{arith}
 use native.Mathlib.Numerals.{add-one, add-two, add-three, add-four, add-five}
@@ -42,17 +42,6 @@ functions-at (p ∷ ps) hs ss zero h = refl
 functions-at (p ∷ ps) hs ss (suc i) h =
     functions-at ps (drop 1 hs) (drop 6 ss) i (omega arith)
     ∙ ap (λ (f : Function). f ∷ drop (suc i) (functionsIn ps (drop 1 hs) (drop 6 ss))) (function-at-suc p ps hs ss i)
-
--- the arrays say the functions of a list that they agree with at each index
-pub functions-agree : {A : Type 0} (to : A → Function) (gs : List A) (ps hs ss : List ℕ) → length ps ≡ length gs
-    → ((i : ℕ) (d : A) → i < length gs → functionAt ps hs ss i ≡ to (getD gs i d)) → functionsIn ps hs ss ≡ map to gs
-unfolding functionsIn
-functions-agree to [] [] hs ss e h = refl
-functions-agree to [] (p ∷ ps) hs ss e h = absurd (omega arith)
-functions-agree to (g ∷ gs) [] hs ss e h = absurd (omega arith)
-functions-agree to (g ∷ gs) (p ∷ ps) hs ss e h =
-    ap₂ _∷_ (h 0 g (omega arith))
-    (functions-agree to gs ps (drop 1 hs) (drop 6 ss) (omega arith) (λ i d l. function-at-suc p ps hs ss i ∙ h (suc i) d (omega arith)))
 
 -- ## A set, in the words of the code
 

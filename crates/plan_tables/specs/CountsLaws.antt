@@ -1,9 +1,8 @@
 -- The pass that counts bus numbers: it starts, a function is one turn, and at the end all are counted. Assumes nothing.
 use mathlib.Core.Path.{_≡_, refl, sym, ap, _∙_}
 use mathlib.Core.Logic.{⊎-elim}
-use mathlib.Core.Bool.{Bool, true, false, cond}
 use mathlib.Core.List.{List, [], _∷_}
-use Prim.Native.Nat.{ℕ, zero, suc, _+_, _*_, _/_, _%_, _≤_, _<_}
+use Prim.Native.Nat.{ℕ, suc, _+_, _*_, _%_, _≤_, _<_}
 use native.Mathlib.Nat.{add-zero}
 use native.Mathlib.Numerals.{add-one}
 use native.Mathlib.Omega.{arith}
@@ -17,7 +16,7 @@ use Rattle.plan_rule.specs.Numbering.{weight, ownSpare, bridges, over}
 use Rattle.plan_rule.specs.NumberingLaws.{bridges-take-suc, over-host, over-record}
 use Rattle.plan_sizing.specs.Functions.{functionsIn, functionAt}
 use Rattle.plan_sizing.specs.FunctionsLaws.{length-functions, functions-at}
-use Rattle.plan_tables.specs.Counts.{spareOf, weightOf, CountedAt, Counted, Countable, AllCounted, Counting}
+use Rattle.plan_tables.specs.Counts.{spareOf, weightOf, CountedAt, Counted, AllCounted, Counting}
 
 mod-again : (a b : ℕ) → (a % 256 + b) % 256 ≡ (a + b) % 256
 mod-again a b = omega arith

@@ -7,8 +7,8 @@ use lib.Dec.{eqb}
 use native.Mathlib.Omega.{arith}
 use lib.ListN.{length, getD, take, drop, length-map, length-append}
 use lib.Seq.{sets, sets-eq, length-sets, length-take-le, take-at, drop-at, drop-append-add}
+use Rattle.arith.specs.BoolLaws.{false-of-or}
 use Rattle.records.specs.Records.{partsOf, partsFrom}
-use Rattle.records.specs.RecordsLaws.{false-of-or}
 use Rattle.records.specs.Limits.{mostFunctions}
 use Rattle.bar.specs.Bar.{slots, anyBad}
 use Rattle.plan_bars.specs.Bars.{barsFrom}
@@ -150,9 +150,6 @@ module _ {ps hs ss ps' hs' ss' : List ℕ} {n : ℕ} (b : List ℕ) (e : boardNu
 
   pub length-take-heads : length (take n hs') ≡ n
   length-take-heads = length-take-le n hs' (room-filled .heads)
-
-  pub length-take-readbacks : length (take (6 * n) ss') ≡ 6 * n
-  length-take-readbacks = length-take-le (6 * n) ss' (room-filled .readbacks)
 
   pub take-parents : take n ps' ≡ parentsOf (functionsOf b)
   take-parents =

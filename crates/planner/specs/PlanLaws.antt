@@ -1,26 +1,20 @@
 -- The planner's answers, in the words of its code. Assumes nothing.
 use mathlib.Core.Path.{_≡_, sym, ap, _∙_}
-use mathlib.Core.Bool.{Bool, true, false, cond}
-use mathlib.Core.List.{List, [], _∷_, _++_}
-use Prim.Native.Nat.{ℕ, suc, _+_, _*_, _≤_, _<_}
+use mathlib.Core.List.{List, _++_}
+use Prim.Native.Nat.{ℕ, _+_, _≤_, _<_}
 use native.Mathlib.Nat.{zero-add}
 use native.Mathlib.Omega.{arith}
-use lib.ListN.{length, take, drop, length-map}
+use lib.ListN.{length, take, drop}
 use lib.Seq.{sets, sets-eq}
 use borrow.Author.Tests.{lt-ltb, le-ltb, eq-eqb, ne-eqb}
 use Rattle.endian.specs.Endian.{Bytes}
-use Rattle.records.specs.Records.{partsFrom}
-use Rattle.records.specs.Limits.{mostFunctions}
-use Rattle.plan_rule.specs.Records as placing
-use Rattle.plan_rule.specs.Numbering.{bridges}
 use Rattle.plan_rule.specs.Refusals.{refusalOf}
 use Rattle.board_record.specs.declared.Host.{Host}
 use Rattle.board_record.specs.declared.Function.{Function}
 use Rattle.board_record.specs.Host.{hostOfPart}
-use Rattle.board_record.specs.Function.{functionOfPart}
 use Rattle.board.specs.Board.{boardNumber, hostOf, functionsOf}
 use Rattle.board.specs.BoardLaws.{accepted-of-zero}
-use Rattle.board.specs.ToPlacing.{toHost, toFunction, toPlacing}
+use Rattle.board.specs.ToPlacing.{toHost, toPlacing}
 use Rattle.sheet.specs.Sheet.{sheetLength}
 use Rattle.sheet_bytes.specs.Layout.{sheetBytes}
 use Rattle.sheet_bytes.specs.LayoutLaws.{length-sheetBytes}

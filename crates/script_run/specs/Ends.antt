@@ -20,6 +20,7 @@ use Rattle.bar.specs.Bar.{slots}
 use Rattle.bar.specs.Values.{valuesFit}
 use Rattle.sheet_record.specs.Places.{recordSize, valuesAt, readbacksAt}
 use Rattle.sheet_record.specs.Entry.{headerOf, isBridge, slotCount, dwords, entryOf}
+use Rattle.sheet_record.specs.EntryLaws.{length-dwords}
 use Rattle.sheet.specs.declared.Rule.the-variants.{ReadBacks}
 use Rattle.sheet.specs.Sheet.{Framed, entriesOf, partsIn, partAt, recordAt, readBacksWrong, breaks, anyBreaks}
 use Rattle.sheet.specs.Commands.{placeIn}
@@ -185,11 +186,6 @@ module _ (final : List ℕ) (en : Endable final) (k : ℕ) (h : k < length (entr
       and-left true t e = refl
       and-left false t e = e
 
-  length-dwords : (read : List ℕ → ℕ → ℕ) (n at : ℕ) → length (dwords read n p at) ≡ n
-  unfolding dwords
-  length-dwords read zero at = refl
-  length-dwords read (suc n) at = ap suc (length-dwords read n (at + 4))
-
   part-bytes : Bytes p
   part-bytes = bytes-take recordSize (drop (recordAt k + 2) final) (bytes-drop (recordAt k + 2) final (en .bytes))
 
@@ -230,7 +226,7 @@ module _ (final : List ℕ) (en : Endable final) (k : ℕ) (h : k < length (entr
       getD-take (slotCount (headerOf p)) (dwords (be 4) 6 p readbacksAt) j 0 l
       ∙ getD-dwords (be 4) 6 p readbacksAt j (omega (arith, slot-le)) ∙ zero-back in
       let long : j < length (take (slotCount (headerOf p)) (dwords (be 4) 6 p readbacksAt)) =
-      omega (arith, length-take (slotCount (headerOf p)) (dwords (be 4) 6 p readbacksAt), length-dwords (be 4) 6 readbacksAt, slot-le) in
+      omega (arith, length-take (slotCount (headerOf p)) (dwords (be 4) 6 p readbacksAt), length-dwords (be 4) 6 p readbacksAt, slot-le) in
       sym (getD-dwords (le 4) (slotCount (headerOf p)) p valuesAt j l)
       ∙ unused-zero (take (slotCount (headerOf p)) (dwords (be 4) 6 p readbacksAt)) (dwords (le 4) (slotCount (headerOf p)) p valuesAt)
       small values-fit j long back

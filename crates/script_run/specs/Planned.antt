@@ -20,13 +20,13 @@ use Rattle.walk.specs.Registers.{Node, nodes}
 use Rattle.walk.specs.Reach.{numbersOf}
 use Rattle.walk.specs.Above.{above}
 use Rattle.walk.specs.Good.{BridgesRise, Tree}
+use Rattle.walk.specs.CardToCard.{all-of-numbers}
 use Rattle.sheet.specs.Sheet.{entriesOf, partsIn, partAt}
 use Rattle.sheet.specs.SheetLaws.{checked-of-zero, passes-of-zero, nodes-functions}
 use Rattle.sheet.specs.FrameLaws.{part-index}
 use Rattle.sheet.specs.IndexLaws.{length-entries}
 use Rattle.sheet.specs.Spaces.{registersOf, nodesOf}
 use Rattle.sheet_bytes.specs.Layout.{Planned, partBytes}
-use Rattle.sheet_bytes.specs.AllBytes.{bytes-sheetBytes}
 use Rattle.sheet_bytes.specs.ReadBack.{framed-sheetBytes, partsIn-sheetBytes}
 use Rattle.plan_good.specs.Kept.{kept-of-planned}
 use Rattle.plan_good.specs.Registers.{planNode, planRows, planNodes, planHost}
@@ -34,7 +34,7 @@ use Rattle.plan_good.specs.AboveLaws.{row-above-agree}
 use Rattle.plan_answer.specs.Plan.{planOf}
 use Rattle.plan_sheet.specs.Fits.{BoardFits}
 use Rattle.plan_sheet.specs.Accepted.{fits-of-accepted}
-use Rattle.plan_sheet.specs.Shaped.{shaped}
+use Rattle.plan_sheet.specs.Passes.{bytes-planned}
 use Rattle.plan_sheet.specs.Delivery.{PlannedSheet, planned-sheet-of-board}
 use Rattle.scripter.specs.Scripting.{plannedSheet}
 use Rattle.script_run.specs.Delivered.{Scriptable}
@@ -57,10 +57,6 @@ unfolding aboveByParents
 parents-less lawful k = above-less lawful k k
 
 -- ## Lists
-
-all-of-numbers : (P : ℕ → Type 0) (bs : List Node) → All P (numbersOf bs) → All (λ b. P (b .number)) bs
-all-of-numbers P [] h = tt
-all-of-numbers P (b ∷ bs) h = (h .0, all-of-numbers P bs (h .1))
 
 all-at : {A : Type 0} (P : A → Type 0) (xs : List A) (d : A) → All P xs → (k : ℕ) → k < length xs → P (getD xs k d)
 all-at P [] d h k l = absurd (omega arith)
@@ -85,7 +81,7 @@ module _ (b : List ℕ) (bytes : Bytes b) (accepted : boardNumber b ≡ 0)
   sheet = planned-sheet-of-board b bytes accepted planned final (record { same-length = refl; same-bytes = λ i c. refl })
 
   sheet-bytes : Bytes (plannedSheet b)
-  sheet-bytes = bytes-sheetBytes (planOf (hostOf b) (functionsOf b)) (shaped (hostOf b) (functionsOf b) fits planned)
+  sheet-bytes = bytes-planned (hostOf b) (functionsOf b) fits planned
 
   same-nodes : nodes (registersOf memorySpace (plannedSheet b)) ≡ nodesOf (plannedSheet b)
   same-nodes = nodes-functions memorySpace 1 (entriesOf (plannedSheet b))

@@ -90,9 +90,6 @@ module _ (b : List ℕ) (n requester tag : ℕ) (bytes : Bytes b) (planned : pla
   answer : AnswersPlanned b n
   answer = planned-of-answer b fullSheet n planned
 
-  abbrev final : List ℕ
-  final = plannedSheet b
-
   abbrev boot : Boot
   boot = bootOf b requester
 

@@ -1,10 +1,6 @@
 use borrow.Author.Needs.{needs}
 use Rattle.plan_pass.proofs.bridge_registers.Statement.{statement}
 use Rattle.plan_pass.proofs.bridge_registers.Tie as tie
-use Rattle.plan_pass.proofs.bridge_registers.Reads as reads
-use Rattle.plan_pass.proofs.bridge_registers.Lts as lts
-use Rattle.plan_pass.proofs.id_of.Reads as id-of-reads
-use Rattle.plan_pass.proofs.number_at.Reads as number-at-reads
 use native.Mathlib.Numerals.{add-one}
 
 -- src/lib.rt:248:18

@@ -1,11 +1,6 @@
 use borrow.Author.Needs.{needs}
 use Rattle.plan_pass.proofs.leaf_registers.Statement.{statement}
 use Rattle.plan_pass.proofs.leaf_registers.Tie as tie
-use Rattle.plan_pass.proofs.leaf_registers.Reads as reads
-use Rattle.plan_pass.proofs.leaf_registers.Lts as lts
-use Rattle.plan_pass.proofs.id_of.Reads as id-of-reads
-use Rattle.plan_pass.proofs.number_at.Reads as number-at-reads
-use Rattle.window.proofs.Window.closed.Reads as closed-reads
 
 -- src/lib.rt:182:18
 cast-parent : tie.Need-cast-parent

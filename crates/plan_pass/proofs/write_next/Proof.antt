@@ -1,6 +1,5 @@
 -- `plan_pass::write_next` meets its contract. Assumes nothing.
 use mathlib.Core.Path.{ap, _∙_}
-use Prim.Native.Nat.{_+_, _*_}
 use native.Mathlib.Omega.{arith}
 use lib.Seq.{sets}
 use Rattle.sheet.specs.Sheet.{sheetLength}
