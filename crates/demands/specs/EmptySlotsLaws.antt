@@ -7,6 +7,7 @@ use native.Mathlib.Omega.{arith}
 use lib.Dec.{ltb}
 use lib.ListN.{length, getD, take, drop}
 use borrow.Author.Tests.{ne-eqb}
+use Rattle.arith.specs.BoolLaws.{false-of-or}
 use Rattle.endian.specs.Endian.{Bytes, be}
 use Rattle.endian.specs.EndianLaws.{be-lt}
 use Rattle.lists.specs.Lists.{_∈_, All, any}
@@ -14,7 +15,6 @@ use Rattle.lists.specs.ListLaws.{all-elim}
 use Rattle.pools.specs.declared.Space.the-variants.{Memory as memorySpace}
 use Rattle.records.specs.Records.{Parts, partsOf, partsFrom, anyPart}
 use Rattle.records.specs.Limits.{mostFunctions}
-use Rattle.records.specs.RecordsLaws.{false-of-or}
 use Rattle.bar.specs.Header.{isBridge as isBridgeHeader}
 use Rattle.plan_rule.specs.Records.{Function}
 use Rattle.plan_rule.specs.Layout.{Placed}

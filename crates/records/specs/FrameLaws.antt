@@ -12,7 +12,7 @@ use lib.Dec.{eqb}
 use borrow.Author.Tests.{ne-eqb}
 use Rattle.records.specs.declared.Next.the-variants.{Record, Broken}
 use Rattle.records.specs.declared.frame.Stage.{Stage}
-use Rattle.records.specs.declared.frame.Stage.the-variants.{Start, Other, Between, Length, Inside}
+use Rattle.records.specs.declared.frame.Stage.the-variants.{Start, Other, Between, Inside}
 use Rattle.records.specs.declared.frame.Event.{Event}
 use Rattle.records.specs.declared.frame.Event.the-variants.{Version, Foreign, Passed, Half, Begins, Byte}
 use Rattle.records.specs.declared.frame.Ending.the-variants.{Unread, Whole, Cut}

@@ -10,7 +10,7 @@ use lib.ListN.{length, getD, take, drop, length-drop, drop-of-length-le}
 use lib.Seq.{drop-cons, drop-drop, length-take-le}
 use lib.Dec.{ltb}
 use borrow.Author.Tests.{ltb-true, ltb-false, lt-ltb, le-ltb}
-pub use Rattle.arith.specs.BoolLaws.{false-of-or}
+use Rattle.arith.specs.BoolLaws.{false-of-or}
 use Rattle.endian.specs.Endian.{be}
 use Rattle.records.specs.declared.Next.{Next}
 use Rattle.records.specs.declared.Next.the-variants.{End, Record, Broken}
@@ -186,26 +186,8 @@ module _ {B : Type 0} (F : List (List ℕ) → B) (s : List ℕ) (at : ℕ) wher
   pub pass-broken : nextOf (drop at s) ≡ Broken → F (partsFrom s at) ≡ F []
   pass-broken e = ap (λ (r : Parts). F (r .parts)) (parts-broken s at e)
 
--- a pass that stops at the first part that passes a test
+-- where no part passes a test, not the one at the cursor and none after it
 module _ (test : List ℕ → Bool) (s : List ℕ) (at : ℕ) where
-  pub any-hit : (n : ℕ) → nextOf (drop at s) ≡ Record n → test (take n (drop (at + 2) s)) ≡ true → anyPart test (partsFrom s at) ≡ true
-  unfolding anyPart
-  any-hit n e h = pass-record (anyPart test) s at n e ∙ rw h
-
-  pub any-miss : (n : ℕ) → nextOf (drop at s) ≡ Record n → test (take n (drop (at + 2) s)) ≡ false
-      → anyPart test (partsFrom s at) ≡ anyPart test (partsFrom s (at + 2 + n))
-  unfolding anyPart
-  any-miss n e h = pass-record (anyPart test) s at n e ∙ rw h
-
-  pub any-end : nextOf (drop at s) ≡ End → anyPart test (partsFrom s at) ≡ false
-  unfolding anyPart
-  any-end e = pass-end (anyPart test) s at e
-
-  pub any-broken : nextOf (drop at s) ≡ Broken → anyPart test (partsFrom s at) ≡ false
-  unfolding anyPart
-  any-broken e = pass-broken (anyPart test) s at e
-
-  -- where no part passes, not the one at the cursor and none after it
   pub none-here : (n : ℕ) → nextOf (drop at s) ≡ Record n → anyPart test (partsFrom s at) ≡ false → test (take n (drop (at + 2) s)) ≡ false
   unfolding anyPart
   none-here n e h = (false-of-or (test (take n (drop (at + 2) s))) _ (sym (pass-record (anyPart test) s at n e) ∙ h)) .0
