@@ -327,7 +327,9 @@ fn write_next(
         ⌝ }
     requires { ⌜ sheetLength (suc i) ≤ length (now sheet) ⌝ }
     ensures cursors { λ _. ⌜ now (cursors .exit) ≡ cursorsNext (now (memo .entry)) (now (cursors .entry)) i f ⌝ }
-    ensures sheet { λ _. ⌜ now (sheet .exit) ≡ sets (now (sheet .entry)) (sheetLength i) (recordOf first (now (counts .entry)) (now (memo .entry)) (now (cursors .entry)) i f) ⌝ }
+    ensures sheet { λ _. ⌜ now (sheet .exit)
+        ≡ sets (now (sheet .entry)) (sheetLength i)
+        (recordOf first (now (counts .entry)) (now (memo .entry)) (now (cursors .entry)) i f) ⌝ }
 {
     let at = 1 + STRIDE * i;
     let r = place_record(f, i, first, counts, memo, cursors);

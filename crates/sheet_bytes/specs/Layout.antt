@@ -110,7 +110,8 @@ plannedOf r =
       command = r .command;
     }
 
--- ## What a record can hold: every number has its width, and a function that is no bridge has no buses and closed windows, as `entryOf` reads them
+-- ## What a record can hold: every number has its width, and a function that is no bridge has no buses and closed windows, as `entryOf`
+-- reads them
 
 -- each number fits four bytes
 abbrev pub Dwords : List ℕ → Type 0

@@ -1,5 +1,5 @@
-// The kinds that byte 0 tells by comparison, each with the table's row as its proof: memory, I/O and configuration requests, and completions.
-// Who has a path of its own for a kind needs no search in the table, and no packet.
+// The kinds that byte 0 tells by comparison, each with the table's row as its proof: memory, I/O and configuration requests, and
+// completions. Who has a path of its own for a kind needs no search in the table, and no packet.
 ghost use mathlib.Core.Path.{_≡_};
 ghost use Rattle.tlp_kinds.specs.Kinds.{isMemory, memoryKind, memoryForm, isIo, ioKind, isConfig, configKind, isCompletion};
 ghost use Rattle.tlp_kinds.specs.Kinds.{completionKind};

@@ -86,7 +86,14 @@ room c =
 
 -- a function that is in its place
 placed : (c : tie.Else1 Inv-loop μ-loop)
-    → unplacedAt (getD (c .before .before .before .before .before .before .before .before .before .before .before .before .before .loop .nexts) (c .before .before .before .i .given .0 .0) 0) (getD (c .before .before .before .before .before .before .before .before .before .before .before .before .before .loop .shared) (c .before .before .before .i .given .0 .0) 0) (c .before .before .before .i .given .0 .0) (function (c .before .before .before .before .before .before .before)) ≡ false
+    → unplacedAt
+    (getD (c .before .before .before .before .before .before .before .before .before .before .before .before .before .loop .nexts)
+    (c .before .before .before .i .given .0 .0) 0)
+    (getD (c .before .before .before .before .before .before .before .before .before .before .before .before .before .loop .shared)
+    (c .before .before .before .i .given .0 .0) 0)
+    (c .before .before .before .i .given .0 .0)
+    (function (c .before .before .before .before .before .before .before))
+    ≡ false
 placed c = sym (c .before .unplaced .ensures) ∙ c .if1 .left
 
 -- has a level after its own

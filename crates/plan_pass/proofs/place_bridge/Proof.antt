@@ -34,7 +34,8 @@ store-cursors-requires c κs =
 store-cursors-requires-2 : tie.Need-store-cursors-requires-2
 store-cursors-requires-2 c κs =
     let store-cursors = c .before .before .before .before .store-cursors in
-    let at-pre = c .before .before .before .before .before .before .before .before .before .before .before .before .before .before .before .before .before in
+    let at-pre = c .before .before .before .before .before .before .before .before .before .before .before .before .before .before .before
+    .before .before in
     let pre = at-pre .pre in
     omega (arith, pre .1 .room, store-cursors .kept .0)
 

@@ -120,8 +120,8 @@ add-at-2 c =
 add-i : tie.Need-add-i Inv-loop μ-loop
 add-i c =
     let room = turn-room
-    (c .before .before .before .before .before .before .before .before .before .before .before .before .before .before .before .before .before
-    .before .pre)
+    (c .before .before .before .before .before .before .before .before .before .before .before .before .before .before .before .before
+    .before .before .pre)
     (c .before .before .before .before .before .before .before .before .before .before .before .before .loop .inv) _
     (sym (c .before .before .before .before .before .before .before .before .before .before .before .next-at .ensures)
     ∙ c .before .before .before .before .before .before .before .before .before .n .given .1) in
