@@ -1,14 +1,7 @@
 # QEMU, the firmware built, and ways to boot it: sourced by run.
 
 have_qemu() {
-    command -v qemu-system-x86_64 >/dev/null && return
-    local quickly=(-qq -o Acquire::Retries=0 -o Acquire::http::Timeout=20)
-    local install=(env DEBIAN_FRONTEND=noninteractive apt-get "${quickly[@]}" install -y --no-install-recommends qemu-system-x86)
-    echo 'examples/boot: installing qemu-system-x86'
-    {
-        timeout 300 "${install[@]}" || { timeout 120 apt-get "${quickly[@]}" update && timeout 300 "${install[@]}"; }
-    } >/dev/null 2>&1 </dev/null || true
-    command -v qemu-system-x86_64 >/dev/null
+    .ci/have qemu-system-x86_64 qemu-system-x86 examples/boot
 }
 
 # build NAME FLAG ..: target/boot/NAME/boot.elf, which a PVH loader takes, and boot.rom, which starts at the reset vector.
