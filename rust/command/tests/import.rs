@@ -121,6 +121,9 @@ fn normalised() {
         "00:03.0 BAR 0: the kernel has it at 1f0, the register has no BAR",
         "00:03.0 BAR 1: its size is not known",
         "00:03.0 BAR 4: slot 4 is not placed and its space is off",
+        "00:04.0: the I/O window reads 0000-0FFF: not implemented, or open there, and the kernel has none: left as it is",
+        "00:04.0: the prefetchable window reads 00000000-000FFFFF: not implemented, or open there: left as it is",
+        "00:04.0: it may decode subtractively (class 060401)",
         "0000:00: no root windows are known",
     ] {
         assert!(ran.error.contains(note), "{note}\n{}", ran.error);
@@ -134,6 +137,40 @@ fn normalised() {
     assert_eq!((windows.io, windows.low, windows.high), (Some(0x2000..=0x2FFF), None, Some(0xE000_0000..=0xE00F_FFFF)));
     assert!(!sheet.record(2).unwrap().is_bridge());
     assert_eq!(sheet.record(3).unwrap().bars().count(), 0);
+    let windows = sheet.record(4).unwrap().windows().unwrap();
+    assert_eq!((windows.io, windows.high), (Some(0..=0xFFF), Some(0..=0xF_FFFF)));
+}
+
+/// By sysfs the kernel's windows are the lines of `resource` after those of BARs, ROM and virtual functions.
+#[test]
+fn windows_of_zero() {
+    let device = folder("devices-zero").join("0000:00:01.0");
+    fs::create_dir_all(&device).unwrap();
+    let mut config = [0; 64];
+    config[0x0A..0x0C].copy_from_slice(&[4, 6]);
+    config[0x0E] = 1;
+    config[0x18..0x1B].copy_from_slice(&[0, 1, 1]);
+    fs::write(device.join("config"), config).unwrap();
+    let notes = |lines: usize, windows: usize, last: u64| {
+        let line = |at: usize| if at == windows + 1 { (0, last, 0x200) } else { (0, 0, 0) };
+        let text = |(first, last, flags): (u64, u64, u64)| format!("{first:#018x} {last:#018x} {flags:#018x}\n");
+        let resource: String = (0..lines).map(|at| text(line(at))).collect();
+        fs::write(device.join("resource"), resource).unwrap();
+        run(&["import", device.parent().unwrap().to_str().unwrap()], b"").error
+    };
+    for (lines, windows) in [(17, 13), (11, 7)] {
+        let told = notes(lines, windows, 0xF_FFFF);
+        assert_eq!(told.matches("and the kernel has none: left as it is").count(), 2, "{told}");
+        assert!(!told.contains("the memory window reads"), "{told}");
+        let told = notes(lines, windows, 0);
+        assert_eq!(told.matches("and the kernel has none").count(), 3, "{told}");
+    }
+    let told = notes(7, 20, 0);
+    assert_eq!(
+        (told.matches("open there: left").count(), told.matches("the kernel has none").count()),
+        (3, 0),
+        "{told}"
+    );
 }
 
 /// The machine that this runs on, where it has PCI.

@@ -1,7 +1,7 @@
 //! A bridge's registers in the spelling of a sheet. Only what changes no bus range and no decoded range is touched, and each
 //! change is told.
 
-use super::found::{Found, BUSES, HEADER_TYPE};
+use super::found::{Found, Window, BUSES, HEADER_TYPE};
 use super::Notes;
 
 const IO: usize = 0x1C;
@@ -23,6 +23,13 @@ pub fn normalise(found: &mut Found, notes: &mut Notes) {
         tell("a bridge without buses and windows: taken for a card");
         return;
     }
+    for (window, at_zero) in zeros(found) {
+        let kernel = if found.windows[window] == Window::None { ", and the kernel has none" } else { "" };
+        tell(&format!("{at_zero}: not implemented, or open there{kernel}: left as it is"));
+    }
+    if found.registers[0x0A] == 4 && found.registers[0x0B] == 6 && found.registers[0x09] == 1 {
+        tell("it may decode subtractively (class 060401), which a sheet has no place for: only its windows count");
+    }
     if found.registers[BUSES] != found.id.bus() {
         found.registers[BUSES] = found.id.bus();
         tell("its primary bus register is not its own bus: set");
@@ -36,6 +43,18 @@ pub fn normalise(found: &mut Found, notes: &mut Notes) {
     if normalise_high(found) {
         tell("the prefetchable window's registers: the same range as of 64 bits");
     }
+}
+
+/// The windows whose registers all read 0, where the kernel has none or is not known.
+fn zeros(found: &Found) -> Vec<(usize, &'static str)> {
+    let reads_zero = |at: usize, length: usize| found.registers[at..at + length].iter().all(|byte| *byte == 0);
+    let windows = [
+        (reads_zero(IO, 2) && reads_zero(IO_UPPERS, 4), "the I/O window reads 0000-0FFF"),
+        (reads_zero(LOW, 4), "the memory window reads 00000000-000FFFFF"),
+        (reads_zero(HIGH, 4) && reads_zero(UPPERS, 8), "the prefetchable window reads 00000000-000FFFFF"),
+    ];
+    let is_told = |window: usize, is_zero: bool| is_zero && found.windows[window] != Window::Some;
+    windows.into_iter().enumerate().filter(|(at, one)| is_told(*at, one.0)).map(|(at, one)| (at, one.1)).collect()
 }
 
 fn normalise_io(found: &mut Found) -> bool {

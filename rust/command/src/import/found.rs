@@ -14,6 +14,16 @@ pub struct Found {
     pub regions: [Option<Region>; REGIONS],
     /// Sizes that the boot log has; the kernel forgets those of BARs that it could not place.
     pub logged: [Option<u64>; REGIONS],
+    /// Of a bridge, what the kernel says of its windows: I/O, memory, prefetchable memory.
+    pub windows: [Window; 3],
+}
+
+/// What the kernel says of a bridge's window.
+#[derive(Clone, Copy, Debug, PartialEq, Eq)]
+pub enum Window {
+    Unknown,
+    None,
+    Some,
 }
 
 /// What the kernel says of a BAR.
@@ -32,7 +42,15 @@ pub const BUSES: usize = 0x18;
 impl Found {
     pub fn new(domain: u32, id: Id, name: &str) -> Found {
         let name = name.replace('"', "'");
-        Found { domain, id, name, registers: [0; REGISTERS], regions: [None; REGIONS], logged: [None; REGIONS] }
+        Found {
+            domain,
+            id,
+            name,
+            registers: [0; REGISTERS],
+            regions: [None; REGIONS],
+            logged: [None; REGIONS],
+            windows: [Window::Unknown; 3],
+        }
     }
 
     pub fn header_type(&self) -> u8 {

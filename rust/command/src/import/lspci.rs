@@ -1,7 +1,7 @@
 //! The functions of `lspci -vvx`. Registers come from the hexadecimal lines, never from the text, which is the kernel's
 //! opinion; sizes from its `Region` lines.
 
-use super::found::{read_address, Found, Region};
+use super::found::{read_address, Found, Region, Window};
 use cartsundial::{Size, REGISTERS};
 
 /// One tab: with two it is a BAR of virtual functions, inside a capability.
@@ -30,10 +30,20 @@ fn read_line(line: &str, found: &mut Found) {
         if let Some((number, region)) = read_region(rest) {
             found.regions[number] = Some(region);
         }
+    } else if let Some(window) = read_no_window(line) {
+        found.windows[window] = Window::None;
     } else if let Some((offset, bytes)) = read_bytes(line) {
         let room = &mut found.registers[offset..offset + bytes.len()];
         room.copy_from_slice(&bytes);
     }
+}
+
+/// Which window a line says that there is none of. It is the kernel's word where the registers say something else; a range
+/// may be lspci's reading of the registers.
+fn read_no_window(line: &str) -> Option<usize> {
+    let (kind, range) = line.strip_prefix('\t')?.split_once(" behind bridge: ")?;
+    let is_none = range.starts_with("[disabled]") || range.starts_with("None");
+    ["I/O", "Memory", "Prefetchable memory"].iter().position(|window| *window == kind).filter(|_| is_none)
 }
 
 /// `10: 00 00 ..`, of the first 64 bytes.

@@ -32,6 +32,7 @@ from the hexadecimal lines, sizes from `Region` lines, for a board also from the
 
 What is normalised or left out is told on standard error: closed windows in other spellings, bits that say how wide a window
 register is, a primary bus register, BARs without an address or a size. No address, size, bus number or open window is changed.
+A window that reads 0, and so is open at 0 unless the bridge has none, is told and left.
 
   --out PREFIX        for each root bus, PREFIX-0000-00.sheet.txt, .host.txt, for --host of audit and label, and .board.txt, for
                       plan; without it, the sheet of a machine with one root bus comes out

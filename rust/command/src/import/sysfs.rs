@@ -1,6 +1,6 @@
 //! /sys/bus/pci/devices, or a copy of it: of each function its `config` and its `resource`. Neither asks for root.
 
-use super::found::{read_address, Found, Region, REGIONS};
+use super::found::{read_address, Found, Region, Window, REGIONS};
 use crate::failure::Failure;
 use cartsundial::REGISTERS;
 use std::fs;
@@ -39,10 +39,11 @@ fn read_config(path: &Path, found: &mut Found) -> Result<(), Failure> {
 fn read_resource(path: &Path, found: &mut Found) -> Result<(), Failure> {
     let file = path.join("resource");
     let text = fs::read_to_string(&file).map_err(Failure::stream(&file.display().to_string()))?;
-    for (region, line) in found.regions.iter_mut().zip(text.lines()).take(REGIONS) {
-        let number = |word: &str| u64::from_str_radix(word.strip_prefix("0x")?, 16).ok();
-        let numbers: Vec<u64> = line.split_whitespace().filter_map(number).collect();
-        *region = match numbers[..] {
+    let number = |word: &str| u64::from_str_radix(word.strip_prefix("0x")?, 16).ok();
+    let numbers = |line: &str| line.split_whitespace().filter_map(number).collect();
+    let lines: Vec<Vec<u64>> = text.lines().map(numbers).collect();
+    for (region, line) in found.regions.iter_mut().zip(&lines).take(REGIONS) {
+        *region = match line[..] {
             [0, 0, ..] => None,
             [first, last, ..] if first <= last => Some(Region {
                 size: (last - first).saturating_add(1),
@@ -50,6 +51,15 @@ fn read_resource(path: &Path, found: &mut Found) -> Result<(), Failure> {
             }),
             _ => None,
         };
+    }
+    // After the expansion ROM's line come those of virtual functions, where the kernel has them, and a bridge's windows.
+    let windows = match lines.len() {
+        11 => &lines[7..10],
+        17 => &lines[13..16],
+        _ => &[],
+    };
+    for (window, line) in found.windows.iter_mut().zip(windows) {
+        *window = if matches!(line[..], [0, 0, ..]) { Window::None } else { Window::Some };
     }
     Ok(())
 }
