@@ -1,13 +1,16 @@
 // The ledger of open requests, document 02's E12: 256 places, a word each, that the caller keeps. A place is free, or holds a non-posted
 // request by its requester ID and tag until completions close it. Any 256 words are a ledger; 256 zeros are an empty one.
 ghost use mathlib.Core.Path.{_≡_};
+ghost use mathlib.Core.Bool.{true};
 ghost use Prim.Native.Nat.{_+_, _≤_};
-ghost use lib.ListN.{length, drop};
-ghost use Rattle.ledger.specs.Words.{keyOf, wordOf, keyIn, leftIn, isRead, isConfig, isLocked, placeOf, inUse, usedBy, empty};
+ghost use lib.ListN.{length, drop, getD};
+ghost use Rattle.tlp_kinds.specs.Kinds.{isMemory};
+ghost use Rattle.ledger.specs.Words.{keyOf, keyIn, leftIn, isRead, isConfig, isLocked, placeOf, inUse, usedBy, empty};
 ghost use Rattle.ledger.specs.WordsLaws.{isAmongFour};
 ghost use Rattle.ledger.specs.Ledger.{classOf, hasData, inLockedForm, differ, disagrees, onSuccess, settled, onCompletion, onRequest};
 ghost use Rattle.ledger.specs.Ledger.{Inside, openingOf, completingOf, numberOf, wordsAfter};
 ghost use Rattle.ledger.specs.Ledger.{openNumber, openAfter, completeNumber, completeAfter};
+ghost use Rattle.ledger.specs.AskedLaws.{wordFrom, AsksAs, Asks, Told};
 use packet::Packet;
 use pairs::CompletionKind;
 use pairs::ConfigKind;
@@ -30,6 +33,13 @@ pub enum Verdict {
 pub enum Class {
     NonPosted(u8),
     Other,
+}
+
+// What a header asks for: the two halves of the word that opens it, or with the key 0 the number that refuses it. 0 and 0 is not told by the
+// header's bytes alone: it takes a packet.
+struct Asked {
+    key: u32,
+    low: u32,
 }
 
 // A ledger with no request open.
@@ -106,18 +116,12 @@ pub fn count(words: &[u64]) -> usize
 fn opening(words: &[u64], header: &[u8]) -> Verdict
     ensures { λ r. ⌜ r ≡ openingOf (now (header .entry)) (now (words .entry)) ⌝ }
 {
-    let reading = tlp::read(header);
-    let Reading::Accepted(p) = reading else {
-        return Verdict::Refused(reading.number());
-    };
-    let h = packet::head_of(p);
-    match class_of(packet::kind_of(p)) {
-        Class::NonPosted(class) => {
-            let key = key_of(h.requester, h.tag);
-            open_word(words, key, word_of(key, h.length, class))
-        }
-        Class::Other => Verdict::Refused(60),
+    let asked = asked_of(header);
+    let key = asked.key;
+    if key == 0 {
+        return Verdict::Refused((asked.low % 256) as u8);
     }
+    open_word(words, key, word_of(key, asked.low))
 }
 
 // 61, then 62.
@@ -232,6 +236,86 @@ fn differ(a: bool, b: bool) -> bool
     (a & !b) | (!a & b)
 }
 
+// ---- what a header asks for
+
+// By the bytes of a memory request that nothing refuses, or by a packet. What tells it calls nothing that is lent the header.
+fn asked_of(header: &[u8]) -> Asked
+    ensures { λ r. ⌜ Asks r (now (header .entry)) ⌝ }
+{
+    let asked = asked_by_bytes(header);
+    if asked.low != 0 {
+        return asked;
+    }
+    asked_by_packet(header)
+}
+
+fn asked_by_bytes(header: &[u8]) -> Asked
+    ensures { λ r. ⌜ Told r (now (header .entry)) ⌝ }
+{
+    if header.len() < 12 {
+        return untold();
+    }
+    if tlp_kinds::is_memory(header[0]) {
+        return asked_by_memory(header);
+    }
+    untold()
+}
+
+fn untold() -> Asked
+    ensures { λ r. ⌜ r .low ≡ 0 ⌝ }
+{
+    Asked { key: 0, low: 0 }
+}
+
+fn asked_by_memory(header: &[u8]) -> Asked
+    requires { ⌜ (12 ≤ length (now header)) × (isMemory (getD (now header) 0 0) ≡ true) ⌝ }
+    ensures { λ r. ⌜ Told r (now (header .entry)) ⌝ }
+{
+    let b = header[0];
+    let k = tlp_kinds::memory_kind(b);
+    let form = tlp_kinds::memory_form(b);
+    if header.len() < 4 * (form as usize) {
+        return untold();
+    }
+    let h = tlp_fields::request_head_at(form, header);
+    let e = tlp_fields::enables_at(header);
+    let a = tlp_fields::address_at(form, header);
+    if tlp_fields::unnamed(packet::is_write(k), header) {
+        return untold();
+    }
+    if packet::memory_rules(h, e, a) != 0 {
+        return untold();
+    }
+    asked_by_kind(Kind::Memory(k), h.requester, h.tag, h.length)
+}
+
+fn asked_by_packet(header: &[u8]) -> Asked
+    ensures { λ r. ⌜ Asks r (now (header .entry)) ⌝ }
+{
+    match tlp::read(header) {
+        Reading::Accepted(p) => {
+            let h = packet::head_of(p);
+            asked_by_kind(packet::kind_of(p), h.requester, h.tag, h.length)
+        }
+        Reading::Refused(n) => Asked {
+            key: 0,
+            low: n as u32,
+        },
+    }
+}
+
+fn asked_by_kind(kind: Kind, requester: u16, tag: u16, dwords: u16) -> Asked
+    ensures { λ r. ⌜ AsksAs (classOf kind) requester tag dwords r ⌝ }
+{
+    match class_of(kind) {
+        Class::NonPosted(class) => Asked {
+            key: key_of(requester, tag),
+            low: (dwords as u32) * 8 + (class as u32),
+        },
+        Class::Other => Asked { key: 0, low: 60 },
+    }
+}
+
 // ---- kinds
 
 fn class_of(kind: Kind) -> Class
@@ -295,10 +379,10 @@ fn key_of(requester: u16, tag: u16) -> u32
     (requester as u32) * 1024 + (tag as u32) + 1
 }
 
-fn word_of(key: u32, dwords: u16, class: u8) -> u64
-    ensures { λ r. ⌜ r ≡ wordOf key dwords class ⌝ }
+fn word_of(key: u32, low: u32) -> u64
+    ensures { λ r. ⌜ r ≡ wordFrom key low ⌝ }
 {
-    (key as u64) * HALF + (dwords as u64) * 8 + (class as u64)
+    (key as u64) * HALF + (low as u64)
 }
 
 // In 32 bits, as the search compares it.

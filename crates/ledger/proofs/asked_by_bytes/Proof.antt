@@ -1,0 +1,45 @@
+-- `ledger::asked_by_bytes` meets its contract: of a memory request by its fields. Assumes nothing.
+use borrow.Author.Needs.{needs}
+use Rattle.ledger.proofs.asked_by_bytes.Statement.{statement}
+use Rattle.ledger.proofs.asked_by_bytes.Tie as tie
+use mathlib.Core.Path.{sym, _∙_}
+use native.Mathlib.Omega.{arith}
+
+untold-requires : tie.Need-untold-requires
+untold-requires c κs = search needs
+
+returns : tie.Need-returns
+returns c = λ told. absurd (told (c .untold .ensures))
+
+shared-slice-read-is-memory : tie.Need-shared-slice-read-is-memory
+shared-slice-read-is-memory c = search needs
+
+is-memory-requires : tie.Need-is-memory-requires
+is-memory-requires c κs = search needs
+
+asked-by-memory-requires : tie.Need-asked-by-memory-requires
+asked-by-memory-requires c κs =
+    let long = c .before .before .before in
+    (omega (arith, long .if1 .left), sym (c .before .is-memory .ensures) ∙ c .if2 .taken)
+
+returns-2 : tie.Need-returns-2
+returns-2 c = search needs
+
+untold-requires-2 : tie.Need-untold-requires-2
+untold-requires-2 c κs = search needs
+
+returns-3 : tie.Need-returns-3
+returns-3 c = λ told. absurd (told (c .untold2 .ensures))
+
+pub asked-by-bytes-spec : {M : Type 1} → statement M
+asked-by-bytes-spec =
+    tie.close
+    (tie.spec
+    untold-requires
+    returns
+    shared-slice-read-is-memory
+    is-memory-requires
+    asked-by-memory-requires
+    returns-2
+    untold-requires-2
+    returns-3)
