@@ -53,9 +53,10 @@ use Rattle.route.specs.Route.{routeOf}
 use Rattle.route.specs.Listed.{listOf}
 use Rattle.route_list.specs.Counted.{counted}
 use Rattle.index_rule.specs.Owners.{keyOf, inReach}
-use Rattle.index_rule.specs.Search.{recordIn, bridgesIn, isOver, answerAt}
+use Rattle.index_rule.specs.Search.{isOver, answerAt}
+use Rattle.index_layout.specs.Keys.{segmentOf}
+use Rattle.index_layout.specs.Words.{recordIn, bridgesIn}
 use Rattle.index_slots.specs.Slots.{keyAt, wordAt}
-use Rattle.index_table.specs.Table.{segmentOf}
 use Rattle.index_table.specs.Search.{foundAt}
 use Rattle.index_search.specs.Search.{functionsIn, rootIn, answerOver, outcomeOver, outcomeIn, searchPacket, searchOf}
 use Rattle.index_search.specs.Search.{fromReading as searchReading}

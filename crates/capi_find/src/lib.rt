@@ -11,7 +11,7 @@ ghost use Rattle.pairs.specs.Pairs.{kindNumber};
 ghost use Rattle.packet_numbers.specs.Numbers.{headNumbers, requestNumbers, outcomeNumbers, absent};
 ghost use Rattle.route_arrival.specs.Arrival.{lastKind};
 ghost use Rattle.tlp_kinds.specs.Kinds.{isMemory, isIo, isConfig, isCompletion};
-ghost use Rattle.index_rule.specs.Search.{recordIn, bridgesIn};
+ghost use Rattle.index_layout.specs.Words.{recordIn, bridgesIn};
 ghost use Rattle.capi_answers.specs.Answers.{gives, returned, filled};
 ghost use Rattle.capi_find.specs.Calls.{findAnswer};
 use packet::Enables;
@@ -86,11 +86,11 @@ fn find_memory(header: &[u8], index: &[u8], answer: &mut [u64]) -> u32
     if packet::memory_rules(h, e, a) != 0 {
         return find_any(header, index, answer);
     }
-    if index_find::MEMORY_END <= a {
+    if index_layout::MEMORY_END <= a {
         return 40;
     }
-    let word = index_find::word_for(index, index_table::segment_of(a), a);
-    if (word >> 16) % 65536 == 0 {
+    let word = index_find::word_for(index, index_layout::segment_of(a), a);
+    if index_layout::record_in(word) == 0 {
         return 40;
     }
     give_request(
@@ -120,11 +120,11 @@ fn find_io(header: &[u8], index: &[u8], answer: &mut [u64]) -> u32
     if packet::io_rules(h, e, a) != 0 {
         return find_any(header, index, answer);
     }
-    if index_find::IO_END <= a {
+    if index_layout::IO_SIZE <= a {
         return 40;
     }
-    let word = index_find::word_for(index, 2, index_find::MEMORY_END + a);
-    if (word >> 16) % 65536 == 0 {
+    let word = index_find::word_for(index, index_layout::IO_SEGMENT, index_layout::IO_BASE + a);
+    if index_layout::record_in(word) == 0 {
         return 40;
     }
     give_request(word, pairs::kind_number(Kind::Io(k)), h, e, a, 0, 0, answer)
@@ -146,14 +146,18 @@ fn find_config(header: &[u8], index: &[u8], answer: &mut [u64]) -> u32
     if packet::config_rules(h, e) != 0 {
         return find_any(header, index, answer);
     }
-    if index.len() < 3 {
+    if index.len() <= index_layout::ROOT {
         return find_any(header, index, answer);
     }
-    if route_arrival::type_wrong(Packet::Config(k, h, e, t), index[2]) {
+    if route_arrival::type_wrong(Packet::Config(k, h, e, t), index[index_layout::ROOT]) {
         return find_any(header, index, answer);
     }
-    let word = index_find::word_for(index, 3, index_find::ID_BASE + (t.id as u64));
-    if (word >> 16) % 65536 == 0 {
+    let word = index_find::word_for(
+        index,
+        index_layout::ID_SEGMENT,
+        index_layout::ID_BASE + (t.id as u64),
+    );
+    if index_layout::record_in(word) == 0 {
         return 40;
     }
     give_request(
@@ -183,8 +187,12 @@ fn find_completion(header: &[u8], index: &[u8], answer: &mut [u64]) -> u32
     if packet::completion_rules(k, h, o) != 0 {
         return find_any(header, index, answer);
     }
-    let word = index_find::word_for(index, 3, index_find::ID_BASE + (h.requester as u64));
-    if (word >> 16) % 65536 == 0 {
+    let word = index_find::word_for(
+        index,
+        index_layout::ID_SEGMENT,
+        index_layout::ID_BASE + (h.requester as u64),
+    );
+    if index_layout::record_in(word) == 0 {
         return 40;
     }
     give_completion(word, pairs::kind_number(Kind::Completion(k)), h, o, answer)
@@ -230,8 +238,8 @@ fn give_request(
     if out.len() < 2 + packet_numbers::SIZE {
         return 11;
     }
-    out[0] = (word >> 16) % 65536;
-    out[1] = (word >> 8) % 256;
+    out[0] = index_layout::record_in(word);
+    out[1] = index_layout::bridges_in(word);
     packet_numbers::put_request(out, 2, kind, h, e, address, target, register);
     0
 }
@@ -250,8 +258,8 @@ fn give_completion(word: u64, kind: u8, h: Head, o: Outcome, out: &mut [u64]) ->
     if out.len() < 2 + packet_numbers::SIZE {
         return 11;
     }
-    out[0] = (word >> 16) % 65536;
-    out[1] = (word >> 8) % 256;
+    out[0] = index_layout::record_in(word);
+    out[1] = index_layout::bridges_in(word);
     packet_numbers::put_completion(out, 2, kind, h, o);
     0
 }

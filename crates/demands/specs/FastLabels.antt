@@ -13,7 +13,7 @@ use Rattle.route.specs.Route.{routeOf}
 use Rattle.route.specs.Listed.{onRoom, listAfter}
 use Rattle.audit_rule.specs.Audit.{auditNumber}
 use Rattle.audit_rule.specs.Accepted.{Accepted}
-use Rattle.index_slots.specs.Slots.{indexSize}
+use Rattle.index_layout.specs.Places.{indexSize}
 use Rattle.index_search.specs.Search.{searchOf, listedAfter}
 use Rattle.index_build.specs.Build.{buildNumber, indexAfter}
 use Rattle.trace.specs.declared.Trace.{Trace}

@@ -13,7 +13,6 @@ use Rattle.sheet.specs.Sheet.{entriesOf}
 use Rattle.audit_rule.specs.Audit.{auditNumber}
 use Rattle.audit_rule.specs.Accepted.{Accepted}
 use Rattle.audit_rule.specs.AuditLaws.{audit-iff}
-use Rattle.index_slots.specs.Slots.{indexSize}
 use Rattle.index_build.specs.Build.{from11, buildNumber, indexAfter}
 use Rattle.index_build.specs.BuildLaws.{audit-refused, refused-stays}
 use Rattle.index_build.specs.BuiltLaws.{search-is-route, listed-is-route, length-after, past-stays}

@@ -7,7 +7,8 @@ use lib.Dec.{eqb, ltb}
 use Rattle.board_record.specs.Host.{hostOfPart}
 use Rattle.sheet.specs.Sheet.{entriesOf}
 use Rattle.audit_rule.specs.Audit.{auditNumber}
-use Rattle.index_slots.specs.Slots.{Slot, indexSize}
+use Rattle.index_layout.specs.Places.{indexSize}
+use Rattle.index_slots.specs.Slots.{Slot}
 use Rattle.index_table.specs.Table.{built}
 use Rattle.index_pass.specs.Pass.{slotsBelow}
 

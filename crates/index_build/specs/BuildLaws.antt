@@ -1,7 +1,7 @@
 -- The build in the words of the code: one law for each answer. Assumes nothing.
 use mathlib.Core.Path.{_≡_, sym, _∙_}
 use mathlib.Core.List.{List}
-use Prim.Native.Nat.{ℕ, _+_, _*_, _≤_, _<_}
+use Prim.Native.Nat.{ℕ, _≤_, _<_}
 use lib.ListN.{length}
 use borrow.Author.Tests.{eq-eqb, ne-eqb, lt-ltb, le-ltb}
 use Rattle.endian.specs.Endian.{Bytes}
@@ -12,7 +12,8 @@ use Rattle.audit_rule.specs.Audit.{auditNumber}
 use Rattle.audit_rule.specs.Accepted.{Accepted}
 use Rattle.audit_rule.specs.AuditLaws.{audit-iff}
 use Rattle.audit_leaders.specs.Table.{Leads}
-use Rattle.index_slots.specs.Slots.{Slot, indexSize, placed}
+use Rattle.index_layout.specs.Places.{indexSize}
+use Rattle.index_slots.specs.Slots.{Slot, placed}
 use Rattle.index_slots.specs.Cleared.{cleared}
 use Rattle.index_table.specs.Table.{finished, built}
 use Rattle.index_above.specs.Bridges.{Climbs}
@@ -66,19 +67,19 @@ module _ (host s o : List ℕ) (a : ℕ) (audit : a ≡ auditNumber host s) wher
     past-audit = rw (← audit, eq-eqb a 0 zero)
 
     module _ (n : ℕ) (count : n ≡ length (entriesOf s)) where
-      pub too-short : length o < 1024 + 256 * n → buildNumber host s (length o) ≡ 11
+      pub too-short : length o < indexSize n → buildNumber host s (length o) ≡ 11
       unfolding from11
       too-short h = past-audit ∙ rw (← count, lt-ltb (length o) (indexSize n) h)
 
-      pub short-stays : length o < 1024 + 256 * n → indexAfter host s o ≡ o
+      pub short-stays : length o < indexSize n → indexAfter host s o ≡ o
       unfolding indexAfter
       short-stays h = rw (too-short h)
 
-      pub built-number : 1024 + 256 * n ≤ length o → buildNumber host s (length o) ≡ 0
+      pub built-number : indexSize n ≤ length o → buildNumber host s (length o) ≡ 0
       unfolding from11
       built-number h = past-audit ∙ rw (← count, le-ltb (length o) (indexSize n) h)
 
-      pub built-bytes : 1024 + 256 * n ≤ length o → (root : ℕ) → root ≡ rootOf host → (o₁ : List ℕ)
+      pub built-bytes : indexSize n ≤ length o → (root : ℕ) → root ≡ rootOf host → (o₁ : List ℕ)
           → o₁ ≡ built n root (slotsBelow root s) o → o₁ ≡ indexAfter host s o
       unfolding indexAfter
       built-bytes h root e o₁ f = f ∙ rw (built-number h, e, count)

@@ -3,7 +3,7 @@
 use mathlib.Core.Path.{_≡_, refl, sym, ap, _∙_}
 use mathlib.Core.Bool.{Bool, true, false, cond}
 use mathlib.Core.List.{List, [], _∷_, map}
-use Prim.Native.Nat.{ℕ, zero, suc, _*_, _≤_, _<_}
+use Prim.Native.Nat.{ℕ, zero, suc, _≤_, _<_}
 use native.Mathlib.Omega.{arith}
 use lib.ListN.{length, getD, length-map, List·getD-map}
 use lib.Dec.{eqb, ltb}
@@ -30,9 +30,10 @@ use Rattle.index_rule.specs.CountLaws.{length-nodes}
 use Rattle.index_rule.specs.WordLaws.{word-small}
 use Rattle.index_rule.specs.LineLaws.{owners-fit}
 use Rattle.index_rule.specs.IndexLaws.{root-of-accepted, walked-out-of-reach, key-near, walked-at-last}
+use Rattle.index_layout.specs.Places.{indexSize, mostSlots}
+use Rattle.index_layout.specs.Keys.{segmentOf}
 use Rattle.index_slots.specs.Slots as slots
-use Rattle.index_slots.specs.Slots.{Slot, noSlot, indexSize, slotAt}
-use Rattle.index_table.specs.Table.{segmentOf}
+use Rattle.index_slots.specs.Slots.{Slot, noSlot, slotAt}
 use Rattle.index_table.specs.Search.{foundAt, Last, Searchable}
 use Rattle.index_table.specs.BuiltLaws.{Lawful, built-searchable, length-built, getD-built-past}
 use Rattle.index_search.specs.Search.{functionsIn, answerOver, outcomeOver, searchOf, listedAfter}
@@ -98,7 +99,7 @@ module _ (host s o : List ℕ) (host-bytes : Bytes host) (bytes : Bytes s) (done
   unfolding indexAfter
   index-is = rw done
 
-  few : length (ownerSlots host s) ≤ 7 * n
+  few : length (ownerSlots host s) ≤ mostSlots n
   few = omega (arith, passes-room (rootOf host) s)
 
   lawful : All Lawful (ownerSlots host s)

@@ -3,7 +3,7 @@ ghost use mathlib.Core.Path.{_≡_};
 ghost use Prim.Native.Nat.{_≤_};
 ghost use lib.ListN.{length};
 ghost use Rattle.sheet.specs.Sheet.{entriesOf};
-ghost use Rattle.index_slots.specs.Slots.{indexSize};
+ghost use Rattle.index_layout.specs.Places.{indexSize};
 ghost use Rattle.index_table.specs.Table.{built};
 ghost use Rattle.index_pass.specs.Pass.{slotsBelow};
 ghost use Rattle.index_build.specs.Build.{buildNumber, indexAfter};
@@ -19,7 +19,7 @@ pub fn build(host: &[u8], sheet: &[u8], index: &mut [u8]) -> u8
         return number;
     }
     let n = sheet::count(sheet);
-    if index.len() < 1024 + 256 * n {
+    if index.len() < index_layout::LEAST + index_layout::EACH * n {
         return 11;
     }
     let h = board_record::host_of(host);

@@ -19,7 +19,7 @@ use Rattle.route.specs.declared.Routing.{Routing}
 use Rattle.route.specs.declared.Routing.the-variants.{Refused}
 use Rattle.route.specs.Route.{answer, headedOver, typedOver, routeOver, wrongType}
 use Rattle.index_rule.specs.Owners.{keyOf, inReach}
-use Rattle.index_rule.specs.Search.{recordIn, bridgesIn}
+use Rattle.index_layout.specs.Words.{recordIn, bridgesIn}
 use Rattle.index_search.specs.Search.{functionsIn, rootIn, answerOver, outcomeBy, outcomeOver, outcomeIn, searchPacket, searchOf}
 use Rattle.index_find.specs.Found.{outcomeAt}
 

@@ -1,18 +1,10 @@
-// A key looked for in an index: the word found tells what becomes of a header that no check refuses, with no packet made. For who has a path
-// of its own for a kind.
+// A key looked for in an index: the word found tells what becomes of a header that no check refuses, with no packet made. For who has a
+// path of its own for a kind.
 ghost use mathlib.Core.Path.{_≡_};
 ghost use Prim.Native.Nat.{_<_};
-ghost use Rattle.index_slots.specs.Cleared.{noKey};
-ghost use Rattle.index_table.specs.Table.{segmentOf};
+ghost use Rattle.index_layout.specs.Keys.{noKey, segmentOf};
 ghost use Rattle.index_search.specs.Search.{outcomeBy};
 ghost use Rattle.index_find.specs.Found.{outcomeAt};
-
-// Where the keys of memory end, and those of I/O and of IDs start.
-pub const MEMORY_END: u64 = 4503599627370496;
-
-pub const IO_END: u64 = 65536;
-
-pub const ID_BASE: u64 = 4503599627436032;
 
 // The word of the slot that holds a key of segment w, or 0 where none does.
 pub fn word_for(index: &[u8], w: usize, key: u64) -> u64

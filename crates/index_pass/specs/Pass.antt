@@ -2,7 +2,7 @@
 -- of one record. Assumes nothing.
 use mathlib.Core.Bool.{Bool, cond, _&&_}
 use mathlib.Core.List.{List, [], _∷_, map}
-use Prim.Native.Nat.{ℕ, _+_, _-_, _*_, _≤_}
+use Prim.Native.Nat.{ℕ, _+_, _-_, _≤_}
 use lib.Dec.{leb, ltb}
 use Rattle.pools.specs.declared.Space.{Space}
 use Rattle.pools.specs.declared.Space.the-variants.{Memory, Io as Ports}
@@ -15,7 +15,9 @@ use Rattle.sheet_record.specs.Entry as entries
 use Rattle.sheet_record.specs.Entry.{entryOf, commandOf}
 use Rattle.sheet_record.specs.Spaces.{barRange, barsOf, enables}
 use Rattle.index_rule.specs.Owners as rule
-use Rattle.index_rule.specs.Owners.{Owner, ownedOf, idOwners, ownersBelow, idBase, exponentOf, wordOf}
+use Rattle.index_rule.specs.Owners.{Owner, ownedOf, idOwners, ownersBelow, exponentOf, wordOf}
+use Rattle.index_layout.specs.Keys.{idBase, noKey}
+use Rattle.index_layout.specs.Words.{wordEnd}
 use Rattle.index_slots.specs.Slots.{Slot}
 use Rattle.index_above.specs.declared.Bridges.{Bridges}
 use Rattle.index_pass.specs.declared.Segment.{Segment}
@@ -44,14 +46,10 @@ passSlots pass top s = map slotOf (passOwners pass top s)
 
 -- its keys are at most 2^62
 abbrev pub Fits : Pass → Type 0
-Fits (Bars g) = g .base + g .end ≤ 4611686018427387904
+Fits (Bars g) = g .base + g .end ≤ noKey
 Fits Ids = Unit {0}
 
 -- ## One record, as the code reads it
-
--- a word but for the exponent
-abbrev pub wordEnd : Bridges → ℕ → ℕ
-wordEnd b number = 256 * b .count + 65536 * number
 
 abbrev pub allOn : Space → Bridges → Bool
 allOn Memory b = b .memory
@@ -75,5 +73,6 @@ barIn space Bad v = []
 -- p is the record's part
 abbrev pub recordSlots : Pass → Bridges → ℕ → List ℕ → List Slot
 recordSlots (Bars g) b number p =
-    cond (enables (g .space) (commandOf p) && allOn (g .space) b) (barSlots g (wordEnd b number) (barsOf (g .space) (entryOf p))) []
-recordSlots Ids b number p = record { key = idBase + entries.idOf p; word = wordEnd b number } ∷ []
+    let end = wordEnd (b .count) number in
+    cond (enables (g .space) (commandOf p) && allOn (g .space) b) (barSlots g end (barsOf (g .space) (entryOf p))) []
+recordSlots Ids b number p = record { key = idBase + entries.idOf p; word = wordEnd (b .count) number } ∷ []

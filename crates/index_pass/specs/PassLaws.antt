@@ -21,10 +21,13 @@ use Rattle.sheet.specs.Sheet.{Framed, entriesOf, partAt}
 use Rattle.sheet.specs.SheetLaws.{Checked, lawful-index}
 use Rattle.sheet.specs.IndexLaws.{enabled-index}
 use Rattle.sheet.specs.Spaces.{nodesOf, enabledOf}
-use Rattle.index_rule.specs.Owners.{Owner, allEnabled, isLive, barOwner, idOwner, idBase, moved, startsIn, ownedOf}
+use Rattle.index_rule.specs.Owners.{Owner, allEnabled, isLive, barOwner, idOwner, moved, startsIn, ownedOf}
 use Rattle.index_rule.specs.Owners.{idOwners, lowMemory, highMemory, ports, ownersBelow, exponentOver, exponentOf}
 use Rattle.index_rule.specs.CountLaws.{seven-each}
 use Rattle.index_rule.specs.PassLaws.{taken, ownedAfter, idsAfter, owned-start, ids-start, owned-end, ids-end, owned-step, ids-step}
+use Rattle.index_layout.specs.Places.{mostSlots}
+use Rattle.index_layout.specs.Keys.{lowEnd, memoryEnd, ioSize, ioBase, idBase, noKey}
+use Rattle.index_layout.specs.Words.{wordFrom, wordEnd}
 use Rattle.index_slots.specs.Slots.{Slot, placed}
 use Rattle.index_above.specs.declared.Bridges.{Bridges}
 use Rattle.index_above.specs.Bridges.{bridgesOver}
@@ -32,7 +35,7 @@ use Rattle.index_above.specs.BridgesLaws.{bus-of-part}
 use Rattle.index_pass.specs.declared.Segment.{Segment}
 use Rattle.index_pass.specs.declared.Pass.{Pass}
 use Rattle.index_pass.specs.declared.Pass.the-variants.{Bars, Ids}
-use Rattle.index_pass.specs.Pass.{slotOf, segmentOf, slotsBelow, passSlots, Fits, wordEnd, allOn, barSlots, recordSlots}
+use Rattle.index_pass.specs.Pass.{slotOf, segmentOf, slotsBelow, passSlots, Fits, allOn, barSlots, recordSlots}
 use Rattle.index_pass.specs.PlacingLaws.{Placing, placing-start, placing-end, placing-room, placing-next}
 
 -- ## By records
@@ -56,7 +59,7 @@ pass-end s f Ids top k h = ap (map slotOf) (ids-end top s f k h)
 
 -- the words of a function's BARs
 bar-slots-of : (g : Segment) (top : ℕ) (ns : List Node) (n : Node) (end : ℕ)
-    → 256 * length (above top ns (n .bus)) + 65536 * n .number ≡ end
+    → wordEnd (length (above top ns (n .bus))) (n .number) ≡ end
     → (rs : List Range) → map slotOf (taken (segmentOf g) top ns n rs) ≡ barSlots g end rs
 unfolding taken keep barSlots
 bar-slots-of g top ns n end e [] = refl
@@ -68,7 +71,7 @@ bar-slots-of g top ns n end e (r ∷ rs) = go (leb (g .first) (r .start) && ltb 
     size : g .base + r .stop - (g .base + r .start) ≡ r .stop - r .start
     size = omega arith
 
-    word : exponentOf (g .base + r .stop - (g .base + r .start)) + 256 * length (above top ns (n .bus)) + 65536 * n .number
+    word : wordFrom (exponentOf (g .base + r .stop - (g .base + r .start))) (length (above top ns (n .bus))) (n .number)
         ≡ exponentOf (r .stop - r .start) + end
     word = rw size (omega (arith, e))
 
@@ -92,7 +95,7 @@ on-of-above Memory s top bus = refl
 on-of-above Ports s top bus = refl
 
 -- in the words of the code: t and u are the tests
-module _ (pass : Pass) (b : Bridges) (number : ℕ) (p : List ℕ) (end : ℕ) (is : end ≡ wordEnd b number) where
+module _ (pass : Pass) (b : Bridges) (number : ℕ) (p : List ℕ) (end : ℕ) (is : end ≡ wordEnd (b .count) number) where
   module _ (g : Segment) (e : pass ≡ Bars g) (t u : Bool) (own : t ≡ enables (g .space) (commandOf p))
       (above : u ≡ allOn (g .space) b) where
     pub record-live : (t && u) ≡ true → recordSlots pass b number p ≡ barSlots g end (barsOf (g .space) (entryOf p))
@@ -105,7 +108,7 @@ module _ (pass : Pass) (b : Bridges) (number : ℕ) (p : List ℕ) (end : ℕ) (
       → recordSlots pass b number p ≡ record { key = idBase + id; word = end } ∷ []
   record-id e id i = rw (e, i, is)
 
-pub fits-bars : (pass : Pass) (g : Segment) → pass ≡ Bars g → Fits pass → g .base + g .end ≤ 4611686018427387904
+pub fits-bars : (pass : Pass) (g : Segment) → pass ≡ Bars g → Fits pass → g .base + g .end ≤ noKey
 fits-bars pass g e f = rw e at f
 
 -- record k of a checked sheet: p is its part, b are the bridges above it
@@ -117,7 +120,7 @@ module _ (s : List ℕ) (f : Framed 1 s) (k : ℕ) (h : k < length (entriesOf s)
   bus-is : node .bus ≡ bus
   bus-is = sym (on ∙ bus-of-part p)
 
-  ends : 256 * length (above top (nodesOf s) (node .bus)) + 65536 * (k + 1) ≡ wordEnd b (k + 1)
+  ends : wordEnd (length (above top (nodesOf s) (node .bus))) (k + 1) ≡ wordEnd (b .count) (k + 1)
   ends = rw (bus-is, over)
 
   live : (space : Space) → isLive top (nodesOf s) (enabledOf space s) node ≡ (enables space (commandOf p) && allOn space b)
@@ -146,8 +149,9 @@ module _ (s : List ℕ) (f : Framed 1 s) (k : ℕ) (h : k < length (entriesOf s)
       bars = barsOf (g .space) (entryOf p)
 
       go : (t : Bool)
-          → map slotOf (cond t (taken (segmentOf g) top (nodesOf s) node bars) []) ≡ cond t (barSlots g (wordEnd b (k + 1)) bars) []
-      go true = bar-slots-of g top (nodesOf s) node (wordEnd b (k + 1)) ends bars
+          → map slotOf (cond t (taken (segmentOf g) top (nodesOf s) node bars) [])
+          ≡ cond t (barSlots g (wordEnd (b .count) (k + 1)) bars) []
+      go true = bar-slots-of g top (nodesOf s) node (wordEnd (b .count) (k + 1)) ends bars
       go false = refl
   pass-step Ids =
       let id : node .bus * 256 + node .devfn ≡ entries.idOf p = omega (arith, id-of-part p) in
@@ -155,8 +159,8 @@ module _ (s : List ℕ) (f : Framed 1 s) (k : ℕ) (h : k < length (entriesOf s)
       let bridges = length (above top (nodesOf s) bus) in
       let rest = idsAfter top s (k + 1) in
       let step : idsAfter top s k ≡ moved idBase (idOwner top (nodesOf s) node) ∷ rest = rw is (ids-step top s f k h) in
-      let word : 0 + 256 * bridges + 65536 * (k + 1) ≡ 256 * bridges + 65536 * (k + 1) = omega arith in
-      let here : slotOf (moved idBase (idOwner top (nodesOf s) node)) ≡ id-slot (wordEnd b (k + 1)) =
+      let word : wordFrom 0 bridges (k + 1) ≡ wordEnd bridges (k + 1) = omega arith in
+      let here : slotOf (moved idBase (idOwner top (nodesOf s) node)) ≡ id-slot (wordEnd (b .count) (k + 1)) =
       rw (id, one, bus-is, over) (ap id-slot word) in
       ap (map slotOf) step ∙ ap (_∷ map slotOf rest) here
 
@@ -168,13 +172,13 @@ part-lawful s c k h p e = rw e (lawful-index s c k h)
 -- ## The four passes
 
 abbrev pub lowPass : Pass
-lowPass = Bars (record { space = Memory; first = 0; end = 4294967296; base = 0 })
+lowPass = Bars (record { space = Memory; first = 0; end = lowEnd; base = 0 })
 
 abbrev pub highPass : Pass
-highPass = Bars (record { space = Memory; first = 4294967296; end = 4503599627370496; base = 0 })
+highPass = Bars (record { space = Memory; first = lowEnd; end = memoryEnd; base = 0 })
 
 abbrev pub ioPass : Pass
-ioPass = Bars (record { space = Ports; first = 0; end = 65536; base = 4503599627370496 })
+ioPass = Bars (record { space = Ports; first = 0; end = ioSize; base = ioBase })
 
 module _ (top : ℕ) (s : List ℕ) where
   -- what is left after three passes, two, one and none
@@ -202,7 +206,7 @@ module _ (top : ℕ) (s : List ℕ) where
       ∙ ap (map slotOf high ++_) (map-append slotOf io ids
       ∙ ap (map slotOf io ++_) (sym (append-nil (map slotOf ids))))))
 
-  pub passes-room : 0 + length (slotsBelow top s) ≤ 7 * length (entriesOf s)
+  pub passes-room : 0 + length (slotsBelow top s) ≤ mostSlots (length (entriesOf s))
   passes-room = omega (arith, length-map (ownersBelow top s) slotOf, seven-each top s)
 
 -- in the words of the code: o₁ and c₁ are the bytes and the slots after the first pass
@@ -213,38 +217,38 @@ module _ (n top : ℕ) (s : List ℕ) (len : n ≡ length (entriesOf s)) (o₀ :
   abbrev slots : Pass → List Slot
   slots pass = passSlots pass top s
 
-  room : 0 + length all ≤ 7 * n
+  room : 0 + length all ≤ mostSlots n
   room = omega (arith, len, passes-room top s)
 
   first : Placing n all 0 o₀ (fromLow top s) 0 o₀
   first = placing-start n all 0 o₀ (fromLow top s) (passes-start top s)
 
-  pub low-room : 0 + length (slots lowPass) ≤ 7 * n
-  low-room = placing-room n all 0 o₀ (fromLow top s) 0 o₀ first (slots lowPass) (fromHigh top s) refl (7 * n) room
+  pub low-room : 0 + length (slots lowPass) ≤ mostSlots n
+  low-room = placing-room n all 0 o₀ (fromLow top s) 0 o₀ first (slots lowPass) (fromHigh top s) refl (mostSlots n) room
 
   module _ (o₁ : List ℕ) (c₁ : ℕ) (l₁ : length o₁ ≡ length o₀) (e₁ : o₁ ≡ placed 0 n (slots lowPass) o₀)
       (d₁ : c₁ ≡ 0 + length (slots lowPass)) where
     second : Placing n all 0 o₀ (fromHigh top s) c₁ o₁
     second = placing-next n all 0 o₀ (fromLow top s) 0 o₀ first (slots lowPass) (fromHigh top s) refl o₁ c₁ l₁ e₁ d₁
 
-    pub high-room : c₁ + length (slots highPass) ≤ 7 * n
-    high-room = placing-room n all 0 o₀ (fromHigh top s) c₁ o₁ second (slots highPass) (fromIo top s) refl (7 * n) room
+    pub high-room : c₁ + length (slots highPass) ≤ mostSlots n
+    high-room = placing-room n all 0 o₀ (fromHigh top s) c₁ o₁ second (slots highPass) (fromIo top s) refl (mostSlots n) room
 
     module _ (o₂ : List ℕ) (c₂ : ℕ) (l₂ : length o₂ ≡ length o₁) (e₂ : o₂ ≡ placed c₁ n (slots highPass) o₁)
         (d₂ : c₂ ≡ c₁ + length (slots highPass)) where
       third : Placing n all 0 o₀ (fromIo top s) c₂ o₂
       third = placing-next n all 0 o₀ (fromHigh top s) c₁ o₁ second (slots highPass) (fromIo top s) refl o₂ c₂ l₂ e₂ d₂
 
-      pub io-room : c₂ + length (slots ioPass) ≤ 7 * n
-      io-room = placing-room n all 0 o₀ (fromIo top s) c₂ o₂ third (slots ioPass) (fromIds top s) refl (7 * n) room
+      pub io-room : c₂ + length (slots ioPass) ≤ mostSlots n
+      io-room = placing-room n all 0 o₀ (fromIo top s) c₂ o₂ third (slots ioPass) (fromIds top s) refl (mostSlots n) room
 
       module _ (o₃ : List ℕ) (c₃ : ℕ) (l₃ : length o₃ ≡ length o₂) (e₃ : o₃ ≡ placed c₂ n (slots ioPass) o₂)
           (d₃ : c₃ ≡ c₂ + length (slots ioPass)) where
         fourth : Placing n all 0 o₀ (fromIds top s) c₃ o₃
         fourth = placing-next n all 0 o₀ (fromIo top s) c₂ o₂ third (slots ioPass) (fromIds top s) refl o₃ c₃ l₃ e₃ d₃
 
-        pub ids-room : c₃ + length (slots Ids) ≤ 7 * n
-        ids-room = placing-room n all 0 o₀ (fromIds top s) c₃ o₃ fourth (slots Ids) [] refl (7 * n) room
+        pub ids-room : c₃ + length (slots Ids) ≤ mostSlots n
+        ids-room = placing-room n all 0 o₀ (fromIds top s) c₃ o₃ fourth (slots Ids) [] refl (mostSlots n) room
 
         pub passes-end : (o₄ : List ℕ) (c₄ : ℕ) → length o₄ ≡ length o₃ → o₄ ≡ placed c₃ n (slots Ids) o₃ → c₄ ≡ c₃ + length (slots Ids)
             → (o₄ ≡ placed 0 n all o₀) × (c₄ ≡ length all)

@@ -2,7 +2,7 @@
 // the keys behind those that are there: low memory, high memory, I/O, IDs.
 ghost use mathlib.Core.Path.{_≡_};
 ghost use mathlib.Core.Bool.{false, _&&_};
-ghost use Prim.Native.Nat.{_+_, _*_, _<_, _≤_};
+ghost use Prim.Native.Nat.{_+_, _<_, _≤_};
 ghost use lib.Dec.{leb, ltb};
 ghost use lib.ListN.{length};
 ghost use Rattle.pools.specs.Pools.{inSpace};
@@ -12,9 +12,12 @@ ghost use Rattle.sheet_record.specs.Entry.{entryOf};
 ghost use Rattle.sheet_record.specs.Spaces.{slotsOf, barsOf};
 ghost use Rattle.sheet.specs.Sheet.{entriesOf};
 ghost use Rattle.index_rule.specs.Owners.{exponentOf};
-ghost use Rattle.index_slots.specs.Slots.{indexSize, placed};
+ghost use Rattle.index_layout.specs.Places.{indexSize, mostSlots};
+ghost use Rattle.index_layout.specs.Keys.{noKey};
+ghost use Rattle.index_layout.specs.Words.{wordLimit};
+ghost use Rattle.index_slots.specs.Slots.{placed};
 ghost use Rattle.index_above.specs.Bridges.{Climbs};
-ghost use Rattle.index_pass.specs.Pass.{slotsBelow, passSlots, Fits, recordSlots, barSlots, barIn, allOn, wordEnd};
+ghost use Rattle.index_pass.specs.Pass.{slotsBelow, passSlots, Fits, recordSlots, barSlots, barIn, allOn};
 use bar::Slot;
 use index_above::Bridges;
 use pools::Pool;
@@ -34,28 +37,25 @@ pub enum Pass {
     Ids,
 }
 
-// The key of ID 0.
-const ID_BASE: u64 = 4503599627436032;
-
 const LOW_MEMORY: Segment = Segment {
     space: Space::Memory,
     first: 0,
-    end: 4294967296,
+    end: index_layout::LOW_END,
     base: 0,
 };
 
 const HIGH_MEMORY: Segment = Segment {
     space: Space::Memory,
-    first: 4294967296,
-    end: 4503599627370496,
+    first: index_layout::LOW_END,
+    end: index_layout::MEMORY_END,
     base: 0,
 };
 
 const IO: Segment = Segment {
     space: Space::Io,
     first: 0,
-    end: 65536,
-    base: 4503599627370496,
+    end: index_layout::IO_SIZE,
+    base: index_layout::IO_BASE,
 };
 
 // All owners, into an index of n functions with no slots: how many there are.
@@ -85,7 +85,7 @@ fn insert_pass(
     root: u8,
 ) -> usize
     requires { ⌜
-        Climbs (now sheet) (now table) root × Fits pass × (count + length (passSlots pass root (now sheet)) ≤ 7 * n)
+        Climbs (now sheet) (now table) root × Fits pass × (count + length (passSlots pass root (now sheet)) ≤ mostSlots n)
         × (indexSize n ≤ length (now index))
         ⌝ }
     ensures { λ r. ⌜
@@ -119,14 +119,14 @@ fn insert_record(
 ) -> usize
     requires { ⌜
         (length (now part) ≡ recordSize) × (anyBad (slotsOf (entryOf (now part))) ≡ false) × Fits pass × (number ≤ 65535)
-        × (count + length (recordSlots pass bridges number (now part)) ≤ 7 * n) × (indexSize n ≤ length (now index))
+        × (count + length (recordSlots pass bridges number (now part)) ≤ mostSlots n) × (indexSize n ≤ length (now index))
         ⌝ }
     ensures { λ r. ⌜
         (now (index .exit) ≡ placed count n (recordSlots pass bridges number (now (part .entry))) (now (index .entry)))
         × (r ≡ count + length (recordSlots pass bridges number (now (part .entry))))
         ⌝ }
 {
-    let end = word_end(bridges, number);
+    let end = index_layout::word_end(bridges.count, number);
     match pass {
         Pass::Bars(g) => {
             let space = g.space;
@@ -137,18 +137,10 @@ fn insert_record(
         }
         Pass::Ids => {
             let id = sheet_record::id_of(part) as u64;
-            index_slots::insert(index, n, count, ID_BASE + id, end);
+            index_slots::insert(index, n, count, index_layout::ID_BASE + id, end);
             count + 1
         }
     }
-}
-
-// What a word says beside the exponent.
-fn word_end(bridges: Bridges, number: usize) -> u64
-    requires { ⌜ number ≤ 65535 ⌝ }
-    ensures { λ r. ⌜ (r ≡ wordEnd bridges number) × (r < 8589934592) ⌝ }
-{
-    256 * (bridges.count as u64) + 65536 * (number as u64)
 }
 
 // Each bridge enables the space.
@@ -166,8 +158,8 @@ fn all_on(bridges: Bridges, space: Space) -> bool
 // A function's that start in the segment, in slot order.
 fn insert_bars(index: &mut [u8], n: usize, count: usize, part: &[u8], g: Segment, end: u64) -> usize
     requires { ⌜
-        (length (now part) ≡ recordSize) × (anyBad (slotsOf (entryOf (now part))) ≡ false) × (g .base + g .end ≤ 4611686018427387904)
-        × (end < 8589934592) × (count + length (barSlots g end (barsOf (g .space) (entryOf (now part)))) ≤ 7 * n)
+        (length (now part) ≡ recordSize) × (anyBad (slotsOf (entryOf (now part))) ≡ false) × (g .base + g .end ≤ noKey)
+        × (end < wordLimit) × (count + length (barSlots g end (barsOf (g .space) (entryOf (now part)))) ≤ mostSlots n)
         × (indexSize n ≤ length (now index))
         ⌝ }
     ensures { λ r. ⌜
@@ -199,8 +191,8 @@ fn insert_bar(
     end: u64,
 ) -> usize
     requires { ⌜
-        (g .base + g .end ≤ 4611686018427387904) × (end < 8589934592)
-        × (count + length (barSlots g end (barIn (g .space) x value)) ≤ 7 * n) × (indexSize n ≤ length (now index))
+        (g .base + g .end ≤ noKey) × (end < wordLimit)
+        × (count + length (barSlots g end (barIn (g .space) x value)) ≤ mostSlots n) × (indexSize n ≤ length (now index))
         ⌝ }
     ensures { λ r. ⌜
         (now (index .exit) ≡ placed count n (barSlots g end (barIn (g .space) x value)) (now (index .entry)))

@@ -23,7 +23,9 @@ use Rattle.sheet.specs.Sheet.{Framed, entriesFrom, entriesOf}
 use Rattle.sheet.specs.CheckLaws.{partFrom, first-at}
 use Rattle.sheet.specs.LookupLaws.{id-of-entry}
 use Rattle.sheet.specs.Spaces.{functionsFrom, nodesFrom, nodesOf, enabledOf}
-use Rattle.index_rule.specs.Owners.{Owner, isLive, barOwner, ownersOn, owned, ownedIn, idOf, idOwner, moved, idBase}
+use Rattle.index_layout.specs.Places.{mostSlots}
+use Rattle.index_layout.specs.Keys.{lowEnd, memoryEnd, idBase}
+use Rattle.index_rule.specs.Owners.{Owner, isLive, barOwner, ownersOn, owned, ownedIn, idOf, idOwner, moved}
 use Rattle.index_rule.specs.Owners.{lowMemory, highMemory, ports, startsIn, ownedOf, idOwners, ownersBelow}
 use Rattle.index_rule.specs.BarsLaws.{few-bars}
 
@@ -135,9 +137,9 @@ keep-apart p q apart (x ∷ xs) = go (p x) (q x) refl refl (keep-apart p q apart
 
 low-or-high : (x : Owner) → startsIn lowMemory x ≡ true → startsIn highMemory x ≡ true → ⊥
 low-or-high x low high =
-    let l = and-eq-true-iff (leb 0 (x .start)) (ltb (x .start) 4294967296) .0 low in
-    let h = and-eq-true-iff (leb 4294967296 (x .start)) (ltb (x .start) 4503599627370496) .0 high in
-    omega (arith, ltb-true (x .start) 4294967296 (l .1), leb-true 4294967296 (x .start) (h .0))
+    let l = and-eq-true-iff (leb 0 (x .start)) (ltb (x .start) lowEnd) .0 low in
+    let h = and-eq-true-iff (leb lowEnd (x .start)) (ltb (x .start) memoryEnd) .0 high in
+    omega (arith, ltb-true (x .start) lowEnd (l .1), leb-true lowEnd (x .start) (h .0))
 
 module _ (top : ℕ) (s : List ℕ) where
   memory-few : length (ownedOf lowMemory top s) + length (ownedOf highMemory top s) ≤ length (ownedIn Memory top s)
@@ -163,7 +165,7 @@ module _ (top : ℕ) (s : List ℕ) where
       length-map (nodesOf s) (λ (n : Node). moved idBase (idOwner top (nodesOf s) n)) ∙ length-nodes 1 (entriesOf s)
 
   -- on any bytes
-  pub seven-each : length (ownersBelow top s) ≤ 7 * length (entriesOf s)
+  pub seven-each : length (ownersBelow top s) ≤ mostSlots (length (entriesOf s))
   unfolding ownersBelow
   seven-each =
       let low = ownedOf lowMemory top s in

@@ -27,8 +27,9 @@ use Rattle.sheet.specs.SheetLaws.{checked-of-zero, Passes, passes-of-zero}
 use Rattle.audit_rule.specs.Host.{hostFor}
 use Rattle.audit_rule.specs.Accepted.{Accepted}
 use Rattle.audit_rule.specs.AcceptedLaws.{good-of-accepted}
+use Rattle.index_layout.specs.Keys.{idSize, noKey}
 use Rattle.index_rule.specs.Owners.{Owner, ownedIn, idOwner, endOf}
-use Rattle.index_rule.specs.Owners.{farKey, moved}
+use Rattle.index_rule.specs.Owners.{moved}
 use Rattle.index_rule.specs.OwnedLaws.{Comes, owned-elim}
 use Rattle.index_rule.specs.PoolsLaws.{in-host-pool, ends-in-space}
 use Rattle.index_rule.specs.BarsLaws.{Powered, powered-bars, filled}
@@ -70,7 +71,7 @@ moved-zero x = ap₂ at (omega arith) (omega arith)
     at : ℕ → ℕ → Owner
     at b e = record { start = b; stop = e; number = x .number; bridges = x .bridges }
 
-pub fits-moved : (base end : ℕ) (x : Owner) → InSpace end x → base + end ≤ farKey → Fits (moved base x)
+pub fits-moved : (base end : ℕ) (x : Owner) → InSpace end x → base + end ≤ noKey → Fits (moved base x)
 fits-moved base end x i room =
     let p = i .powered in
     record {
@@ -132,7 +133,7 @@ module _ (host s : List ℕ) (host-bytes : Bytes host) (bytes : Bytes s) (a : Ac
   pub in-space : (sp : Space) (x : Owner) → x ∈ ownedIn sp top s → InSpace (endOf sp) x
   in-space sp x m = bar-in-space sp x (owned-elim top (nodesOf s) (enabledOf sp s) (registersOf sp s) x m)
 
-  pub id-in-space : (n : Node) → n ∈ nodesOf s → InSpace 65536 (idOwner top (nodesOf s) n)
+  pub id-in-space : (n : Node) → n ∈ nodesOf s → InSpace idSize (idOwner top (nodesOf s) n)
   id-in-space n m =
       let l = listed-node n m in
       record {

@@ -3,7 +3,7 @@
 use mathlib.Core.Path.{_≡_, refl, sym, ap, _∙_}
 use mathlib.Core.Bool.{Bool, true, false, cond}
 use mathlib.Core.List.{List, [], _∷_}
-use Prim.Native.Nat.{ℕ, _+_, _-_, _*_, _/_, _%_, _≤_, _<_}
+use Prim.Native.Nat.{ℕ, _+_, _-_, _/_, _%_, _≤_, _<_}
 use native.Mathlib.Omega.{arith}
 use lib.ListN.{length}
 use lib.Dec.{eqb, ltb}
@@ -30,7 +30,9 @@ use Rattle.route.specs.Route.{walked, root}
 use Rattle.audit_rule.specs.Host.{hostFor}
 use Rattle.audit_rule.specs.Accepted.{Accepted}
 use Rattle.audit_rule.specs.AcceptedLaws.{good-of-accepted}
-use Rattle.index_rule.specs.Owners.{Owner, memoryEnd, portsEnd, endOf, portsBase, idBase, farKey, keyOf, inReach, ownersOf}
+use Rattle.index_layout.specs.Places.{mostSlots}
+use Rattle.index_layout.specs.Keys.{memoryEnd, ioSize, idSize, ioBase, idBase, noKey}
+use Rattle.index_rule.specs.Owners.{Owner, endOf, keyOf, inReach, ownersOf}
 use Rattle.index_rule.specs.Insert.{inserted}
 use Rattle.index_rule.specs.Search.{sortedOwners, keyAt, wordAt, Last, answerAt}
 use Rattle.index_rule.specs.InsertLaws.{Ordered, inserted-ordered, length-inserted}
@@ -42,7 +44,7 @@ use Rattle.index_rule.specs.SearchLaws.{each-fits, outcome-of-last}
 use Rattle.index_rule.specs.LineLaws.{owners-fit, owners-answered, past-space, past-ids}
 
 -- at most seven a function
-pub sorted-few : (host s : List ℕ) → length (sortedOwners host s) ≤ 7 * length (entriesOf s)
+pub sorted-few : (host s : List ℕ) → length (sortedOwners host s) ≤ mostSlots (length (entriesOf s))
 unfolding sortedOwners
 sorted-few host s =
     omega (arith, length-inserted (λ (x : Owner). x .start) [] (ownersOf host s), seven-each (hostOfPart host .«first_bus») s)
@@ -87,14 +89,14 @@ module _ (host s : List ℕ) (host-bytes : Bytes host) (bytes : Bytes s) (a : Ac
   pub walked-out-of-reach : (aim : Aim) → inReach aim ≡ false → walked aim s (root s) 0 ≡ refused noOwner
   walked-out-of-reach (Address sp address) e =
       walk-of-address sp address ∙ past-space host s host-bytes bytes a sp address (ltb-false address (endOf sp) e)
-  walked-out-of-reach (Id id) e = walk-of-id id ∙ past-ids host s host-bytes bytes a id (ltb-false id 65536 e)
+  walked-out-of-reach (Id id) e = walk-of-id id ∙ past-ids host s host-bytes bytes a id (ltb-false id idSize e)
 
   -- ## In reach
 
   abbrev byKey : ℕ → Outcome
   byKey key =
       onLine idBase
-      (onLine portsBase (outcomeOf (hostFor Memory (hostOfPart host)) (enabledOf Memory s) (registersOf Memory s))
+      (onLine ioBase (outcomeOf (hostFor Memory (hostOfPart host)) (enabledOf Memory s) (registersOf Memory s))
       (outcomeOf (hostFor Ports (hostOfPart host)) (enabledOf Ports s) (registersOf Ports s)))
       (outcomeById top (nodesOf s)) key
 
@@ -104,20 +106,20 @@ module _ (host s : List ℕ) (host-bytes : Bytes host) (bytes : Bytes s) (a : Ac
       let first : ltb address idBase ≡ true = lt-ltb address idBase (omega (arith, near)) in
       walk-of-address Memory address ∙ rw (first, e) refl
   walked-by-key (Address Ports address) e =
-      let near = ltb-true address portsEnd e in
-      let first : ltb (portsBase + address) idBase ≡ true = lt-ltb (portsBase + address) idBase (omega (arith, near)) in
-      let second : ltb (portsBase + address) portsBase ≡ false = le-ltb (portsBase + address) portsBase (omega arith) in
-      let same : portsBase + address - portsBase ≡ address = omega arith in
+      let near = ltb-true address ioSize e in
+      let first : ltb (ioBase + address) idBase ≡ true = lt-ltb (ioBase + address) idBase (omega (arith, near)) in
+      let second : ltb (ioBase + address) ioBase ≡ false = le-ltb (ioBase + address) ioBase (omega arith) in
+      let same : ioBase + address - ioBase ≡ address = omega arith in
       walk-of-address Ports address ∙ rw (first, second, same) refl
   walked-by-key (Id id) e =
       let past : ltb (idBase + id) idBase ≡ false = le-ltb (idBase + id) idBase (omega arith) in
       let same : idBase + id - idBase ≡ id = omega arith in
       walk-of-id id ∙ rw (past, same) refl
 
-  pub key-near : (aim : Aim) → inReach aim ≡ true → keyOf aim < farKey
+  pub key-near : (aim : Aim) → inReach aim ≡ true → keyOf aim < noKey
   key-near (Address Memory address) e = omega (arith, ltb-true address memoryEnd e)
-  key-near (Address Ports address) e = omega (arith, ltb-true address portsEnd e)
-  key-near (Id id) e = omega (arith, ltb-true id 65536 e)
+  key-near (Address Ports address) e = omega (arith, ltb-true address ioSize e)
+  key-near (Id id) e = omega (arith, ltb-true id idSize e)
 
   -- the last of m positions whose key is not above decides
   pub walked-at-last : (aim : Aim) → inReach aim ≡ true → (m p : ℕ) → length (sortedOwners host s) < m

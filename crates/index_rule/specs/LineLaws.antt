@@ -24,8 +24,9 @@ use Rattle.sheet.specs.SheetLaws.{Passes, passes-of-zero}
 use Rattle.audit_rule.specs.Host.{hostFor}
 use Rattle.audit_rule.specs.Accepted.{Accepted}
 use Rattle.audit_rule.specs.AcceptedLaws.{good-of-accepted}
-use Rattle.index_rule.specs.Owners.{Owner, owned, ownedIn, idOwner, memoryEnd, portsEnd, endOf, portsBase}
-use Rattle.index_rule.specs.Owners.{idBase, moved, Segment, lowMemory, highMemory, ports, startsIn}
+use Rattle.index_layout.specs.Keys.{lowEnd, memoryEnd, ioSize, idSize, ioBase, idBase}
+use Rattle.index_rule.specs.Owners.{Owner, owned, ownedIn, idOwner, endOf}
+use Rattle.index_rule.specs.Owners.{moved, Segment, lowMemory, highMemory, ports, startsIn}
 use Rattle.index_rule.specs.Owners.{ownedOf, idOwners, ownersBelow, ownersOf}
 use Rattle.index_rule.specs.Answered.{Answered, answered-same, onLine, answered-line}
 use Rattle.index_rule.specs.OwnedLaws.{owned-answered}
@@ -46,7 +47,7 @@ module _ (host s : List ℕ) (host-bytes : Bytes host) (bytes : Bytes s) (a : Ac
   fits-in : (sp : Space) (x : Owner) → x ∈ owners sp → InSpace (endOf sp) x
   fits-in sp x m = in-space host s host-bytes bytes a sp x m
 
-  id-fits : (n : Node) → n ∈ nodesOf s → InSpace 65536 (idOwner top (nodesOf s) n)
+  id-fits : (n : Node) → n ∈ nodesOf s → InSpace idSize (idOwner top (nodesOf s) n)
   id-fits n m = id-in-space host s host-bytes bytes a n m
 
   -- ## The segments hold what their spaces hold
@@ -70,25 +71,25 @@ module _ (host s : List ℕ) (host-bytes : Bytes host) (bytes : Bytes s) (a : Ac
   memory-elim x (inr m) = let (y, n, e) = segment-elim highMemory x m in rw (sym e ∙ moved-zero y) n
 
   memory-intro : (x : Owner) → x ∈ owners Memory → (x ∈ ownedOf lowMemory top s) ⊎ (x ∈ ownedOf highMemory top s)
-  memory-intro x m = go (ltb (x .start) 4294967296) refl
+  memory-intro x m = go (ltb (x .start) lowEnd) refl
     where
-      go : (t : Bool) → ltb (x .start) 4294967296 ≡ t → (x ∈ ownedOf lowMemory top s) ⊎ (x ∈ ownedOf highMemory top s)
-      go true e = inl (rw (← moved-zero x) (segment-intro lowMemory x m (omega arith) (ltb-true (x .start) 4294967296 e)))
+      go : (t : Bool) → ltb (x .start) lowEnd ≡ t → (x ∈ ownedOf lowMemory top s) ⊎ (x ∈ ownedOf highMemory top s)
+      go true e = inl (rw (← moved-zero x) (segment-intro lowMemory x m (omega arith) (ltb-true (x .start) lowEnd e)))
       go false e =
           inr
           (rw (← moved-zero x)
-          (segment-intro highMemory x m (ltb-false (x .start) 4294967296 e) (starts-before memoryEnd x (fits-in Memory x m))))
+          (segment-intro highMemory x m (ltb-false (x .start) lowEnd e) (starts-before memoryEnd x (fits-in Memory x m))))
 
-  ports-elim : (x : Owner) → x ∈ ownedOf ports top s → x ∈ map (moved portsBase) (owners Ports)
+  ports-elim : (x : Owner) → x ∈ ownedOf ports top s → x ∈ map (moved ioBase) (owners Ports)
   ports-elim x m =
       let (y, n, e) = segment-elim ports x m in
-      subst (λ (z : Owner). z ∈ map (moved portsBase) (owners Ports)) e (Memᴰ·map (moved portsBase) n)
+      subst (λ (z : Owner). z ∈ map (moved ioBase) (owners Ports)) e (Memᴰ·map (moved ioBase) n)
 
-  ports-intro : (x : Owner) → x ∈ map (moved portsBase) (owners Ports) → x ∈ ownedOf ports top s
+  ports-intro : (x : Owner) → x ∈ map (moved ioBase) (owners Ports) → x ∈ ownedOf ports top s
   ports-intro x m =
-      let (y, n, e) = Memᴰ·of-map (moved portsBase) (owners Ports) m in
+      let (y, n, e) = Memᴰ·of-map (moved ioBase) (owners Ports) m in
       subst (λ (z : Owner). z ∈ ownedOf ports top s) e
-      (segment-intro ports y n (omega arith) (starts-before portsEnd y (fits-in Ports y n)))
+      (segment-intro ports y n (omega arith) (starts-before ioSize y (fits-in Ports y n)))
 
   abbrev ids : List Owner
   ids = map (idOwner top (nodesOf s)) (nodesOf s)
@@ -110,29 +111,29 @@ module _ (host s : List ℕ) (host-bytes : Bytes host) (bytes : Bytes s) (a : Ac
   -- ## One line
 
   abbrev line : List Owner
-  line = (owners Memory ++ map (moved portsBase) (owners Ports)) ++ map (moved idBase) ids
+  line = (owners Memory ++ map (moved ioBase) (owners Ports)) ++ map (moved idBase) ids
 
   pub data Among (x : Owner) : Type 0 where
     in-memory : x ∈ owners Memory → Among x
-    in-ports : x ∈ map (moved portsBase) (owners Ports) → Among x
+    in-ports : x ∈ map (moved ioBase) (owners Ports) → Among x
     in-ids : x ∈ map (moved idBase) ids → Among x
 
   line-elim : (x : Owner) → x ∈ line → Among x
-  line-elim x m = go (List·Memᴰ·append-cases (owners Memory ++ map (moved portsBase) (owners Ports)) m)
+  line-elim x m = go (List·Memᴰ·append-cases (owners Memory ++ map (moved ioBase) (owners Ports)) m)
     where
-      first : (x ∈ owners Memory) ⊎ (x ∈ map (moved portsBase) (owners Ports)) → Among x
+      first : (x ∈ owners Memory) ⊎ (x ∈ map (moved ioBase) (owners Ports)) → Among x
       first (inl n) = in-memory n
       first (inr n) = in-ports n
 
-      go : (x ∈ owners Memory ++ map (moved portsBase) (owners Ports)) ⊎ (x ∈ map (moved idBase) ids) → Among x
+      go : (x ∈ owners Memory ++ map (moved ioBase) (owners Ports)) ⊎ (x ∈ map (moved idBase) ids) → Among x
       go (inl n) = first (List·Memᴰ·append-cases (owners Memory) n)
       go (inr n) = in-ids n
 
   line-intro : (x : Owner) → Among x → x ∈ line
   line-intro x (in-memory m) =
-      Memᴰ·append-left (map (moved idBase) ids) (Memᴰ·append-left (map (moved portsBase) (owners Ports)) m)
+      Memᴰ·append-left (map (moved idBase) ids) (Memᴰ·append-left (map (moved ioBase) (owners Ports)) m)
   line-intro x (in-ports m) = Memᴰ·append-left (map (moved idBase) ids) (Memᴰ·append-right (owners Memory) m)
-  line-intro x (in-ids m) = Memᴰ·append-right (owners Memory ++ map (moved portsBase) (owners Ports)) m
+  line-intro x (in-ids m) = Memᴰ·append-right (owners Memory ++ map (moved ioBase) (owners Ports)) m
 
   owners-elim : (x : Owner) → x ∈ ownersOf host s → Among x
   unfolding ownersBelow
@@ -171,12 +172,12 @@ module _ (host s : List ℕ) (host-bytes : Bytes host) (bytes : Bytes s) (a : Ac
       go : Among x → Fits x
       go (in-memory n) = rw (← moved-zero x) (fits-moved 0 memoryEnd x (fits-in Memory x n) (omega arith))
       go (in-ports n) =
-          let (y, in-io, e) = Memᴰ·of-map (moved portsBase) (owners Ports) n in
-          subst Fits e (fits-moved portsBase portsEnd y (fits-in Ports y in-io) (omega arith))
+          let (y, in-io, e) = Memᴰ·of-map (moved ioBase) (owners Ports) n in
+          subst Fits e (fits-moved ioBase ioSize y (fits-in Ports y in-io) (omega arith))
       go (in-ids n) =
           let (y, among, e) = Memᴰ·of-map (moved idBase) ids n in
           let (f, in-nodes, d) = Memᴰ·of-map (idOwner top (nodesOf s)) (nodesOf s) among in
-          subst Fits (ap (moved idBase) d ∙ e) (fits-moved idBase 65536 _ (id-fits f in-nodes) (omega arith))
+          subst Fits (ap (moved idBase) d ∙ e) (fits-moved idBase idSize _ (id-fits f in-nodes) (omega arith))
 
   -- ## They answer as the walk does
 
@@ -184,7 +185,7 @@ module _ (host s : List ℕ) (host-bytes : Bytes host) (bytes : Bytes s) (a : Ac
   bySpace sp address = outcomeOf (hostFor sp (hostOfPart host)) (enabledOf sp s) (registersOf sp s) address
 
   abbrev byKey : ℕ → Outcome
-  byKey key = onLine idBase (onLine portsBase (bySpace Memory) (bySpace Ports)) (outcomeById top (nodesOf s)) key
+  byKey key = onLine idBase (onLine ioBase (bySpace Memory) (bySpace Ports)) (outcomeById top (nodesOf s)) key
 
   pub space-answered : (sp : Space) → Answered (owners sp) (bySpace sp)
   space-answered sp =
@@ -196,20 +197,20 @@ module _ (host s : List ℕ) (host-bytes : Bytes host) (bytes : Bytes s) (a : Ac
       ids-answered (passed .bridges-rise) (a .tree Memory) (passed .distinct-ids)
       (all-intro (λ n. n .devfn < 256) (nodesOf s) (λ n m. listed-node host s host-bytes bytes a n m .devfn-is-byte))
 
-  before-ids : (x : Owner) → x ∈ owners Memory ++ map (moved portsBase) (owners Ports) → x .stop ≤ idBase
+  before-ids : (x : Owner) → x ∈ owners Memory ++ map (moved ioBase) (owners Ports) → x .stop ≤ idBase
   before-ids x m = go (List·Memᴰ·append-cases (owners Memory) m)
     where
-      go : (x ∈ owners Memory) ⊎ (x ∈ map (moved portsBase) (owners Ports)) → x .stop ≤ idBase
+      go : (x ∈ owners Memory) ⊎ (x ∈ map (moved ioBase) (owners Ports)) → x .stop ≤ idBase
       go (inl n) = omega (arith, fits-in Memory x n .ends)
       go (inr n) =
-          let (y, in-io, e) = Memᴰ·of-map (moved portsBase) (owners Ports) n in
+          let (y, in-io, e) = Memᴰ·of-map (moved ioBase) (owners Ports) n in
           omega (arith, ap (λ (z : Owner). z .stop) e, fits-in Ports y in-io .ends)
 
   pub owners-answered : Answered (ownersOf host s) byKey
   owners-answered =
       answered-same line (ownersOf host s)
-      (answered-line idBase (owners Memory ++ map (moved portsBase) (owners Ports)) ids
-      (answered-line portsBase (owners Memory) (owners Ports) (space-answered Memory) (space-answered Ports)
+      (answered-line idBase (owners Memory ++ map (moved ioBase) (owners Ports)) ids
+      (answered-line ioBase (owners Memory) (owners Ports) (space-answered Memory) (space-answered Ports)
       (λ x m. fits-in Memory x m .ends))
       id-answered before-ids)
       (λ x m. line-intro x (owners-elim x m)) (λ x m. owners-intro x (line-elim x m))
@@ -219,7 +220,7 @@ module _ (host s : List ℕ) (host-bytes : Bytes host) (bytes : Bytes s) (a : Ac
   past-space sp address past =
       space-answered sp .of-none address (λ x m o. omega (arith, past, fits-in sp x m .ends, o .before-stop))
 
-  pub past-ids : (id : ℕ) → 65536 ≤ id → outcomeById top (nodesOf s) id ≡ refused noOwner
+  pub past-ids : (id : ℕ) → idSize ≤ id → outcomeById top (nodesOf s) id ≡ refused noOwner
   past-ids id past =
       id-answered .of-none id
       (λ x m o.

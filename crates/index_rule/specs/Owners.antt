@@ -15,6 +15,8 @@ use Rattle.walk.specs.Above.{above}
 use Rattle.sheet.specs.Spaces.{registersOf, nodesOf, enabledOf}
 use Rattle.claims.specs.declared.Aim.{Aim}
 use Rattle.claims.specs.declared.Aim.the-variants.{Address, Id}
+use Rattle.index_layout.specs.Keys.{lowEnd, memoryEnd, ioSize, idSize, ioBase, idBase}
+use Rattle.index_layout.specs.Words.{wordFrom}
 
 -- from `start` to before `stop`: the record with this number, behind so many bridges
 pub record Owner : Type 0 where
@@ -60,37 +62,20 @@ idOwner top ns n =
 
 -- ## One line of keys: memory at its address, then I/O, then IDs
 
--- document 01's pools end below 2^52, and I/O addresses have 16 bits
-abbrev pub memoryEnd : ℕ
-memoryEnd = 4503599627370496
-
-abbrev pub portsEnd : ℕ
-portsEnd = 65536
-
+-- where the addresses that may have an owner end
 abbrev pub endOf : Space → ℕ
 endOf Memory = memoryEnd
-endOf Ports = portsEnd
-
--- where I/O address 0 and ID 0 stand
-abbrev pub portsBase : ℕ
-portsBase = 4503599627370496
-
-abbrev pub idBase : ℕ
-idBase = 4503599627436032
-
--- above every key, behind the last
-abbrev pub farKey : ℕ
-farKey = 4611686018427387904
+endOf Ports = ioSize
 
 abbrev pub keyOf : Aim → ℕ
 keyOf (Address Memory a) = a
-keyOf (Address Ports a) = portsBase + a
+keyOf (Address Ports a) = ioBase + a
 keyOf (Id id) = idBase + id
 
 -- an address that may have an owner
 abbrev pub inReach : Aim → Bool
 inReach (Address space a) = ltb a (endOf space)
-inReach (Id id) = ltb id 65536
+inReach (Id id) = ltb id idSize
 
 abbrev pub moved : ℕ → Owner → Owner
 moved base x = record { start = base + x .start; stop = base + x .stop; number = x .number; bridges = x .bridges }
@@ -105,13 +90,13 @@ pub record Segment : Type 0 where
   pub base : ℕ
 
 abbrev pub lowMemory : Segment
-lowMemory = record { space = Memory; first = 0; end = 4294967296; base = 0 }
+lowMemory = record { space = Memory; first = 0; end = lowEnd; base = 0 }
 
 abbrev pub highMemory : Segment
-highMemory = record { space = Memory; first = 4294967296; end = memoryEnd; base = 0 }
+highMemory = record { space = Memory; first = lowEnd; end = memoryEnd; base = 0 }
 
 abbrev pub ports : Segment
-ports = record { space = Ports; first = 0; end = portsEnd; base = portsBase }
+ports = record { space = Ports; first = 0; end = ioSize; base = ioBase }
 
 abbrev pub startsIn : Segment → Owner → Bool
 startsIn g x = leb (g .first) (x .start) && ltb (x .start) (g .end)
@@ -142,4 +127,4 @@ unfoldable pub exponentOf : ℕ → ℕ
 exponentOf size = exponentOver 64 size
 
 abbrev pub wordOf : Owner → ℕ
-wordOf x = exponentOf (x .stop - x .start) + 256 * x .bridges + 65536 * x .number
+wordOf x = wordFrom (exponentOf (x .stop - x .start)) (x .bridges) (x .number)

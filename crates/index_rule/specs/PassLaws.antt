@@ -16,7 +16,8 @@ use Rattle.sheet.specs.Sheet.{Framed, entriesFrom, entriesOf, partAt, recordAt}
 use Rattle.sheet.specs.Spaces.{functionsFrom, nodesFrom, nodesOf, enabledOf}
 use Rattle.sheet.specs.IndexLaws.{entries-index, functions-index, functions-end}
 use Rattle.sheet.specs.CheckLaws.{entries-past, count-entries}
-use Rattle.index_rule.specs.Owners.{Owner, isLive, barOwner, ownersOn, owned, idOwner, idBase, moved}
+use Rattle.index_layout.specs.Keys.{idBase}
+use Rattle.index_rule.specs.Owners.{Owner, isLive, barOwner, ownersOn, owned, idOwner, moved}
 use Rattle.index_rule.specs.Owners.{Segment, startsIn, ownedOf, idOwners}
 
 -- ## The BARs of one function

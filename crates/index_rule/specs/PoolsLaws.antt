@@ -27,7 +27,8 @@ use Rattle.walk.specs.AboveLaws.{only-bridge-elim}
 use Rattle.walk.specs.Good.{Host, OneWayUp, Good}
 use Rattle.sheet_record.specs.Spaces.{poolOf}
 use Rattle.audit_rule.specs.Host.{openPool, poolsOf}
-use Rattle.index_rule.specs.Owners.{memoryEnd, portsEnd, endOf}
+use Rattle.index_layout.specs.Keys.{lowEnd, memoryEnd, ioSize}
+use Rattle.index_rule.specs.Owners.{endOf}
 
 -- ## In a pool
 
@@ -84,11 +85,11 @@ open-pool-end q x end r below m =
     omega (arith, below opened, ap (λ (y : Range). y .stop) e)
 
 module _ (host : List ℕ) (bytes : Bytes host) (right : hostWrong (hostOfPart host) ≡ false) where
-  low-last : hostOfPart host .low .last < 4294967296
+  low-last : hostOfPart host .low .last < lowEnd
   unfolding hostOfPart
   low-last = be-lt 4 host 6 bytes
 
-  io-last : hostOfPart host .io .last < portsEnd
+  io-last : hostOfPart host .io .last < ioSize
   unfolding hostOfPart
   io-last = be-lt 2 host 28 bytes
 
@@ -106,7 +107,7 @@ module _ (host : List ℕ) (bytes : Bytes host) (right : hostWrong (hostOfPart h
       let x = hostOfPart host .high in
       let edges : (outside High x || offEdges (granule High) x) ≡ false = rw opened at high-right in
       let in-reach = false-of-or (outside High x) (offEdges (granule High) x) edges in
-      leb-false memoryEnd (x .last) (false-of-or (ltb (x .base) 4294967296) (leb memoryEnd (x .last)) (in-reach .0) .1)
+      leb-false memoryEnd (x .last) (false-of-or (ltb (x .base) lowEnd) (leb memoryEnd (x .last)) (in-reach .0) .1)
 
   pools-end : (sp : Space) (r : Range) → r ∈ poolsOf sp (hostOfPart host) → r .stop ≤ endOf sp
   pools-end Memory r m = go (List·Memᴰ·append-cases (openPool Low (hostOfPart host .low)) m)
@@ -114,7 +115,7 @@ module _ (host : List ℕ) (bytes : Bytes host) (right : hostWrong (hostOfPart h
       go : (r ∈ openPool Low (hostOfPart host .low)) ⊎ (r ∈ openPool High (hostOfPart host .high)) → r .stop ≤ memoryEnd
       go (inl n) = open-pool-end Low (hostOfPart host .low) memoryEnd r (λ o. omega (arith, low-last)) n
       go (inr n) = open-pool-end High (hostOfPart host .high) memoryEnd r high-last n
-  pools-end Ports r m = open-pool-end Io (hostOfPart host .io) portsEnd r (λ o. io-last) m
+  pools-end Ports r m = open-pool-end Io (hostOfPart host .io) ioSize r (λ o. io-last) m
 
   -- what lies in a pool ends where the keys of its space do
   pub ends-in-space : (sp : Space) (r : Range) → Some (Inside r) (poolsOf sp (hostOfPart host)) → r .stop ≤ endOf sp

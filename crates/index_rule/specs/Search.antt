@@ -2,11 +2,13 @@
 -- position says. Assumes nothing.
 use mathlib.Core.Bool.{Bool, cond, not, _&&_}
 use mathlib.Core.List.{List, []}
-use Prim.Native.Nat.{ℕ, zero, suc, _-_, _/_, _%_, _^_, _≤_, _<_}
+use Prim.Native.Nat.{ℕ, zero, suc, _-_, _/_, _≤_, _<_}
 use lib.ListN.{length, getD}
 use lib.Dec.{eqb, leb, ltb}
 use Rattle.walk.specs.Walk.{Outcome, delivered, refused, noOwner}
-use Rattle.index_rule.specs.Owners.{Owner, ownersOf, wordOf, farKey}
+use Rattle.index_layout.specs.Keys.{noKey}
+use Rattle.index_layout.specs.Words.{recordIn, bridgesIn, sizeIn}
+use Rattle.index_rule.specs.Owners.{Owner, ownersOf, wordOf}
 use Rattle.index_rule.specs.Insert.{inserted}
 
 unfoldable pub sortedOwners : List ℕ → List ℕ → List Owner
@@ -18,7 +20,7 @@ nobody = record { start = 0; stop = 0; number = 0; bridges = 0 }
 -- Position 0 stands before the first owner, and behind the last there are only fillers.
 unfoldable pub keyAt : List Owner → ℕ → ℕ
 keyAt xs zero = 0
-keyAt xs (suc i) = cond (ltb i (length xs)) (getD xs i nobody .start) farKey
+keyAt xs (suc i) = cond (ltb i (length xs)) (getD xs i nobody .start) noKey
 
 unfoldable pub wordAt : List Owner → ℕ → ℕ
 wordAt xs zero = 0
@@ -33,16 +35,6 @@ pub record Last (key : ℕ → ℕ) (m a p : ℕ) : Type 0 where
   pub inside : p < m
   pub not-above : key p ≤ a
   pub then-above : (q : ℕ) → p < q → q < m → a < key q
-
--- the fields of a word
-abbrev pub recordIn : ℕ → ℕ
-recordIn word = word / 65536 % 65536
-
-abbrev pub bridgesIn : ℕ → ℕ
-bridgesIn word = word / 256 % 256
-
-abbrev pub sizeIn : ℕ → ℕ
-sizeIn word = 2 ^ (word % 64)
 
 -- a position holds the key `a`: it is an owner's, and `a` lies within its size from its start on
 abbrev pub isOver : ℕ → ℕ → ℕ → Bool

@@ -11,7 +11,8 @@ use borrow.Author.Tests.{ltb-true, ltb-false, lt-ltb, le-ltb}
 use Rattle.lists.specs.Lists.{_∈_}
 use Rattle.lists.specs.ListLaws.{all-elim}
 use Rattle.walk.specs.Walk.{Outcome, delivered, refused, noOwner}
-use Rattle.index_rule.specs.Owners.{Owner, Over, wordOf, farKey}
+use Rattle.index_layout.specs.Keys.{noKey}
+use Rattle.index_rule.specs.Owners.{Owner, Over, wordOf}
 use Rattle.index_rule.specs.Insert.{inserted}
 use Rattle.index_rule.specs.InsertLaws.{Ordered, inserted-elim, inserted-new, inserted-ordered, length-inserted}
 use Rattle.index_rule.specs.Search.{nobody, keyAt, wordAt, Rises, Last, answerAt}
@@ -76,7 +77,7 @@ module _ {outcome : ℕ → Outcome} (ys : List Owner) (answered : Answered ys o
   unfolding wordAt
   word-of-owner i h = let e : ltb i (length sorted) ≡ true = lt-ltb i (length sorted) h in rw e refl
 
-  key-past : (i : ℕ) → length sorted ≤ i → keyAt sorted (suc i) ≡ farKey
+  key-past : (i : ℕ) → length sorted ≤ i → keyAt sorted (suc i) ≡ noKey
   unfolding keyAt
   key-past i h = let e : ltb i (length sorted) ≡ false = le-ltb i (length sorted) h in rw e refl
 
@@ -135,7 +136,7 @@ module _ {outcome : ℕ → Outcome} (ys : List Owner) (answered : Answered ys o
           ∙ ap (λ (k : ℕ). answerAt k (wordOf found) a) (sym (key-of-start i here))
           ∙ ap (λ (w : ℕ). answerAt (keyAt sorted (suc i)) w a) (sym (word-of-owner i here))
 
-    pub outcome-of-last : a < farKey → (p : ℕ) → Last (keyAt sorted) m a p
+    pub outcome-of-last : a < noKey → (p : ℕ) → Last (keyAt sorted) m a p
         → outcome a ≡ answerAt (keyAt sorted p) (wordAt sorted p) a
     unfolding keyAt wordAt
     outcome-of-last near zero last = answered .of-none a (before-first last)

@@ -8,8 +8,10 @@ use native.Mathlib.Omega.{arith}
 use lib.Dec.{eqb, leb, ltb}
 use borrow.Author.Tests.{le-leb, lt-leb, eq-eqb, ne-eqb, ltb-true, ltb-false}
 use Rattle.walk.specs.Walk.{delivered, refused, noOwner}
-use Rattle.index_rule.specs.Owners.{Owner, exponentOver, exponentOf, wordOf, farKey}
-use Rattle.index_rule.specs.Search.{recordIn, bridgesIn, sizeIn, isOver, answerAt}
+use Rattle.index_layout.specs.Keys.{noKey}
+use Rattle.index_layout.specs.Words.{wordFrom, recordIn, bridgesIn, sizeIn}
+use Rattle.index_rule.specs.Owners.{Owner, exponentOver, exponentOf, wordOf}
+use Rattle.index_rule.specs.Search.{isOver, answerAt}
 use Rattle.index_rule.specs.BarsLaws.{Powered}
 
 -- ## The exponent
@@ -46,7 +48,7 @@ exponent-le size = exponent-over-le 64 size
 
 pub record Fits (x : Owner) : Type 0 where
   pub powered : Powered (x .start) (x .stop)
-  pub start-small : x .start < farKey
+  pub start-small : x .start < noKey
   pub number-from-1 : 1 ≤ x .number
   pub number-small : x .number < 65536
   pub bridges-small : x .bridges < 256
@@ -58,8 +60,8 @@ module _ (x : Owner) (f : Fits x) where
       let size : x .stop - x .start ≡ 2 ^ p .bit = omega (arith, p .stop-is) in
       ap exponentOf size ∙ exponent-of-power (p .bit) (p .below-64)
 
-  word-is : wordOf x ≡ f .powered .bit + 256 * x .bridges + 65536 * x .number
-  word-is = ap (λ (e : ℕ). e + 256 * x .bridges + 65536 * x .number) exponent-is
+  word-is : wordOf x ≡ wordFrom (f .powered .bit) (x .bridges) (x .number)
+  word-is = ap (λ (e : ℕ). wordFrom e (x .bridges) (x .number)) exponent-is
 
   pub word-small : wordOf x < 18446744073709551616
   word-small = omega (arith, word-is, f .powered .below-64, f .number-small, f .bridges-small)

@@ -29,11 +29,12 @@ use Rattle.route.specs.declared.Routing.{Routing}
 use Rattle.route.specs.declared.Routing.the-variants.{Delivered, Broadcast, Port, Refused}
 use Rattle.route.specs.Route.{answer, headedOver, typedOver}
 use Rattle.route.specs.Listed.{onRoom}
-use Rattle.index_rule.specs.Owners.{memoryEnd, portsEnd, portsBase, idBase, keyOf, inReach}
-use Rattle.index_rule.specs.Search.{recordIn, bridgesIn, sizeIn, isOver}
-use Rattle.index_slots.specs.Slots.{indexSize, keyAt, wordAt}
-use Rattle.index_slots.specs.Cleared.{noKey}
-use Rattle.index_table.specs.Table.{segmentOf}
+use Rattle.index_rule.specs.Owners.{keyOf, inReach}
+use Rattle.index_rule.specs.Search.{isOver}
+use Rattle.index_layout.specs.Places.{indexSize, functionsPlace}
+use Rattle.index_layout.specs.Keys.{memoryEnd, ioSize, idSize, ioBase, idBase, noKey, segmentOf}
+use Rattle.index_layout.specs.Words.{recordIn, bridgesIn, sizeIn, wordLimit}
+use Rattle.index_slots.specs.Slots.{keyAt, wordAt}
 use Rattle.index_table.specs.Search.{foundAt}
 use Rattle.index_search.specs.Search.{functionsIn, rootIn, answerOver, outcomeBy, outcomeOver, outcomeIn}
 use Rattle.index_search.specs.Search.{searchPacket, fromReading, searchOf, listedAfter}
@@ -41,28 +42,29 @@ use Rattle.index_search.specs.Search.{searchPacket, fromReading, searchO
 -- ## An index's number of functions
 
 module _ (ix : List ℕ) where
-  pub functions-of-few : length ix < 1024 → 0 ≡ functionsIn ix
+  pub functions-of-few : length ix < indexSize 0 → 0 ≡ functionsIn ix
   unfolding functionsIn
-  functions-of-few h = rw (lt-ltb (length ix) (indexSize (le 2 ix 0)) (omega (arith, h)))
+  functions-of-few h = rw (lt-ltb (length ix) (indexSize (le 2 ix functionsPlace)) (omega (arith, h)))
 
   -- n is what the first two bytes say
-  module _ (n : ℕ) (e : n ≡ le 2 ix 0) where
+  module _ (n : ℕ) (e : n ≡ le 2 ix functionsPlace) where
     pub functions-of-short : length ix < indexSize n → 0 ≡ functionsIn ix
     unfolding functionsIn
-    functions-of-short h = rw (lt-ltb (length ix) (indexSize (le 2 ix 0)) (omega (arith, h, e)))
+    functions-of-short h = rw (lt-ltb (length ix) (indexSize (le 2 ix functionsPlace)) (omega (arith, h, e)))
 
     pub functions-of-enough : indexSize n ≤ length ix → n ≡ functionsIn ix
     unfolding functionsIn
-    functions-of-enough h = e ∙ rw (le-ltb (length ix) (indexSize (le 2 ix 0)) (omega (arith, h, e)))
+    functions-of-enough h = e ∙ rw (le-ltb (length ix) (indexSize (le 2 ix functionsPlace)) (omega (arith, h, e)))
 
   -- an index with functions is as long as it says
   pub functions-fit : (n : ℕ) → n ≡ functionsIn ix → ¬ (n ≡ 0) → indexSize n ≤ length ix
   unfolding functionsIn
-  functions-fit n e some = go (ltb (length ix) (indexSize (le 2 ix 0))) refl e
+  functions-fit n e some = go (ltb (length ix) (indexSize (le 2 ix functionsPlace))) refl e
     where
-      go : (t : Bool) → ltb (length ix) (indexSize (le 2 ix 0)) ≡ t → n ≡ cond t 0 (le 2 ix 0) → indexSize n ≤ length ix
+      go : (t : Bool) → ltb (length ix) (indexSize (le 2 ix functionsPlace)) ≡ t → n ≡ cond t 0 (le 2 ix functionsPlace)
+          → indexSize n ≤ length ix
       go true f g = absurd (some g)
-      go false f g = omega (arith, g, ltb-false (length ix) (indexSize (le 2 ix 0)) f)
+      go false f g = omega (arith, g, ltb-false (length ix) (indexSize (le 2 ix functionsPlace)) f)
 
 -- ## A slot
 
@@ -87,21 +89,21 @@ key-of-memory aim space a e f =
     (sym (ap inReach g), λ h. (sym (ap keyOf g), omega (arith, ltb-true a memoryEnd (sym (ap inReach g) ∙ h))))
 
 pub key-of-port : (aim : Aim) (space : Space) (a : ℕ) → aim ≡ Address space a → space ≡ Ports
-    → (ltb a portsEnd ≡ inReach aim) × (inReach aim ≡ true → (portsBase + a ≡ keyOf aim) × (portsBase + a < noKey))
+    → (ltb a ioSize ≡ inReach aim) × (inReach aim ≡ true → (ioBase + a ≡ keyOf aim) × (ioBase + a < noKey))
 key-of-port aim space a e f =
     let g : aim ≡ Address Ports a = e ∙ ap (λ (s : Space). Address s a) f in
-    (sym (ap inReach g), λ h. (sym (ap keyOf g), omega (arith, ltb-true a portsEnd (sym (ap inReach g) ∙ h))))
+    (sym (ap inReach g), λ h. (sym (ap keyOf g), omega (arith, ltb-true a ioSize (sym (ap inReach g) ∙ h))))
 
 pub key-of-id : (aim : Aim) (id : ℕ) → aim ≡ Id id
-    → (ltb id 65536 ≡ inReach aim) × (inReach aim ≡ true → (idBase + id ≡ keyOf aim) × (idBase + id < noKey))
-key-of-id aim id e = (sym (ap inReach e), λ h. (sym (ap keyOf e), omega (arith, ltb-true id 65536 (sym (ap inReach e) ∙ h))))
+    → (ltb id idSize ≡ inReach aim) × (inReach aim ≡ true → (idBase + id ≡ keyOf aim) × (idBase + id < noKey))
+key-of-id aim id e = (sym (ap inReach e), λ h. (sym (ap keyOf e), omega (arith, ltb-true id idSize (sym (ap inReach e) ∙ h))))
 
 -- ## The word found for a key
 
 -- the low four bytes of a word say what the word does
 module _ (w : ℕ) where
   abbrev low : ℕ
-  low = w % 4294967296
+  low = w % wordLimit
 
   record-low : recordIn low ≡ recordIn w
   record-low = omega arith

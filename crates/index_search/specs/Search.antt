@@ -18,19 +18,21 @@ use Rattle.route.specs.declared.Routing.{Routing}
 use Rattle.route.specs.declared.Routing.the-variants.{Delivered, Broadcast, Port, Refused}
 use Rattle.route.specs.Route.{routeOver}
 use Rattle.index_rule.specs.Owners.{keyOf, inReach}
-use Rattle.index_rule.specs.Search.{recordIn, bridgesIn, answerAt}
-use Rattle.index_slots.specs.Slots.{indexSize, keyAt, wordAt}
-use Rattle.index_table.specs.Table.{segmentOf}
+use Rattle.index_rule.specs.Search.{answerAt}
+use Rattle.index_layout.specs.Places.{indexSize, functionsPlace, rootPlace}
+use Rattle.index_layout.specs.Keys.{segmentOf}
+use Rattle.index_layout.specs.Words.{recordIn, bridgesIn}
+use Rattle.index_slots.specs.Slots.{keyAt, wordAt}
 use Rattle.index_table.specs.Search.{foundAt}
 
 -- ## An index's first bytes
 
 -- a slice shorter than it says has no functions
 unfoldable pub functionsIn : List ℕ → ℕ
-functionsIn ix = cond (ltb (length ix) (indexSize (le 2 ix 0))) 0 (le 2 ix 0)
+functionsIn ix = cond (ltb (length ix) (indexSize (le 2 ix functionsPlace))) 0 (le 2 ix functionsPlace)
 
 abbrev pub rootIn : List ℕ → ℕ
-rootIn ix = getD ix 2 0
+rootIn ix = getD ix rootPlace 0
 
 -- ## Its slots, n functions' worth
 

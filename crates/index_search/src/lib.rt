@@ -8,9 +8,8 @@ ghost use Rattle.route.specs.Route.{answer};
 ghost use Rattle.route.specs.Listed.{onRoom};
 ghost use Rattle.index_rule.specs.Owners.{inReach, keyOf};
 ghost use Rattle.index_rule.specs.Search.{isOver};
-ghost use Rattle.index_slots.specs.Slots.{indexSize};
-ghost use Rattle.index_slots.specs.Cleared.{noKey};
-ghost use Rattle.index_table.specs.Table.{segmentOf};
+ghost use Rattle.index_layout.specs.Places.{indexSize};
+ghost use Rattle.index_layout.specs.Keys.{noKey, segmentOf};
 ghost use Rattle.index_search.specs.Search.{functionsIn, outcomeBy, answerOver, outcomeOver, searchPacket, searchOf, listedAfter};
 use claims::Aim;
 use packet::Packet;
@@ -60,7 +59,7 @@ pub fn search_packet(p: Packet, index: &[u8]) -> Routing
     if n == 0 {
         return Routing::Refused(40);
     }
-    if route_arrival::type_wrong(p, index[2]) {
+    if route_arrival::type_wrong(p, index[index_layout::ROOT]) {
         return Routing::Refused(42);
     }
     match route_arrival::heading_of(p) {
@@ -77,11 +76,11 @@ pub fn search_packet(p: Packet, index: &[u8]) -> Routing
 pub fn functions_in(index: &[u8]) -> usize
     ensures { λ r. ⌜ (r ≡ functionsIn (now (index .entry))) × (r < 65536) ⌝ }
 {
-    if index.len() < 1024 {
+    if index.len() < index_layout::LEAST {
         return 0;
     }
-    let n = endian::read_le16(index, 0) as usize;
-    if index.len() < 1024 + 256 * n {
+    let n = endian::read_le16(index, index_layout::FUNCTIONS) as usize;
+    if index.len() < index_layout::LEAST + index_layout::EACH * n {
         return 0;
     }
     n
@@ -95,7 +94,7 @@ pub fn word_over(index: &[u8], n: usize, w: usize, key: u64) -> u64
 {
     let i = index_table::find(index, n, w, key);
     let start = index_slots::key_at(index, n, i);
-    let word = index_slots::word_at(index, n, i) % 4294967296;
+    let word = index_slots::word_at(index, n, i) % index_layout::WORD_LIMIT;
     if !is_over(start, word, key) {
         return 0;
     }
@@ -111,13 +110,14 @@ fn search_aimed(p: Packet, index: &[u8], n: usize, aim: Aim) -> Routing
         return Routing::Refused(40);
     }
     let key = key_of(aim);
-    let word = word_over(index, n, index_table::segment_of(key), key);
-    if (word >> 16) % 65536 == 0 {
+    let word = word_over(index, n, index_layout::segment_of(key), key);
+    let record = index_layout::record_in(word);
+    if record == 0 {
         return Routing::Refused(40);
     }
     Routing::Delivered(Delivery {
-        owner: ((word >> 16) % 65536) as u16,
-        bridges: ((word >> 8) % 256) as u8,
+        owner: record as u16,
+        bridges: index_layout::bridges_in(word) as u8,
         packet: route_arrival::arrived(p),
     })
 }
@@ -130,10 +130,10 @@ fn in_reach(aim: Aim) -> bool
 {
     match aim {
         Aim::Address(space, a) => match space {
-            Space::Memory => a < 4503599627370496,
-            Space::Io => a < 65536,
+            Space::Memory => a < index_layout::MEMORY_END,
+            Space::Io => a < index_layout::IO_SIZE,
         },
-        Aim::Id(id) => (id as u64) < 65536,
+        Aim::Id(id) => (id as u64) < index_layout::ID_SIZE,
     }
 }
 
@@ -145,9 +145,9 @@ fn key_of(aim: Aim) -> u64
     match aim {
         Aim::Address(space, a) => match space {
             Space::Memory => a,
-            Space::Io => 4503599627370496 + a,
+            Space::Io => index_layout::IO_BASE + a,
         },
-        Aim::Id(id) => 4503599627436032 + id as u64,
+        Aim::Id(id) => index_layout::ID_BASE + id as u64,
     }
 }
 
@@ -158,5 +158,5 @@ fn is_over(start: u64, word: u64, key: u64) -> bool
     if key < start {
         return false;
     }
-    ((word >> 16) % 65536 != 0) & ((key - start) >> (word % 64) == 0)
+    (index_layout::record_in(word) != 0) & ((key - start) >> (word % 64) == 0)
 }

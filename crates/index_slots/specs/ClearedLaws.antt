@@ -1,5 +1,5 @@
 -- The keys of an index with no slots, and slot 0; the turns of the loop that stores copies. Assumes nothing.
-use mathlib.Core.Path.{_≡_, refl, ap₂, _∙_}
+use mathlib.Core.Path.{_≡_, refl, ap, ap₂, _∙_}
 use Prim.Native.Nat.{ℕ, zero, suc, _+_, _-_, _*_, _≤_, _<_}
 use native.Mathlib.Omega.{arith}
 use mathlib.Core.List.{List}
@@ -8,8 +8,10 @@ use lib.Seq.{sets, length-sets}
 use Rattle.endian.specs.Endian.{le, leBytes}
 use Rattle.endian.specs.EndianLaws.{length-leBytes, le-sets, le-sets-before}
 use Rattle.endian.specs.SetsLaws.{sets-sets, getD-sets-after}
-use Rattle.index_slots.specs.Slots.{indexSize, noSlot, keyPlace, wordPlace, keyAt, wordAt, slotAt}
-use Rattle.index_slots.specs.Cleared.{noKey, copies, cleared}
+use Rattle.index_layout.specs.Places.{indexSize, keyPlace, wordPlace, lastKey, frontNumbers, backNumbers}
+use Rattle.index_layout.specs.Keys.{noKey}
+use Rattle.index_slots.specs.Slots.{noSlot, keyAt, wordAt, slotAt}
+use Rattle.index_slots.specs.Cleared.{copies, cleared}
 
 pub length-copies : (k v : ℕ) → length (copies k v) ≡ 8 * k
 unfolding copies
@@ -54,53 +56,53 @@ copies-end k v at i o h = let d : k - i ≡ 0 = omega arith in rw d refl
 pub getD-cleared-past : (n : ℕ) (o : List ℕ) (k d : ℕ) → indexSize n ≤ k → getD (cleared n o) k d ≡ getD o k d
 unfolding cleared
 getD-cleared-past n o k d h =
-    getD-sets-after (sets (sets o 0 (copies (127 + 8 * n) 0)) (1016 + 64 * n) (copies (14 * n) noKey)) (1016 + 176 * n)
-    (copies (10 * n + 1) 0) k d (omega (arith, h, length-copies (10 * n + 1) 0))
-    ∙ getD-sets-after (sets o 0 (copies (127 + 8 * n) 0)) (1016 + 64 * n) (copies (14 * n) noKey) k d
-    (omega (arith, h, length-copies (14 * n) noKey))
-    ∙ getD-sets-after o 0 (copies (127 + 8 * n) 0) k d (omega (arith, h, length-copies (127 + 8 * n) 0))
+    getD-sets-after (sets (sets o 0 (copies (frontNumbers n) 0)) (keyPlace n 1) (copies (lastKey n) noKey)) (wordPlace n 0)
+    (copies (backNumbers n) 0) k d (omega (arith, h, length-copies (backNumbers n) 0))
+    ∙ getD-sets-after (sets o 0 (copies (frontNumbers n) 0)) (keyPlace n 1) (copies (lastKey n) noKey) k d
+    (omega (arith, h, length-copies (lastKey n) noKey))
+    ∙ getD-sets-after o 0 (copies (frontNumbers n) 0) k d (omega (arith, h, length-copies (frontNumbers n) 0))
 
 module _ (n : ℕ) (o : List ℕ) (room : indexSize n ≤ length o) where
   pub length-cleared : length (cleared n o) ≡ length o
   unfolding cleared
   length-cleared =
-      length-sets (sets (sets o 0 (copies (127 + 8 * n) 0)) (1016 + 64 * n) (copies (14 * n) noKey)) (1016 + 176 * n)
-      (copies (10 * n + 1) 0)
-      ∙ length-sets (sets o 0 (copies (127 + 8 * n) 0)) (1016 + 64 * n) (copies (14 * n) noKey)
-      ∙ length-sets o 0 (copies (127 + 8 * n) 0)
+      length-sets (sets (sets o 0 (copies (frontNumbers n) 0)) (keyPlace n 1) (copies (lastKey n) noKey)) (wordPlace n 0)
+      (copies (backNumbers n) 0)
+      ∙ length-sets (sets o 0 (copies (frontNumbers n) 0)) (keyPlace n 1) (copies (lastKey n) noKey)
+      ∙ length-sets o 0 (copies (frontNumbers n) 0)
 
-  pub keyAt-cleared : (i : ℕ) → 0 < i → i ≤ 14 * n → keyAt (cleared n o) n i ≡ noKey
+  pub keyAt-cleared : (i : ℕ) → 0 < i → i ≤ lastKey n → keyAt (cleared n o) n i ≡ noKey
   unfolding cleared keyAt
   keyAt-cleared i h l =
-      let z : keyPlace n i ≡ 1016 + 64 * n + 8 * (i - 1) = omega arith in
-      le-sets-before 8 (sets (sets o 0 (copies (127 + 8 * n) 0)) (1016 + 64 * n) (copies (14 * n) noKey)) (1016 + 176 * n)
-      (copies (10 * n + 1) 0) (keyPlace n i) (omega arith)
-      ∙ rw z (le-copies (14 * n) noKey (sets o 0 (copies (127 + 8 * n) 0)) (1016 + 64 * n) (i - 1) (omega arith)
-      (omega (arith, room, length-sets o 0 (copies (127 + 8 * n) 0))) (omega arith))
+      let z : keyPlace n i ≡ keyPlace n 1 + 8 * (i - 1) = omega arith in
+      le-sets-before 8 (sets (sets o 0 (copies (frontNumbers n) 0)) (keyPlace n 1) (copies (lastKey n) noKey)) (wordPlace n 0)
+      (copies (backNumbers n) 0) (keyPlace n i) (omega arith)
+      ∙ rw z (le-copies (lastKey n) noKey (sets o 0 (copies (frontNumbers n) 0)) (keyPlace n 1) (i - 1) (omega arith)
+      (omega (arith, room, length-sets o 0 (copies (frontNumbers n) 0))) (omega arith))
 
   keyAt-cleared-first : keyAt (cleared n o) n 0 ≡ 0
   unfolding cleared keyAt
   keyAt-cleared-first =
       let z : keyPlace n 0 ≡ 0 + 8 * (126 + 8 * n) = omega arith in
-      le-sets-before 8 (sets (sets o 0 (copies (127 + 8 * n) 0)) (1016 + 64 * n) (copies (14 * n) noKey)) (1016 + 176 * n)
-      (copies (10 * n + 1) 0) (keyPlace n 0) (omega arith)
-      ∙ le-sets-before 8 (sets o 0 (copies (127 + 8 * n) 0)) (1016 + 64 * n) (copies (14 * n) noKey) (keyPlace n 0) (omega arith)
-      ∙ rw z (le-copies (127 + 8 * n) 0 o 0 (126 + 8 * n) (omega arith) (omega arith) (omega arith))
+      le-sets-before 8 (sets (sets o 0 (copies (frontNumbers n) 0)) (keyPlace n 1) (copies (lastKey n) noKey)) (wordPlace n 0)
+      (copies (backNumbers n) 0) (keyPlace n 0) (omega arith)
+      ∙ le-sets-before 8 (sets o 0 (copies (frontNumbers n) 0)) (keyPlace n 1) (copies (lastKey n) noKey) (keyPlace n 0) (omega arith)
+      ∙ rw z (le-copies (frontNumbers n) 0 o 0 (126 + 8 * n) (omega arith) (omega arith) (omega arith))
 
   wordAt-cleared-first : wordAt (cleared n o) n 0 ≡ 0
   unfolding cleared wordAt
   wordAt-cleared-first =
-      let z : wordPlace n 0 ≡ 1016 + 176 * n + 8 * 0 = omega arith in
-      rw z
-      (le-copies (10 * n + 1) 0 (sets (sets o 0 (copies (127 + 8 * n) 0)) (1016 + 64 * n) (copies (14 * n) noKey)) (1016 + 176 * n) 0
-      (omega arith)
+      let z : wordPlace n 0 ≡ wordPlace n 0 + 8 * 0 = omega arith in
+      ap (le 8 (cleared n o)) z
+      ∙ le-copies (backNumbers n) 0 (sets (sets o 0 (copies (frontNumbers n) 0)) (keyPlace n 1) (copies (lastKey n) noKey)) (wordPlace n 0)
+      0 (omega arith)
       (omega (
         arith,
         room,
-        length-sets (sets o 0 (copies (127 + 8 * n) 0)) (1016 + 64 * n) (copies (14 * n) noKey),
-        length-sets o 0 (copies (127 + 8 * n) 0),
+        length-sets (sets o 0 (copies (frontNumbers n) 0)) (keyPlace n 1) (copies (lastKey n) noKey),
+        length-sets o 0 (copies (frontNumbers n) 0),
       ))
-      (omega arith))
+      (omega arith)
 
   pub slotAt-cleared-first : slotAt (cleared n o) n 0 ≡ noSlot
   slotAt-cleared-first = λ p. record { key = keyAt-cleared-first p; word = wordAt-cleared-first p }

@@ -1,7 +1,7 @@
 -- Moving the larger slots down and putting one in the gap is insertion. Assumes nothing.
 use mathlib.Core.Path.{_≡_, refl, sym, ap, ap₂, _∙_}
 use mathlib.Core.Bool.{Bool, true, false, cond}
-use Prim.Native.Nat.{ℕ, zero, suc, _+_, _*_, _-_, _≤_, _<_}
+use Prim.Native.Nat.{ℕ, zero, suc, _+_, _-_, _≤_, _<_}
 use native.Mathlib.Numerals.{add-one}
 use native.Mathlib.Omega.{arith}
 use mathlib.Core.List.{List, [], _∷_, _++_, append-nil}
@@ -9,7 +9,8 @@ use lib.ListN.{length, getD, take, drop, length-append, length-drop}
 use lib.Seq.{length-take-le, take-suc, drop-cons, append-snoc, set-at, getD-at, getD-take, take-length, drop-length}
 use lib.Dec.{leb}
 use borrow.Author.Tests.{leb-true, leb-false, le-leb, lt-leb}
-use Rattle.index_slots.specs.Slots.{indexSize, Slot, noSlot, Fits, keyAt, wordAt, slotAt, putSlot, stored, insert, moved}
+use Rattle.index_layout.specs.Places.{indexSize, mostSlots}
+use Rattle.index_slots.specs.Slots.{Slot, noSlot, Fits, keyAt, wordAt, slotAt, putSlot, stored, insert, moved}
 use Rattle.index_slots.specs.SlotsLaws.{stored-snoc, put-stored, slotAt-put-later, slotAt-stored}
 
 suc-one : (k : ℕ) → suc k ≡ 1 + k
@@ -83,7 +84,7 @@ module _ (n : ℕ) (o : List ℕ) (xs : List Slot) (x : Slot) where
   abbrev Gap : ℕ → List ℕ → Type 0
   Gap k b = (y : Slot) → putSlot b n (suc k) y ≡ stored n o 1 (take k xs ++ y ∷ drop k xs)
 
-  module _ (fits : length xs < 7 * n) (room : indexSize n ≤ length o)
+  module _ (fits : length xs < mostSlots n) (room : indexSize n ≤ length o)
       (small : (i : ℕ) → Fits (getD xs i noSlot)) (rising : Rising xs) where
     module _ (j : ℕ) (b : List ℕ) (l : j < length xs) (gap : Gap (suc j) b) where
       front : (y : Slot) → take (suc j) xs ++ y ∷ drop (suc j) xs ≡ take j xs ++ getD xs j noSlot ∷ y ∷ drop (suc j) xs

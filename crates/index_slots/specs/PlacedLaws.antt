@@ -1,7 +1,7 @@
 -- Slots put in one by one leave the sorted list of them; what is beside the slots stays; what then stands in an index. Assumes nothing.
 use mathlib.Core.Path.{_≡_, refl, sym, ap, ap₂, _∙_}
 use mathlib.Core.Logic.{_⊎_, inl, inr}
-use Prim.Native.Nat.{ℕ, zero, suc, _+_, _*_, _≤_, _<_}
+use Prim.Native.Nat.{ℕ, zero, suc, _+_, _≤_, _<_}
 use native.Mathlib.Nat.{add-zero, add-suc, suc-add}
 use native.Mathlib.Omega.{arith}
 use mathlib.Core.List.{List, [], _∷_, _++_}
@@ -11,15 +11,17 @@ use Rattle.lists.specs.Lists.{All}
 use Rattle.endian.specs.Endian.{le, leBytes}
 use Rattle.endian.specs.SetsLaws.{getD-sets-after}
 use Rattle.endian.specs.EndianLaws.{length-leBytes, le-sets-before, le-sets-after}
-use Rattle.index_slots.specs.Slots.{indexSize, Slot, noSlot, Fits, Ordered, keyPlace, wordPlace, keyAt, slotAt, putSlot, stored}
+use Rattle.index_layout.specs.Places.{indexSize, keyPlace, wordPlace, mostSlots, lastKey}
+use Rattle.index_layout.specs.Keys.{noKey}
+use Rattle.index_slots.specs.Slots.{Slot, noSlot, Fits, Ordered, keyAt, slotAt, putSlot, stored}
 use Rattle.index_slots.specs.Slots.{insert, inserted, moved, placed}
-use Rattle.index_slots.specs.Cleared.{noKey, cleared}
+use Rattle.index_slots.specs.Cleared.{cleared}
 use Rattle.index_slots.specs.SlotsLaws.{length-stored, slotAt-stored-later, slotAt-stored}
 use Rattle.index_slots.specs.ClearedLaws.{length-cleared, getD-cleared-past, keyAt-cleared, slotAt-cleared-first}
 use Rattle.index_slots.specs.InsertLaws.{moved-stored}
 use Rattle.index_slots.specs.SortedLaws.{length-insert, all-insert, insert-ordered, all-getD, rising-of-ordered}
 
-pub placed-stored : (n : ℕ) (o : List ℕ) (ys xs : List Slot) → length ys + length xs ≤ 7 * n → indexSize n ≤ length o
+pub placed-stored : (n : ℕ) (o : List ℕ) (ys xs : List Slot) → length ys + length xs ≤ mostSlots n → indexSize n ≤ length o
     → All Fits ys → All Fits xs → Ordered ys
     → placed (length ys) n xs (stored n o 1 ys) ≡ stored n o 1 (inserted ys xs)
 unfolding placed inserted
@@ -43,7 +45,7 @@ placed-append count n (x ∷ xs) ys o =
 -- ---- what is beside the slots
 
 -- bytes past the words
-pub getD-stored-past : (n : ℕ) (o : List ℕ) (a : ℕ) (xs : List Slot) (k d : ℕ) → a + length xs ≤ 7 * n + 1 → indexSize n ≤ k
+pub getD-stored-past : (n : ℕ) (o : List ℕ) (a : ℕ) (xs : List Slot) (k d : ℕ) → a + length xs ≤ mostSlots n + 1 → indexSize n ≤ k
     → getD (stored n o a xs) k d ≡ getD o k d
 unfolding stored putSlot
 getD-stored-past n o a [] k d l h = refl
@@ -58,7 +60,7 @@ abbrev pub Beside : ℕ → ℕ → ℕ → ℕ → Type 0
 Beside n m at j =
     (at + m ≤ keyPlace n j) ⊎ ((keyPlace n j + 8 ≤ at) × ((at + m ≤ wordPlace n j) ⊎ (wordPlace n j + 8 ≤ at)))
 
-pub le-stored : (n : ℕ) (o : List ℕ) (a : ℕ) (xs : List Slot) (m at : ℕ) → a + length xs ≤ 7 * n + 1
+pub le-stored : (n : ℕ) (o : List ℕ) (a : ℕ) (xs : List Slot) (m at : ℕ) → a + length xs ≤ mostSlots n + 1
     → ((j : ℕ) → a ≤ j → j < a + length xs → Beside n m at j)
     → le m (stored n o a xs) at ≡ le m o at
 unfolding stored putSlot
@@ -80,7 +82,7 @@ le-stored n o a (x ∷ xs) m at l h =
         ∙ le-sets-after m o (keyPlace n a) (leBytes 8 (x .key)) at (omega (arith, p, length-leBytes 8 (x .key)))
 
 -- the keys behind the last slot are as they were
-keyAt-stored-past : (n : ℕ) (o : List ℕ) (xs : List Slot) (i : ℕ) → length xs ≤ 7 * n → length xs < i → i ≤ 14 * n
+keyAt-stored-past : (n : ℕ) (o : List ℕ) (xs : List Slot) (i : ℕ) → length xs ≤ mostSlots n → length xs < i → i ≤ lastKey n
     → keyAt (stored n o 1 xs) n i ≡ keyAt o n i
 unfolding keyAt
 keyAt-stored-past n o xs i l h k =
@@ -90,12 +92,12 @@ keyAt-stored-past n o xs i l h k =
 
 module _ (n : ℕ) (o : List ℕ) (room : indexSize n ≤ length o) where
   -- slots put in one by one leave the sorted list of them
-  pub placed-cleared : (xs : List Slot) → length xs ≤ 7 * n → All Fits xs
+  pub placed-cleared : (xs : List Slot) → length xs ≤ mostSlots n → All Fits xs
       → placed 0 n xs (cleared n o) ≡ stored n (cleared n o) 1 (inserted [] xs)
   unfolding stored
   placed-cleared xs few f = placed-stored n (cleared n o) [] xs (omega arith) (omega (arith, room, length-cleared n o room)) tt f tt
 
-  module _ (ys : List Slot) (few : length ys ≤ 7 * n) (fits : All Fits ys) where
+  module _ (ys : List Slot) (few : length ys ≤ mostSlots n) (fits : All Fits ys) where
     pub length-held : length (stored n (cleared n o) 1 ys) ≡ length o
     length-held = length-stored n (cleared n o) 1 ys ∙ length-cleared n o room
 
@@ -109,7 +111,7 @@ module _ (n : ℕ) (o : List ℕ) (room : indexSize n ≤ length o) where
         (all-getD Fits ys (omega arith, omega arith) fits i)
 
     -- then keys above all
-    pub keyAt-held-past : (i : ℕ) → length ys < i → i ≤ 14 * n → keyAt (stored n (cleared n o) 1 ys) n i ≡ noKey
+    pub keyAt-held-past : (i : ℕ) → length ys < i → i ≤ lastKey n → keyAt (stored n (cleared n o) 1 ys) n i ≡ noKey
     keyAt-held-past i h l = keyAt-stored-past n (cleared n o) ys i few h l ∙ keyAt-cleared n o room i (omega arith) l
 
     -- and past the index what was there

@@ -1,6 +1,6 @@
 -- Storing a slot and reading one; storing a list of slots, over one of them, and reading one. Assumes nothing.
 use mathlib.Core.Path.{_≡_, refl, sym, ap, _∙_}
-use Prim.Native.Nat.{ℕ, zero, suc, _+_, _*_, _≤_, _<_}
+use Prim.Native.Nat.{ℕ, zero, suc, _+_, _≤_, _<_}
 use native.Mathlib.Nat.{add-zero, add-suc, suc-add}
 use native.Mathlib.Omega.{arith}
 use mathlib.Core.List.{List, [], _∷_, _++_}
@@ -9,7 +9,8 @@ use lib.Seq.{sets, length-sets}
 use Rattle.endian.specs.Endian.{le, leBytes}
 use Rattle.endian.specs.EndianLaws.{length-leBytes, le-sets-before, le-sets-after, le-sets}
 use Rattle.endian.specs.SetsLaws.{sets-comm, sets-over}
-use Rattle.index_slots.specs.Slots.{indexSize, Slot, noSlot, Fits, keyPlace, wordPlace, keyAt, wordAt, slotAt, putSlot, stored}
+use Rattle.index_layout.specs.Places.{indexSize, keyPlace, wordPlace, mostSlots}
+use Rattle.index_slots.specs.Slots.{Slot, noSlot, Fits, keyAt, wordAt, slotAt, putSlot, stored}
 
 length8 : (x : ℕ) → length (leBytes 8 x) ≡ 8
 length8 x = length-leBytes 8 x
@@ -29,7 +30,7 @@ length-putSlot o n i x =
 
 -- ---- one slot
 
-pub put-over : (o : List ℕ) (n i : ℕ) (x y : Slot) → i ≤ 7 * n → putSlot (putSlot o n i x) n i y ≡ putSlot o n i y
+pub put-over : (o : List ℕ) (n i : ℕ) (x y : Slot) → i ≤ mostSlots n → putSlot (putSlot o n i x) n i y ≡ putSlot o n i y
 unfolding putSlot
 put-over o n i x y h =
     ap (λ (t : List ℕ). sets t (wordPlace n i) (leBytes 8 (y .word)))
@@ -47,14 +48,14 @@ four o i a j b k c l d p q r =
     ∙ ap (λ (t : List ℕ). sets t k (leBytes 8 c))
     (ap (λ (t : List ℕ). sets t l (leBytes 8 d)) (swap o i a j b p) ∙ swap (sets o j (leBytes 8 b)) i a l d (omega arith))
 
-pub put-comm : (o : List ℕ) (n i j : ℕ) (x y : Slot) → i < j → j ≤ 7 * n
+pub put-comm : (o : List ℕ) (n i j : ℕ) (x y : Slot) → i < j → j ≤ mostSlots n
     → putSlot (putSlot o n i x) n j y ≡ putSlot (putSlot o n j y) n i x
 unfolding putSlot
 put-comm o n i j x y h l =
     four o (keyPlace n i) (x .key) (keyPlace n j) (y .key) (wordPlace n i) (x .word) (wordPlace n j) (y .word)
     (omega arith) (omega arith) (omega arith)
 
-pub slotAt-put-later : (o : List ℕ) (n i j : ℕ) (x : Slot) → i < j → j ≤ 7 * n → slotAt (putSlot o n j x) n i ≡ slotAt o n i
+pub slotAt-put-later : (o : List ℕ) (n i j : ℕ) (x : Slot) → i < j → j ≤ mostSlots n → slotAt (putSlot o n j x) n i ≡ slotAt o n i
 unfolding putSlot keyAt wordAt
 slotAt-put-later o n i j x h l = λ p. record { key = key p; word = word p }
   where
@@ -70,7 +71,7 @@ slotAt-put-later o n i j x h l = λ p. record { key = key p; word = word p }
         le-sets-before 8 (sets o (keyPlace n j) (leBytes 8 (x .key))) (wordPlace n j) (leBytes 8 (x .word)) (wordPlace n i) (omega arith)
         ∙ le-sets-after 8 o (keyPlace n j) (leBytes 8 (x .key)) (wordPlace n i) (omega (arith, length8 (x .key)))
 
-pub slotAt-put : (o : List ℕ) (n i : ℕ) (x : Slot) → i ≤ 7 * n → indexSize n ≤ length o → Fits x
+pub slotAt-put : (o : List ℕ) (n i : ℕ) (x : Slot) → i ≤ mostSlots n → indexSize n ≤ length o → Fits x
     → slotAt (putSlot o n i x) n i ≡ x
 unfolding putSlot keyAt wordAt
 slotAt-put o n i x h room fits = λ p. record { key = key p; word = word p }
@@ -108,7 +109,7 @@ unfolding stored
 stored-snoc n o a xs y = stored-append n o a xs (y ∷ [])
 
 -- an earlier slot may as well be stored first
-pub put-stored-earlier : (n : ℕ) (o : List ℕ) (a b : ℕ) (xs : List Slot) (y : Slot) → a < b → b + length xs ≤ 7 * n + 1
+pub put-stored-earlier : (n : ℕ) (o : List ℕ) (a b : ℕ) (xs : List Slot) (y : Slot) → a < b → b + length xs ≤ mostSlots n + 1
     → putSlot (stored n o b xs) n a y ≡ stored n (putSlot o n a y) b xs
 unfolding stored
 put-stored-earlier n o a b [] y h l = refl
@@ -117,7 +118,7 @@ put-stored-earlier n o a b (x ∷ xs) y h l =
     ∙ ap (λ (t : List ℕ). stored n t (suc b) xs) (sym (put-comm o n a b y x h (omega arith)))
 
 -- a slot stored over one of the list
-pub put-stored : (n : ℕ) (o : List ℕ) (a : ℕ) (xs : List Slot) (i : ℕ) (y : Slot) → i < length xs → a + length xs ≤ 7 * n + 1
+pub put-stored : (n : ℕ) (o : List ℕ) (a : ℕ) (xs : List Slot) (i : ℕ) (y : Slot) → i < length xs → a + length xs ≤ mostSlots n + 1
     → putSlot (stored n o a xs) n (a + i) y ≡ stored n o a (set xs i y)
 unfolding stored
 put-stored n o a [] i y h l = absurd (omega arith)
@@ -129,7 +130,7 @@ put-stored n o a (x ∷ xs) (suc i) y h l =
     ap (λ (k : ℕ). putSlot (stored n (putSlot o n a x) (suc a) xs) n k y) (add-suc a i ∙ sym (suc-add a i))
     ∙ put-stored n (putSlot o n a x) (suc a) xs i y (omega arith) (omega arith)
 
-pub slotAt-stored-later : (n : ℕ) (o : List ℕ) (a b : ℕ) (xs : List Slot) → a < b → b + length xs ≤ 7 * n + 1
+pub slotAt-stored-later : (n : ℕ) (o : List ℕ) (a b : ℕ) (xs : List Slot) → a < b → b + length xs ≤ mostSlots n + 1
     → slotAt (stored n o b xs) n a ≡ slotAt o n a
 unfolding stored
 slotAt-stored-later n o a b [] h l = refl
@@ -137,7 +138,7 @@ slotAt-stored-later n o a b (x ∷ xs) h l =
     slotAt-stored-later n (putSlot o n b x) a (suc b) xs (omega arith) (omega arith) ∙ slotAt-put-later o n a b x h (omega arith)
 
 -- the slot that stands at a place of the list
-pub slotAt-stored : (n : ℕ) (o : List ℕ) (a : ℕ) (xs : List Slot) (i : ℕ) → i < length xs → a + length xs ≤ 7 * n + 1
+pub slotAt-stored : (n : ℕ) (o : List ℕ) (a : ℕ) (xs : List Slot) (i : ℕ) → i < length xs → a + length xs ≤ mostSlots n + 1
     → indexSize n ≤ length o → Fits (getD xs i noSlot) → slotAt (stored n o a xs) n (a + i) ≡ getD xs i noSlot
 unfolding stored
 slotAt-stored n o a [] i h l room f = absurd (omega arith)

@@ -4,25 +4,23 @@ ghost use mathlib.Core.Path.{_≡_};
 ghost use Prim.Native.Nat.{_+_, _*_, _<_, _≤_};
 ghost use lib.ListN.{length};
 ghost use lib.Seq.{sets};
-ghost use Rattle.index_slots.specs.Slots.{indexSize, keyAt, wordAt, putSlot, moved};
+ghost use Rattle.index_layout.specs.Places.{indexSize, mostSlots, lastKey};
+ghost use Rattle.index_slots.specs.Slots.{keyAt, wordAt, putSlot, moved};
 ghost use Rattle.index_slots.specs.Cleared.{copies, cleared};
-
-// Above every key.
-const NO_KEY: u64 = 4611686018427387904;
 
 // The key of slot i, or of one of the 7 n places behind the slots.
 pub fn key_at(index: &[u8], n: usize, i: usize) -> u64
-    requires { ⌜ (i ≤ 14 * n) × (indexSize n ≤ length (now index)) ⌝ }
+    requires { ⌜ (i ≤ lastKey n) × (indexSize n ≤ length (now index)) ⌝ }
     ensures { λ r. ⌜ r ≡ keyAt (now (index .entry)) n i ⌝ }
 {
-    endian::read_le64(index, 1008 + 64 * n + 8 * i)
+    endian::read_le64(index, index_layout::key_place(n, i))
 }
 
 pub fn word_at(index: &[u8], n: usize, i: usize) -> u64
-    requires { ⌜ (i ≤ 7 * n) × (indexSize n ≤ length (now index)) ⌝ }
+    requires { ⌜ (i ≤ mostSlots n) × (indexSize n ≤ length (now index)) ⌝ }
     ensures { λ r. ⌜ r ≡ wordAt (now (index .entry)) n i ⌝ }
 {
-    endian::read_le64(index, 1016 + 176 * n + 8 * i)
+    endian::read_le64(index, index_layout::word_place(n, i))
 }
 
 // An index with no slots: zeros, but for the keys behind slot 0.
@@ -30,14 +28,17 @@ pub fn clear(index: &mut [u8], n: usize)
     requires { ⌜ indexSize n ≤ length (now index) ⌝ }
     ensures { λ _. ⌜ now (index .exit) ≡ cleared n (now (index .entry)) ⌝ }
 {
-    write_copies(index, 0, 127 + 8 * n, 0);
-    write_copies(index, 1016 + 64 * n, 14 * n, NO_KEY);
-    write_copies(index, 1016 + 176 * n, 10 * n + 1, 0);
+    let keys = index_layout::key_place(n, 1);
+    let words = index_layout::word_place(n, 0);
+    write_copies(index, 0, keys / 8, 0);
+    write_copies(index, keys, index_layout::KEYS * n, index_layout::NO_KEY);
+    let size = index_layout::LEAST + index_layout::EACH * n;
+    write_copies(index, words, (size - words) / 8, 0);
 }
 
 // A slot put among slots 1 to count, behind those whose keys are not above its own.
 pub fn insert(index: &mut [u8], n: usize, count: usize, key: u64, word: u64)
-    requires { ⌜ (count < 7 * n) × (indexSize n ≤ length (now index)) ⌝ }
+    requires { ⌜ (count < mostSlots n) × (indexSize n ≤ length (now index)) ⌝ }
     ensures { λ _. ⌜ now (index .exit) ≡ moved count n (record { key = key; word = word }) (now (index .entry)) ⌝ }
 {
     let mut i = count;
@@ -55,11 +56,11 @@ pub fn insert(index: &mut [u8], n: usize, count: usize, key: u64, word: u64)
 }
 
 fn put_slot(index: &mut [u8], n: usize, i: usize, key: u64, word: u64)
-    requires { ⌜ (i ≤ 7 * n) × (indexSize n ≤ length (now index)) ⌝ }
+    requires { ⌜ (i ≤ mostSlots n) × (indexSize n ≤ length (now index)) ⌝ }
     ensures { λ _. ⌜ now (index .exit) ≡ putSlot (now (index .entry)) n i (record { key = key; word = word }) ⌝ }
 {
-    endian::write_le64(index, 1008 + 64 * n + 8 * i, key);
-    endian::write_le64(index, 1016 + 176 * n + 8 * i, word);
+    endian::write_le64(index, index_layout::key_place(n, i), key);
+    endian::write_le64(index, index_layout::word_place(n, i), word);
 }
 
 // A number k times from a place on.

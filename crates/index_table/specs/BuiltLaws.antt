@@ -2,7 +2,7 @@
 -- is not above it. Assumes nothing.
 use mathlib.Core.Path.{_≡_, refl, sym, ap, ap₂, _∙_}
 use mathlib.Core.Bool.{Bool, true, false, cond}
-use Prim.Native.Nat.{ℕ, suc, _+_, _*_, _≤_, _<_}
+use Prim.Native.Nat.{ℕ, suc, _+_, _≤_, _<_}
 use native.Mathlib.Omega.{arith}
 use mathlib.Core.List.{List, [], _∷_}
 use lib.ListN.{length, getD, set, length-set}
@@ -15,14 +15,18 @@ use Rattle.endian.specs.Endian.{le, leBytes}
 use Rattle.endian.specs.EndianLaws.{length-leBytes, le-agree, le-sets, le-sets-before}
 use Rattle.endian.specs.SetsLaws.{getD-sets-before, getD-sets-after}
 use Rattle.records.specs.Limits.{mostFunctions}
-use Rattle.index_slots.specs.Slots.{indexSize, Slot, noSlot, Fits, Ordered, keyPlace, wordPlace, keyAt, wordAt, slotAt, stored}
+use Rattle.index_layout.specs.Places.{indexSize, functionsPlace, rootPlace, widthPlace, bucketPlace, keyPlace, wordPlace}
+use Rattle.index_layout.specs.Places.{mostSlots, lastKey, buckets}
+use Rattle.index_layout.specs.Keys.{noKey, segmentOf}
+use Rattle.index_layout.specs.KeysLaws.{segment-lt}
+use Rattle.index_slots.specs.Slots.{Slot, noSlot, Fits, Ordered, keyAt, wordAt, slotAt, stored}
 use Rattle.index_slots.specs.Slots.{inserted}
-use Rattle.index_slots.specs.Cleared.{noKey, cleared}
+use Rattle.index_slots.specs.Cleared.{cleared}
 use Rattle.index_slots.specs.SortedLaws.{all-getD, rising-of-ordered, length-inserted, all-inserted, inserted-ordered}
 use Rattle.index_slots.specs.PlacedLaws.{placed-cleared, length-held, slotAt-held, keyAt-held-past, getD-held-past}
-use Rattle.index_table.specs.Table.{segmentOf, bucketBy, bucketOf, bucketAt, segmented, tabled, widthOf, headed, finished, built}
+use Rattle.index_table.specs.Table.{bucketBy, bucketOf, bucketAt, segmented, tabled, widthOf, headed, finished, built}
 use Rattle.index_table.specs.Search.{cut, keyOf, lastIn, leadAt, widthAt, foundAt, Last, Searchable}
-use Rattle.index_table.specs.SegmentLaws.{segment-lt, least-le, least-small, bucket-le, bucket-monotone, bucketBy-agree}
+use Rattle.index_table.specs.SegmentLaws.{least-le, least-small, bucket-le, bucket-monotone, bucketBy-agree}
 use Rattle.index_table.specs.SegmentLaws.{getD-segmented, length-segmented}
 use Rattle.index_table.specs.TableLaws.{Entry, Leads, entry-agree, leads-of-entries, length-tabled, getD-tabled-before}
 use Rattle.index_table.specs.TableLaws.{getD-tabled-after, entry-tabled, step-le-width, width-le}
@@ -34,36 +38,38 @@ module _ (n root width : ℕ) (o : List ℕ) where
   pub length-headed : length (headed n root width o) ≡ length o
   unfolding headed
   length-headed =
-      length-sets (set (sets o 0 (leBytes 2 n)) 2 root) 4 (leBytes 2 width)
-      ∙ length-set (sets o 0 (leBytes 2 n)) 2 root
-      ∙ length-sets o 0 (leBytes 2 n)
+      length-sets (set (sets o functionsPlace (leBytes 2 n)) rootPlace root) widthPlace (leBytes 2 width)
+      ∙ length-set (sets o functionsPlace (leBytes 2 n)) rootPlace root
+      ∙ length-sets o functionsPlace (leBytes 2 n)
 
   getD-headed-after : (k d : ℕ) → 6 ≤ k → getD (headed n root width o) k d ≡ getD o k d
   unfolding headed
   getD-headed-after k d h =
-      getD-sets-after (set (sets o 0 (leBytes 2 n)) 2 root) 4 (leBytes 2 width) k d (omega (arith, h, length-leBytes 2 width))
-      ∙ getD-sets-after (sets o 0 (leBytes 2 n)) 2 (root ∷ []) k d (omega arith)
+      getD-sets-after (set (sets o functionsPlace (leBytes 2 n)) rootPlace root) widthPlace (leBytes 2 width) k d
+      (omega (arith, h, length-leBytes 2 width))
+      ∙ getD-sets-after (sets o functionsPlace (leBytes 2 n)) rootPlace (root ∷ []) k d (omega arith)
       ∙ getD-sets-after o 0 (leBytes 2 n) k d (omega (arith, h, length-leBytes 2 n))
 
-  module _ (room : 1024 ≤ length o) where
-    headed-count : n < 65536 → le 2 (headed n root width o) 0 ≡ n
+  module _ (room : indexSize 0 ≤ length o) where
+    headed-count : n < 65536 → le 2 (headed n root width o) functionsPlace ≡ n
     unfolding headed
     headed-count h =
-        le-sets-before 2 (set (sets o 0 (leBytes 2 n)) 2 root) 4 (leBytes 2 width) 0 (omega arith)
-        ∙ le-sets-before 2 (sets o 0 (leBytes 2 n)) 2 (root ∷ []) 0 (omega arith)
+        le-sets-before 2 (set (sets o functionsPlace (leBytes 2 n)) rootPlace root) widthPlace (leBytes 2 width) 0 (omega arith)
+        ∙ le-sets-before 2 (sets o functionsPlace (leBytes 2 n)) rootPlace (root ∷ []) 0 (omega arith)
         ∙ le-sets 2 o 0 n (omega arith) h
 
     headed-root : getD (headed n root width o) 2 0 ≡ root
     unfolding headed
     headed-root =
-        getD-sets-before (set (sets o 0 (leBytes 2 n)) 2 root) 4 (leBytes 2 width) 2 0 (omega arith)
-        ∙ getD-set-same (sets o 0 (leBytes 2 n)) 2 root 0 (omega (arith, room, length-sets o 0 (leBytes 2 n)))
+        getD-sets-before (set (sets o functionsPlace (leBytes 2 n)) rootPlace root) widthPlace (leBytes 2 width) 2 0 (omega arith)
+        ∙ getD-set-same (sets o functionsPlace (leBytes 2 n)) rootPlace root 0
+        (omega (arith, room, length-sets o functionsPlace (leBytes 2 n)))
 
-    headed-width : width < 65536 → le 2 (headed n root width o) 4 ≡ width
+    headed-width : width < 65536 → le 2 (headed n root width o) widthPlace ≡ width
     unfolding headed
     headed-width h =
-        le-sets 2 (set (sets o 0 (leBytes 2 n)) 2 root) 4 width
-        (omega (arith, room, length-set (sets o 0 (leBytes 2 n)) 2 root, length-sets o 0 (leBytes 2 n))) h
+        le-sets 2 (set (sets o functionsPlace (leBytes 2 n)) rootPlace root) widthPlace width
+        (omega (arith, room, length-set (sets o functionsPlace (leBytes 2 n)) rootPlace root, length-sets o functionsPlace (leBytes 2 n))) h
 
 -- ---- what stays where the slots are
 
@@ -75,7 +81,7 @@ module _ (n root count : ℕ) (o : List ℕ) where
       ∙ length-tabled n count (segmented 4 n count 0 0 o)
       ∙ length-segmented 4 n count 0 0 o
 
-  pub getD-finished-after : (k d : ℕ) → 1008 + 64 * n ≤ k → getD (finished n root count o) k d ≡ getD o k d
+  pub getD-finished-after : (k d : ℕ) → keyPlace n 0 ≤ k → getD (finished n root count o) k d ≡ getD o k d
   unfolding finished
   getD-finished-after k d h =
       getD-headed-after n root (widthOf n count (segmented 4 n count 0 0 o)) (tabled n count (segmented 4 n count 0 0 o)) k d (omega arith)
@@ -155,13 +161,13 @@ module _ (ys : List Slot) (ordered : Ordered ys) (lawful : All Lawful ys) where
 
 -- the bucket of a key, where keys above all have one past the last
 unfoldable shelf : List ℕ → ℕ → ℕ → ℕ
-shelf s n x = cond (ltb x noKey) (bucketOf s n x) (32 * n)
+shelf s n x = cond (ltb x noKey) (bucketOf s n x) (buckets n)
 
 shelf-in : (s : List ℕ) (n x : ℕ) → x < noKey → shelf s n x ≡ bucketOf s n x
 unfolding shelf
 shelf-in s n x h = let e : ltb x noKey ≡ true = lt-ltb x noKey h in rw e
 
-shelf-top : (s : List ℕ) (n : ℕ) → shelf s n noKey ≡ 32 * n
+shelf-top : (s : List ℕ) (n : ℕ) → shelf s n noKey ≡ buckets n
 unfolding shelf
 shelf-top s n = refl
 
@@ -169,20 +175,20 @@ shelf-monotone : (s : List ℕ) (n x y : ℕ) → x ≤ y → shelf s n x ≤ sh
 unfolding shelf
 shelf-monotone s n x y h = go (ltb x noKey) (ltb y noKey) refl refl
   where
-    go : (t u : Bool) → ltb x noKey ≡ t → ltb y noKey ≡ u → cond t (bucketOf s n x) (32 * n) ≤ cond u (bucketOf s n y) (32 * n)
+    go : (t u : Bool) → ltb x noKey ≡ t → ltb y noKey ≡ u → cond t (bucketOf s n x) (buckets n) ≤ cond u (bucketOf s n y) (buckets n)
     go true true a b = bucket-monotone s n x y h
     go true false a b = omega (arith, bucket-le s n (segmentOf x) x (segment-lt x))
     go false true a b = absurd (omega (arith, h, ltb-false x noKey a, ltb-true y noKey b))
     go false false a b = omega arith
 
 -- over any bytes whose keys are the line
-module _ (n : ℕ) (s : List ℕ) (ys : List Slot) (some : 0 < n) (most : n ≤ mostFunctions) (few : length ys ≤ 7 * n)
+module _ (n : ℕ) (s : List ℕ) (ys : List Slot) (some : 0 < n) (most : n ≤ mostFunctions) (few : length ys ≤ mostSlots n)
     (room : indexSize n ≤ length s) (ordered : Ordered ys) (lawful : All Lawful ys)
-    (line : (i : ℕ) → i ≤ 14 * n → keyAt s n i ≡ lineAt ys i) where
+    (line : (i : ℕ) → i ≤ lastKey n → keyAt s n i ≡ lineAt ys i) where
   abbrev entryAt : ℕ → ℕ
-  entryAt q = le 2 (tabled n (length ys) s) (1008 + 2 * q)
+  entryAt q = le 2 (tabled n (length ys) s) (bucketPlace q)
 
-  entry-line : (q : ℕ) → q < 32 * n → Entry (λ i. shelf s n (lineAt ys i)) (length ys) q (entryAt q)
+  entry-line : (q : ℕ) → q < buckets n → Entry (λ i. shelf s n (lineAt ys i)) (length ys) q (entryAt q)
   entry-line q h =
       entry-agree (λ i. bucketAt s n i) (λ i. shelf s n (lineAt ys i)) (length ys) q _ same
       (entry-tabled n (length ys) s room (omega arith) q h)
@@ -192,9 +198,9 @@ module _ (n : ℕ) (s : List ℕ) (ys : List Slot) (some : 0 < n) (most : n ≤ 
           ap (bucketOf s n) (line i (omega arith))
           ∙ sym (shelf-in s n (lineAt ys i) (rw (line-in ys i l) (low ys ordered lawful i)))
 
-  leads : (q : ℕ) → q + 1 < 32 * n → Leads (lineAt ys) (shelf s n) (14 * n + 1) (widthOf n (length ys) s) q (entryAt q)
+  leads : (q : ℕ) → q + 1 < buckets n → Leads (lineAt ys) (shelf s n) (lastKey n + 1) (widthOf n (length ys) s) q (entryAt q)
   leads q h =
-      leads-of-entries (lineAt ys) (shelf s n) (length ys) (14 * n + 1) (widthOf n (length ys) s) q _ _ here
+      leads-of-entries (lineAt ys) (shelf s n) (length ys) (lastKey n + 1) (widthOf n (length ys) s) q _ _ here
       (entry-line (q + 1) h) (step-le-width n (length ys) s room (omega arith) q h)
       (omega (arith, here .inside, few, width-le n (length ys) s room (omega arith))) (line-in ys 0 (omega arith))
       (λ i j m _. shelf-monotone s n (lineAt ys i) (lineAt ys j) (line-rises ys ordered lawful i j m)) past
@@ -202,20 +208,21 @@ module _ (n : ℕ) (s : List ℕ) (ys : List Slot) (some : 0 < n) (most : n ≤ 
       here : Entry (λ i. shelf s n (lineAt ys i)) (length ys) q (entryAt q)
       here = entry-line q (omega arith)
 
-      past : (p : ℕ) → length ys < p → p < 14 * n + 1 → q < shelf s n (lineAt ys p)
+      past : (p : ℕ) → length ys < p → p < lastKey n + 1 → q < shelf s n (lineAt ys p)
       past p m _ = rw (line-past ys p m) (omega (arith, h, shelf-top s n))
 
   -- what the table, the width and the keys lead to
   line-last : (f a : ℕ) → a < noKey
-      → Last (lineAt ys) (14 * n + 1) a (lastIn f (lineAt ys) a (entryAt (bucketOf s n a)) (widthOf n (length ys) s))
+      → Last (lineAt ys) (lastKey n + 1) a (lastIn f (lineAt ys) a (entryAt (bucketOf s n a)) (widthOf n (length ys) s))
   line-last f a h =
-      bucket-last (lineAt ys) (shelf s n) (14 * n + 1) a (λ i j p q. line-rises ys ordered lawful i j p) (shelf-monotone s n) f
+      bucket-last (lineAt ys) (shelf s n) (lastKey n + 1) a (λ i j p q. line-rises ys ordered lawful i j p) (shelf-monotone s n) f
       (widthOf n (length ys) s) (entryAt (bucketOf s n a))
       (rw (shelf-in s n a h) (leads (bucketOf s n a) (omega (arith, some, bucket-le s n (segmentOf a) a (segment-lt a)))))
 
 -- ---- the index
 
-module _ (n root : ℕ) (o : List ℕ) (ys : List Slot) (most : n ≤ mostFunctions) (few : length ys ≤ 7 * n) (room : indexSize n ≤ length o)
+module _ (n root : ℕ) (o : List ℕ) (ys : List Slot) (most : n ≤ mostFunctions) (few : length ys ≤ mostSlots n)
+    (room : indexSize n ≤ length o)
     (ordered : Ordered ys) (lawful : All Lawful ys) where
   fits : All Fits ys
   fits = all-imp Lawful Fits ys lawful (λ y h. (omega (arith, h .0), h .1))
@@ -239,7 +246,7 @@ module _ (n root : ℕ) (o : List ℕ) (ys : List Slot) (most : n ≤ mostFuncti
   room-split : indexSize n ≤ length split
   room-split = omega (arith, room-held, length-segmented 4 n (length ys) 0 0 held)
 
-  key-held : (i : ℕ) → i ≤ 14 * n → keyAt held n i ≡ lineAt ys i
+  key-held : (i : ℕ) → i ≤ lastKey n → keyAt held n i ≡ lineAt ys i
   key-held i h = go (leb i (length ys)) refl
     where
       go : (t : Bool) → leb i (length ys) ≡ t → keyAt held n i ≡ lineAt ys i
@@ -249,7 +256,7 @@ module _ (n root : ℕ) (o : List ℕ) (ys : List Slot) (most : n ≤ mostFuncti
       go false e =
           let l = leb-false i (length ys) e in keyAt-held-past n o room ys few fits i l h ∙ sym (line-past ys i l)
 
-  key-split : (i : ℕ) → i ≤ 14 * n → keyAt split n i ≡ lineAt ys i
+  key-split : (i : ℕ) → i ≤ lastKey n → keyAt split n i ≡ lineAt ys i
   unfolding keyAt
   key-split i h =
       le-agree 8 split held (keyPlace n i) (keyPlace n i)
@@ -259,14 +266,14 @@ module _ (n root : ℕ) (o : List ℕ) (ys : List Slot) (most : n ≤ mostFuncti
   width-few : width ≤ length ys
   width-few = width-le n (length ys) split room-split (omega arith)
 
-  room-table : 1024 ≤ length (tabled n (length ys) split)
+  room-table : indexSize 0 ≤ length (tabled n (length ys) split)
   room-table = omega (arith, room-split, length-tabled n (length ys) split)
 
   width-there : widthAt index n ≡ width
   unfolding finished
   width-there =
       rw (headed-width n root width (tabled n (length ys) split) room-table (omega (arith, width-few, few, most)))
-      (least-small width (7 * n) (omega (arith, width-few, few)))
+      (least-small width (mostSlots n) (omega (arith, width-few, few)))
 
   bucket-there : (a : ℕ) → bucketBy index n (segmentOf a) a ≡ bucketOf split n a
   unfolding finished
@@ -275,15 +282,15 @@ module _ (n root : ℕ) (o : List ℕ) (ys : List Slot) (most : n ≤ mostFuncti
       (λ k p q. getD-headed-after n root width (tabled n (length ys) split) k 0 (omega arith)
       ∙ getD-tabled-before n (length ys) split k 0 (omega arith))
 
-  entry-there : (q : ℕ) → le 2 index (1008 + 2 * q) ≡ le 2 (tabled n (length ys) split) (1008 + 2 * q)
+  entry-there : (q : ℕ) → le 2 index (bucketPlace q) ≡ le 2 (tabled n (length ys) split) (bucketPlace q)
   unfolding finished
   entry-there q =
-      le-agree 2 _ (tabled n (length ys) split) (1008 + 2 * q) (1008 + 2 * q)
-      (λ j l. getD-headed-after n root width (tabled n (length ys) split) (1008 + 2 * q + j) 0 (omega arith))
+      le-agree 2 _ (tabled n (length ys) split) (bucketPlace q) (bucketPlace q)
+      (λ j l. getD-headed-after n root width (tabled n (length ys) split) (bucketPlace q + j) 0 (omega arith))
 
   module _ (some : 0 < n) (a : ℕ) (small : a < noKey) where
     abbrev entry : ℕ
-    entry = le 2 (tabled n (length ys) split) (1008 + 2 * bucketOf split n a)
+    entry = le 2 (tabled n (length ys) split) (bucketPlace (bucketOf split n a))
 
     entry-few : entry ≤ length ys
     entry-few =
@@ -292,14 +299,14 @@ module _ (n root : ℕ) (o : List ℕ) (ys : List Slot) (most : n ≤ mostFuncti
 
     lead-there : leadAt index n (segmentOf a) a ≡ entry
     lead-there =
-        rw (bucket-there a, entry-there (bucketOf split n a)) (least-small entry (7 * n) (omega (arith, entry-few, few)))
+        rw (bucket-there a, entry-there (bucketOf split n a)) (least-small entry (mostSlots n) (omega (arith, entry-few, few)))
 
     abbrev found : ℕ
     found = lastIn width (lineAt ys) a entry width
 
     found-last : Last (λ i. getD (noSlot ∷ ys) i noSlot .key) (suc (length ys)) a found
     found-last =
-        last-of-line ys ordered lawful (14 * n + 1) a found (omega (arith, few)) small
+        last-of-line ys ordered lawful (lastKey n + 1) a found (omega (arith, few)) small
         (line-last n split ys some most few room-split ordered lawful key-split width a small)
 
     same-keys : (j : ℕ) → entry ≤ j → j ≤ entry + width → keyOf index n a j ≡ lineAt ys j
@@ -312,13 +319,13 @@ module _ (n root : ℕ) (o : List ℕ) (ys : List Slot) (most : n ≤ mostFuncti
     unfolding foundAt
     found-there =
         rw (width-there, lead-there, last-agree width (λ i. keyOf index n a i) (lineAt ys) a entry width same-keys)
-        (least-small found (7 * n) (omega (arith, found-last .inside, few)))
+        (least-small found (mostSlots n) (omega (arith, found-last .inside, few)))
 
   found-none : (a : ℕ) → n ≤ 0 → Last (λ i. getD (noSlot ∷ ys) i noSlot .key) (suc (length ys)) a (foundAt index n (segmentOf a) a)
   unfolding foundAt
   found-none a h =
       let p = lastIn (widthAt index n) (λ i. keyOf index n a i) a (leadAt index n (segmentOf a) a) (widthAt index n) in
-      let z : foundAt index n (segmentOf a) a ≡ 0 = omega (arith, h, least-le p (7 * n)) in
+      let z : foundAt index n (segmentOf a) a ≡ 0 = omega (arith, h, least-le p (mostSlots n)) in
       rw z (record { inside = omega arith; not-above = omega arith; then-above = λ q u v. absurd (omega (arith, u, v, few, h)) })
 
   finished-last : (a : ℕ) → a < noKey
@@ -341,7 +348,8 @@ module _ (n root : ℕ) (o : List ℕ) (ys : List Slot) (most : n ≤ mostFuncti
         last = finished-last;
       }
 
-module _ (n root : ℕ) (o : List ℕ) (xs : List Slot) (few : length xs ≤ 7 * n) (room : indexSize n ≤ length o) (lawful : All Lawful xs) where
+module _ (n root : ℕ) (o : List ℕ) (xs : List Slot) (few : length xs ≤ mostSlots n) (room : indexSize n ≤ length o)
+    (lawful : All Lawful xs) where
   abbrev sorted : List Slot
   sorted = inserted [] xs
 

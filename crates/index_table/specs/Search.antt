@@ -1,15 +1,16 @@
 -- The search in an index, on any bytes: a bucket's entry leads to some keys, and how many of them are not above the address is counted
 -- without a branch. Assumes nothing.
 use mathlib.Core.Path.{_≡_}
-use Prim.Native.Nat.{ℕ, zero, suc, _+_, _-_, _*_, _/_, _≤_, _<_}
+use Prim.Native.Nat.{ℕ, zero, suc, _+_, _-_, _/_, _≤_, _<_}
 use mathlib.Core.Bool.{cond}
 use mathlib.Core.List.{List, _∷_}
 use lib.ListN.{length, getD}
 use lib.Dec.{ltb, leb}
 use Rattle.endian.specs.Endian.{le}
-use Rattle.index_slots.specs.Slots.{indexSize, Slot, noSlot, keyAt, slotAt}
-use Rattle.index_slots.specs.Cleared.{noKey}
-use Rattle.index_table.specs.Table.{least, segmentOf, bucketBy}
+use Rattle.index_layout.specs.Places.{indexSize, functionsPlace, rootPlace, widthPlace, bucketPlace, mostSlots}
+use Rattle.index_layout.specs.Keys.{noKey, segmentOf}
+use Rattle.index_slots.specs.Slots.{Slot, noSlot, keyAt, slotAt}
+use Rattle.index_table.specs.Table.{least, bucketBy}
 
 -- a key as the search sees it: one more than 2^63 above the address counts as 0
 unfoldable pub cut : ℕ → ℕ → ℕ
@@ -36,14 +37,14 @@ lastIn (suc f) key a lo k =
 
 -- what the table and the first bytes say, cut at the most slots that there can be
 abbrev pub leadAt : List ℕ → ℕ → ℕ → ℕ → ℕ
-leadAt o n w a = least (le 2 o (1008 + 2 * bucketBy o n w a)) (7 * n)
+leadAt o n w a = least (le 2 o (bucketPlace (bucketBy o n w a))) (mostSlots n)
 
 abbrev pub widthAt : List ℕ → ℕ → ℕ
-widthAt o n = least (le 2 o 4) (7 * n)
+widthAt o n = least (le 2 o widthPlace) (mostSlots n)
 
 -- the position found for a key of segment w
 unfoldable pub foundAt : List ℕ → ℕ → ℕ → ℕ → ℕ
-foundAt o n w a = least (lastIn (widthAt o n) (λ i. keyOf o n a i) a (leadAt o n w a) (widthAt o n)) (7 * n)
+foundAt o n w a = least (lastIn (widthAt o n) (λ i. keyOf o n a i) a (leadAt o n w a) (widthAt o n)) (mostSlots n)
 
 -- p is the last of m positions whose key is not above the address
 pub record Last (key : ℕ → ℕ) (m a p : ℕ) : Type 0 where
@@ -54,8 +55,8 @@ pub record Last (key : ℕ → ℕ) (m a p : ℕ) : Type 0 where
 -- what a search counts on in an index of n functions with these slots, in order of their keys
 pub record Searchable (n root : ℕ) (ys : List Slot) (index : List ℕ) : Type 0 where
   pub size : indexSize n ≤ length index
-  pub count : le 2 index 0 ≡ n
-  pub root-bus : getD index 2 0 ≡ root
+  pub count : le 2 index functionsPlace ≡ n
+  pub root-bus : getD index rootPlace 0 ≡ root
   pub slots : (i : ℕ) → i ≤ length ys → slotAt index n i ≡ getD (noSlot ∷ ys) i noSlot
   pub last : (a : ℕ) → a < noKey
       → Last (λ i. getD (noSlot ∷ ys) i noSlot .key) (suc (length ys)) a (foundAt index n (segmentOf a) a)

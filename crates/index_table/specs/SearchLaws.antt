@@ -6,6 +6,7 @@ use Prim.Native.Nat.{ℕ, zero, suc, _+_, _-_, _*_, _/_, _%_, _≤_, _<_}
 use native.Mathlib.Omega.{arith}
 use lib.Dec.{leb, ltb}
 use borrow.Author.Tests.{leb-true, leb-false, ltb-true, ltb-false, le-leb, lt-leb, lt-ltb, le-ltb}
+use Rattle.index_layout.specs.Keys.{noKey}
 use Rattle.index_table.specs.Search.{cut, countFrom, halfway, lastIn, Last}
 use Rattle.index_table.specs.TableLaws.{Leads}
 
@@ -16,7 +17,7 @@ unfolding cut
 cut-small a k h = let e : ltb (a + 9223372036854775808) k ≡ false = le-ltb (a + 9223372036854775808) k (omega (arith, h)) in rw e refl
 
 pub bit-leb : (r k a : ℕ) → (r + k) % 18446744073709551616 ≡ a + 9223372036854775808 → r < 18446744073709551616 → k < 18446744073709551616
-    → a < 4611686018427387904 → r / 9223372036854775808 ≡ cond (leb (cut a k) a) 1 0
+    → a < noKey → r / 9223372036854775808 ≡ cond (leb (cut a k) a) 1 0
 unfolding cut
 bit-leb r k a w f h l = go (ltb (a + 9223372036854775808) k) refl
   where

@@ -1,7 +1,7 @@
 -- Segments and buckets: keys in order have theirs in order. The turns of the loops that choose a segment's slots and its shift; what
 -- stays where they write. Assumes nothing.
 use mathlib.Core.Path.{_≡_, refl, ap, ap₂, _∙_}
-use mathlib.Core.Bool.{Bool, true, false, cond, false≢true}
+use mathlib.Core.Bool.{Bool, true, false, cond}
 use Prim.Native.Nat.{ℕ, zero, suc, _+_, _-_, _*_, _/_, _^_, _≤_, _<_}
 use native.Mathlib.Nat.{mul-suc, mul-le-mul-left, le-div-iff-mul-le, div-mul-le-self, one-le-pow, le-of-lt}
 use native.Mathlib.Omega.{arith}
@@ -9,70 +9,16 @@ use mathlib.Core.List.{List, [], _∷_}
 use lib.ListN.{length, getD, set, length-set}
 use lib.Seq.{sets, length-sets}
 use lib.Dec.{ltb, leb}
-use borrow.Author.Tests.{ltb-true, ltb-false, lt-ltb, le-ltb, le-leb, lt-leb}
+use borrow.Author.Tests.{ltb-true, ltb-false, le-leb, lt-leb}
 use Rattle.endian.specs.Endian.{leBytes}
 use Rattle.endian.specs.EndianLaws.{length-leBytes, le-agree}
 use Rattle.endian.specs.SetsLaws.{getD-sets-after}
+use Rattle.index_layout.specs.Places.{basePlace, shiftPlace, segmentBuckets}
+use Rattle.index_layout.specs.Keys.{segmentOf}
+use Rattle.index_layout.specs.KeysLaws.{segment-monotone}
 use Rattle.index_slots.specs.Slots.{keyAt}
-use Rattle.index_table.specs.Table.{least, segmentOf, segmentAt, baseAt, shiftAt, lastBucket, bucketBy, bucketOf}
+use Rattle.index_table.specs.Table.{least, segmentAt, baseAt, shiftAt, lastBucket, bucketBy, bucketOf}
 use Rattle.index_table.specs.Table.{ahead, shiftOf, putSegment, segmented}
-
--- ---- the segment of a key
-
-pub segment-low : (key : ℕ) → key < 4294967296 → segmentOf key ≡ 0
-unfolding segmentOf
-segment-low key h = rw (lt-ltb key 4294967296 h)
-
-pub segment-high : (key : ℕ) → 4294967296 ≤ key → key < 4503599627370496 → segmentOf key ≡ 1
-unfolding segmentOf
-segment-high key l h = rw (le-ltb key 4294967296 l, lt-ltb key 4503599627370496 h)
-
-pub segment-io : (key : ℕ) → 4503599627370496 ≤ key → key < 4503599627436032 → segmentOf key ≡ 2
-unfolding segmentOf
-segment-io key l h =
-    let f : 4294967296 ≤ key = omega (arith, l) in
-    rw (le-ltb key 4294967296 f, le-ltb key 4503599627370496 l, lt-ltb key 4503599627436032 h)
-
-pub segment-id : (key : ℕ) → 4503599627436032 ≤ key → segmentOf key ≡ 3
-unfolding segmentOf
-segment-id key l =
-    let f : 4294967296 ≤ key = omega (arith, l) in
-    let g : 4503599627370496 ≤ key = omega (arith, l) in
-    rw (le-ltb key 4294967296 f, le-ltb key 4503599627370496 g, le-ltb key 4503599627436032 l)
-
--- four cases, one number
-pick-lt : (a b c : Bool) → cond a 0 (cond b 1 (cond c 2 3)) < 4
-pick-lt true b c = omega arith
-pick-lt false true c = omega arith
-pick-lt false false true = omega arith
-pick-lt false false false = omega arith
-
-pub segment-lt : (key : ℕ) → segmentOf key < 4
-unfolding segmentOf
-segment-lt key = pick-lt (ltb key 4294967296) (ltb key 4503599627370496) (ltb key 4503599627436032)
-
--- each test falls as the key grows
-test-falls : (x y e : ℕ) → x ≤ y → ltb y e ≡ true → ltb x e ≡ true
-test-falls x y e h t = lt-ltb x e (omega (arith, h, ltb-true y e t))
-
-pick-rises : (a b c d e f : Bool) → (d ≡ true → a ≡ true) → (e ≡ true → b ≡ true) → (f ≡ true → c ≡ true)
-    → cond a 0 (cond b 1 (cond c 2 3)) ≤ cond d 0 (cond e 1 (cond f 2 3))
-pick-rises true b c d e f p q r = omega arith
-pick-rises false b c true e f p q r = absurd (false≢true (p refl))
-pick-rises false true c false true f p q r = omega arith
-pick-rises false true c false false true p q r = omega arith
-pick-rises false true c false false false p q r = omega arith
-pick-rises false false c false true f p q r = absurd (false≢true (q refl))
-pick-rises false false true false false true p q r = omega arith
-pick-rises false false true false false false p q r = omega arith
-pick-rises false false false false false true p q r = absurd (false≢true (r refl))
-pick-rises false false false false false false p q r = omega arith
-
-pub segment-monotone : (x y : ℕ) → x ≤ y → segmentOf x ≤ segmentOf y
-unfolding segmentOf
-segment-monotone x y h =
-    pick-rises (ltb x 4294967296) (ltb x 4503599627370496) (ltb x 4503599627436032) (ltb y 4294967296) (ltb y 4503599627370496)
-    (ltb y 4503599627436032) (test-falls x y 4294967296 h) (test-falls x y 4503599627370496 h) (test-falls x y 4503599627436032 h)
 
 -- ---- the bucket of a key
 
@@ -105,12 +51,12 @@ least-monotone x y z h = go (ltb x z) (ltb y z) refl refl
 div-monotone : (x y d : ℕ) → 0 < d → x ≤ y → x / d ≤ y / d
 div-monotone x y d p h = le-div-iff-mul-le p .1 (omega (arith, h, div-mul-le-self x d))
 
-pub start-le : (n w : ℕ) → w < 4 → 8 * n * w ≤ 24 * n
-start-le n w h = let l : w ≤ 3 = omega (arith, h) in omega (arith, mul-le-mul-left (8 * n) l)
+pub start-le : (n w : ℕ) → w < 4 → segmentBuckets n * w ≤ 24 * n
+start-le n w h = let l : w ≤ 3 = omega (arith, h) in omega (arith, mul-le-mul-left (segmentBuckets n) l)
 
 -- a later segment starts behind all buckets of an earlier one
-start-next : (n v w : ℕ) → v < w → 8 * n * v + 8 * n ≤ 8 * n * w
-start-next n v w h = omega (arith, mul-le-mul-left (8 * n) h, mul-suc (8 * n) v)
+start-next : (n v w : ℕ) → v < w → segmentBuckets n * v + segmentBuckets n ≤ segmentBuckets n * w
+start-next n v w h = omega (arith, mul-le-mul-left (segmentBuckets n) h, mul-suc (segmentBuckets n) v)
 
 pub bucket-le : (o : List ℕ) (n w key : ℕ) → w < 4 → bucketBy o n w key ≤ 24 * n + lastBucket n
 unfolding bucketBy
@@ -147,8 +93,8 @@ pub bucketBy-agree : (o p : List ℕ) (n w key : ℕ) → w < 4 → ((k : ℕ) �
 unfolding bucketBy
 bucketBy-agree o p n w key h same =
     let b : baseAt o w ≡ baseAt p w =
-    le-agree 8 o p (16 + 16 * w) (16 + 16 * w) (λ j l. same (16 + 16 * w + j) (omega arith) (omega arith)) in
-    rw (b, same (24 + 16 * w) (omega arith) (omega arith))
+    le-agree 8 o p (basePlace w) (basePlace w) (λ j l. same (basePlace w + j) (omega arith) (omega arith)) in
+    rw (b, same (shiftPlace w) (omega arith) (omega arith))
 
 -- ---- the least shift
 
@@ -168,17 +114,17 @@ shift-end d most s h = let e : 63 - s ≡ 0 = omega arith in rw e
 
 -- what stands past them
 getD-segment : (o : List ℕ) (w base shift k d : ℕ) → w < 4 → 80 ≤ k
-    → getD (set (sets o (16 + 16 * w) (leBytes 8 base)) (24 + 16 * w) shift) k d ≡ getD o k d
+    → getD (set (sets o (basePlace w) (leBytes 8 base)) (shiftPlace w) shift) k d ≡ getD o k d
 getD-segment o w base shift k d h l =
-    getD-sets-after (sets o (16 + 16 * w) (leBytes 8 base)) (24 + 16 * w) (shift ∷ []) k d (omega arith)
-    ∙ getD-sets-after o (16 + 16 * w) (leBytes 8 base) k d (omega (arith, h, l, length-leBytes 8 base))
+    getD-sets-after (sets o (basePlace w) (leBytes 8 base)) (shiftPlace w) (shift ∷ []) k d (omega arith)
+    ∙ getD-sets-after o (basePlace w) (leBytes 8 base) k d (omega (arith, h, l, length-leBytes 8 base))
 
 getD-putSegment : (n w from to : ℕ) (o : List ℕ) (k d : ℕ) → w < 4 → 80 ≤ k → getD (putSegment n w from to o) k d ≡ getD o k d
 unfolding putSegment
 getD-putSegment n w from to o k d h l = go (leb to from)
   where
     go : (t : Bool)
-        → getD (cond t o (set (sets o (16 + 16 * w) (leBytes 8 (keyAt o n (from + 1)))) (24 + 16 * w)
+        → getD (cond t o (set (sets o (basePlace w) (leBytes 8 (keyAt o n (from + 1)))) (shiftPlace w)
         (shiftOf 63 (keyAt o n to - keyAt o n (from + 1)) (lastBucket n) 0))) k d ≡ getD o k d
     go true = refl
     go false = getD-segment o w (keyAt o n (from + 1)) (shiftOf 63 (keyAt o n to - keyAt o n (from + 1)) (lastBucket n) 0) k d h l
@@ -187,12 +133,12 @@ pub length-putSegment : (n w from to : ℕ) (o : List ℕ) → length (putSegmen
 unfolding putSegment
 length-putSegment n w from to o = go (leb to from)
   where
-    abbreviated : (base shift : ℕ) → length (set (sets o (16 + 16 * w) (leBytes 8 base)) (24 + 16 * w) shift) ≡ length o
+    abbreviated : (base shift : ℕ) → length (set (sets o (basePlace w) (leBytes 8 base)) (shiftPlace w) shift) ≡ length o
     abbreviated base shift =
-        length-set (sets o (16 + 16 * w) (leBytes 8 base)) (24 + 16 * w) shift ∙ length-sets o (16 + 16 * w) (leBytes 8 base)
+        length-set (sets o (basePlace w) (leBytes 8 base)) (shiftPlace w) shift ∙ length-sets o (basePlace w) (leBytes 8 base)
 
     go : (t : Bool)
-        → length (cond t o (set (sets o (16 + 16 * w) (leBytes 8 (keyAt o n (from + 1)))) (24 + 16 * w)
+        → length (cond t o (set (sets o (basePlace w) (leBytes 8 (keyAt o n (from + 1)))) (shiftPlace w)
         (shiftOf 63 (keyAt o n to - keyAt o n (from + 1)) (lastBucket n) 0))) ≡ length o
     go true = refl
     go false = abbreviated (keyAt o n (from + 1)) (shiftOf 63 (keyAt o n to - keyAt o n (from + 1)) (lastBucket n) 0)
@@ -223,7 +169,7 @@ segment-none n w from to o h = rw (le-leb to from h)
 
 pub segment-some : {base last shift : ℕ} {t u : List ℕ} (n w from to : ℕ) (o : List ℕ) → from < to
     → base ≡ keyAt o n (from + 1) → last ≡ keyAt o n to → shift ≡ shiftOf 63 (last - base) (lastBucket n) 0
-    → t ≡ sets o (16 + 16 * w) (leBytes 8 base) → u ≡ set t (24 + 16 * w) shift
+    → t ≡ sets o (basePlace w) (leBytes 8 base) → u ≡ set t (shiftPlace w) shift
     → u ≡ putSegment n w from to o
 unfolding putSegment
 segment-some n w from to o h b l s p q = q ∙ rw (lt-leb to from h, ← b, ← l, ← s, ← p)

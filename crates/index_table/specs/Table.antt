@@ -7,6 +7,8 @@ use lib.Dec.{ltb, leb}
 use lib.ListN.{length, getD, set}
 use lib.Seq.{sets}
 use Rattle.endian.specs.Endian.{le, leBytes}
+use Rattle.index_layout.specs.Places.{functionsPlace, rootPlace, widthPlace, basePlace, shiftPlace, bucketPlace, segmentBuckets, buckets}
+use Rattle.index_layout.specs.Keys.{segmentOf}
 use Rattle.index_slots.specs.Slots.{Slot, keyAt, placed}
 use Rattle.index_slots.specs.Cleared.{cleared}
 
@@ -18,10 +20,6 @@ larger x y = cond (ltb x y) y x
 
 -- ---- segments
 
--- low memory ends at 2^32, memory at 2^52, I/O 65,536 further; then IDs
-unfoldable pub segmentOf : ℕ → ℕ
-segmentOf key = cond (ltb key 4294967296) 0 (cond (ltb key 4503599627370496) 1 (cond (ltb key 4503599627436032) 2 3))
-
 -- the segment of slot i
 abbrev pub segmentAt : List ℕ → ℕ → ℕ → ℕ
 segmentAt o n i = segmentOf (keyAt o n i)
@@ -30,18 +28,18 @@ segmentAt o n i = segmentOf (keyAt o n i)
 
 -- the base and the shift of segment w
 abbrev pub baseAt : List ℕ → ℕ → ℕ
-baseAt o w = le 8 o (16 + 16 * w)
+baseAt o w = le 8 o (basePlace w)
 
 abbrev pub shiftAt : List ℕ → ℕ → ℕ
-shiftAt o w = getD o (24 + 16 * w) 0 % 64
+shiftAt o w = getD o (shiftPlace w) 0 % 64
 
 -- the last bucket of a segment that keys go to: one more stays empty
 abbrev pub lastBucket : ℕ → ℕ
-lastBucket n = 8 * n - 2
+lastBucket n = segmentBuckets n - 2
 
 -- the bucket of a key of segment w
 unfoldable pub bucketBy : List ℕ → ℕ → ℕ → ℕ → ℕ
-bucketBy o n w key = 8 * n * w + least ((key - baseAt o w) / 2 ^ shiftAt o w) (lastBucket n)
+bucketBy o n w key = segmentBuckets n * w + least ((key - baseAt o w) / 2 ^ shiftAt o w) (lastBucket n)
 
 abbrev pub bucketOf : List ℕ → ℕ → ℕ → ℕ
 bucketOf o n key = bucketBy o n (segmentOf key) key
@@ -66,7 +64,7 @@ shiftOf (suc k) d most s = cond (leb (d / 2 ^ s) most) s (shiftOf k d most (s + 
 unfoldable pub putSegment : ℕ → ℕ → ℕ → ℕ → List ℕ → List ℕ
 putSegment n w from to o =
     let base = keyAt o n (from + 1) in
-    cond (leb to from) o (set (sets o (16 + 16 * w) (leBytes 8 base)) (24 + 16 * w) (shiftOf 63 (keyAt o n to - base) (lastBucket n) 0))
+    cond (leb to from) o (set (sets o (basePlace w) (leBytes 8 base)) (shiftPlace w) (shiftOf 63 (keyAt o n to - base) (lastBucket n) 0))
 
 -- o with k segments' bases and shifts from segment w on, whose slots follow slot `from`
 unfoldable pub segmented : ℕ → ℕ → ℕ → ℕ → ℕ → List ℕ → List ℕ
@@ -87,11 +85,11 @@ halves [] = []
 halves (t ∷ ts) = leBytes 2 t ++ halves ts
 
 abbrev pub entries : ℕ → ℕ → List ℕ → List ℕ
-entries n count o = tableFrom (32 * n) count (λ i. bucketAt o n i) 0 0
+entries n count o = tableFrom (buckets n) count (λ i. bucketAt o n i) 0 0
 
 -- o with the table over its slots 1 to count
 unfoldable pub tabled : ℕ → ℕ → List ℕ → List ℕ
-tabled n count o = sets o 1008 (halves (entries n count o))
+tabled n count o = sets o (bucketPlace 0) (halves (entries n count o))
 
 -- the greatest step from entry to entry, w and p coming before them
 unfoldable pub widest : ℕ → ℕ → List ℕ → ℕ
@@ -106,7 +104,7 @@ widthOf n count o = widest 0 0 (entries n count o)
 
 -- the first bytes: n, the root bus, the width
 unfoldable pub headed : ℕ → ℕ → ℕ → List ℕ → List ℕ
-headed n root width o = sets (set (sets o 0 (leBytes 2 n)) 2 root) 4 (leBytes 2 width)
+headed n root width o = sets (set (sets o functionsPlace (leBytes 2 n)) rootPlace root) widthPlace (leBytes 2 width)
 
 unfoldable pub finished : ℕ → ℕ → ℕ → List ℕ → List ℕ
 finished n root count o = let s = segmented 4 n count 0 0 o in headed n root (widthOf n count s) (tabled n count s)

@@ -14,9 +14,12 @@ use borrow.Author.Tests.{ltb-true, ltb-false}
 use Rattle.endian.specs.Endian.{le, leBytes}
 use Rattle.endian.specs.EndianLaws.{length-leBytes, le-sets, le-sets-before, le-sets-after}
 use Rattle.endian.specs.SetsLaws.{sets-sets, getD-sets-before, getD-sets-after}
-use Rattle.index_slots.specs.Slots.{indexSize, keyPlace, keyAt}
-use Rattle.index_table.specs.Table.{segmentOf, bucketBy, bucketAt, ahead, tableFrom, halves, entries, tabled, larger, widest, widthOf}
-use Rattle.index_table.specs.SegmentLaws.{segment-lt, bucketBy-agree}
+use Rattle.index_layout.specs.Places.{indexSize, bucketPlace, keyPlace, buckets}
+use Rattle.index_layout.specs.Keys.{segmentOf}
+use Rattle.index_layout.specs.KeysLaws.{segment-lt}
+use Rattle.index_slots.specs.Slots.{keyAt}
+use Rattle.index_table.specs.Table.{bucketBy, bucketAt, ahead, tableFrom, halves, entries, tabled, larger, widest, widthOf}
+use Rattle.index_table.specs.SegmentLaws.{bucketBy-agree}
 
 -- ---- the loops' turns, in their words
 
@@ -37,43 +40,44 @@ ahead-stop count b q p h e f =
     let d : count - p ≡ suc (count - (p + 1)) = omega arith in let g : ltb (b (p + 1)) q ≡ false = sym e ∙ f in rw (d, g) refl
 
 pub table-start : (n count : ℕ) (b : ℕ → ℕ) (o : List ℕ)
-    → sets o (1008 + 2 * 0) (halves (tableFrom (32 * n - 0) count b 0 0)) ≡ sets o 1008 (halves (tableFrom (32 * n) count b 0 0))
+    → sets o (bucketPlace 0) (halves (tableFrom (buckets n - 0) count b 0 0))
+    ≡ sets o (bucketPlace 0) (halves (tableFrom (buckets n) count b 0 0))
 table-start n count b o =
-    let d : 32 * n - 0 ≡ 32 * n = omega arith in ap (λ (k : ℕ). sets o 1008 (halves (tableFrom k count b 0 0))) d
+    let d : buckets n - 0 ≡ buckets n = omega arith in ap (λ (k : ℕ). sets o (bucketPlace 0) (halves (tableFrom k count b 0 0))) d
 
-pub table-end : (n count q p : ℕ) (b : ℕ → ℕ) (o : List ℕ) → 32 * n ≤ q
-    → sets o (1008 + 2 * q) (halves (tableFrom (32 * n - q) count b q p)) ≡ o
+pub table-end : (n count q p : ℕ) (b : ℕ → ℕ) (o : List ℕ) → buckets n ≤ q
+    → sets o (bucketPlace q) (halves (tableFrom (buckets n - q) count b q p)) ≡ o
 unfolding tableFrom halves
-table-end n count q p b o h = let d : 32 * n - q ≡ 0 = omega arith in rw d refl
+table-end n count q p b o h = let d : buckets n - q ≡ 0 = omega arith in rw d refl
 
 -- an entry stored leaves segments and keys, and so each slot's bucket
-pub buckets-kept : {t : List ℕ} (o₀ o : List ℕ) (n q r : ℕ) → q < 32 * n → t ≡ sets o (1008 + 2 * q) (leBytes 2 r)
+pub buckets-kept : {t : List ℕ} (o₀ o : List ℕ) (n q r : ℕ) → q < buckets n → t ≡ sets o (bucketPlace q) (leBytes 2 r)
     → ((i : ℕ) → bucketAt o n i ≡ bucketAt o₀ n i) → (i : ℕ) → bucketAt t n i ≡ bucketAt o₀ n i
 unfolding keyAt
 buckets-kept {t} o₀ o n q r h e k i = rw e (ap (λ (x : ℕ). bucketBy after n (segmentOf x) x) key ∙ same) ∙ k i
   where
     after : List ℕ
-    after = sets o (1008 + 2 * q) (leBytes 2 r)
+    after = sets o (bucketPlace q) (leBytes 2 r)
 
-    key : le 8 (sets o (1008 + 2 * q) (leBytes 2 r)) (keyPlace n i) ≡ le 8 o (keyPlace n i)
-    key = le-sets-after 8 o (1008 + 2 * q) (leBytes 2 r) (keyPlace n i) (omega (arith, h, length-leBytes 2 r))
+    key : le 8 (sets o (bucketPlace q) (leBytes 2 r)) (keyPlace n i) ≡ le 8 o (keyPlace n i)
+    key = le-sets-after 8 o (bucketPlace q) (leBytes 2 r) (keyPlace n i) (omega (arith, h, length-leBytes 2 r))
 
     same : bucketBy after n (segmentOf (le 8 o (keyPlace n i))) (le 8 o (keyPlace n i))
         ≡ bucketBy o n (segmentOf (le 8 o (keyPlace n i))) (le 8 o (keyPlace n i))
     same =
         bucketBy-agree after o n (segmentOf (le 8 o (keyPlace n i))) (le 8 o (keyPlace n i)) (segment-lt (le 8 o (keyPlace n i)))
-        (λ j l m. getD-sets-before o (1008 + 2 * q) (leBytes 2 r) j 0 (omega arith))
+        (λ j l m. getD-sets-before o (bucketPlace q) (leBytes 2 r) j 0 (omega arith))
 
-pub table-turn : {r : ℕ} {t : List ℕ} (n count q p : ℕ) (b c : ℕ → ℕ) (o : List ℕ) → q < 32 * n → ((i : ℕ) → c i ≡ b i)
-    → r ≡ ahead (count - p) c q p → t ≡ sets o (1008 + 2 * q) (leBytes 2 r)
-    → sets t (1008 + 2 * (q + 1)) (halves (tableFrom (32 * n - (q + 1)) count b (q + 1) r))
-    ≡ sets o (1008 + 2 * q) (halves (tableFrom (32 * n - q) count b q p))
+pub table-turn : {r : ℕ} {t : List ℕ} (n count q p : ℕ) (b c : ℕ → ℕ) (o : List ℕ) → q < buckets n → ((i : ℕ) → c i ≡ b i)
+    → r ≡ ahead (count - p) c q p → t ≡ sets o (bucketPlace q) (leBytes 2 r)
+    → sets t (bucketPlace (q + 1)) (halves (tableFrom (buckets n - (q + 1)) count b (q + 1) r))
+    ≡ sets o (bucketPlace q) (halves (tableFrom (buckets n - q) count b q p))
 unfolding tableFrom halves
 table-turn {r} {t} n count q p b c o h k e f =
-    let d : 32 * n - q ≡ suc (32 * n - (q + 1)) = omega arith in
+    let d : buckets n - q ≡ suc (buckets n - (q + 1)) = omega arith in
     let g : r ≡ ahead (count - p) b q p = e ∙ ap (λ (s : ℕ → ℕ). ahead (count - p) s q p) (λ z i. k i z) in
-    let a : 1008 + 2 * (q + 1) ≡ 1008 + 2 * q + length (leBytes 2 r) = omega (arith, length-leBytes 2 r) in
-    rw (d, ← g, f, a) (sets-sets o (1008 + 2 * q) (leBytes 2 r) (halves (tableFrom (32 * n - (q + 1)) count b (q + 1) r)))
+    let a : bucketPlace (q + 1) ≡ bucketPlace q + length (leBytes 2 r) = omega (arith, length-leBytes 2 r) in
+    rw (d, ← g, f, a) (sets-sets o (bucketPlace q) (leBytes 2 r) (halves (tableFrom (buckets n - (q + 1)) count b (q + 1) r)))
 
 -- ---- what an entry says
 
@@ -113,21 +117,22 @@ table-entry (suc k) count b q p l h (suc j) m =
 
 -- ---- the most slots in one bucket
 
-pub widest-start : (n count : ℕ) (b : ℕ → ℕ) → widest 0 0 (tableFrom (32 * n - 0) count b 0 0) ≡ widest 0 0 (tableFrom (32 * n) count b 0 0)
-widest-start n count b = let d : 32 * n - 0 ≡ 32 * n = omega arith in ap (λ (k : ℕ). widest 0 0 (tableFrom k count b 0 0)) d
+pub widest-start : (n count : ℕ) (b : ℕ → ℕ)
+    → widest 0 0 (tableFrom (buckets n - 0) count b 0 0) ≡ widest 0 0 (tableFrom (buckets n) count b 0 0)
+widest-start n count b = let d : buckets n - 0 ≡ buckets n = omega arith in ap (λ (k : ℕ). widest 0 0 (tableFrom k count b 0 0)) d
 
-pub widest-turn : {r v : ℕ} (n count q p w : ℕ) (b c : ℕ → ℕ) → q < 32 * n → ((i : ℕ) → c i ≡ b i)
+pub widest-turn : {r v : ℕ} (n count q p w : ℕ) (b c : ℕ → ℕ) → q < buckets n → ((i : ℕ) → c i ≡ b i)
     → r ≡ ahead (count - p) c q p → v ≡ larger w (r - p)
-    → widest v r (tableFrom (32 * n - (q + 1)) count b (q + 1) r) ≡ widest w p (tableFrom (32 * n - q) count b q p)
+    → widest v r (tableFrom (buckets n - (q + 1)) count b (q + 1) r) ≡ widest w p (tableFrom (buckets n - q) count b q p)
 unfolding tableFrom widest
 widest-turn {r} {v} n count q p w b c h k e f =
-    let d : 32 * n - q ≡ suc (32 * n - (q + 1)) = omega arith in
+    let d : buckets n - q ≡ suc (buckets n - (q + 1)) = omega arith in
     let g : r ≡ ahead (count - p) b q p = e ∙ ap (λ (s : ℕ → ℕ). ahead (count - p) s q p) (λ z i. k i z) in
     rw (d, ← g, f) refl
 
-pub widest-end : (n count q p w : ℕ) (b : ℕ → ℕ) → 32 * n ≤ q → widest w p (tableFrom (32 * n - q) count b q p) ≡ w
+pub widest-end : (n count q p w : ℕ) (b : ℕ → ℕ) → buckets n ≤ q → widest w p (tableFrom (buckets n - q) count b q p) ≡ w
 unfolding tableFrom widest
-widest-end n count q p w b h = let d : 32 * n - q ≡ 0 = omega arith in rw d refl
+widest-end n count q p w b h = let d : buckets n - q ≡ 0 = omega arith in rw d refl
 
 larger-left : (x y : ℕ) → x ≤ larger x y
 unfolding larger
@@ -218,20 +223,20 @@ length-halves (t ∷ ts) = length-append (leBytes 2 t) (halves ts) ∙ omega (ar
 
 pub length-tabled : (n count : ℕ) (o : List ℕ) → length (tabled n count o) ≡ length o
 unfolding tabled
-length-tabled n count o = length-sets o 1008 (halves (entries n count o))
+length-tabled n count o = length-sets o (bucketPlace 0) (halves (entries n count o))
 
 length-bytes : (n count : ℕ) (o : List ℕ) → length (halves (entries n count o)) ≡ 64 * n
 length-bytes n count o =
-    length-halves (entries n count o) ∙ omega (arith, length-tableFrom (32 * n) count (λ i. bucketAt o n i) 0 0)
+    length-halves (entries n count o) ∙ omega (arith, length-tableFrom (buckets n) count (λ i. bucketAt o n i) 0 0)
 
-pub getD-tabled-before : (n count : ℕ) (o : List ℕ) (k d : ℕ) → k < 1008 → getD (tabled n count o) k d ≡ getD o k d
+pub getD-tabled-before : (n count : ℕ) (o : List ℕ) (k d : ℕ) → k < bucketPlace 0 → getD (tabled n count o) k d ≡ getD o k d
 unfolding tabled
-getD-tabled-before n count o k d h = getD-sets-before o 1008 (halves (entries n count o)) k d h
+getD-tabled-before n count o k d h = getD-sets-before o (bucketPlace 0) (halves (entries n count o)) k d h
 
-pub getD-tabled-after : (n count : ℕ) (o : List ℕ) (k d : ℕ) → 1008 + 64 * n ≤ k → getD (tabled n count o) k d ≡ getD o k d
+pub getD-tabled-after : (n count : ℕ) (o : List ℕ) (k d : ℕ) → keyPlace n 0 ≤ k → getD (tabled n count o) k d ≡ getD o k d
 unfolding tabled
 getD-tabled-after n count o k d h =
-    getD-sets-after o 1008 (halves (entries n count o)) k d (omega (arith, h, length-bytes n count o))
+    getD-sets-after o (bucketPlace 0) (halves (entries n count o)) k d (omega (arith, h, length-bytes n count o))
 
 pub widest-le : (c w p : ℕ) (ts : List ℕ) → w ≤ c → ((i : ℕ) → getD ts i 0 ≤ c) → widest w p ts ≤ c
 unfolding widest larger
@@ -245,37 +250,37 @@ widest-le c w p (t ∷ ts) h f = widest-le c (cond (ltb w (t - p)) (t - p) w) t 
 -- entry q of the table
 module _ (n count : ℕ) (o : List ℕ) (room : indexSize n ≤ length o) (few : count < 65536) where
   entries-in : (i : ℕ) → getD (entries n count o) i 0 ≤ count
-  entries-in i = go (ltb i (32 * n)) refl
+  entries-in i = go (ltb i (buckets n)) refl
     where
-      go : (t : Bool) → ltb i (32 * n) ≡ t → getD (entries n count o) i 0 ≤ count
+      go : (t : Bool) → ltb i (buckets n) ≡ t → getD (entries n count o) i 0 ≤ count
       go true e =
-          table-entry (32 * n) count (λ i. bucketAt o n i) 0 0 (omega arith) (λ i z u. absurd (omega arith)) i
-          (ltb-true i (32 * n) e) .inside
+          table-entry (buckets n) count (λ i. bucketAt o n i) 0 0 (omega arith) (λ i z u. absurd (omega arith)) i
+          (ltb-true i (buckets n) e) .inside
       go false e =
           omega (
             arith,
             List·getD-eq-default (entries n count o) 0 {n = i}
-                (omega (arith, ltb-false i (32 * n) e, length-tableFrom (32 * n) count (λ i. bucketAt o n i) 0 0)),
+                (omega (arith, ltb-false i (buckets n) e, length-tableFrom (buckets n) count (λ i. bucketAt o n i) 0 0)),
           )
 
-  pub le-tabled : (q : ℕ) → q < 32 * n → le 2 (tabled n count o) (1008 + 2 * q) ≡ getD (entries n count o) q 0
+  pub le-tabled : (q : ℕ) → q < buckets n → le 2 (tabled n count o) (bucketPlace q) ≡ getD (entries n count o) q 0
   unfolding tabled
   le-tabled q h =
-      le-halves (entries n count o) o 1008 q (omega (arith, h, length-tableFrom (32 * n) count (λ i. bucketAt o n i) 0 0))
-      (omega (arith, room, length-tableFrom (32 * n) count (λ i. bucketAt o n i) 0 0)) (λ i. omega (arith, few, entries-in i))
+      le-halves (entries n count o) o (bucketPlace 0) q (omega (arith, h, length-tableFrom (buckets n) count (λ i. bucketAt o n i) 0 0))
+      (omega (arith, room, length-tableFrom (buckets n) count (λ i. bucketAt o n i) 0 0)) (λ i. omega (arith, few, entries-in i))
 
-  pub entry-tabled : (q : ℕ) → q < 32 * n → Entry (λ i. bucketAt o n i) count q (le 2 (tabled n count o) (1008 + 2 * q))
+  pub entry-tabled : (q : ℕ) → q < buckets n → Entry (λ i. bucketAt o n i) count q (le 2 (tabled n count o) (bucketPlace q))
   entry-tabled q h =
       rw (le-tabled q h)
-      (rw (zero-add q) at (table-entry (32 * n) count (λ i. bucketAt o n i) 0 0 (omega arith) (λ i z u. absurd (omega arith)) q h))
+      (rw (zero-add q) at (table-entry (buckets n) count (λ i. bucketAt o n i) 0 0 (omega arith) (λ i z u. absurd (omega arith)) q h))
 
   -- no bucket holds more slots than the width
-  pub step-le-width : (q : ℕ) → q + 1 < 32 * n
-      → le 2 (tabled n count o) (1008 + 2 * (q + 1)) - le 2 (tabled n count o) (1008 + 2 * q) ≤ widthOf n count o
+  pub step-le-width : (q : ℕ) → q + 1 < buckets n
+      → le 2 (tabled n count o) (bucketPlace (q + 1)) - le 2 (tabled n count o) (bucketPlace q) ≤ widthOf n count o
   unfolding widthOf
   step-le-width q h =
       rw (le-tabled (q + 1) h, le-tabled q (omega arith))
-      (step-le-widest 0 0 (entries n count o) q (omega (arith, h, length-tableFrom (32 * n) count (λ i. bucketAt o n i) 0 0)))
+      (step-le-widest 0 0 (entries n count o) q (omega (arith, h, length-tableFrom (buckets n) count (λ i. bucketAt o n i) 0 0)))
 
   pub width-le : widthOf n count o ≤ count
   unfolding widthOf

@@ -6,43 +6,20 @@ ghost use Prim.Native.Nat.{_+_, _-_, _*_, _<_, _≤_};
 ghost use mathlib.Core.Bool.{cond};
 ghost use lib.Dec.{ltb, leb};
 ghost use lib.ListN.{length};
-ghost use Rattle.index_slots.specs.Slots.{indexSize};
-ghost use Rattle.index_slots.specs.Cleared.{noKey};
-ghost use Rattle.index_table.specs.Table.{segmentOf, segmentAt, lastBucket, bucketBy, bucketAt, least as leastOf, larger as largerOf};
+ghost use Rattle.index_layout.specs.Places.{indexSize, mostSlots, lastKey, segmentBuckets, buckets};
+ghost use Rattle.index_layout.specs.Keys.{noKey};
+ghost use Rattle.index_table.specs.Table.{segmentAt, lastBucket, bucketBy, bucketAt, least as leastOf, larger as largerOf};
 ghost use Rattle.index_table.specs.Table.{ahead, shiftOf, putSegment, segmented, tabled, widthOf, headed, finished};
 ghost use Rattle.index_table.specs.Search.{cut, keyOf, countFrom, halfway, lastIn, foundAt};
 
-// Where the keys of low memory, of memory and of I/O end.
-const LOW_END: u64 = 4294967296;
-
-const MEMORY_END: u64 = 4503599627370496;
-
-const IO_END: u64 = 4503599627436032;
-
 // How many keys are counted, where more are halved first.
 const FEW: usize = 16;
-
-// The segment of a key.
-pub fn segment_of(key: u64) -> usize
-    ensures { λ r. ⌜ r ≡ segmentOf key ⌝ }
-{
-    if key < LOW_END {
-        return 0;
-    }
-    if key < MEMORY_END {
-        return 1;
-    }
-    if key < IO_END {
-        return 2;
-    }
-    3
-}
 
 // ---- building
 
 // An index whose slots 1 to count are in order: its segments, its table, its first bytes.
 pub fn finish(index: &mut [u8], n: usize, root: u8, count: usize)
-    requires { ⌜ (count ≤ 7 * n) × (indexSize n ≤ length (now index)) ⌝ }
+    requires { ⌜ (count ≤ mostSlots n) × (indexSize n ≤ length (now index)) ⌝ }
     ensures { λ _. ⌜ now (index .exit) ≡ finished n root count (now (index .entry)) ⌝ }
 {
     put_segments(index, n, count);
@@ -54,18 +31,18 @@ fn put_head(index: &mut [u8], n: usize, root: u8, width: usize)
     requires { ⌜ indexSize n ≤ length (now index) ⌝ }
     ensures { λ _. ⌜ now (index .exit) ≡ headed n root width (now (index .entry)) ⌝ }
 {
-    endian::write_le16(index, 0, n as u64);
-    index[2] = root;
-    endian::write_le16(index, 4, width as u64);
+    endian::write_le16(index, index_layout::FUNCTIONS, n as u64);
+    index[index_layout::ROOT] = root;
+    endian::write_le16(index, index_layout::WIDTH, width as u64);
 }
 
 fn put_segments(index: &mut [u8], n: usize, count: usize)
-    requires { ⌜ (count ≤ 7 * n) × (indexSize n ≤ length (now index)) ⌝ }
+    requires { ⌜ (count ≤ mostSlots n) × (indexSize n ≤ length (now index)) ⌝ }
     ensures { λ _. ⌜ now (index .exit) ≡ segmented 4 n count 0 0 (now (index .entry)) ⌝ }
 {
     let mut w: usize = 0;
     let mut from: usize = 0;
-    while w < 4 {
+    while w < index_layout::SEGMENTS {
         let to = segment_end(index, n, count, w, from);
         put_segment(index, n, w, from, to);
         from = to;
@@ -75,12 +52,12 @@ fn put_segments(index: &mut [u8], n: usize, count: usize)
 
 // How many slots stand in segments up to w, where the first `from` are known to.
 fn segment_end(index: &[u8], n: usize, count: usize, w: usize, from: usize) -> usize
-    requires { ⌜ (count ≤ 7 * n) × (indexSize n ≤ length (now index)) × (w < 4) × (from ≤ count) ⌝ }
+    requires { ⌜ (count ≤ mostSlots n) × (indexSize n ≤ length (now index)) × (w < 4) × (from ≤ count) ⌝ }
     ensures { λ r. ⌜ (r ≡ ahead (count - from) (λ i. segmentAt (now (index .entry)) n i) (w + 1) from) × (r ≤ count) ⌝ }
 {
     let mut p = from;
     while p < count {
-        let s = segment_of(index_slots::key_at(index, n, p + 1));
+        let s = index_layout::segment_of(index_slots::key_at(index, n, p + 1));
         if s < w + 1 {
             p += 1;
         } else {
@@ -92,7 +69,7 @@ fn segment_end(index: &[u8], n: usize, count: usize, w: usize, from: usize) -> u
 
 // The base and the shift of segment w, whose slots follow slot `from` up to slot `to`. They stay zeros where it has none.
 fn put_segment(index: &mut [u8], n: usize, w: usize, from: usize, to: usize)
-    requires { ⌜ (to ≤ 7 * n) × (indexSize n ≤ length (now index)) × (w < 4) ⌝ }
+    requires { ⌜ (to ≤ mostSlots n) × (indexSize n ≤ length (now index)) × (w < 4) ⌝ }
     ensures { λ _. ⌜ now (index .exit) ≡ putSegment n w from to (now (index .entry)) ⌝ }
 {
     if to <= from {
@@ -101,8 +78,8 @@ fn put_segment(index: &mut [u8], n: usize, w: usize, from: usize, to: usize)
     let base = index_slots::key_at(index, n, from + 1);
     let last = index_slots::key_at(index, n, to);
     let shift = shift_of(above(last, base), last_bucket(n));
-    endian::write_le64(index, 16 + 16 * w, base);
-    index[24 + 16 * w] = shift;
+    endian::write_le64(index, index_layout::base_place(w), base);
+    index[index_layout::shift_place(w)] = shift;
 }
 
 // The least shift that leaves no more than `most`, or 63.
@@ -121,15 +98,15 @@ fn shift_of(d: u64, most: u64) -> u8
 
 // The table; and the most slots that one bucket has.
 fn fill_table(index: &mut [u8], n: usize, count: usize) -> usize
-    requires { ⌜ (count ≤ 7 * n) × (indexSize n ≤ length (now index)) ⌝ }
+    requires { ⌜ (count ≤ mostSlots n) × (indexSize n ≤ length (now index)) ⌝ }
     ensures { λ r. ⌜ (now (index .exit) ≡ tabled n count (now (index .entry))) × (r ≡ widthOf n count (now (index .entry))) ⌝ }
 {
     let mut q: usize = 0;
     let mut p: usize = 0;
     let mut w: usize = 0;
-    while q < 32 * n {
+    while q < index_layout::BUCKETS * n {
         let t = advance(index, n, count, q, p);
-        endian::write_le16(index, 1008 + 2 * q, t as u64);
+        endian::write_le16(index, index_layout::bucket_place(q), t as u64);
         w = larger(w, t - p);
         p = t;
         q += 1;
@@ -139,7 +116,7 @@ fn fill_table(index: &mut [u8], n: usize, count: usize) -> usize
 
 // How many slots stand before bucket q, where the first `from` are known to.
 fn advance(index: &[u8], n: usize, count: usize, q: usize, from: usize) -> usize
-    requires { ⌜ (count ≤ 7 * n) × (indexSize n ≤ length (now index)) × (from ≤ count) ⌝ }
+    requires { ⌜ (count ≤ mostSlots n) × (indexSize n ≤ length (now index)) × (from ≤ count) ⌝ }
     ensures { λ r. ⌜ (r ≡ ahead (count - from) (λ i. bucketAt (now (index .entry)) n i) q from) × (r ≤ count) × (from ≤ r) ⌝ }
 {
     let mut p = from;
@@ -155,11 +132,11 @@ fn advance(index: &[u8], n: usize, count: usize, q: usize, from: usize) -> usize
 
 // Does slot i stand in a bucket before q?
 fn is_before(index: &[u8], n: usize, i: usize, q: usize) -> bool
-    requires { ⌜ (i ≤ 7 * n) × (indexSize n ≤ length (now index)) ⌝ }
+    requires { ⌜ (i ≤ mostSlots n) × (indexSize n ≤ length (now index)) ⌝ }
     ensures { λ r. ⌜ r ≡ ltb (bucketAt (now (index .entry)) n i) q ⌝ }
 {
     let key = index_slots::key_at(index, n, i);
-    bucket_of(index, n, segment_of(key), key) < q
+    bucket_of(index, n, index_layout::segment_of(key), key) < q
 }
 
 // ---- searching
@@ -167,29 +144,35 @@ fn is_before(index: &[u8], n: usize, i: usize, q: usize) -> bool
 // On any bytes: the position of the last key not above this one, if keys are in order and the table is theirs.
 pub fn find(index: &[u8], n: usize, w: usize, key: u64) -> usize
     requires { ⌜ (indexSize n ≤ length (now index)) × (w < 4) × (key < noKey) ⌝ }
-    ensures { λ r. ⌜ (r ≡ foundAt (now (index .entry)) n w key) × (r ≤ 7 * n) ⌝ }
+    ensures { λ r. ⌜ (r ≡ foundAt (now (index .entry)) n w key) × (r ≤ mostSlots n) ⌝ }
 {
     let q = bucket_of(index, n, w, key);
-    let from = least(endian::read_le16(index, 1008 + 2 * q), 7 * n);
-    let width = least(endian::read_le16(index, 4), 7 * n);
+    let from = least(
+        endian::read_le16(index, index_layout::bucket_place(q)),
+        index_layout::SLOTS * n,
+    );
+    let width = least(
+        endian::read_le16(index, index_layout::WIDTH),
+        index_layout::SLOTS * n,
+    );
     let p = last_in(index, n, key, from, width);
-    least(p as u64, 7 * n)
+    least(p as u64, index_layout::SLOTS * n)
 }
 
 // The bucket of a key of segment w. The last bucket of a segment stays empty.
 fn bucket_of(index: &[u8], n: usize, w: usize, key: u64) -> usize
     requires { ⌜ (indexSize n ≤ length (now index)) × (w < 4) ⌝ }
-    ensures { λ r. ⌜ (r ≡ bucketBy (now (index .entry)) n w key) × (r ≤ 32 * n) ⌝ }
+    ensures { λ r. ⌜ (r ≡ bucketBy (now (index .entry)) n w key) × (r ≤ buckets n) ⌝ }
 {
-    let base = endian::read_le64(index, 16 + 16 * w);
-    let shift = index[24 + 16 * w] % 64;
+    let base = endian::read_le64(index, index_layout::base_place(w));
+    let shift = index[index_layout::shift_place(w)] % 64;
     let q = least(above(key, base) >> shift, last_bucket(n) as usize);
-    8 * n * w + q
+    index_layout::SEGMENT_BUCKETS * n * w + q
 }
 
 // The last of the `width` positions behind `from` whose key is not above the address.
 fn last_in(index: &[u8], n: usize, a: u64, from: usize, width: usize) -> usize
-    requires { ⌜ (indexSize n ≤ length (now index)) × (a < noKey) × (from + width ≤ 14 * n) ⌝ }
+    requires { ⌜ (indexSize n ≤ length (now index)) × (a < noKey) × (from + width ≤ lastKey n) ⌝ }
     ensures { λ r. ⌜ r ≡ lastIn width (λ i. keyOf (now (index .entry)) n a i) a from width ⌝ }
 {
     let mut lo = from;
@@ -204,7 +187,7 @@ fn last_in(index: &[u8], n: usize, a: u64, from: usize, width: usize) -> usize
 
 // Past the key in the middle, if it is not above the address.
 fn step(index: &[u8], n: usize, a: u64, lo: usize, half: usize) -> usize
-    requires { ⌜ (indexSize n ≤ length (now index)) × (a < noKey) × (lo + half ≤ 14 * n) ⌝ }
+    requires { ⌜ (indexSize n ≤ length (now index)) × (a < noKey) × (lo + half ≤ lastKey n) ⌝ }
     ensures { λ r. ⌜ (r ≡ halfway (λ i. keyOf (now (index .entry)) n a i) a lo half) × (r ≤ lo + half) ⌝ }
 {
     let r = reached(index_slots::key_at(index, n, lo + half), a);
@@ -212,7 +195,7 @@ fn step(index: &[u8], n: usize, a: u64, lo: usize, half: usize) -> usize
 }
 
 fn count(index: &[u8], n: usize, a: u64, from: usize, width: usize) -> usize
-    requires { ⌜ (indexSize n ≤ length (now index)) × (a < noKey) × (from + width ≤ 14 * n) ⌝ }
+    requires { ⌜ (indexSize n ≤ length (now index)) × (a < noKey) × (from + width ≤ lastKey n) ⌝ }
     ensures { λ r. ⌜ r ≡ from + countFrom width (λ i. keyOf (now (index .entry)) n a i) a (from + 1) ⌝ }
 {
     let mut i: usize = 0;
@@ -237,13 +220,13 @@ fn reached(key: u64, a: u64) -> usize
 
 // The last bucket of a segment, from its first, that keys go to.
 fn last_bucket(n: usize) -> u64
-    requires { ⌜ 8 * n < 18446744073709551616 ⌝ }
+    requires { ⌜ segmentBuckets n < 18446744073709551616 ⌝ }
     ensures { λ r. ⌜ r ≡ lastBucket n ⌝ }
 {
     if n == 0 {
         return 0;
     }
-    (8 * n - 2) as u64
+    (index_layout::SEGMENT_BUCKETS * n - 2) as u64
 }
 
 fn above(x: u64, y: u64) -> u64

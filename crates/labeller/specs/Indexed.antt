@@ -13,7 +13,7 @@ use Rattle.sheet.specs.Sheet.{entriesOf}
 use Rattle.sheet.specs.SheetLaws.{checked-of-zero}
 use Rattle.audit_rule.specs.Audit.{auditNumber}
 use Rattle.audit_rule.specs.AuditLaws.{audit-iff}
-use Rattle.index_slots.specs.Slots.{indexSize}
+use Rattle.index_layout.specs.Places.{indexSize}
 use Rattle.index_build.specs.Build.{from11, buildNumber, indexAfter}
 use Rattle.index_build.specs.BuiltLaws.{search-is-route}
 use Rattle.trace_line.specs.declared.Engine.the-variants.{Index}

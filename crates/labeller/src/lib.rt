@@ -15,7 +15,7 @@ use trace_line::Engine;
 // stands beside the annotator. Its memory is fixed too: the index, a full sheet of 47,105 bytes, a piece of 16,384 and its lines (327,720),
 // the host record, 8,192 bytes in which the sheet's check marks IDs, 9,216 for the tables by bus of audit and build, 4,096 in which `io`
 // goes on after a short write, and under 1,000 for ranges and lines under way: less than 546,000 bytes.
-pub const INDEX: usize = 1024 + 256 * records::MOST_FUNCTIONS;
+pub const INDEX: usize = index_layout::LEAST + index_layout::EACH * records::MOST_FUNCTIONS;
 
 // A record takes two bytes at least, so the lines of any piece fit: none is counted before it is labelled.
 pub const PIECE: usize = 16384;

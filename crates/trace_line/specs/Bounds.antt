@@ -49,9 +49,10 @@ use Rattle.route.specs.declared.Routing.the-variants.{Delivered, Broadcast, Por
 use Rattle.route.specs.Route.{wrongType, answer, walked, root, headedOver, typedOver, routeOver, from42}
 use Rattle.route.specs.Route.{routePacket, fromSheet, fromReading, routeOf}
 use Rattle.index_rule.specs.Owners.{keyOf, inReach}
-use Rattle.index_rule.specs.Search.{recordIn, bridgesIn, isOver, answerAt}
+use Rattle.index_rule.specs.Search.{isOver, answerAt}
+use Rattle.index_layout.specs.Keys.{segmentOf}
+use Rattle.index_layout.specs.Words.{recordIn, bridgesIn}
 use Rattle.index_slots.specs.Slots.{keyAt, wordAt}
-use Rattle.index_table.specs.Table.{segmentOf}
 use Rattle.index_table.specs.Search.{foundAt}
 use Rattle.index_search.specs.Search.{functionsIn, rootIn, answerOver, outcomeOver, searchPacket, searchOf}
 use Rattle.index_search.specs.Search.{fromReading as fromReadingBy}

@@ -219,12 +219,12 @@ fn label_memory(header: &[u8], index: &[u8]) -> Label
         return untold();
     }
     let name = name_of_memory(k);
-    if index_find::MEMORY_END <= a {
+    if index_layout::MEMORY_END <= a {
         return owned_by(name, 0);
     }
     owned_by(
         name,
-        index_find::word_for(index, index_table::segment_of(a), a),
+        index_find::word_for(index, index_layout::segment_of(a), a),
     )
 }
 
@@ -243,12 +243,12 @@ fn label_io(header: &[u8], index: &[u8]) -> Label
         return untold();
     }
     let name = name_of_io(k);
-    if index_find::IO_END <= a {
+    if index_layout::IO_SIZE <= a {
         return owned_by(name, 0);
     }
     owned_by(
         name,
-        index_find::word_for(index, 2, index_find::MEMORY_END + a),
+        index_find::word_for(index, index_layout::IO_SEGMENT, index_layout::IO_BASE + a),
     )
 }
 
@@ -267,16 +267,20 @@ fn label_config(header: &[u8], index: &[u8]) -> Label
     if packet::config_rules(h, e) != 0 {
         return untold();
     }
-    if index.len() < 3 {
+    if index.len() <= index_layout::ROOT {
         return untold();
     }
-    if route_arrival::type_wrong(Packet::Config(k, h, e, t), index[2]) {
+    if route_arrival::type_wrong(Packet::Config(k, h, e, t), index[index_layout::ROOT]) {
         return untold();
     }
     let name = name_of_config(k);
     owned_by(
         name,
-        index_find::word_for(index, 3, index_find::ID_BASE + (t.id as u64)),
+        index_find::word_for(
+            index,
+            index_layout::ID_SEGMENT,
+            index_layout::ID_BASE + (t.id as u64),
+        ),
     )
 }
 
@@ -297,7 +301,11 @@ fn label_completion(header: &[u8], index: &[u8]) -> Label
     let name = name_of_completion(k);
     owned_by(
         name,
-        index_find::word_for(index, 3, index_find::ID_BASE + (h.requester as u64)),
+        index_find::word_for(
+            index,
+            index_layout::ID_SEGMENT,
+            index_layout::ID_BASE + (h.requester as u64),
+        ),
     )
 }
 
@@ -305,7 +313,7 @@ fn label_completion(header: &[u8], index: &[u8]) -> Label
 fn owned_by(name: u64, word: u64) -> Label
     ensures { λ r. ⌜ (r .name ≡ name) × ((p : PacketOf) → wayText (r .way) (r .number) ≡ ownerText (answer p (outcomeBy word))) ⌝ }
 {
-    let record = (word >> 16) % 65536;
+    let record = index_layout::record_in(word);
     if record == 0 {
         return Label {
             name,

@@ -8,8 +8,9 @@ use borrow.Author.Tests.{lt-ltb}
 use Rattle.packet.specs.declared.Packet.the-variants.{Completion}
 use Rattle.tlp.specs.declared.Reading.the-variants.{Accepted}
 use Rattle.tlp.specs.Reading.{readOf}
-use Rattle.index_table.specs.SegmentLaws.{segment-id}
+use Rattle.index_layout.specs.KeysLaws.{segment-id}
 use Rattle.tlp_kinds.specs.KindsLaws.{accepted-completion}
+use Rattle.index_layout.specs.Keys.{idSize, idBase}
 use Rattle.index_find.specs.FoundLaws.{no-owner, owned}
 use Rattle.capi_find.specs.FoundLaws.{find-none, find-owned}
 use Rattle.capi_find.specs.NumbersLaws.{numbers-completion}
@@ -65,7 +66,7 @@ word-for-requires : tie.Need-word-for-requires
 word-for-requires c κs =
     let middle = c .before .before .before in
     let id = middle .before .before .before .before .completion-head-at .result .requester in
-    (sym (segment-id (4503599627436032 + id) (omega arith)), omega arith)
+    (sym (segment-id (idBase + id) (omega arith)), omega arith)
 
 -- no check refuses the header
 accepted : (c : tie.Else2)
@@ -89,15 +90,19 @@ accepted c =
     (sym (ap₂ _||_ (strayed .unnamed .ensures) (lower .unnamed-lower .ensures)) ∙ named .if1 .left)
     (sym (ruled .completion-rules .ensures) ∙ c .if2 .left)
 
+record-in-requires : tie.Need-record-in-requires
+record-in-requires c κs = search needs
+
 returns-3 : tie.Need-returns-3
 returns-3 c =
-    let middle = c .before .before .before .before .before .before .before in
+    let read = c .before in
+    let word = read .before in
+    let middle = word .before .before .before .before .before .before in
     let start = middle .before .before .before .before .before .before .before .before in
-    let word = c .before in
     let id = word .before .before .before .before .before .before .before .before .completion-head-at .result .requester in
     let e =
-    find-none _ _ (no-owner _ (start .args .index .now) _ _ (accepted (word .before .before)) refl refl (lt-ltb id 65536 (omega arith))
-    _ (word .word-for .ensures) (c .if3 .taken)) in
+    find-none _ _ (no-owner _ (start .args .index .now) _ _ (accepted (word .before .before)) refl refl (lt-ltb id idSize (omega arith))
+    _ (word .word-for .ensures) (sym (read .record-in .ensures .0) ∙ c .if3 .taken)) in
     (rw e, rw e)
 
 kind-number-requires : tie.Need-kind-number-requires
@@ -111,14 +116,15 @@ same-length-3 c = search needs
 
 returns-4 : tie.Need-returns-4
 returns-4 c =
-    let middle = c .before .before .before .before .before .before .before .before .before .before in
+    let middle = c .before .before .before .before .before .before .before .before .before .before .before in
     let start = middle .before .before .before .before .before .before .before .before .before .before in
     let some = c .before .before .before .before .before in
-    let word = some .before in
+    let read = some .before in
+    let word = read .before in
     let id = word .before .before .before .before .before .before .before .before .completion-head-at .result .requester in
     let e =
-    find-owned _ _ (owned _ (start .args .index .now) _ _ (accepted (word .before .before)) refl refl (lt-ltb id 65536 (omega arith))
-    _ (word .word-for .ensures) (some .if3 .left))
+    find-owned _ _ (owned _ (start .args .index .now) _ _ (accepted (word .before .before)) refl refl (lt-ltb id idSize (omega arith))
+    _ (word .word-for .ensures) (λ z. some .if3 .left (read .record-in .ensures .0 ∙ z)))
     _ (numbers-completion _ _ _ _ (c .before .before .before .before .kind-number .ensures)) in
     rw e (c .before .before .give-completion .ensures)
 
@@ -142,6 +148,7 @@ find-completion-spec =
     cast-word-for
     add-word-for
     word-for-requires
+    record-in-requires
     returns-3
     kind-number-requires
     give-completion-requires

@@ -8,8 +8,9 @@ use borrow.Author.Tests.{lt-ltb}
 use Rattle.packet.specs.declared.Packet.the-variants.{Config}
 use Rattle.tlp.specs.declared.Reading.the-variants.{Accepted}
 use Rattle.tlp.specs.Reading.{readOf}
-use Rattle.index_table.specs.SegmentLaws.{segment-id}
+use Rattle.index_layout.specs.KeysLaws.{segment-id}
 use Rattle.tlp_kinds.specs.KindsLaws.{accepted-config}
+use Rattle.index_layout.specs.Keys.{idSize, idBase}
 use Rattle.index_find.specs.FoundLaws.{no-owner, owned}
 use Rattle.capi_find.specs.FoundLaws.{find-none, find-owned}
 use Rattle.capi_find.specs.NumbersLaws.{numbers-config}
@@ -92,7 +93,7 @@ word-for-requires : tie.Need-word-for-requires
 word-for-requires c κs =
     let middle = c .before .before .before .before .before in
     let id = middle .before .before .before .before .before .target-at .result .id in
-    (sym (segment-id (4503599627436032 + id) (omega arith)), omega arith)
+    (sym (segment-id (idBase + id) (omega arith)), omega arith)
 
 -- no check refuses the header
 accepted : (c : tie.Else2)
@@ -119,14 +120,19 @@ accepted c =
     (sym (ap₂ _||_ (strayed .unnamed .ensures) (lower .unnamed-target .ensures)) ∙ named .if1 .left)
     (sym (ruled .config-rules .ensures (kind .config-kind .result) (target .target-at .result)) ∙ c .if2 .left)
 
+record-in-requires : tie.Need-record-in-requires
+record-in-requires c κs = search needs
+
 returns-5 : tie.Need-returns-5
 returns-5 c =
-    let word = c .before in
+    let read = c .before in
+    let word = read .before in
     let typed = word .before .before in
     let id = typed .before .before .before .before .before .before .before .before .before .target-at .result .id in
     let e =
-    find-none _ _ (no-owner _ _ _ _ (accepted (typed .before .before .before .before)) refl (sym (typed .before .type-wrong .ensures) ∙ typed .if4 .left)
-    (lt-ltb id 65536 (omega arith)) _ (word .word-for .ensures) (c .if5 .taken)) in
+    find-none _ _ (no-owner _ _ _ _ (accepted (typed .before .before .before .before)) refl
+    (sym (typed .before .type-wrong .ensures) ∙ typed .if4 .left)
+    (lt-ltb id idSize (omega arith)) _ (word .word-for .ensures) (sym (read .record-in .ensures .0) ∙ c .if5 .taken)) in
     (rw e, rw e)
 
 arrived-number-requires : tie.Need-arrived-number-requires
@@ -148,12 +154,14 @@ returns-6 : tie.Need-returns-6
 returns-6 c =
     let arrived = c .before .before .before .before .before .before in
     let some = arrived .before in
-    let word = some .before in
+    let read = some .before in
+    let word = read .before in
     let typed = word .before .before in
     let id = typed .before .before .before .before .before .before .before .before .before .target-at .result .id in
     let e =
-    find-owned _ _ (owned _ _ _ _ (accepted (typed .before .before .before .before)) refl (sym (typed .before .type-wrong .ensures) ∙ typed .if4 .left)
-    (lt-ltb id 65536 (omega arith)) _ (word .word-for .ensures) (some .if5 .left))
+    find-owned _ _ (owned _ _ _ _ (accepted (typed .before .before .before .before)) refl
+    (sym (typed .before .type-wrong .ensures) ∙ typed .if4 .left)
+    (lt-ltb id idSize (omega arith)) _ (word .word-for .ensures) (λ z. some .if5 .left (read .record-in .ensures .0 ∙ z)))
     _ (numbers-config _ _ _ _ _ (arrived .arrived-number .ensures)) in
     rw e (c .before .before .give-request .ensures)
 
@@ -186,6 +194,7 @@ find-config-spec =
     cast-word-for
     add-word-for
     word-for-requires
+    record-in-requires
     returns-5
     arrived-number-requires
     cast-give-request

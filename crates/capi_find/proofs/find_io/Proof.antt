@@ -7,8 +7,9 @@ use borrow.Author.Tests.{lt-ltb, le-ltb}
 use Rattle.packet.specs.declared.Packet.the-variants.{Io}
 use Rattle.tlp.specs.declared.Reading.the-variants.{Accepted}
 use Rattle.tlp.specs.Reading.{readOf}
-use Rattle.index_table.specs.SegmentLaws.{segment-io}
+use Rattle.index_layout.specs.KeysLaws.{segment-io}
 use Rattle.tlp_kinds.specs.KindsLaws.{accepted-io}
+use Rattle.index_layout.specs.Keys.{ioBase}
 use Rattle.index_find.specs.FoundLaws.{out-of-reach, no-owner, owned}
 use Rattle.capi_find.specs.FoundLaws.{find-none, find-owned}
 use Rattle.capi_find.specs.NumbersLaws.{numbers-io}
@@ -89,14 +90,18 @@ add-word-for c = search needs
 word-for-requires : tie.Need-word-for-requires
 word-for-requires c κs =
     let a = c .before .before .before .before .before .address-at .result in
-    (sym (segment-io (4503599627370496 + a) (omega arith) (omega (arith, c .if3 .left))), omega (arith, c .if3 .left))
+    (sym (segment-io (ioBase + a) (omega arith) (omega (arith, c .if3 .left))), omega (arith, c .if3 .left))
+
+record-in-requires : tie.Need-record-in-requires
+record-in-requires c κs = search needs
 
 returns-4 : tie.Need-returns-4
 returns-4 c =
-    let word = c .before in
+    let read = c .before in
+    let word = read .before in
     let near = word .before in
     let e = find-none _ _ (no-owner _ _ _ _ (accepted (near .before)) refl refl (lt-ltb _ _ (near .if3 .left))
-    _ (word .word-for .ensures) (c .if4 .taken)) in
+    _ (word .word-for .ensures) (sym (read .record-in .ensures .0) ∙ c .if4 .taken)) in
     (rw e, rw e)
 
 kind-number-requires : tie.Need-kind-number-requires
@@ -111,9 +116,11 @@ same-length-3 c = search needs
 returns-5 : tie.Need-returns-5
 returns-5 c =
     let some = c .before .before .before .before .before in
-    let word = some .before in
+    let read = some .before in
+    let word = read .before in
     let near = word .before in
-    let e = find-owned _ _ (owned _ _ _ _ (accepted (near .before)) refl refl (lt-ltb _ _ (near .if3 .left)) _ (word .word-for .ensures) (some .if4 .left))
+    let e = find-owned _ _ (owned _ _ _ _ (accepted (near .before)) refl refl (lt-ltb _ _ (near .if3 .left))
+    _ (word .word-for .ensures) (λ z. some .if4 .left (read .record-in .ensures .0 ∙ z)))
     _ (numbers-io _ _ _ _ _ (c .before .before .before .before .kind-number .ensures)) in
     rw e (c .before .before .give-request .ensures)
 
@@ -137,6 +144,7 @@ find-io-spec =
     returns-3
     add-word-for
     word-for-requires
+    record-in-requires
     returns-4
     kind-number-requires
     give-request-requires

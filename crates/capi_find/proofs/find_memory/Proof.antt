@@ -112,12 +112,16 @@ segment-of-requires c κs = search needs
 word-for-requires : tie.Need-word-for-requires
 word-for-requires c κs = search needs
 
+record-in-requires : tie.Need-record-in-requires
+record-in-requires c κs = search needs
+
 returns-5 : tie.Need-returns-5
 returns-5 c =
-    let word = c .before in
+    let read = c .before in
+    let word = read .before in
     let near = word .before .before in
     let e = find-none _ _ (no-owner _ _ _ _ (accepted (near .before)) refl refl (lt-ltb _ _ (near .if4 .left))
-    _ (word .word-for .ensures) (c .if5 .taken)) in
+    _ (word .word-for .ensures) (sym (read .record-in .ensures .0) ∙ c .if5 .taken)) in
     (rw e, rw e)
 
 kind-number-requires : tie.Need-kind-number-requires
@@ -132,9 +136,11 @@ same-length-4 c = search needs
 returns-6 : tie.Need-returns-6
 returns-6 c =
     let some = c .before .before .before .before .before in
-    let word = some .before in
+    let read = some .before in
+    let word = read .before in
     let near = word .before .before in
-    let e = find-owned _ _ (owned _ _ _ _ (accepted (near .before)) refl refl (lt-ltb _ _ (near .if4 .left)) _ (word .word-for .ensures) (some .if5 .left))
+    let e = find-owned _ _ (owned _ _ _ _ (accepted (near .before)) refl refl (lt-ltb _ _ (near .if4 .left))
+    _ (word .word-for .ensures) (λ z. some .if5 .left (read .record-in .ensures .0 ∙ z)))
     _ (numbers-memory _ _ _ _ _ (c .before .before .before .before .kind-number .ensures)) in
     rw e (c .before .before .give-request .ensures)
 
@@ -165,6 +171,7 @@ find-memory-spec =
     returns-4
     segment-of-requires
     word-for-requires
+    record-in-requires
     returns-5
     kind-number-requires
     give-request-requires

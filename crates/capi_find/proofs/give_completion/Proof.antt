@@ -7,8 +7,8 @@ use lib.ListN.{set, length-set}
 use Rattle.packet.specs.declared.Head.{Head}
 use Rattle.packet.specs.declared.Outcome.{Outcome}
 use Rattle.packet_numbers.specs.Numbers.{headNumbers, outcomeNumbers, absent}
+use Rattle.index_layout.specs.Words.{recordIn, bridgesIn}
 use Rattle.capi_answers.specs.AnswersLaws.{answered-short, answered-filled}
-use Rattle.index_rule.specs.Search.{recordIn, bridgesIn}
 use Rattle.capi_find.proofs.give_completion.Statement.{statement}
 use Rattle.capi_find.proofs.give_completion.Tie as tie
 
@@ -23,8 +23,14 @@ returns c =
     let s = c .before .before .args in
     answered-short (numbers (s .word) (s .kind) (s .h) (s .o)) (s .out .now) (omega arith)
 
+record-in-requires : tie.Need-record-in-requires
+record-in-requires c κs = search needs
+
 slice-write-out : tie.Need-slice-write-out
 slice-write-out c = search needs
+
+bridges-in-requires : tie.Need-bridges-in-requires
+bridges-in-requires c κs = search needs
 
 slice-write-out-2 : tie.Need-slice-write-out-2
 slice-write-out-2 c = simp length-set (omega arith)
@@ -34,19 +40,23 @@ put-completion-requires c κs = search needs
 
 same-length : tie.Need-same-length
 same-length c =
-    let s = c .before .before .before .before .before .before .args in
-    let out = s .out .now in
+    let bridges = c .before .before .before .before in
+    let owner = bridges .before in
+    let out = owner .before .before .before .args .out .now in
     omega (
       arith,
       c .before .before .put-completion .kept .0,
-      length-set (set out 0 (recordIn (s .word))) 1 (bridgesIn (s .word)),
-      length-set out 0 (recordIn (s .word)),
+      length-set (set out 0 (owner .record-in .result)) 1 (bridges .bridges-in .result),
+      length-set out 0 (owner .record-in .result),
     )
 
 returns-2 : tie.Need-returns-2
 returns-2 c =
-    let s = c .before .before .before .before .before .before .args in
-    answered-filled (numbers (s .word) (s .kind) (s .h) (s .o)) (s .out .now) (omega arith) (c .before .before .put-completion .ensures)
+    let bridges = c .before .before .before .before in
+    let owner = bridges .before in
+    let s = owner .before .before .before .args in
+    answered-filled (numbers (s .word) (s .kind) (s .h) (s .o)) (s .out .now) (omega arith)
+    (rw (owner .record-in .ensures .0, bridges .bridges-in .ensures .0) at (c .before .before .put-completion .ensures))
 
 pub give-completion-spec : {M : Type 1} → statement M
 give-completion-spec =
@@ -54,7 +64,9 @@ give-completion-spec =
     (tie.spec
     add-if1
     returns
+    record-in-requires
     slice-write-out
+    bridges-in-requires
     slice-write-out-2
     put-completion-requires
     same-length

@@ -7,8 +7,8 @@ use lib.ListN.{set, length-set}
 use Rattle.packet.specs.declared.Head.{Head}
 use Rattle.packet.specs.declared.Enables.{Enables}
 use Rattle.packet_numbers.specs.Numbers.{headNumbers, requestNumbers, absent}
+use Rattle.index_layout.specs.Words.{recordIn, bridgesIn}
 use Rattle.capi_answers.specs.AnswersLaws.{answered-short, answered-filled}
-use Rattle.index_rule.specs.Search.{recordIn, bridgesIn}
 use Rattle.capi_find.proofs.give_request.Statement.{statement}
 use Rattle.capi_find.proofs.give_request.Tie as tie
 
@@ -24,8 +24,14 @@ returns c =
     let s = c .before .before .args in
     answered-short (numbers (s .word) (s .kind) (s .h) (s .e) (s .address) (s .target) (s .register)) (s .out .now) (omega arith)
 
+record-in-requires : tie.Need-record-in-requires
+record-in-requires c κs = search needs
+
 slice-write-out : tie.Need-slice-write-out
 slice-write-out c = search needs
+
+bridges-in-requires : tie.Need-bridges-in-requires
+bridges-in-requires c κs = search needs
 
 slice-write-out-2 : tie.Need-slice-write-out-2
 slice-write-out-2 c = simp length-set (omega arith)
@@ -35,20 +41,23 @@ put-request-requires c κs = search needs
 
 same-length : tie.Need-same-length
 same-length c =
-    let s = c .before .before .before .before .before .before .args in
-    let out = s .out .now in
+    let bridges = c .before .before .before .before in
+    let owner = bridges .before in
+    let out = owner .before .before .before .args .out .now in
     omega (
       arith,
       c .before .before .put-request .kept .0,
-      length-set (set out 0 (recordIn (s .word))) 1 (bridgesIn (s .word)),
-      length-set out 0 (recordIn (s .word)),
+      length-set (set out 0 (owner .record-in .result)) 1 (bridges .bridges-in .result),
+      length-set out 0 (owner .record-in .result),
     )
 
 returns-2 : tie.Need-returns-2
 returns-2 c =
-    let s = c .before .before .before .before .before .before .args in
+    let bridges = c .before .before .before .before in
+    let owner = bridges .before in
+    let s = owner .before .before .before .args in
     answered-filled (numbers (s .word) (s .kind) (s .h) (s .e) (s .address) (s .target) (s .register)) (s .out .now) (omega arith)
-    (c .before .before .put-request .ensures)
+    (rw (owner .record-in .ensures .0, bridges .bridges-in .ensures .0) at (c .before .before .put-request .ensures))
 
 pub give-request-spec : {M : Type 1} → statement M
 give-request-spec =
@@ -56,7 +65,9 @@ give-request-spec =
     (tie.spec
     add-if1
     returns
+    record-in-requires
     slice-write-out
+    bridges-in-requires
     slice-write-out-2
     put-request-requires
     same-length

@@ -25,35 +25,45 @@ segment-of-requires c κs = search needs
 word-over-requires : tie.Need-word-over-requires
 word-over-requires c κs = search needs
 
+record-in-requires : tie.Need-record-in-requires
+record-in-requires c κs = search needs
+
 returns-2 : tie.Need-returns-2
 returns-2 c =
-    let word = c .before in
+    let read = c .before in
+    let word = read .before in
     let key = word .before .before in
     let reached = key .before in
     let entry = reached .before .before .before in
     aimed-at-nobody (entry .args .p) _ _ (entry .args .aim) _ (reached .before .in-reach .ensures)
     (not-false (reached .before .in-reach .result) (reached .if1 .left)) _ _ (key .key-of .ensures .0) (word .word-over .ensures)
-    (c .if2 .taken)
+    (sym (read .record-in .ensures .0) ∙ c .if2 .taken)
 
-cast-t12 : tie.Need-cast-t12
-cast-t12 c = search needs
+cast-t11 : tie.Need-cast-t11
+cast-t11 c = search needs
 
-cast-t15 : tie.Need-cast-t15
-cast-t15 c = search needs
+bridges-in-requires : tie.Need-bridges-in-requires
+bridges-in-requires c κs = search needs
+
+cast-t13 : tie.Need-cast-t13
+cast-t13 c = search needs
 
 arrived-requires : tie.Need-arrived-requires
 arrived-requires c κs = search needs
 
 returns-3 : tie.Need-returns-3
 returns-3 c =
-    let some = c .before in
-    let word = some .before in
+    let bridges = c .before in
+    let some = bridges .before in
+    let read = some .before in
+    let word = read .before in
     let key = word .before .before in
     let reached = key .before in
     let entry = reached .before .before .before in
-    aimed-at-owner (entry .args .p) _ _ (entry .args .aim) _ (reached .before .in-reach .ensures)
+    rw (read .record-in .ensures .0, bridges .bridges-in .ensures .0)
+    (aimed-at-owner (entry .args .p) _ _ (entry .args .aim) _ (reached .before .in-reach .ensures)
     (not-false (reached .before .in-reach .result) (reached .if1 .left)) _ _ (key .key-of .ensures .0) (word .word-over .ensures)
-    (some .if2 .left) _ (c .arrived .ensures)
+    (λ z. some .if2 .left (read .record-in .ensures .0 ∙ z)) _ (c .arrived .ensures))
 
 pub search-aimed-spec : {M : Type 1} → statement M
 search-aimed-spec =
@@ -64,8 +74,10 @@ search-aimed-spec =
     key-of-requires
     segment-of-requires
     word-over-requires
+    record-in-requires
     returns-2
-    cast-t12
-    cast-t15
+    cast-t11
+    bridges-in-requires
+    cast-t13
     arrived-requires
     returns-3)

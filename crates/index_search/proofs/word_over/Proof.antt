@@ -2,7 +2,7 @@
 use borrow.Author.Needs.{needs}
 use native.Mathlib.Omega.{arith}
 use borrow.Author.Tests.{not-true, not-false}
-use Rattle.index_table.specs.SegmentLaws.{segment-lt}
+use Rattle.index_layout.specs.KeysLaws.{segment-lt}
 use Rattle.index_search.specs.AnswerLaws.{word-not-over, word-over}
 use Rattle.index_search.proofs.word_over.Statement.{statement}
 use Rattle.index_search.proofs.word_over.Tie as tie

@@ -7,20 +7,14 @@ use Rattle.index_table.specs.SegmentLaws.{start-le}
 use Rattle.index_table.proofs.bucket_of.Statement.{statement}
 use Rattle.index_table.proofs.bucket_of.Tie as tie
 
-mul-read-le64 : tie.Need-mul-read-le64
-mul-read-le64 c = search needs
-
-add-read-le64 : tie.Need-add-read-le64
-add-read-le64 c = search needs
+base-place-requires : tie.Need-base-place-requires
+base-place-requires c κs = search needs
 
 read-le64-requires : tie.Need-read-le64-requires
 read-le64-requires c κs = search needs
 
-mul-shift : tie.Need-mul-shift
-mul-shift c = search needs
-
-add-shift : tie.Need-add-shift
-add-shift c = search needs
+shift-place-requires : tie.Need-shift-place-requires
+shift-place-requires c κs = search needs
 
 shared-slice-read-shift : tie.Need-shared-slice-read-shift
 shared-slice-read-shift c = search needs
@@ -45,12 +39,12 @@ mul-result c = search needs
 
 mul-result-2 : tie.Need-mul-result-2
 mul-result-2 c =
-    let start = c .before .before .before .before .before .before in
+    let start = c .before .before .before .before .before .before .before .before in
     omega (arith, start-le (start .args .n) (start .args .w) (start .pre .1))
 
 add-result : tie.Need-add-result
 add-result c =
-    let start = c .before .before .before .before .before .before in
+    let start = c .before .before .before .before .before .before .before .before in
     omega (arith, start-le (start .args .n) (start .args .w) (start .pre .1))
 
 returns : tie.Need-returns
@@ -58,9 +52,19 @@ unfolding bucketBy
 returns c =
     let at-bucket = c .before in
     let at-above = at-bucket .before in
-    let at-read = at-above .before .before in
-    let start = at-read .before .before in (
-      rw (c .least .ensures .0, at-bucket .last-bucket .ensures, at-above .above .ensures, at-read .read-le64 .ensures .0) refl,
+    let at-shift = at-above .before .before in
+    let at-read = at-shift .before in
+    let at-base = at-read .before in
+    let start = at-base .before .before in (
+      rw (
+        c .least .ensures .0,
+        at-bucket .last-bucket .ensures,
+        at-above .above .ensures,
+        at-shift .shift-place .ensures,
+        at-read .read-le64 .ensures .0,
+        at-base .base-place .ensures,
+      )
+          refl,
       omega (arith, start-le (start .args .n) (start .args .w) (start .pre .1)),
     )
 
@@ -68,11 +72,9 @@ pub bucket-of-spec : {M : Type 1} → statement M
 bucket-of-spec =
     tie.close
     (tie.spec
-    mul-read-le64
-    add-read-le64
+    base-place-requires
     read-le64-requires
-    mul-shift
-    add-shift
+    shift-place-requires
     shared-slice-read-shift
     above-requires
     cast-least

@@ -1,10 +1,11 @@
 -- `index_table::fill_table` meets its contract. Invariant: the entries that are left, stored from here, give the final bytes, and with the
 -- steps so far the width; each slot's bucket is as at the start. Measure: buckets left. Assumes nothing.
 use mathlib.Core.Path.{_≡_, refl, sym, _∙_}
-use Prim.Native.Nat.{ℕ, _≤_, _-_, _+_, _*_}
+use Prim.Native.Nat.{ℕ, _≤_, _-_}
 use native.Mathlib.Omega.{arith}
 use lib.ListN.{length}
 use lib.Seq.{sets}
+use Rattle.index_layout.specs.Places.{bucketPlace, buckets}
 use Rattle.index_table.specs.Table.{bucketAt, tableFrom, halves, tabled, widest, widthOf}
 use Rattle.index_table.specs.TableLaws.{table-start, table-turn, table-end, buckets-kept, widest-start, widest-turn, widest-end}
 use Rattle.index_table.proofs.fill_table.Statement.{statement}
@@ -12,15 +13,15 @@ use Rattle.index_table.proofs.fill_table.Tie as tie
 
 abbrev Inv-loop : tie.InvT-loop
 Inv-loop index₀ n count q₀ p₀ w₀ index q p w =
-    (q ≤ 32 * n)
+    (q ≤ buckets n)
     × (p ≤ count)
     × (length index ≡ length index₀)
     × ((i : ℕ) → bucketAt index n i ≡ bucketAt index₀ n i)
-    × (sets index (1008 + 2 * q) (halves (tableFrom (32 * n - q) count (λ i. bucketAt index₀ n i) q p)) ≡ tabled n count index₀)
-    × (widest w p (tableFrom (32 * n - q) count (λ i. bucketAt index₀ n i) q p) ≡ widthOf n count index₀)
+    × (sets index (bucketPlace q) (halves (tableFrom (buckets n - q) count (λ i. bucketAt index₀ n i) q p)) ≡ tabled n count index₀)
+    × (widest w p (tableFrom (buckets n - q) count (λ i. bucketAt index₀ n i) q p) ≡ widthOf n count index₀)
 
 abbrev μ-loop : tie.MeasureT-loop
-μ-loop index₀ n count q₀ p₀ w₀ index q p w = 32 * n - q
+μ-loop index₀ n count q₀ p₀ w₀ index q p w = buckets n - q
 
 loop-holds : tie.Need-loop-holds Inv-loop μ-loop
 unfolding tabled widthOf
@@ -32,14 +33,11 @@ mul-loop c = omega arith
 advance-requires : tie.Need-advance-requires Inv-loop μ-loop
 advance-requires c κs = (omega arith, omega arith, omega arith)
 
-mul-write-le16 : tie.Need-mul-write-le16 Inv-loop μ-loop
-mul-write-le16 c = omega arith
-
-add-write-le16 : tie.Need-add-write-le16 Inv-loop μ-loop
-add-write-le16 c = omega arith
+bucket-place-requires : tie.Need-bucket-place-requires Inv-loop μ-loop
+bucket-place-requires c κs = omega arith
 
 write-le16-requires : tie.Need-write-le16-requires Inv-loop μ-loop
-write-le16-requires c κs = omega arith
+write-le16-requires c κs = omega (arith, c .bucket-place .ensures)
 
 sub-larger : tie.Need-sub-larger Inv-loop μ-loop
 sub-larger c = omega arith
@@ -56,16 +54,18 @@ loop-less c = omega arith
 loop-again : tie.Need-loop-again Inv-loop μ-loop
 loop-again c =
     let at-write = c .before .before .before in
-    let at-advance = at-write .before .before in
+    let at-place = at-write .before in
+    let at-advance = at-place .before .before in
     let turn = at-advance .before .before in
     let state = turn .before .loop in
-    let first = turn .before .before .before .args in (
+    let first = turn .before .before .before .args in
+    let written = rw (at-place .bucket-place .ensures) at (at-write .write-le16 .ensures) in (
       omega arith,
       omega arith,
       omega arith,
-      buckets-kept _ _ _ _ _ (turn .loop-test .taken) (at-write .write-le16 .ensures) (state .inv .3),
+      buckets-kept _ _ _ _ _ (turn .loop-test .taken) written (state .inv .3),
       table-turn _ _ _ _ (λ i. bucketAt (first .index .now) (first .n) i) (λ i. bucketAt (state .index) (first .n) i) _
-          (turn .loop-test .taken) (state .inv .3) (at-advance .advance .ensures .0) (at-write .write-le16 .ensures)
+          (turn .loop-test .taken) (state .inv .3) (at-advance .advance .ensures .0) written
           ∙ state .inv .4,
       widest-turn _ _ _ _ _ (λ i. bucketAt (first .index .now) (first .n) i) (λ i. bucketAt (state .index) (first .n) i)
           (turn .loop-test .taken) (state .inv .3) (at-advance .advance .ensures .0) (c .larger .ensures)
@@ -92,8 +92,7 @@ fill-table-spec =
     loop-holds
     mul-loop
     advance-requires
-    mul-write-le16
-    add-write-le16
+    bucket-place-requires
     write-le16-requires
     sub-larger
     larger-requires

@@ -8,11 +8,8 @@ use Rattle.index_table.proofs.find.Tie as tie
 bucket-of-requires : tie.Need-bucket-of-requires
 bucket-of-requires c κs = search needs
 
-mul-read-le16 : tie.Need-mul-read-le16
-mul-read-le16 c = search needs
-
-add-read-le16 : tie.Need-add-read-le16
-add-read-le16 c = search needs
+bucket-place-requires : tie.Need-bucket-place-requires
+bucket-place-requires c κs = search needs
 
 read-le16-requires : tie.Need-read-le16-requires
 read-le16-requires c κs = search needs
@@ -47,7 +44,7 @@ returns c =
     let at-last = c .before in
     let at-width = at-last .before in
     let at-lead = at-width .before .before in
-    let at-bucket = at-lead .before .before in (
+    let at-place = at-lead .before .before in (
       rw (
         c .least3 .ensures .0,
         at-last .last-in .ensures,
@@ -55,7 +52,8 @@ returns c =
         at-width .before .read-le162 .ensures .0,
         at-lead .least .ensures .0,
         at-lead .before .read-le16 .ensures .0,
-        at-bucket .bucket-of .ensures .0,
+        at-place .bucket-place .ensures,
+        at-place .before .bucket-of .ensures .0,
       ),
       omega arith,
     )
@@ -65,8 +63,7 @@ find-spec =
     tie.close
     (tie.spec
     bucket-of-requires
-    mul-read-le16
-    add-read-le16
+    bucket-place-requires
     read-le16-requires
     mul-least
     least-requires

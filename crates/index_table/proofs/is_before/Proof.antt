@@ -2,7 +2,7 @@
 use mathlib.Core.Path.{refl}
 use native.Mathlib.Omega.{arith}
 use borrow.Author.Needs.{needs}
-use Rattle.index_table.specs.SegmentLaws.{segment-lt}
+use Rattle.index_layout.specs.KeysLaws.{segment-lt}
 use Rattle.index_table.proofs.is_before.Statement.{statement}
 use Rattle.index_table.proofs.is_before.Tie as tie
 

@@ -1,7 +1,8 @@
 -- `index_table::last_in` meets its contract. Invariant: from here on the same position is found. Measure: keys left. Assumes nothing.
 use mathlib.Core.Path.{_≡_, refl, _∙_}
-use Prim.Native.Nat.{_+_, _*_, _≤_}
+use Prim.Native.Nat.{_+_, _≤_}
 use native.Mathlib.Omega.{arith}
+use Rattle.index_layout.specs.Places.{lastKey}
 use Rattle.index_table.specs.Search.{keyOf, lastIn}
 use Rattle.index_table.specs.SearchLaws.{last-turn, last-end}
 use Rattle.index_table.proofs.last_in.Statement.{statement}
@@ -9,7 +10,7 @@ use Rattle.index_table.proofs.last_in.Tie as tie
 
 abbrev Inv-loop : tie.InvT-loop
 Inv-loop index n a from width lo₀ k₀ lo k =
-    (lo + k ≤ 14 * n) × (lastIn k (λ i. keyOf index n a i) a lo k ≡ lastIn width (λ i. keyOf index n a i) a from width)
+    (lo + k ≤ lastKey n) × (lastIn k (λ i. keyOf index n a i) a lo k ≡ lastIn width (λ i. keyOf index n a i) a from width)
 
 abbrev μ-loop : tie.MeasureT-loop
 μ-loop index n a from width lo₀ k₀ lo k = k

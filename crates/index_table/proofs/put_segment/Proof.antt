@@ -26,20 +26,14 @@ last-bucket-requires c κs = search needs
 shift-of-requires : tie.Need-shift-of-requires
 shift-of-requires c κs = search needs
 
-mul-write-le64 : tie.Need-mul-write-le64
-mul-write-le64 c = search needs
-
-add-write-le64 : tie.Need-add-write-le64
-add-write-le64 c = search needs
+base-place-requires : tie.Need-base-place-requires
+base-place-requires c κs = search needs
 
 write-le64-requires : tie.Need-write-le64-requires
 write-le64-requires c κs = search needs
 
-mul-index : tie.Need-mul-index
-mul-index c = search needs
-
-add-index : tie.Need-add-index
-add-index c = search needs
+shift-place-requires : tie.Need-shift-place-requires
+shift-place-requires c κs = search needs
 
 slice-write-index : tie.Need-slice-write-index
 slice-write-index c = search needs
@@ -49,15 +43,17 @@ same-length c = search needs
 
 returns-2 : tie.Need-returns-2
 returns-2 c =
-    let at-write = c .before .before in
-    let at-shift = at-write .before .before in
+    let at-write = c .before .before .before in
+    let at-place = at-write .before in
+    let at-shift = at-place .before .before in
     let at-last = at-shift .before .before .before in
     let at-base = at-last .before .before in
     let at-test = at-base .before .before in
     let shift =
     rw (at-shift .before .last-bucket .ensures, at-shift .before .before .above .ensures) at (at-shift .shift-of .ensures) in
-    segment-some _ _ _ _ _ (at-test .if1 .left) (at-base .key-at .ensures) (at-last .key-at2 .ensures) shift
-    (at-write .write-le64 .ensures) refl
+    let base = rw (at-place .base-place .ensures) at (at-write .write-le64 .ensures) in
+    rw (c .shift-place .ensures)
+    (segment-some _ _ _ _ _ (at-test .if1 .left) (at-base .key-at .ensures) (at-last .key-at2 .ensures) shift base refl)
 
 pub put-segment-spec : {M : Type 1} → statement M
 put-segment-spec =
@@ -70,11 +66,9 @@ put-segment-spec =
     above-requires
     last-bucket-requires
     shift-of-requires
-    mul-write-le64
-    add-write-le64
+    base-place-requires
     write-le64-requires
-    mul-index
-    add-index
+    shift-place-requires
     slice-write-index
     same-length
     returns-2)

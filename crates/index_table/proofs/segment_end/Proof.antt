@@ -5,7 +5,8 @@ use Prim.Native.Nat.{ℕ, _≤_, _-_, _+_}
 use native.Mathlib.Omega.{arith}
 use lib.Dec.{ltb}
 use borrow.Author.Tests.{lt-ltb, le-ltb}
-use Rattle.index_table.specs.Table.{segmentOf, segmentAt, ahead}
+use Rattle.index_layout.specs.Keys.{segmentOf}
+use Rattle.index_table.specs.Table.{segmentAt, ahead}
 use Rattle.index_table.specs.TableLaws.{ahead-all, ahead-on, ahead-stop}
 use Rattle.index_table.proofs.segment_end.Statement.{statement}
 use Rattle.index_table.proofs.segment_end.Tie as tie

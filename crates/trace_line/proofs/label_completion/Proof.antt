@@ -5,11 +5,12 @@ use native.Mathlib.Omega.{arith}
 use mathlib.Core.Path.{_≡_, refl, sym, ap₂, _∙_}
 use mathlib.Core.Bool.{_||_}
 use borrow.Author.Tests.{lt-ltb}
-use Rattle.index_table.specs.SegmentLaws.{segment-id}
+use Rattle.index_layout.specs.KeysLaws.{segment-id}
 use Rattle.packet.specs.declared.Packet.the-variants.{Completion}
 use Rattle.tlp.specs.declared.Reading.the-variants.{Accepted}
 use Rattle.tlp.specs.Reading.{readOf}
 use Rattle.tlp_kinds.specs.KindsLaws.{accepted-completion}
+use Rattle.index_layout.specs.Keys.{idSize, idBase}
 use Rattle.index_find.specs.FoundLaws.{by-word}
 use Rattle.trace_line.specs.LabelLaws.{labels-found}
 use Rattle.trace_line.proofs.label_completion.Statement.{statement}
@@ -61,7 +62,7 @@ word-for-requires : tie.Need-word-for-requires
 word-for-requires c κs =
     let middle = c .before .before .before .before in
     let id = middle .before .before .before .before .completion-head-at .result .requester in
-    (sym (segment-id (4503599627436032 + id) (omega arith)), omega arith)
+    (sym (segment-id (idBase + id) (omega arith)), omega arith)
 
 owned-by-requires : tie.Need-owned-by-requires
 owned-by-requires c κs = search needs
@@ -97,8 +98,9 @@ returns-3 c =
     let id = middle .completion-head-at .result .requester in
     let index = middle .before .before .before .before .before .args .index .now in
     let found =
-    by-word _ index _ _ (accepted lawful) refl refl (lt-ltb id 65536 (omega arith)) (word .word-for .result) (word .word-for .ensures) in
-    λ _. labels-found index _ _ (accepted lawful) (word .word-for .result) found _ (name .name-of-completion .ensures) _ (c .owned-by .ensures)
+    by-word _ index _ _ (accepted lawful) refl refl (lt-ltb id idSize (omega arith)) (word .word-for .result) (word .word-for .ensures) in
+    λ _. labels-found index _ _ (accepted lawful) (word .word-for .result) found _ (name .name-of-completion .ensures)
+    _ (c .owned-by .ensures)
 
 pub label-completion-spec : {M : Type 1} → statement M
 label-completion-spec =

@@ -5,11 +5,12 @@ use native.Mathlib.Omega.{arith}
 use mathlib.Core.Path.{_≡_, refl, sym, ap₂, _∙_}
 use mathlib.Core.Bool.{_||_}
 use borrow.Author.Tests.{lt-ltb}
-use Rattle.index_table.specs.SegmentLaws.{segment-id}
+use Rattle.index_layout.specs.KeysLaws.{segment-id}
 use Rattle.packet.specs.declared.Packet.the-variants.{Config}
 use Rattle.tlp.specs.declared.Reading.the-variants.{Accepted}
 use Rattle.tlp.specs.Reading.{readOf}
 use Rattle.tlp_kinds.specs.KindsLaws.{accepted-config}
+use Rattle.index_layout.specs.Keys.{idSize, idBase}
 use Rattle.index_find.specs.FoundLaws.{by-word}
 use Rattle.trace_line.specs.LabelLaws.{labels-found}
 use Rattle.trace_line.proofs.label_config.Statement.{statement}
@@ -82,7 +83,7 @@ word-for-requires : tie.Need-word-for-requires
 word-for-requires c κs =
     let middle = c .before .before .before .before .before .before in
     let id = middle .before .before .before .before .before .target-at .result .id in
-    (sym (segment-id (4503599627436032 + id) (omega arith)), omega arith)
+    (sym (segment-id (idBase + id) (omega arith)), omega arith)
 
 owned-by-requires : tie.Need-owned-by-requires
 owned-by-requires c κs = search needs
@@ -120,7 +121,7 @@ returns-5 c =
     let lawful = typed .before .before .before .before in
     let id = lawful .before .before .before .before .before .target-at .result .id in
     let found =
-    by-word _ _ _ _ (accepted lawful) refl (sym (typed .before .type-wrong .ensures) ∙ typed .if4 .left) (lt-ltb id 65536 (omega arith))
+    by-word _ _ _ _ (accepted lawful) refl (sym (typed .before .type-wrong .ensures) ∙ typed .if4 .left) (lt-ltb id idSize (omega arith))
     (word .word-for .result) (word .word-for .ensures) in
     λ _. labels-found _ _ _ (accepted lawful) (word .word-for .result) found _ (name .name-of-config .ensures) _ (c .owned-by .ensures)
 

@@ -4,11 +4,12 @@ use Prim.Native.Nat.{_+_}
 use native.Mathlib.Omega.{arith}
 use mathlib.Core.Path.{_≡_, refl, sym, _∙_}
 use borrow.Author.Tests.{lt-ltb, le-ltb}
-use Rattle.index_table.specs.SegmentLaws.{segment-io}
+use Rattle.index_layout.specs.KeysLaws.{segment-io}
 use Rattle.packet.specs.declared.Packet.the-variants.{Io}
 use Rattle.tlp.specs.declared.Reading.the-variants.{Accepted}
 use Rattle.tlp.specs.Reading.{readOf}
 use Rattle.tlp_kinds.specs.KindsLaws.{accepted-io}
+use Rattle.index_layout.specs.Keys.{ioBase}
 use Rattle.index_find.specs.FoundLaws.{out-of-reach, by-word}
 use Rattle.trace_line.specs.LabelLaws.{labels-found}
 use Rattle.trace_line.proofs.label_io.Statement.{statement}
@@ -91,7 +92,7 @@ add-word-for c = search needs
 word-for-requires : tie.Need-word-for-requires
 word-for-requires c κs =
     let a = c .before .before .before .before .before .before .address-at .result in
-    (sym (segment-io (4503599627370496 + a) (omega arith) (omega (arith, c .if3 .left))), omega (arith, c .if3 .left))
+    (sym (segment-io (ioBase + a) (omega arith) (omega (arith, c .if3 .left))), omega (arith, c .if3 .left))
 
 owned-by-requires-2 : tie.Need-owned-by-requires-2
 owned-by-requires-2 c κs = search needs
@@ -102,7 +103,8 @@ returns-4 c =
     let near = word .before in
     let name = near .before in
     let lawful = name .before in
-    let found = by-word _ _ _ _ (accepted lawful) refl refl (lt-ltb _ _ (near .if3 .left)) (word .word-for .result) (word .word-for .ensures) in
+    let found =
+    by-word _ _ _ _ (accepted lawful) refl refl (lt-ltb _ _ (near .if3 .left)) (word .word-for .result) (word .word-for .ensures) in
     λ _. labels-found _ _ _ (accepted lawful) (word .word-for .result) found _ (name .name-of-io .ensures) _ (c .owned-by2 .ensures)
 
 pub label-io-spec : {M : Type 1} → statement M

@@ -1,22 +1,30 @@
 -- `trace_line::owned_by` meets its contract: a record, or nobody's. Assumes nothing.
 use borrow.Author.Needs.{needs}
-use mathlib.Core.Path.{refl}
+use mathlib.Core.Path.{refl, sym, _∙_}
 use borrow.Author.Tests.{eq-eqb, ne-eqb}
-use Rattle.index_rule.specs.Search.{recordIn}
+use Rattle.index_layout.specs.Words.{recordIn}
 use Rattle.trace_line.specs.Label.{wayText}
 use Rattle.trace_line.proofs.owned_by.Statement.{statement}
 use Rattle.trace_line.proofs.owned_by.Tie as tie
 
+record-in-requires : tie.Need-record-in-requires
+record-in-requires c κs = search needs
+
 returns : tie.Need-returns
 unfolding wayText
-returns c = (refl, λ p. rw (eq-eqb (recordIn (c .before .args .word)) 0 (c .if1 .taken)))
+returns c =
+    let read = c .before in
+    (refl, λ p. rw (eq-eqb (recordIn (read .before .args .word)) 0 (sym (read .record-in .ensures .0) ∙ c .if1 .taken)))
 
-cast-t6 : tie.Need-cast-t6
-cast-t6 c = search needs
+cast-t5 : tie.Need-cast-t5
+cast-t5 c = search needs
 
 returns-2 : tie.Need-returns-2
 unfolding wayText
-returns-2 c = (refl, λ p. rw (ne-eqb (recordIn (c .before .args .word)) 0 (c .if1 .left)))
+returns-2 c =
+    let read = c .before in
+    let word = read .before .args .word in
+    (refl, λ p. rw (read .record-in .ensures .0, ne-eqb (recordIn word) 0 (λ z. c .if1 .left (read .record-in .ensures .0 ∙ z))))
 
 pub owned-by-spec : {M : Type 1} → statement M
-owned-by-spec = tie.close (tie.spec returns cast-t6 returns-2)
+owned-by-spec = tie.close (tie.spec record-in-requires returns cast-t5 returns-2)

@@ -1,8 +1,8 @@
--- `index_table::segment_of` meets its contract. Assumes nothing.
+-- `index_layout::segment_of` meets its contract. Assumes nothing.
 use mathlib.Core.Path.{sym}
-use Rattle.index_table.specs.SegmentLaws.{segment-low, segment-high, segment-io, segment-id}
-use Rattle.index_table.proofs.segment_of.Statement.{statement}
-use Rattle.index_table.proofs.segment_of.Tie as tie
+use Rattle.index_layout.specs.KeysLaws.{segment-low, segment-high, segment-io, segment-id}
+use Rattle.index_layout.proofs.segment_of.Statement.{statement}
+use Rattle.index_layout.proofs.segment_of.Tie as tie
 
 returns : tie.Need-returns
 returns c = sym (segment-low _ (c .if1 .taken))
