@@ -5,9 +5,8 @@ use mathlib.Core.Bool.{cond}
 use mathlib.Core.List.{List}
 use lib.ListN.{take, drop}
 use lib.Dec.{eqb}
-use Rattle.text.specs.Text.{ascii}
+use Rattle.text.specs.Text.{ascii, refusalText}
 use Rattle.board_record.specs.Host.{hostLength}
-use Rattle.sheet_text.specs.Listing.{refusalText}
 use Rattle.audit_rule.specs.Audit.{auditNumber}
 
 unfoldable pub inputNumber : List ℕ → ℕ

@@ -4,9 +4,8 @@ use Prim.Native.Nat.{ℕ, _≤_, _<_}
 use native.Mathlib.Omega.{arith}
 use lib.ListN.{length}
 use lib.Dec.{eqb}
-use Rattle.text.specs.Text.{ascii}
-use Rattle.sheet_text.specs.Listing.{refusalText}
-use Rattle.sheet_text.specs.LengthLaws.{refusal-short}
+use Rattle.text.specs.Text.{ascii, refusalText}
+use Rattle.text.specs.TextLaws.{refusal-short}
 use Rattle.audit_feed.specs.Program.{numberText}
 
 pub text-le : (n : ℕ) → n < 1000 → length (numberText n) ≤ 12

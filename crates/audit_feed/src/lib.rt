@@ -146,7 +146,7 @@ fn put_number(answer: &mut [u8], number: u8) -> usize
     if number == 0 {
         return text::put_text(answer, 0, b"accepted\n");
     }
-    sheet_text::put_refusal(answer, 0, number)
+    text::put_refusal(answer, 0, number)
 }
 
 // The bytes of the host record that are to come after so many bytes.

@@ -4,10 +4,10 @@
 -- it. Assumes nothing.
 use Prim.Native.Nat.{ℕ}
 use mathlib.Core.Bool.{cond}
-use mathlib.Core.List.{List, _++_}
+use mathlib.Core.List.{List}
 use lib.ListN.{length, take, drop}
 use lib.Dec.{eqb, ltb}
-use Rattle.text.specs.Text.{ascii, decimal}
+use Rattle.text.specs.Text.{refusalText}
 use Rattle.endian.specs.Endian.{be}
 use Rattle.board_record.specs.Host.{hostLength, hostOfPart, hostWrong}
 use Rattle.audit_rule.specs.Audit.{auditNumber}
@@ -17,32 +17,29 @@ use Rattle.annotator.specs.declared.Opening.{Opening}
 use Rattle.annotator.specs.declared.Opening.the-variants.{Sheet, Long}
 use Rattle.annotator.specs.Program.{openingOf}
 
-unfoldable pub refusal : ℕ → List ℕ
-refusal number = (ascii "refused " ++ decimal number) ++ ascii "\n"
-
 -- "A sheet that E6 refuses gets E6's number and no index."
 unfoldable pub onNumber : ℕ → List ℕ → List ℕ → List ℕ
-onNumber number sheet trace = cond (eqb number 0) (annotated (lineOver sheet) trace) (refusal number)
+onNumber number sheet trace = cond (eqb number 0) (annotated (lineOver sheet) trace) (refusalText number)
 
 module _ (host : List ℕ) where
   -- a sheet of so many bytes, then the trace: "a sheet cut short only `refused 20`"
   unfoldable pub overSheet : ℕ → List ℕ → List ℕ
   overSheet size s =
-      cond (ltb (length s) size) (refusal 20) (onNumber (auditNumber host (take size s)) (take size s) (drop size s))
+      cond (ltb (length s) size) (refusalText 20) (onNumber (auditNumber host (take size s)) (take size s) (drop size s))
 
   -- "a length above a full sheet's prints at once only `refused 22`"
   abbrev pub fromOpening : Opening → List ℕ → List ℕ
   fromOpening (Sheet size) s = overSheet size s
-  fromOpening Long s = refusal 22
+  fromOpening Long s = refusalText 22
 
   -- an input that ends inside the length is a sheet cut short
   unfoldable pub fromLength : List ℕ → List ℕ
-  fromLength s = cond (ltb (length s) 2) (refusal 20) (fromOpening (openingOf (be 2 s 0)) (drop 2 s))
+  fromLength s = cond (ltb (length s) 2) (refusalText 20) (fromOpening (openingOf (be 2 s 0)) (drop 2 s))
 
   -- "then 26 as on a board, both tried first"
   unfoldable pub fromHost : List ℕ → List ℕ
-  fromHost s = cond (hostWrong (hostOfPart host)) (refusal 26) (fromLength s)
+  fromHost s = cond (hostWrong (hostOfPart host)) (refusalText 26) (fromLength s)
 
 -- "a host record (not 30 bytes is 20"
 unfoldable pub programOf : List ℕ → List ℕ
-programOf s = cond (ltb (length s) hostLength) (refusal 20) (fromHost (take hostLength s) (drop hostLength s))
+programOf s = cond (ltb (length s) hostLength) (refusalText 20) (fromHost (take hostLength s) (drop hostLength s))

@@ -8,6 +8,7 @@ use native.Mathlib.Omega.{arith}
 use lib.ListN.{length, length-append}
 use lib.Seq.{take-at, drop-at}
 use borrow.Author.Tests.{lt-ltb, le-ltb, eq-eqb, ne-eqb}
+use Rattle.text.specs.Text.{refusalText}
 use Rattle.endian.specs.Endian.{be}
 use Rattle.board_record.specs.Host.{hostLength, hostOfPart, hostWrong}
 use Rattle.sheet.specs.Sheet.{fullSheet}
@@ -19,13 +20,13 @@ use Rattle.trace_line.specs.Engine.{lineBy}
 use Rattle.annotator.specs.declared.Opening.{Opening}
 use Rattle.annotator.specs.Program.{openingOf}
 use Rattle.annotator.specs.ProgramLaws.{opening-long, opening-sheet, sizeOf}
-use Rattle.labeller.specs.Program.{refusal, onNumber, overSheet, fromOpening, fromLength, fromHost, programOf}
+use Rattle.labeller.specs.Program.{onNumber, overSheet, fromOpening, fromLength, fromHost, programOf}
 use Rattle.labeller.specs.Indexed.{Indexed}
 
 -- ## The host record
 
 -- an input that ends inside it
-pub program-no-host : (s : List ℕ) → length s < hostLength → programOf s ≡ refusal 20
+pub program-no-host : (s : List ℕ) → length s < hostLength → programOf s ≡ refusalText 20
 unfolding programOf
 program-no-host s h = rw (lt-ltb (length s) hostLength h)
 
@@ -37,7 +38,7 @@ module _ (host : List ℕ) (size : length host ≡ hostLength) where
       rw (le-ltb (length (host ++ s)) hostLength enough, take-at host s hostLength size, drop-at host s hostLength size)
 
   -- at once, whatever follows
-  pub program-wrong-host : (s : List ℕ) → hostWrong (hostOfPart host) ≡ true → programOf (host ++ s) ≡ refusal 26
+  pub program-wrong-host : (s : List ℕ) → hostWrong (hostOfPart host) ≡ true → programOf (host ++ s) ≡ refusalText 26
   unfolding fromHost
   program-wrong-host s e = from-host s ∙ rw e
 
@@ -48,7 +49,7 @@ module _ (host : List ℕ) (size : length host ≡ hostLength) where
     unfolding fromHost
     past-host s = from-host s ∙ rw right
 
-    pub program-no-length : (s : List ℕ) → length s < 2 → programOf (host ++ s) ≡ refusal 20
+    pub program-no-length : (s : List ℕ) → length s < 2 → programOf (host ++ s) ≡ refusalText 20
     unfolding fromLength
     program-no-length s h = past-host s ∙ rw (lt-ltb (length s) 2 h)
 
@@ -59,14 +60,14 @@ module _ (host : List ℕ) (size : length host ≡ hostLength) where
       from-length s = past-host (a ∷ b ∷ s) ∙ rw (le-ltb (length (a ∷ b ∷ s)) 2 (omega arith))
 
       -- at once, whatever follows
-      pub program-long : (s : List ℕ) → fullSheet < sizeOf a b → programOf (host ++ (a ∷ b ∷ s)) ≡ refusal 22
+      pub program-long : (s : List ℕ) → fullSheet < sizeOf a b → programOf (host ++ (a ∷ b ∷ s)) ≡ refusalText 22
       program-long s h = from-length s ∙ ap (λ (o : Opening). fromOpening host o s) (opening-long (sizeOf a b) h)
 
       module _ (h : sizeOf a b ≤ fullSheet) where
         opened : (s : List ℕ) → programOf (host ++ (a ∷ b ∷ s)) ≡ overSheet host (sizeOf a b) s
         opened s = from-length s ∙ ap (λ (o : Opening). fromOpening host o s) (opening-sheet (sizeOf a b) h)
 
-        pub program-short : (s : List ℕ) → length s < sizeOf a b → programOf (host ++ (a ∷ b ∷ s)) ≡ refusal 20
+        pub program-short : (s : List ℕ) → length s < sizeOf a b → programOf (host ++ (a ∷ b ∷ s)) ≡ refusalText 20
         unfolding overSheet
         program-short s l = opened s ∙ rw (lt-ltb (length s) (sizeOf a b) l)
 
@@ -81,7 +82,7 @@ module _ (host : List ℕ) (size : length host ≡ hostLength) where
           -- the sheet indexed
           module _ (number : ℕ) (index : List ℕ) (is : Indexed host sheet number index) where
             -- at once, whatever follows
-            pub program-refused : (s : List ℕ) → ¬ (number ≡ 0) → programOf (host ++ (a ∷ b ∷ (sheet ++ s))) ≡ refusal number
+            pub program-refused : (s : List ℕ) → ¬ (number ≡ 0) → programOf (host ++ (a ∷ b ∷ (sheet ++ s))) ≡ refusalText number
             unfolding onNumber
             program-refused s d = past-sheet s ∙ rw (← is .number-is, ne-eqb number 0 d)
 

@@ -3,9 +3,7 @@
 // specs/Program says what is printed. It stops where the annotator does.
 ghost use mathlib.Core.Path.{_≡_};
 ghost use lib.ListN.{length};
-ghost use Rattle.text.specs.Text.{Put};
 ghost use Rattle.board_record.specs.Host.{hostLength};
-ghost use Rattle.labeller.specs.Program.{refusal};
 ghost use Rattle.labeller.specs.Indexed.{Indexed};
 use annotator::Filling;
 use annotator::SheetRead;
@@ -96,13 +94,6 @@ fn index_sheet(host: &[u8], sheet: &[u8], index: &mut [u8; INDEX]) -> u8
 
 // The one line of an input that is refused.
 fn print_refused(number: u8, lines: &mut [u8; LINES]) {
-    let size = put_refused(lines, number);
+    let size = text::put_refusal(lines, 0, number);
     console::print(text::front(lines, size));
-}
-
-fn put_refused(out: &mut [u8], number: u8) -> usize
-    ensures { λ r. ⌜ Put (now (out .entry)) 0 (refusal number) (now (out .exit)) r ⌝ }
-{
-    let at = text::put_named(out, 0, b"refused ", number as u64);
-    text::put_text(out, at, b"\n")
 }

@@ -5,9 +5,9 @@ use mathlib.Core.Bool.{cond}
 use mathlib.Core.List.{List}
 use lib.ListN.{length, take, drop}
 use lib.Seq.{sets}
+use Rattle.text.specs.Text.{refusalText}
 use Rattle.board_feed.specs.Feed as board
 use Rattle.board_feed.specs.Feed.{isLong, frameNumber}
-use Rattle.sheet_text.specs.Listing.{refusalText}
 use Rattle.scripter.specs.declared.Scripting.{Scripting}
 use Rattle.scripter.specs.declared.Scripting.the-variants.{Written, Refused}
 use Rattle.scripter.specs.Scripting.{scriptOf, scripting, roomAfter}

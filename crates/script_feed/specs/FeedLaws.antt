@@ -11,8 +11,8 @@ use borrow.Author.Tests.{ltb-true, ltb-false}
 use Rattle.endian.specs.Endian.{Bytes}
 use Rattle.endian.specs.EndianLaws.{be-agree}
 use Rattle.endian.specs.BytesLaws.{bytes-drop}
-use Rattle.text.specs.Text.{Put}
-use Rattle.text.specs.TextLaws.{put-append, put-length}
+use Rattle.text.specs.Text.{Put, refusalText}
+use Rattle.text.specs.TextLaws.{put-append, put-length, refusal-short, put-whole}
 use Rattle.records.specs.RecordsLaws.{fits-at}
 use Rattle.board.specs.BoardLaws.{accepted-of-zero}
 use Rattle.sheet.specs.Sheet.{fullSheet}
@@ -25,8 +25,6 @@ use Rattle.board_feed.specs.Feed.{isLong, frameNumber, planningOf}
 use Rattle.board_feed.specs.Feed as board
 use Rattle.board_feed.specs.FeedLaws as board-laws
 use Rattle.board_feed.specs.FeedLaws.{any-planning, kept-of-short}
-use Rattle.sheet_text.specs.Listing.{refusalText}
-use Rattle.sheet_text.specs.LengthLaws.{put-whole, refusal-short}
 use Rattle.scripter.specs.declared.Scripting.{Scripting}
 use Rattle.scripter.specs.declared.Scripting.the-variants.{Written, Refused}
 use Rattle.scripter.specs.Scripting.{scriptOf, scripting, roomAfter}

@@ -3,12 +3,12 @@
 use Prim.Native.Nat.{ℕ}
 use mathlib.Core.List.{List}
 use lib.ListN.{getD, drop}
+use Rattle.text.specs.Text.{refusalText}
 use Rattle.endian.specs.Endian.{be}
 use Rattle.sheet.specs.Sheet.{fullSheet}
 use Rattle.plan_answer.specs.declared.Planning.{Planning}
 use Rattle.plan_answer.specs.declared.Planning.the-variants.{Planned, Refused as NotPlanned}
 use Rattle.plan_answer.specs.Plan.{planning}
-use Rattle.sheet_text.specs.Listing.{refusalText}
 use Rattle.scripter.specs.Scripting.{scriptOf}
 
 abbrev pub frontSize : ℕ

@@ -73,7 +73,7 @@ impl Input {
     {
         match self.script(front, kept, answer) {
             Scripting::Written(n) => n,
-            Scripting::Refused(n) => sheet_text::put_refusal(answer, 0, n),
+            Scripting::Refused(n) => text::put_refusal(answer, 0, n),
         }
     }
 }

@@ -4,6 +4,7 @@ use mathlib.Core.Path.{_≡_, refl, sym, ap, _∙_}
 use mathlib.Core.List.{List, map}
 use Prim.Native.Nat.{ℕ}
 use lib.ListN.{length}
+use Rattle.text.specs.Text.{refusalText}
 use Rattle.endian.specs.Endian.{Bytes}
 use Rattle.board.specs.Board.{hostOf, functionsOf}
 use Rattle.sheet_bytes.specs.Layout.{sheetBytes}
@@ -15,7 +16,7 @@ use Rattle.plan_sheet.specs.Accepted.{fits-of-accepted}
 use Rattle.plan_sheet.specs.Shaped.{shaped}
 use Rattle.plan_sheet.specs.Passes.{planned-sheet-passes}
 use Rattle.plan_sheet.specs.Answer.{planned-of-answer, sheet-of-answer}
-use Rattle.sheet_text.specs.Listing.{planText, refusalText, sheetText, planningText}
+use Rattle.sheet_text.specs.Listing.{planText, sheetText, planningText}
 use Rattle.sheet_text.specs.ListingLaws.{sheetText-good}
 
 abbrev pub boardTextAs : Planning → List ℕ → List ℕ

@@ -4,7 +4,7 @@ use mathlib.Core.List.{List, flatMap}
 use Prim.Native.Nat.{ℕ}
 use Rattle.arith.specs.Align.{alignUp}
 use Rattle.endian.specs.Endian.{be, beBytes, le}
-use Rattle.text.specs.Text.{ascii, hexadecimal, decimalOver, decimal}
+use Rattle.text.specs.Text.{ascii, hexadecimal, decimalOver, decimal, refusalText}
 use Rattle.records.specs.Records.{nextOf, partsOver, partsOf, anyPart}
 use Rattle.lists.specs.Lists.{keep, front, any}
 use Rattle.plan_rule.specs.Layout.{layoutEnd, largestAlign}
@@ -27,7 +27,7 @@ use Rattle.sheet.specs.Sheet.{fullSheet, allSized, isFramed, entriesFrom, allZe
 use Rattle.sheet.specs.Sheet.{from29, from25, from28, from27, from24, from22, from20, from21, sheetNumber}
 use Rattle.sheet.specs.Examples.{p8, p10, nibbled}
 use Rattle.plan_answer.specs.Plan.{barStart, windowFor, valuesFrom, plannedFrom, planOf, onRoom, onBoard, planning}
-use Rattle.sheet_text.specs.Listing.{words, windowText, bridgeText, endText, lineOf, countText, planText, refusalText, sheetText}
+use Rattle.sheet_text.specs.Listing.{words, windowText, bridgeText, endText, lineOf, countText, planText, sheetText}
 use Rattle.sheet_text.specs.BoardText.{boardText}
 
 -- document 01's three lines

@@ -4,15 +4,14 @@ use mathlib.Core.Path.{_≡_, refl, sym, ap, _∙_}
 use mathlib.Core.Bool.{Bool, true, false, cond}
 use mathlib.Core.List.{List, [], _∷_, _++_, map, flatMap}
 use Prim.Native.Nat.{ℕ, zero, suc, _*_, _/_, _%_, _≤_, _<_}
-use native.Mathlib.Nat.{zero-add, zero-mul, suc-mul}
+use native.Mathlib.Nat.{zero-mul, suc-mul}
 use native.Mathlib.Omega.{arith}
 use lib.ListN.{length, getD, drop, length-append}
-use lib.Seq.{sets-eq}
 use lib.Dec.{eqb, ltb}
-use borrow.Author.Tests.{ltb-true, ltb-false, eqb-true, eqb-false}
+use borrow.Author.Tests.{eqb-true, eqb-false}
 use Rattle.endian.specs.Endian.{le}
-use Rattle.text.specs.Text.{ascii, Put, digit, hexadecimal, decimal}
-use Rattle.text.specs.TextLaws.{decimal-one, decimal-more}
+use Rattle.text.specs.Text.{ascii, digit, hexadecimal, decimal, refusalText}
+use Rattle.text.specs.TextLaws.{three-digits, refusal-short}
 use Rattle.records.specs.Limits.{mostFunctions}
 use Rattle.sheet.specs.declared.Rule.the-variants.{HeaderType, Buses, ReadBacks, Nibbles}
 use Rattle.sheet_record.specs.Places.{valuesAt}
@@ -23,7 +22,7 @@ use Rattle.sheet.specs.Sheet.{from20, from21, sheetNumber}
 use Rattle.sheet.specs.IndexLaws.{length-entries}
 use Rattle.sheet.specs.SheetLaws.{checked-of-zero}
 use Rattle.sheet_text.specs.Listing.{newline, words, buses, edges, uppers, windowText, bridgeText, endText, lineOf, countText}
-use Rattle.sheet_text.specs.Listing.{planText, refusalText, sheetText, longest}
+use Rattle.sheet_text.specs.Listing.{planText, sheetText, longest}
 use Rattle.sheet_text.specs.ListingLaws.{lineOf-bridge, lineOf-end, sheetText-good, sheetText-bad}
 
 -- ## Digits
@@ -40,23 +39,6 @@ length-words width [] = sym (zero-mul (suc width))
 length-words width (n ∷ ns) =
     let word : List ℕ = 32 ∷ hexadecimal width n in
     omega (arith, length-append word (words width ns), length-hexadecimal width n, length-words width ns, suc-mul (length ns) (suc width))
-
-digits-more : (k n : ℕ) → 10 ≤ n → length (decimal (n / 10)) ≤ k → length (decimal n) ≤ suc k
-digits-more k n h l = omega (arith, l, ap length (decimal-more n h), length-append (decimal (n / 10)) (digit (n % 10) ∷ []))
-
--- fewer than ten, a hundred, a thousand
-digits : (k bound : ℕ) → ((n : ℕ) → n < bound → length (decimal n) ≤ suc k) → (n : ℕ) → n < 10 * bound → length (decimal n) ≤ suc (suc k)
-digits k bound fewer n h = go (ltb n 10) refl
-  where
-    go : (b : Bool) → ltb n 10 ≡ b → length (decimal n) ≤ suc (suc k)
-    go true e = omega (arith, ap length (decimal-one n (ltb-true n 10 e)))
-    go false e = digits-more (suc k) n (ltb-false n 10 e) (fewer (n / 10) (omega arith))
-
-one-digit : (n : ℕ) → n < 10 → length (decimal n) ≤ 1
-one-digit n h = omega (arith, ap length (decimal-one n h))
-
-three-digits : (n : ℕ) → n < 1000 → length (decimal n) ≤ 3
-three-digits = digits 1 100 (digits 0 10 one-digit)
 
 -- ## Lines
 
@@ -151,14 +133,8 @@ module _ (n : ℕ) (few : n < 1000) where
       let word : List ℕ = ascii "plan " in
       omega (arith, length-append (word ++ decimal n) newline, length-append word (decimal n), three-digits n few)
 
-  pub refusal-short : length (refusalText n) ≤ 12
-  unfolding refusalText ascii
-  refusal-short =
-      let word : List ℕ = ascii "refused " in
-      omega (arith, length-append (word ++ decimal n) newline, length-append word (decimal n), three-digits n few)
-
   pub refusal-le : length (refusalText n) ≤ longest
-  refusal-le = omega (arith, refusal-short)
+  refusal-le = omega (arith, refusal-short n few)
 
 plan-le : (s : List ℕ) → length (entriesOf s) ≤ mostFunctions → length (planText (entriesOf s)) ≤ longest
 unfolding planText entriesFrom
@@ -208,11 +184,3 @@ sheet-le s = go (eqb (sheetNumber s) 0) refl
           refusal-le (sheetNumber s)
               (number-lt s),
         )
-
--- a text that fits from the start on is put whole, and what follows it stays
-pub put-whole : {o text after : List ℕ} {r : ℕ} → length text ≤ length o → Put o 0 text after r
-    → (r ≡ length text) × (after ≡ text ++ drop (length text) o)
-put-whole {o} {text} {after} {r} h p = (
-  omega (arith, p .place),
-  p .stored ∙ sets-eq text o 0 (omega arith) ∙ ap (λ (k : ℕ). text ++ drop k o) (zero-add (length text)),
-)

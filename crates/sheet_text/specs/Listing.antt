@@ -5,7 +5,7 @@ use mathlib.Core.Bool.{cond}
 use mathlib.Core.List.{List, [], _∷_, _++_, flatMap}
 use lib.ListN.{length, take}
 use lib.Dec.{eqb}
-use Rattle.text.specs.Text.{ascii, hexadecimal, decimal}
+use Rattle.text.specs.Text.{ascii, hexadecimal, decimal, refusalText}
 use Rattle.records.specs.Limits.{mostFunctions}
 use Rattle.window.specs.declared.Window.{Window}
 use Rattle.sheet_record.specs.Entry.{Entry, bridges}
@@ -53,9 +53,6 @@ countText n = ascii "plan " ++ decimal n ++ newline
 
 unfoldable pub planText : List Entry → List ℕ
 planText es = countText (length es) ++ flatMap lineOf es
-
-unfoldable pub refusalText : ℕ → List ℕ
-refusalText n = ascii "refused " ++ decimal n ++ newline
 
 -- of any bytes as a sheet
 unfoldable pub sheetText : List ℕ → List ℕ

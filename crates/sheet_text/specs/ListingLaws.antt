@@ -9,7 +9,7 @@ use lib.ListN.{length, getD, take}
 use lib.Seq.{take-suc}
 use borrow.Author.Tests.{eq-eqb, ne-eqb}
 use Rattle.endian.specs.Endian.{le}
-use Rattle.text.specs.Text.{ascii, Put, hexadecimal}
+use Rattle.text.specs.Text.{ascii, Put, hexadecimal, refusalText}
 use Rattle.text.specs.TextLaws.{put-length}
 use Rattle.pools.specs.declared.Pool.the-variants.{Low, High, Io}
 use Rattle.window.specs.declared.Window.{Window}
@@ -18,7 +18,7 @@ use Rattle.sheet_record.specs.Entry.{Entry, dwords, idOf, headerOf, isBridge, p
 use Rattle.sheet.specs.Sheet.{Framed, partAt, entriesOf, sheetNumber}
 use Rattle.sheet.specs.IndexLaws.{entry-index}
 use Rattle.sheet_text.specs.Listing.{newline, words, buses, edges, uppers, windowText, bridgeText, endText, lineOf, planText}
-use Rattle.sheet_text.specs.Listing.{refusalText, sheetText}
+use Rattle.sheet_text.specs.Listing.{sheetText}
 
 words-snoc : (width : ℕ) (ns : List ℕ) (n : ℕ) → words width (ns ++ n ∷ []) ≡ words width ns ++ 32 ∷ hexadecimal width n
 unfolding words

@@ -10,11 +10,12 @@ ghost use Rattle.sheet_record.specs.Places.{recordSize};
 ghost use Rattle.sheet_record.specs.Entry.{headerOf, isBridge, entryOf};
 ghost use Rattle.sheet.specs.Sheet.{Framed, entriesOf};
 ghost use Rattle.sheet_text.specs.Listing.{buses, words, windowText, bridgeText, endText, lineOf};
-ghost use Rattle.sheet_text.specs.Listing.{countText, planText, refusalText, sheetText, planningText, longest};
+ghost use Rattle.sheet_text.specs.Listing.{countText, planText, sheetText, planningText, longest};
 use plan_answer::Planning;
 use pools::Pool;
 use text::put_byte;
 use text::put_hexadecimal;
+use text::put_refusal;
 use text::put_text;
 
 // The longest answer: a count, and a line of 83 bytes for each function, all bridges.
@@ -40,13 +41,6 @@ pub fn put_sheet(out: &mut [u8], at: usize, sheet: &[u8]) -> usize
         return put_refusal(out, at, n);
     }
     put_plan(out, at, sheet)
-}
-
-pub fn put_refusal(out: &mut [u8], at: usize, number: u8) -> usize
-    ensures { λ r. ⌜ Put (now (out .entry)) at (refusalText number) (now (out .exit)) r ⌝ }
-{
-    let next = text::put_named(out, at, b"refused ", number as u64);
-    put_byte(out, next, b'\n')
 }
 
 fn put_plan(out: &mut [u8], at: usize, sheet: &[u8]) -> usize

@@ -2,7 +2,6 @@
 // is written back to the header's own bytes, `differs` where not.
 use packet::Packet;
 use text::front;
-use text::put_named;
 use text::put_text;
 use tlp::Reading;
 use tlp::Writing;
@@ -16,10 +15,7 @@ pub fn print(header: &[u8]) -> bool {
 
 fn put_answer(out: &mut [u8], header: &[u8]) -> usize {
     match tlp::read(header) {
-        Reading::Refused(n) => {
-            let at = put_named(out, 0, b"refused ", n as u64);
-            put_text(out, at, b"\n")
-        }
+        Reading::Refused(n) => text::put_refusal(out, 0, n),
         Reading::Accepted(p) => {
             let at = packet_text::put_packet(out, 0, p);
             if is_written_back(p, header) {

@@ -37,3 +37,7 @@ decimalOver (suc k) n = let front = decimalOver k (n / 10) in cond (ltb n 10) (d
 -- a number n has at most n + 1 digits
 unfoldable pub decimal : ℕ → List ℕ
 decimal n = decimalOver (suc n) n
+
+-- the line of a refusal: "a refusal prints `refused N`"
+unfoldable pub refusalText : ℕ → List ℕ
+refusalText n = ascii "refused " ++ decimal n ++ ascii "\n"

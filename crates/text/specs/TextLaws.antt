@@ -1,17 +1,17 @@
 -- Texts put one after the other, and how the digits of a number go on. Assumes nothing.
 use mathlib.Core.Path.{_≡_, refl, sym, ap, _∙_}
 use Prim.Native.Nat.{ℕ, zero, suc, _+_, _-_, _*_, _/_, _%_, _≤_, _<_, min}
-use native.Mathlib.Nat.{min-eq-left, min-eq-right, add-zero, div-div-eq-div-mul}
+use native.Mathlib.Nat.{min-eq-left, min-eq-right, zero-add, add-zero, div-div-eq-div-mul}
 use native.Mathlib.Numerals.{add-one}
 use native.Mathlib.Omega.{arith}
 use mathlib.Core.Bool.{Bool, true, false, cond}
 use mathlib.Core.List.{List, [], _∷_, _++_}
-use lib.ListN.{length, getD, take, set, length-append, length-take}
+use lib.ListN.{length, getD, take, drop, set, length-append, length-take}
 use lib.Dec.{ltb, leb}
-use lib.Seq.{sets, set-out, length-sets, take-suc}
-use borrow.Author.Tests.{lt-ltb, le-ltb, ltb-false, leb-true, leb-false}
+use lib.Seq.{sets, sets-eq, set-out, length-sets, take-suc}
+use borrow.Author.Tests.{lt-ltb, le-ltb, ltb-true, ltb-false, leb-true, leb-false}
 use Rattle.endian.specs.SetsLaws.{sets-sets, sets-comm}
-use Rattle.text.specs.Text.{Put, digit, hexadecimal, decimalOver, decimal}
+use Rattle.text.specs.Text.{Put, ascii, digit, hexadecimal, decimalOver, decimal, refusalText}
 
 -- stores past the end change nothing
 pub sets-out : (o : List ℕ) (i : ℕ) (vs : List ℕ) → length o ≤ i → sets o i vs ≡ o
@@ -41,6 +41,14 @@ put-append {o} {o₁} {o₂} {vs} {ws} {at} {r₁} {r₂} p q =
       stored = q .stored ∙ ap (λ (k : ℕ). sets o₁ k ws) e ∙ sets-min o₁ (at + length vs) ws ∙ rw (p .stored) (sets-sets o at vs ws);
       place = simp length-append (omega arith);
     }
+
+-- a text that fits from the start on is put whole, and what follows it stays
+pub put-whole : {o text after : List ℕ} {r : ℕ} → length text ≤ length o → Put o 0 text after r
+    → (r ≡ length text) × (after ≡ text ++ drop (length text) o)
+put-whole {o} {text} {after} {r} h p = (
+  omega (arith, p .place),
+  p .stored ∙ sets-eq text o 0 (omega arith) ∙ ap (λ (k : ℕ). text ++ drop k o) (zero-add (length text)),
+)
 
 -- a text copied byte by byte: one more
 pub copied-more : (o text : List ℕ) (start i : ℕ) → i < length text
@@ -123,6 +131,26 @@ digits-more (suc k) n h =
 pub eight-more : (n : ℕ) → 100000000 ≤ n → length (decimal n) ≡ length (decimal (n / 100000000)) + 8
 unfolding tens
 eight-more n h = digits-more 8 n h
+
+-- below 10 to the power d + 1
+pub digits-le : (d n : ℕ) → n < tens (suc d) → length (decimal n) ≤ suc d
+unfolding tens
+digits-le zero n h = omega (arith, one-digit n (omega arith))
+digits-le (suc d) n h = go (ltb n 10) refl
+  where
+    go : (b : Bool) → ltb n 10 ≡ b → length (decimal n) ≤ suc (suc d)
+    go true e = omega (arith, one-digit n (ltb-true n 10 e))
+    go false e = omega (arith, one-more n (ltb-false n 10 e), digits-le d (n / 10) (omega arith))
+
+pub three-digits : (n : ℕ) → n < 1000 → length (decimal n) ≤ 3
+unfolding tens
+three-digits n h = digits-le 2 n h
+
+pub refusal-short : (n : ℕ) → n < 1000 → length (refusalText n) ≤ 12
+unfolding refusalText ascii
+refusal-short n few =
+    let word : List ℕ = ascii "refused " in
+    omega (arith, length-append (word ++ decimal n) (ascii "\n"), length-append word (decimal n), three-digits n few)
 
 -- ## Digits stored from the last on
 

@@ -8,7 +8,7 @@ ghost use Prim.Native.Nat.{_+_, _<_, _≤_};
 ghost use mathlib.Core.List.{[], _∷_, _++_};
 ghost use lib.ListN.{length, take};
 ghost use lib.Seq.{sets};
-ghost use Rattle.text.specs.Text.{Put, digit as Text·digit, hexadecimal, decimal};
+ghost use Rattle.text.specs.Text.{Put, digit as Text·digit, hexadecimal, decimal, refusalText};
 
 pub fn put_byte(out: &mut [u8], at: usize, byte: u8) -> usize
     ensures { λ r. ⌜ Put (now (out .entry)) at (byte ∷ []) (now (out .exit)) r ⌝ }
@@ -166,6 +166,14 @@ pub fn put_named_hexadecimal(
 {
     let next = put_text(out, at, name);
     put_hexadecimal(out, next, width, number)
+}
+
+// The line of what is refused by a number: `refused N`.
+pub fn put_refusal(out: &mut [u8], at: usize, number: u8) -> usize
+    ensures { λ r. ⌜ Put (now (out .entry)) at (refusalText number) (now (out .exit)) r ⌝ }
+{
+    let next = put_named(out, at, b"refused ", number as u64);
+    put_byte(out, next, b'\n')
 }
 
 // The next place when nothing is put.

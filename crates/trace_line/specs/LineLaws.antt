@@ -1,14 +1,12 @@
 -- A line has at most 40 bytes, and a header is labelled by its front. Assumes nothing.
-use Prim.Native.Nat.{ℕ, zero, suc, _+_, _*_, _/_, _%_, _≤_, _<_}
-use mathlib.Core.Path.{_≡_, refl, sym, ap, _∙_}
-use mathlib.Core.Bool.{Bool, true, false}
+use Prim.Native.Nat.{ℕ, _+_, _≤_, _<_}
+use mathlib.Core.Path.{_≡_, sym, ap, _∙_}
 use mathlib.Core.List.{List, [], _∷_, _++_}
 use native.Mathlib.Omega.{arith}
 use lib.ListN.{length, take, length-append}
-use lib.Dec.{ltb}
-use borrow.Author.Tests.{ltb-true, ltb-false, eq-eqb, ne-eqb}
-use Rattle.text.specs.Text.{ascii, digit, decimal}
-use Rattle.text.specs.TextLaws.{decimal-one, decimal-more}
+use borrow.Author.Tests.{eq-eqb, ne-eqb}
+use Rattle.text.specs.Text.{ascii, decimal}
+use Rattle.text.specs.TextLaws.{tens, digits-le}
 use Rattle.pairs.specs.declared.MemoryKind.the-variants.{MRd, MRdLk, MWr}
 use Rattle.pairs.specs.declared.IoKind.the-variants.{IORd, IOWr}
 use Rattle.pairs.specs.declared.ConfigKind.the-variants.{CfgRd0, CfgWr0, CfgRd1, CfgWr1}
@@ -34,26 +32,6 @@ use Rattle.trace_line.specs.Engine.{packetBy, routingBy, labelBy, lineBy
 use Rattle.trace_line.specs.Bounds.{Small, SmallRouting, small-routing}
 
 -- ## Digits
-
--- 10 to the power d + 1
-unfoldable tens : ℕ → ℕ
-tens zero = 10
-tens (suc d) = 10 * tens d
-
-one-digit : (n : ℕ) → n < 10 → length (decimal n) ≡ 1
-one-digit n h = ap length (decimal-one n h)
-
-digits-le : (d n : ℕ) → n < tens d → length (decimal n) ≤ suc d
-unfolding tens
-digits-le zero n h = omega (arith, one-digit n h)
-digits-le (suc d) n h = go (ltb n 10) refl (λ g. digits-le d (n / 10) g)
-  where
-    go : (b : Bool) → ltb n 10 ≡ b → (n / 10 < tens d → length (decimal (n / 10)) ≤ suc d) → length (decimal n) ≤ suc (suc d)
-    go true e on = omega (arith, one-digit n (ltb-true n 10 e))
-    go false e on =
-        let l = on (omega arith) in
-        let m = decimal-more n (ltb-false n 10 e) in
-        omega (arith, ap length m, length-append (decimal (n / 10)) (digit (n % 10) ∷ []))
 
 decimal-le-20 : (n : ℕ) → n < 18446744073709551616 → length (decimal n) ≤ 20
 unfolding tens

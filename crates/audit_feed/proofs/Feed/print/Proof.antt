@@ -1,6 +1,6 @@
 -- `audit_feed::Feed::print` meets its contract: the line, put whole, since none is longer than the room. Assumes nothing.
 use native.Mathlib.Omega.{arith}
-use Rattle.sheet_text.specs.LengthLaws.{put-whole}
+use Rattle.text.specs.TextLaws.{put-whole}
 use Rattle.audit_feed.specs.Feed.{answerOf}
 use Rattle.audit_feed.specs.ProgramLaws.{text-le}
 use borrow.Author.Needs.{needs}

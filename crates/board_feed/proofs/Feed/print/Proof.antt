@@ -2,7 +2,7 @@
 use borrow.Author.Needs.{needs}
 use native.Mathlib.Omega.{arith}
 use mathlib.Core.Path.{refl}
-use Rattle.sheet_text.specs.LengthLaws.{put-whole}
+use Rattle.text.specs.TextLaws.{put-whole}
 use Rattle.board_feed.specs.Feed.{answerOf}
 use Rattle.board_feed.proofs.Feed.print.Statement.{statement}
 use Rattle.board_feed.proofs.Feed.print.Tie as tie

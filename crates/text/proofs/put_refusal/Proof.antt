@@ -1,10 +1,9 @@
--- `sheet_text::put_refusal` meets its contract: the word, the number, the end of the line. Assumes nothing.
+-- `text::put_refusal` meets its contract: the word, the number, the end of the line. Assumes nothing.
 use borrow.Author.Needs.{needs}
+use Rattle.text.specs.Text.{ascii, refusalText}
 use Rattle.text.specs.TextLaws.{put-append}
-use Rattle.text.specs.Text.{ascii}
-use Rattle.sheet_text.specs.Listing.{refusalText}
-use Rattle.sheet_text.proofs.put_refusal.Statement.{statement}
-use Rattle.sheet_text.proofs.put_refusal.Tie as tie
+use Rattle.text.proofs.put_refusal.Statement.{statement}
+use Rattle.text.proofs.put_refusal.Tie as tie
 
 slice-aggregate-put-named : tie.Need-slice-aggregate-put-named
 slice-aggregate-put-named c = search needs
