@@ -43,11 +43,11 @@ pub record HasBarOver (s : List ℕ) (sp : Space) (address k : ℕ) : Type 0 whe
   pub number-is : function .node .number ≡ k
   pub bar-holds : Some (λ r. Holds r address) (function .bars)
 
--- and k and each bridge above it have the space enabled
-pub record Owns (host s : List ℕ) (sp : Space) (address k : ℕ) : Type 0 where
+-- and k and each bridge above it have the space enabled by the command words of t, which is s as it was accepted or rewritten since
+pub record Owns (host s t : List ℕ) (sp : Space) (address k : ℕ) : Type 0 where
   pub has-bar : HasBarOver s sp address k
-  pub is-enabled : enabledOf sp s k ≡ true
-  pub bridges-enabled : All (λ b. enabledOf sp s b ≡ true) (bridgesAbove host s k)
+  pub is-enabled : enabledOf sp t k ≡ true
+  pub bridges-enabled : All (λ b. enabledOf sp t b ≡ true) (bridgesAbove host s k)
 
 -- "with more than 16 bridges in a row the count is still exact, at most 255"
 abbrev pub mostInRow : ℕ
@@ -64,11 +64,14 @@ pub record Audits : Type 0 where
   pub yes-exactly : (host s : List ℕ) → Bytes s → (auditNumber host s ≡ 0) ↔ Accepted host s
   -- and else the number of the first part that fails
   pub by-number : (host s : List ℕ) → Bytes s → ByNumber host s (auditNumber host s)
-  -- "An accepted sheet has demand 3's delivery, ..", whatever its command words say
+  -- what was accepted stays so when command words are rewritten
+  pub stays-accepted : (host s : List ℕ) → Accepted host s → (t : List ℕ) → SameButCommands s t → Accepted host t
+  -- "An accepted sheet has demand 3's delivery, ..": "whatever the sheet's command words say", as accepted "or rewritten since"
   pub accepted-routed : (host s : List ℕ) → Bytes s → Accepted host s
+      → (t : List ℕ) → SameButCommands s t
       → (header : List ℕ) (p : Packet) → readOf header ≡ Read p
       → (sp : Space) (address : ℕ) → IsRequest p sp address
-      → Routed (Owns host s sp address) (bridgesAbove host s) mostInRow s header p sp address
+      → Routed (Owns host s t sp address) (bridgesAbove host s) mostInRow t header p sp address
   -- no two functions have BARs over one address, enabled or not
   pub one-holder : (host s : List ℕ) → Bytes s → Accepted host s
       → (sp : Space) (address j k : ℕ) → HasBarOver s sp address j → HasBarOver s sp address k → j ≡ k

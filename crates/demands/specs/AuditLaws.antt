@@ -28,16 +28,17 @@ use Rattle.walk.specs.RegistersLaws.{node-mem}
 use Rattle.walk.specs.Tally.{tallyOn}
 use Rattle.walk.specs.Walk.{delivered, refused, walkFrom, Trail}
 use Rattle.walk.specs.Above.{above}
-use Rattle.walk.specs.Good.{Host as WalkHost, Tree, Good, Sound, sound-of-good}
+use Rattle.walk.specs.Good.{Host as WalkHost, Tree, Nested, Disjoint, Good, Sound, sound-of-good}
 use Rattle.walk.specs.Reach.{numbersOf}
 use Rattle.walk.specs.Delivery as walking
-use Rattle.walk.specs.Delivery.{outcomeOf, Delivers, owner-of-delivered, delivered-of-owner, outcome-from-first, holder-unique}
+use Rattle.walk.specs.Delivery.{outcomeOf, Delivers, sound-delivers, owner-of-delivered, delivered-of-owner, outcome-from-first, holder-unique}
 use Rattle.sheet_record.specs.Entry.{Entry}
 use Rattle.sheet_record.specs.Spaces.{nodeOf}
-use Rattle.sheet.specs.Sheet.{entriesOf}
+use Rattle.sheet.specs.Sheet.{Framed, entriesOf}
 use Rattle.sheet.specs.Spaces.{registersOf, nodesOf, nodesFrom, enabledOf}
-use Rattle.sheet.specs.SheetLaws.{passes-of-zero, nodes-functions}
+use Rattle.sheet.specs.SheetLaws.{checked-of-zero, passes-of-zero, nodes-functions}
 use Rattle.sheet.specs.Commands.{SameButCommands}
+use Rattle.sheet.specs.CommandsLaws.{registers-same, nodes-same, number-same}
 use Rattle.plan_good.specs.Registers.{poolRange, planHost}
 use Rattle.plan_answer.specs.declared.Planning.the-variants.{Planned}
 use Rattle.plan_answer.specs.Plan.{planning, sheetAfter}
@@ -47,10 +48,24 @@ use Rattle.claims.specs.Claims.{tallyFor}
 use Rattle.route.specs.Route.{root}
 use Rattle.audit_rule.specs.Host.{hostFor}
 use Rattle.audit_rule.specs.Accepted.{Accepted}
-use Rattle.audit_rule.specs.AcceptedLaws.{good-of-accepted, accepted-delivers}
+use Rattle.audit_rule.specs.AcceptedLaws.{good-of-accepted}
 use Rattle.audit_rule.specs.AuditLaws.{audit-iff, audited-by-number}
 use Rattle.demands.specs.Audit.{busOf, bridgesAbove, HasBarOver, Owns, mostInRow, hostRecord, Audits}
 use Rattle.demands.specs.RoutedLaws.{trail-from-root, Comes, routed}
+
+-- ## Command words rewritten
+
+stays-accepted : (host s : List ℕ) → Accepted host s → (t : List ℕ) → SameButCommands s t → Accepted host t
+stays-accepted host s a t same =
+    let framed = checked-of-zero s (a .passes) .framed in
+    record {
+      host-size = a .host-size;
+      host-edges = a .host-edges;
+      passes = number-same same ∙ a .passes;
+      tree = λ sp. subst (Tree (hostFor sp (hostOfPart host))) (sym (nodes-same same framed)) (a .tree sp);
+      nested = λ sp. subst (Nested (hostFor sp (hostOfPart host))) (sym (registers-same same framed sp)) (a .nested sp);
+      disjoint = λ sp. subst Disjoint (sym (registers-same same framed sp)) (a .disjoint sp);
+    }
 
 -- ## Delivery
 
@@ -86,9 +101,6 @@ module _ (host s : List ℕ) (bytes : Bytes s) (a : Accepted host s) (sp : Space
   abbrev fs : List Registers
   fs = registersOf sp s
 
-  abbrev enabled : ℕ → Bool
-  enabled = enabledOf sp s
-
   sound : Sound walkHost fs
   sound = sound-of-good (good-of-accepted host s bytes a sp)
 
@@ -111,11 +123,24 @@ module _ (host s : List ℕ) (bytes : Bytes s) (a : Accepted host s) (sp : Space
       (x .in-sheet) (y .in-sheet) (x .bar-holds) (y .bar-holds) in
       sym (x .number-is) ∙ ap (λ (f : Registers). f .node .number) same ∙ y .number-is
 
-  module _ (address : ℕ) where
-    delivers : Delivers walkHost enabled fs address
-    delivers = accepted-delivers host s bytes a sp address
+  -- over the sheet with these command words
+  module _ (t : List ℕ) (same : SameButCommands s t) (address : ℕ) where
+    abbrev enabled : ℕ → Bool
+    enabled = enabledOf sp t
 
-    owns-by-value : (f : Registers) → walking.Owns walkHost enabled fs address f → Owns host s sp address (f .node .number)
+    framed : Framed 1 s
+    framed = checked-of-zero s (a .passes) .framed
+
+    registers-are : registersOf sp t ≡ fs
+    registers-are = registers-same same framed sp
+
+    nodes-same-as : nodesOf t ≡ nodes fs
+    nodes-same-as = nodes-same same framed ∙ sym nodes-are
+
+    delivers : Delivers walkHost enabled fs address
+    delivers = sound-delivers sound (passes-of-zero s bytes (a .passes) .numbered sp) enabled address
+
+    owns-by-value : (f : Registers) → walking.Owns walkHost enabled fs address f → Owns host s t sp address (f .node .number)
     owns-by-value f o =
         let bs = walking.bridgesAbove walkHost fs f in
         record {
@@ -126,7 +151,7 @@ module _ (host s : List ℕ) (bytes : Bytes s) (a : Accepted host s) (sp : Space
               (all-map-intro _ (λ (b : Node). b .number) bs (λ b n. all-elim _ bs (o .bridges-enabled) n));
         }
 
-    owner-by-value : (k : ℕ) → Owns host s sp address k
+    owner-by-value : (k : ℕ) → Owns host s t sp address k
         → (f : Registers) × walking.Owns walkHost enabled fs address f × (f .node .number ≡ k)
     owner-by-value k o =
         let x = o .has-bar in
@@ -146,18 +171,18 @@ module _ (host s : List ℕ) (bytes : Bytes s) (a : Accepted host s) (sp : Space
         )
 
     -- the router's walk is the one that these are said of
-    outcome-is : walkFrom (tallyFor (Address sp address) s) (root s) 0 ≡ outcomeOf walkHost enabled fs address
+    outcome-is : walkFrom (tallyFor (Address sp address) t) (root t) 0 ≡ outcomeOf walkHost enabled fs address
     outcome-is =
-        ap (λ (ns : List Node). walkFrom (tallyOn enabled fs address) (rootOf ns) 0) (sym nodes-are)
+        ap₂ (λ (rs : List Registers) (ns : List Node). walkFrom (tallyOn enabled rs address) (rootOf ns) 0) registers-are nodes-same-as
         ∙ outcome-from-first fs (sound .tree) enabled address
 
-    reached : (k : ℕ) → Owns host s sp address k → outcomeOf walkHost enabled fs address ≡ delivered k (length (bridgesAbove host s k))
+    reached : (k : ℕ) → Owns host s t sp address k → outcomeOf walkHost enabled fs address ≡ delivered k (length (bridgesAbove host s k))
     reached k o =
         let (f, owns, is) = owner-by-value k o in
         delivered-of-owner sound enabled address f owns
         ∙ ap₂ delivered is (count-agree f (owns .in-sheet) ∙ ap (λ (n : ℕ). length (bridgesAbove host s n)) is)
 
-    comes : Comes (Owns host s sp address) (bridgesAbove host s) mostInRow s sp address
+    comes : Comes (Owns host s t sp address) (bridgesAbove host s) mostInRow t sp address
     comes =
         record {
           delivered-exactly = λ k count. (to k count, λ (o, e). outcome-is ∙ reached k o ∙ ap (delivered k) (sym e));
@@ -170,28 +195,30 @@ module _ (host s : List ℕ) (bytes : Bytes s) (a : Accepted host s) (sp : Space
           few = few;
         }
       where
-        to : (k count : ℕ) → walkFrom (tallyFor (Address sp address) s) (root s) 0 ≡ delivered k count
-            → Owns host s sp address k × (count ≡ length (bridgesAbove host s k))
+        to : (k count : ℕ) → walkFrom (tallyFor (Address sp address) t) (root t) 0 ≡ delivered k count
+            → Owns host s t sp address k × (count ≡ length (bridgesAbove host s k))
         to k count e =
             let (f, owns, is, counted) = owner-of-delivered sound enabled address k count (sym outcome-is ∙ e) in (
-              subst (Owns host s sp address) is (owns-by-value f owns),
+              subst (Owns host s t sp address) is (owns-by-value f owns),
               counted ∙ count-agree f (owns .in-sheet) ∙ ap (λ (n : ℕ). length (bridgesAbove host s n)) is,
             )
 
-        nobody : walkFrom (tallyFor (Address sp address) s) (root s) 0 ≡ refused 40 → (k : ℕ) → Owns host s sp address k → ⊥
+        nobody : walkFrom (tallyFor (Address sp address) t) (root t) 0 ≡ refused 40 → (k : ℕ) → Owns host s t sp address k → ⊥
         nobody e k o = let d = sym outcome-is ∙ e in let r = reached k o in let z : _≡_ {A = ℕ} 0 1 = cc in omega arith
 
-        crosses : (k : ℕ) → Owns host s sp address k → Trail (tallyFor (Address sp address) s) (root s) (reverse (bridgesAbove host s k)) k
+        crosses : (k : ℕ) → Owns host s t sp address k
+            → Trail (tallyFor (Address sp address) t) (root t) (reverse (bridgesAbove host s k)) k
         crosses k o =
             let (f, owns, is) = owner-by-value k o in
             let numbers = above-agree f (owns .in-sheet) ∙ ap (bridgesAbove host s) is in
             let by-walk =
             subst₂ (λ (ns : List ℕ) (n : ℕ). Trail (tallyOn enabled fs address) (walkHost .first) (reverse ns) n) numbers is
             (delivers .crosses-exactly f owns) in
-            subst (λ (ns : List Node). Trail (tallyOn enabled fs address) (rootOf ns) (reverse (bridgesAbove host s k)) k) nodes-are
+            subst₂ (λ (rs : List Registers) (ns : List Node). Trail (tallyOn enabled rs address) (rootOf ns)
+            (reverse (bridgesAbove host s k)) k) (sym registers-are) (sym nodes-same-as)
             (trail-from-root enabled address (walkHost .first) fs (sound .tree .first-on-root) (reverse (bridgesAbove host s k)) k by-walk)
 
-        few : (k : ℕ) → Owns host s sp address k → length (bridgesAbove host s k) ≤ mostInRow
+        few : (k : ℕ) → Owns host s t sp address k → length (bridgesAbove host s k) ≤ mostInRow
         few k o =
             let (f, owns, is) = owner-by-value k o in
             let count = count-agree f (owns .in-sheet) ∙ ap (λ (n : ℕ). length (bridgesAbove host s n)) is in
@@ -248,9 +275,10 @@ audits =
     record {
       yes-exactly = audit-iff;
       by-number = audited-by-number;
-      accepted-routed = λ host s bytes a header p read sp address is.
-          routed (Owns host s sp address) (bridgesAbove host s) mostInRow s sp address (a .passes)
-          (comes host s bytes a sp address) header p read is;
+      stays-accepted = stays-accepted;
+      accepted-routed = λ host s bytes a t same header p read sp address is.
+          routed (Owns host s t sp address) (bridgesAbove host s) mostInRow t sp address (number-same same ∙ a .passes)
+          (comes host s bytes a sp t same address) header p read is;
       one-holder = holder-is;
       planned-accepted = planned-accepted;
       planned-yes = λ b room n bytes planned t same small.

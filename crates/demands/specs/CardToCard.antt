@@ -56,10 +56,10 @@ plannedBoard b t sp address =
     boardOver (planHost sp (planned.host b)) (registersOf sp t) (enabledOf sp t) (masterOf t) address (planned.HasBarOver b sp address)
     (planned.bridgesAbove b)
 
--- over an accepted sheet, by its registers and bus numbers
-abbrev pub acceptedBoard : List ℕ → List ℕ → Space → ℕ → Board
-acceptedBoard host s sp address =
-    boardOver (hostFor sp (hostOfPart host)) (registersOf sp s) (enabledOf sp s) (masterOf s) address (audited.HasBarOver s sp address)
+-- over t, an accepted sheet s with its command words as they were or rewritten since, by the registers and bus numbers
+abbrev pub acceptedBoard : List ℕ → List ℕ → List ℕ → Space → ℕ → Board
+acceptedBoard host s t sp address =
+    boardOver (hostFor sp (hostOfPart host)) (registersOf sp t) (enabledOf sp t) (masterOf t) address (audited.HasBarOver s sp address)
     (audited.bridgesAbove host s)
 
 -- ## What becomes of it
@@ -124,6 +124,7 @@ pub record CardToCard : Type 0 where
       → (k : ℕ) → IsType0 t k → CardRouted (plannedBoard b t sp address) 64 t header p sp address k
   -- and the same of any sheet that the audit accepts, where a way up and a way down have at most 255 bridges each
   pub accepted-routed : (host s : List ℕ) → Bytes s → Accepted host s
+      → (t : List ℕ) → SameButCommands s t
       → (header : List ℕ) (p : Packet) → readOf header ≡ Read p
       → (sp : Space) (address : ℕ) → IsCardRequest p sp address
-      → (k : ℕ) → IsType0 s k → CardRouted (acceptedBoard host s sp address) 510 s header p sp address k
+      → (k : ℕ) → IsType0 t k → CardRouted (acceptedBoard host s t sp address) 510 t header p sp address k

@@ -33,6 +33,7 @@ use Rattle.sheet.specs.Sheet.{entriesOf, sheetNumber}
 use Rattle.sheet.specs.Spaces.{registersOf, enabledOf}
 use Rattle.sheet.specs.SheetLaws.{checked-of-zero, numbered-functions, nodes-functions}
 use Rattle.sheet.specs.Commands.{SameButCommands}
+use Rattle.sheet.specs.CommandsLaws.{registers-same, number-same}
 use Rattle.plan_good.specs.Registers.{planRegisters, planHost}
 use Rattle.plan_good.specs.Kept.{kept-of-planned}
 use Rattle.plan_good.specs.Delivery.{OwnsAsPlaced, DeliversAsPlaced}
@@ -325,11 +326,20 @@ module _ (host s : List ℕ) (bytes : Bytes s) (a : Accepted host s) (sp : Space
         ap (λ (l : List ℕ). length l) (audited-above host s bytes a sp f m),
       )
 
-  accepted-routed : (header : List ℕ) (p : Packet) → readOf header ≡ Read p → IsCardRequest p sp address
-      → (k : ℕ) → IsType0 s k → CardRouted (acceptedBoard host s sp address) 510 s header p sp address k
-  accepted-routed header p read is k type-0 =
-      routed-over s header p read (a .passes) sp address is k type-0 (hostFor sp (hostOfPart host)) sound-accepted
-      (audited.HasBarOver s sp address) (audited.bridgesAbove host s) tells-accepted 255 510 few-accepted (omega arith)
+  -- over the sheet with these command words
+  module _ (t : List ℕ) (same : SameButCommands s t) where
+    registers-are : registersOf sp s ≡ registersOf sp t
+    registers-are = sym (registers-same same (checked-of-zero s (a .passes) .framed) sp)
+
+    accepted-routed : (header : List ℕ) (p : Packet) → readOf header ≡ Read p → IsCardRequest p sp address
+        → (k : ℕ) → IsType0 t k → CardRouted (acceptedBoard host s t sp address) 510 t header p sp address k
+    accepted-routed header p read is k type-0 =
+        routed-over t header p read (number-same same ∙ a .passes) sp address is k type-0 (hostFor sp (hostOfPart host))
+        (subst (Sound (hostFor sp (hostOfPart host))) registers-are sound-accepted)
+        (audited.HasBarOver s sp address) (audited.bridgesAbove host s)
+        (subst (λ (rs : List Registers). Tells (hostFor sp (hostOfPart host)) rs address (audited.HasBarOver s sp address)
+        (audited.bridgesAbove host s)) registers-are tells-accepted)
+        255 510 (λ f m. few-accepted f (subst (λ (rs : List Registers). f ∈ rs) (sym registers-are) m)) (omega arith)
 
 pub card-to-card : CardToCard
 card-to-card =
@@ -339,6 +349,6 @@ card-to-card =
       others-45 = others-45;
       planned-routed = λ b room n bytes answered t same header p read sp address is k type-0.
           planned-routed b room n bytes answered t same sp address header p read is k type-0;
-      accepted-routed = λ host s bytes a header p read sp address is k type-0.
-          accepted-routed host s bytes a sp address header p read is k type-0;
+      accepted-routed = λ host s bytes a t same header p read sp address is k type-0.
+          accepted-routed host s bytes a sp address t same header p read is k type-0;
     }
