@@ -4,7 +4,7 @@ use mathlib.Core.Path.{_≡_}
 use mathlib.Core.Bool.{true}
 use mathlib.Core.Logic.{_↔_}
 use mathlib.Core.List.{List, map}
-use Prim.Native.Nat.{ℕ, pred}
+use Prim.Native.Nat.{ℕ, pred, _/_, _%_}
 use lib.ListN.{length, getD, take, drop}
 use Rattle.endian.specs.Endian.{Bytes}
 use Rattle.packet.specs.declared.Packet.{Packet}
@@ -15,6 +15,7 @@ use Rattle.pools.specs.declared.Space.{Space}
 use Rattle.board_record.specs.Host.{hostLength, hostOfPart}
 use Rattle.walk.specs.Ranges.{Holds}
 use Rattle.walk.specs.Registers.{Node, Registers}
+use Rattle.walk.specs.Ids.{HasId}
 use Rattle.walk.specs.Above.{above}
 use Rattle.walk.specs.Reach.{numbersOf}
 use Rattle.sheet.specs.Spaces.{registersOf, nodesOf, enabledOf}
@@ -23,7 +24,8 @@ use Rattle.plan_answer.specs.declared.Planning.the-variants.{Planned}
 use Rattle.plan_answer.specs.Plan.{planning, sheetAfter}
 use Rattle.audit_rule.specs.Accepted.{Accepted, ByNumber}
 use Rattle.audit_rule.specs.Audit.{auditNumber}
-use Rattle.demands.specs.Demand3.{IsRequest, Routed}
+use Rattle.demands.specs.Demand3.{IsRequest, routeNumber, Routed}
+use Rattle.demands.specs.ById.{GoesById, RoutedById}
 
 -- ## A sheet over a host record
 
@@ -49,6 +51,12 @@ pub record Owns (host s t : List ℕ) (sp : Space) (address k : ℕ) : Type 0 wh
   pub is-enabled : enabledOf sp t k ≡ true
   pub bridges-enabled : All (λ b. enabledOf sp t b ≡ true) (bridgesAbove host s k)
 
+-- function k has this ID: "An ID is bus 8, device 5, function 3 bits."
+pub record HasIdOver (s : List ℕ) (id k : ℕ) : Type 0 where
+  pub function : Node
+  pub has-id : HasId (id / 256) (id % 256) (nodesOf s) function
+  pub number-is : function .number ≡ k
+
 -- "with more than 16 bridges in a row the count is still exact, at most 255"
 abbrev pub mostInRow : ℕ
 mostInRow = 255
@@ -72,6 +80,16 @@ pub record Audits : Type 0 where
       → (header : List ℕ) (p : Packet) → readOf header ≡ Read p
       → (sp : Space) (address : ℕ) → IsRequest p sp address
       → Routed (Owns host s t sp address) (bridgesAbove host s) mostInRow t header p sp address
+  -- and a packet by ID that of a planned sheet (`RoutedById`)
+  pub accepted-by-id : (host s : List ℕ) → Bytes s → Accepted host s
+      → (t : List ℕ) → SameButCommands s t
+      → (header : List ℕ) (p : Packet) → readOf header ≡ Read p
+      → (id : ℕ) → GoesById p id
+      → RoutedById (length (nodesOf s)) (hostOfPart host .«first_bus») (HasIdOver s id) (bridgesAbove host s) mostInRow t header p id
+  -- so that no accepted packet is contested: by address, by ID or any other way, an accepted sheet never has 41
+  pub never-contested : (host s : List ℕ) → Bytes s → Accepted host s
+      → (t : List ℕ) → SameButCommands s t
+      → (header : List ℕ) (p : Packet) → readOf header ≡ Read p → ¬ (routeNumber header t ≡ 41)
   -- no two functions have BARs over one address, enabled or not
   pub one-holder : (host s : List ℕ) → Bytes s → Accepted host s
       → (sp : Space) (address j k : ℕ) → HasBarOver s sp address j → HasBarOver s sp address k → j ≡ k

@@ -1,14 +1,18 @@
--- Document 02, E6, is proved: the audit's number from its tests, delivery from the good sheet, and planned sheets from the planner's
--- theorems. Assumes nothing.
+-- Document 02, E6, is proved: the audit's number from its tests, delivery by address from the good sheet and by ID from its tree, and
+-- planned sheets from the planner's theorems. Assumes nothing.
 use mathlib.Core.Path.{_≡_, refl, sym, ap, ap₂, subst, subst₂, _∙_}
 use mathlib.Core.Logic.{_⊎_, inl, inr}
 use mathlib.Core.Bool.{Bool, true, false, cond}
 use mathlib.Core.List.{List, [], _∷_, _++_, map, reverse, List·Memᴰ·not-nil, List·Memᴰ·cases-cons, Memᴰ·map}
-use Prim.Native.Nat.{ℕ, suc, pred, _+_, _-_, _≤_}
+use Prim.Native.Nat.{ℕ, suc, pred, _+_, _-_, _/_, _%_, _≤_, _<_}
+use native.Mathlib.Nat.{suc-ne-zero}
 use native.Mathlib.Omega.{arith}
 use lib.ListN.{length, getD, take, drop, length-drop, length-map}
 use lib.Seq.{length-take-le}
 use Rattle.endian.specs.Endian.{Bytes}
+use Rattle.packet.specs.declared.Packet.{Packet}
+use Rattle.tlp.specs.declared.Reading.the-variants.{Accepted as Read}
+use Rattle.tlp.specs.Reading.{readOf}
 use Rattle.lists.specs.Lists.{_∈_, All, keep}
 use Rattle.lists.specs.ListLaws.{all-elim, all-intro, all-map-intro}
 use Rattle.pools.specs.declared.Pool.the-variants.{Low, High, Io}
@@ -26,12 +30,16 @@ use Rattle.walk.specs.Ranges.{Range}
 use Rattle.walk.specs.Registers.{Node, Registers, nodes, rootOf}
 use Rattle.walk.specs.RegistersLaws.{node-mem}
 use Rattle.walk.specs.Tally.{tallyOn}
-use Rattle.walk.specs.Walk.{delivered, refused, walkFrom, Trail}
+use Rattle.walk.specs.Walk.{Outcome, delivered, refused, walkFrom, Trail}
 use Rattle.walk.specs.Above.{above}
-use Rattle.walk.specs.Good.{Host as WalkHost, Tree, Nested, Disjoint, Good, Sound, sound-of-good}
+use Rattle.walk.specs.AboveLaws.{above-is, above-at-most-255}
+use Rattle.walk.specs.Good.{Host as WalkHost, BridgesRise, Tree, Nested, Disjoint, Good, Sound, sound-of-good}
 use Rattle.walk.specs.Reach.{numbersOf}
 use Rattle.walk.specs.Delivery as walking
-use Rattle.walk.specs.Delivery.{outcomeOf, Delivers, sound-delivers, owner-of-delivered, delivered-of-owner, outcome-from-first, holder-unique}
+use Rattle.walk.specs.Delivery.{outcomeOf, Delivers, sound-delivers, owner-of-delivered, delivered-of-owner, outcome-from-first}
+use Rattle.walk.specs.Delivery.{root-is-first, holder-unique}
+use Rattle.walk.specs.Ids.{tallyById, DistinctIds}
+use Rattle.walk.specs.IdsDelivery.{delivered-by-id, crosses-by-id, has-id-of-delivered, nobody-by-id}
 use Rattle.sheet_record.specs.Entry.{Entry}
 use Rattle.sheet_record.specs.Spaces.{nodeOf}
 use Rattle.sheet.specs.Sheet.{Framed, entriesOf}
@@ -43,14 +51,17 @@ use Rattle.plan_good.specs.Registers.{poolRange, planHost}
 use Rattle.plan_answer.specs.declared.Planning.the-variants.{Planned}
 use Rattle.plan_answer.specs.Plan.{planning, sheetAfter}
 use Rattle.plan_sheet.specs.Answer.{planned-of-answer, planned-sheet-of-answer}
-use Rattle.claims.specs.declared.Aim.the-variants.{Address}
+use Rattle.claims.specs.declared.Aim.the-variants.{Address, Id}
 use Rattle.claims.specs.Claims.{tallyFor}
 use Rattle.route.specs.Route.{root}
 use Rattle.audit_rule.specs.Host.{hostFor}
 use Rattle.audit_rule.specs.Accepted.{Accepted}
 use Rattle.audit_rule.specs.AcceptedLaws.{good-of-accepted}
 use Rattle.audit_rule.specs.AuditLaws.{audit-iff, audited-by-number}
-use Rattle.demands.specs.Audit.{busOf, bridgesAbove, HasBarOver, Owns, mostInRow, hostRecord, Audits}
+use Rattle.demands.specs.Demand3.{IsRequest, Routed}
+use Rattle.demands.specs.ById.{GoesById, RoutedById}
+use Rattle.demands.specs.ByIdLaws.{ComesById, routed-by-id, not-41}
+use Rattle.demands.specs.Audit.{busOf, bridgesAbove, HasBarOver, Owns, HasIdOver, mostInRow, hostRecord, Audits}
 use Rattle.demands.specs.RoutedLaws.{trail-from-root, Comes, routed}
 
 -- ## Command words rewritten
@@ -224,6 +235,105 @@ module _ (host s : List ℕ) (bytes : Bytes s) (a : Accepted host s) (sp : Space
             let count = count-agree f (owns .in-sheet) ∙ ap (λ (n : ℕ). length (bridgesAbove host s n)) is in
             omega (arith, delivers .at-most-255 f (owns .in-sheet), count)
 
+-- ## By ID
+
+module _ (host s : List ℕ) (bytes : Bytes s) (a : Accepted host s) (t : List ℕ) (same : SameButCommands s t) (id : ℕ) where
+  abbrev first : ℕ
+  first = hostOfPart host .«first_bus»
+
+  -- the tree of buses is one in both spaces
+  abbrev busHost : WalkHost
+  busHost = hostFor Memory (hostOfPart host)
+
+  abbrev ns : List Node
+  ns = nodesOf s
+
+  rise : BridgesRise ns
+  rise = passes-of-zero s bytes (a .passes) .bridges-rise
+
+  distinct : DistinctIds ns
+  distinct = passes-of-zero s bytes (a .passes) .distinct-ids
+
+  nodes-kept : nodesOf t ≡ ns
+  nodes-kept = nodes-same same (checked-of-zero s (a .passes) .framed)
+
+  numbers-above : (n : Node) → n ∈ ns → numbersOf (above first ns (n .bus)) ≡ bridgesAbove host s (n .number)
+  numbers-above n m = ap (λ (bus : ℕ). numbersOf (above first ns bus)) (sym (bus-of-node s n m))
+
+  count-above : (n : Node) → n ∈ ns → length (above first ns (n .bus)) ≡ length (bridgesAbove host s (n .number))
+  count-above n m = sym (length-map (above first ns (n .bus)) (λ (b : Node). b .number)) ∙ ap length (numbers-above n m)
+
+  abbrev walk : Outcome
+  walk = walkFrom (tallyById ns (id / 256) (id % 256)) first 0
+
+  -- the router's walk is the one that these are said of
+  walk-is : walkFrom (tallyFor (Id id) t) first 0 ≡ walk
+  walk-is = ap (λ (ms : List Node). walkFrom (tallyById ms (id / 256) (id % 256)) first 0) nodes-kept
+
+  comes-to : (k : ℕ) → HasIdOver s id k → walk ≡ delivered k (length (bridgesAbove host s k))
+  comes-to k x =
+      let n = x .function in
+      delivered-by-id rise (a .tree Memory) distinct (id / 256) (id % 256) n (x .has-id)
+      ∙ ap₂ delivered (x .number-is)
+      (count-above n (x .has-id .in-sheet) ∙ ap (λ (j : ℕ). length (bridgesAbove host s j)) (x .number-is))
+
+  comes-by-id : ComesById (length ns) first (HasIdOver s id) (bridgesAbove host s) mostInRow t id
+  comes-by-id =
+      record {
+        passes = number-same same ∙ a .passes;
+        as-many = ap length nodes-kept;
+        root-is = λ some. ap rootOf nodes-kept ∙ root-is-first first ns (a .tree Memory .first-on-root) some;
+        delivered-exactly = λ k count. (to k count, λ (x, e). walk-is ∙ comes-to k x ∙ ap (delivered k) (sym e));
+        else-no-owner = (
+          nobody,
+          λ none.
+              walk-is
+              ∙ nobody-by-id rise (a .tree Memory) distinct (id / 256) (id % 256)
+              (λ n h. none (n .number) (record { function = n; has-id = h; number-is = refl })),
+        );
+        one-owner = λ j k x y. let p = comes-to j x in let q = comes-to k y in cc;
+        crosses-above = crosses-above;
+        some-of = λ k x. some ns (x .has-id .in-sheet);
+        few = few;
+      }
+    where
+      to : (k count : ℕ) → walkFrom (tallyFor (Id id) t) first 0 ≡ delivered k count
+          → HasIdOver s id k × (count ≡ length (bridgesAbove host s k))
+      to k count e =
+          let (n, h, is, counted) =
+          has-id-of-delivered rise (a .tree Memory) distinct (id / 256) (id % 256) k count (sym walk-is ∙ e) in (
+            record { function = n; has-id = h; number-is = is },
+            counted ∙ count-above n (h .in-sheet) ∙ ap (λ (j : ℕ). length (bridgesAbove host s j)) is,
+          )
+
+      nobody : walkFrom (tallyFor (Id id) t) first 0 ≡ refused 40 → (k : ℕ) → ¬ HasIdOver s id k
+      nobody e k x = let d = sym walk-is ∙ e in let r = comes-to k x in suc-ne-zero 0 (cc)
+
+      crosses-above : (k : ℕ) → HasIdOver s id k → Trail (tallyFor (Id id) t) first (reverse (bridgesAbove host s k)) k
+      crosses-above k x =
+          let n = x .function in
+          let numbers = numbers-above n (x .has-id .in-sheet) ∙ ap (bridgesAbove host s) (x .number-is) in
+          let by-walk =
+          subst₂ (λ (ms : List ℕ) (j : ℕ). Trail (tallyById ns (id / 256) (id % 256)) first (reverse ms) j) numbers (x .number-is)
+          (crosses-by-id rise (a .tree Memory) distinct (id / 256) (id % 256) n (x .has-id)) in
+          subst (λ (ms : List Node). Trail (tallyById ms (id / 256) (id % 256)) first (reverse (bridgesAbove host s k)) k)
+          (sym nodes-kept) by-walk
+
+      some : (ms : List Node) {n : Node} → n ∈ ms → 0 < length ms
+      some [] m = absurd (List·Memᴰ·not-nil m)
+      some (x ∷ ms) m = omega arith
+
+      few : (k : ℕ) → HasIdOver s id k → length (bridgesAbove host s k) ≤ mostInRow
+      few k x =
+          let n = x .function in
+          let m = x .has-id .in-sheet in
+          let way-up = above-is {host = busHost} rise (a .tree Memory) n m in
+          omega (
+            arith,
+            above-at-most-255 ns rise first (n .bus) (above first ns (n .bus)) way-up,
+            count-above n m ∙ ap (λ (j : ℕ). length (bridgesAbove host s j)) (x .number-is),
+          )
+
 -- ## Planned sheets
 
 abbrev hostWith : Host → List Range → WalkHost
@@ -270,15 +380,34 @@ module _ (b room : List ℕ) (n : ℕ) (bytes : Bytes b) (planned : planning b (
         disjoint = λ sp. good sp .disjoint;
       }
 
+-- ## The request
+
+module _ (host s : List ℕ) (bytes : Bytes s) (a : Accepted host s) (t : List ℕ) (same : SameButCommands s t) (header : List ℕ) (p : Packet)
+    (read : readOf header ≡ Read p) where
+  accepted-routed : (sp : Space) (address : ℕ) → IsRequest p sp address
+      → Routed (Owns host s t sp address) (bridgesAbove host s) mostInRow t header p sp address
+  accepted-routed sp address is =
+      routed (Owns host s t sp address) (bridgesAbove host s) mostInRow t sp address (number-same same ∙ a .passes)
+      (comes host s bytes a sp t same address) header p read is
+
+  accepted-by-id : (id : ℕ) → GoesById p id
+      → RoutedById (length (nodesOf s)) (hostOfPart host .«first_bus») (HasIdOver s id) (bridgesAbove host s) mostInRow t header p id
+  accepted-by-id id by =
+      routed-by-id (length (nodesOf s)) (hostOfPart host .«first_bus») (HasIdOver s id) (bridgesAbove host s) mostInRow t id
+      (comes-by-id host s bytes a t same id) header p read by
+
 pub audits : Audits
 audits =
     record {
       yes-exactly = audit-iff;
       by-number = audited-by-number;
       stays-accepted = stays-accepted;
-      accepted-routed = λ host s bytes a t same header p read sp address is.
-          routed (Owns host s t sp address) (bridgesAbove host s) mostInRow t sp address (number-same same ∙ a .passes)
-          (comes host s bytes a sp t same address) header p read is;
+      accepted-routed = accepted-routed;
+      accepted-by-id = accepted-by-id;
+      never-contested = λ host s bytes a t same header.
+          not-41 header t (number-same same ∙ a .passes)
+          (λ q r sp address is. accepted-routed host s bytes a t same header q r sp address is .delivered-or-40)
+          (λ q r id by. accepted-by-id host s bytes a t same header q r id by .delivered-40-or-42);
       one-holder = holder-is;
       planned-accepted = planned-accepted;
       planned-yes = λ b room n bytes planned t same small.
