@@ -7,7 +7,7 @@ use mathlib.Core.Bool.{cond, not, _&&_, _||_}
 use mathlib.Core.List.{List}
 use Prim.Native.Nat.{ℕ, _+_, _*_, _/_, _%_, _^_, _<_, _≤_}
 use lib.Dec.{eqb}
-use lib.ListN.{length, getD}
+use lib.ListN.{length, getD, take, drop}
 use Rattle.pairs.specs.declared.MessageKind.{MessageKind}
 use Rattle.pairs.specs.declared.MessageRouting.{MessageRouting}
 use Rattle.pairs.specs.declared.MessageRouting.the-variants.{ToRoot, ByAddress, ById, Broadcast, Local, Gathered}
@@ -97,9 +97,13 @@ pub record Messages : Type 0 where
   -- "(short room 11)", and then the room stays as it was
   pub short-room-11 : (header s list : List ℕ) (n : ℕ) (p : Packet) → routeOf header s ≡ ToEvery n p → length list < n
       → let r = onRoom (routeOf header s) (length list) in (r ≡ Refused 11) × (listAfter r s list ≡ list)
-  -- "100 ends at the port, a named answer;" exactly so
-  pub port-exactly : (header s : List ℕ) (p : Packet) → readOf header ≡ Accepted p → sheetNumber s ≡ 0
-      → (placeOf (routeOf header s) ≡ port) ↔ (((tail : ℕ) × IsMessage p Local tail) × Populated s)
+  -- with room, it starts the lent slice, and what lies past it is kept
+  pub list-starts-room : (header s list : List ℕ) (n : ℕ) (p : Packet) → routeOf header s ≡ ToEvery n p → n ≤ length list
+      → let r = onRoom (routeOf header s) (length list) in
+      (r ≡ ToEvery n p) × (take n (listAfter r s list) ≡ listOf s) × (drop n (listAfter r s list) ≡ drop n list)
+  -- "100 ends at the port, a named answer;" exactly so, and the packet there is the one that was read
+  pub port-exactly : (header s : List ℕ) (p q : Packet) → readOf header ≡ Accepted p → sheetNumber s ≡ 0
+      → (routeOf header s ≡ Port q) ↔ ((q ≡ p) × ((tail : ℕ) × IsMessage p Local tail) × Populated s)
   -- "000 and 101 only travel up: new number 43, tried where 42 is;" exactly so
   pub up-exactly : (header s : List ℕ) (p : Packet) → readOf header ≡ Accepted p → sheetNumber s ≡ 0
       → (routeNumber header s ≡ 43) ↔ (((tail : ℕ) × (IsMessage p ToRoot tail ⊎ IsMessage p Gathered tail)) × Populated s)

@@ -7,7 +7,8 @@ use Prim.Native.Nat.{ℕ, _+_, _/_, _^_, _<_, _≤_}
 use native.Mathlib.Nat.{suc-ne-zero}
 use native.Mathlib.Omega.{arith}
 use lib.Dec.{eqb}
-use lib.ListN.{length, getD}
+use lib.ListN.{length, getD, take, drop}
+use lib.Seq.{take-at, drop-at}
 use borrow.Author.Tests.{le-ltb, lt-ltb}
 use Rattle.arith.specs.Order.{eq-or-ne}
 use Rattle.pairs.specs.declared.MessageRouting.{MessageRouting}
@@ -32,7 +33,7 @@ use Rattle.route.specs.declared.Routing.{Routing}
 use Rattle.route.specs.declared.Routing.the-variants.{Delivered, Broadcast as ToEvery, Port, Refused}
 use Rattle.route.specs.Route.{numberOf, answer, walked, root, onHeading, from42, routePacket, fromSheet, routeOf}
 use Rattle.route.specs.Listed.{listOf, onRoom, listAfter}
-use Rattle.route.specs.ListedLaws.{list-counted}
+use Rattle.route.specs.ListedLaws.{list-counted, broadcast-counts}
 use Rattle.route.specs.OrderLaws.{route-no-functions, route-wrong-type, route-headed, goes-to-every, goes-to-port, goes-up-iff}
 use Rattle.demands.specs.Demand3.{routeNumber}
 use Rattle.demands.specs.Messages.{IsMessage, IsMemoryRequest, IsCompletionFor, ReservedRouting}
@@ -107,6 +108,16 @@ short-room : (header s list : List ℕ) (n : ℕ) (p : Packet) → routeOf heade
     → let r = onRoom (routeOf header s) (length list) in (r ≡ Refused 11) × (listAfter r s list ≡ list)
 short-room header s list n p e below = (rw (e, lt-ltb (length list) n below), rw (e, lt-ltb (length list) n below))
 
+list-starts : (header s list : List ℕ) (n : ℕ) (p : Packet) → routeOf header s ≡ ToEvery n p → n ≤ length list
+    → let r = onRoom (routeOf header s) (length list) in
+    (r ≡ ToEvery n p) × (take n (listAfter r s list) ≡ listOf s) × (drop n (listAfter r s list) ≡ drop n list)
+list-starts header s list n p e room =
+    let size : length (listOf s) ≡ n = lists s .0 ∙ sym (broadcast-counts header s n p e) in (
+      rw (e, le-ltb (length list) n room),
+      rw (e, le-ltb (length list) n room) (take-at (listOf s) (drop n list) n size),
+      rw (e, le-ltb (length list) n room) (drop-at (listOf s) (drop n list) n size),
+    )
+
 -- ## The port, and what only travels up
 
 local-of-heading : (p : Packet) → headingOf p ≡ ToPort → (tail : ℕ) × IsMessage p Local tail
@@ -163,12 +174,18 @@ module _ (header s : List ℕ) (p : Packet) (read : readOf header ≡ Accepted p
       by-type false right =
           by-heading (headingOf p) refl (sym (ap placeOf (route-headed header s p read passes some right)) ∙ e)
 
-  port-iff : (placeOf (routeOf header s) ≡ port) ↔ (((tail : ℕ) × IsMessage p Local tail) × Populated s)
-  port-iff = (
-    λ e. (local-of-heading p (port-of-answer e), record { passes = passes; some = some-of-port e }),
-    λ ((tail, is), populated).
-        ap placeOf (goes-to-port header s p read passes (populated .some) (heading-of-message p Local tail is .0)),
-  )
+  port-iff : (q : Packet) → (routeOf header s ≡ Port q) ↔ ((q ≡ p) × ((tail : ℕ) × IsMessage p Local tail) × Populated s)
+  port-iff q = (to, λ (same, (tail, is), populated). there (populated .some) (heading-of-message p Local tail is .0) ∙ ap Port (sym same))
+    where
+      there : ¬ (length (nodesOf s) ≡ 0) → headingOf p ≡ ToPort → routeOf header s ≡ Port p
+      there some heading = goes-to-port header s p read passes some heading
+
+      to : routeOf header s ≡ Port q → (q ≡ p) × ((tail : ℕ) × IsMessage p Local tail) × Populated s
+      to e =
+          let at-port = ap placeOf e in
+          let heading = port-of-answer at-port in
+          let here : Port q ≡ Port p = sym e ∙ there (some-of-port at-port) heading in
+          (cc, local-of-heading p heading, record { passes = passes; some = some-of-port at-port })
 
   up-iff : (routeNumber header s ≡ 43) ↔ (((tail : ℕ) × (IsMessage p ToRoot tail ⊎ IsMessage p Gathered tail)) × Populated s)
   up-iff = (
@@ -199,6 +216,7 @@ messages =
           goes-to-every header s p read (populated .passes) (populated .some) (heading-of-message p Broadcast tail is .0);
       lists-once = lists;
       short-room-11 = short-room;
-      port-exactly = port-iff;
+      list-starts-room = list-starts;
+      port-exactly = λ header s p q read passes. port-iff header s p read passes q;
       up-exactly = up-iff;
     }
