@@ -31,7 +31,7 @@ use Rattle.route.specs.RequestLaws.{route-request, request-delivered-iff}
 use Rattle.demands.specs.Demand3.{IsRequest, routeNumber, DeliveredTo, Crosses, Routed}
 
 -- the router's aim of a request is its space and start address
-aim-of-request : (p : Packet) (sp : Space) (address : ℕ) → IsRequest p sp address → headingOf p ≡ Aimed (Address sp address)
+pub aim-of-request : (p : Packet) (sp : Space) (address : ℕ) → IsRequest p sp address → headingOf p ≡ Aimed (Address sp address)
 aim-of-request (Memory k h e a) sp address (in-memory, starts) = rw (in-memory, starts)
 aim-of-request (Io k h e a) sp address (in-io, starts) = rw (in-io, starts)
 aim-of-request (Config k h e t) sp address is = absurd is

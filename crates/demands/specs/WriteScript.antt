@@ -8,6 +8,9 @@ use mathlib.Core.List.{List, _∷_}
 use Prim.Native.Nat.{ℕ, _≤_, _<_}
 use lib.ListN.{length, take, drop}
 use Rattle.endian.specs.Endian.{Bytes}
+use Rattle.packet.specs.declared.Packet.{Packet}
+use Rattle.tlp.specs.declared.Reading.the-variants.{Accepted}
+use Rattle.tlp.specs.Reading.{readOf}
 use Rattle.pools.specs.declared.Space.{Space}
 use Rattle.records.specs.Records.{partsOf}
 use Rattle.walk.specs.Walk.{refused, noOwner}
@@ -15,11 +18,14 @@ use Rattle.sheet.specs.Sheet.{fullSheet}
 use Rattle.plan_answer.specs.declared.Planning.the-variants.{Planned, Refused as NotPlanned}
 use Rattle.plan_answer.specs.Plan.{planning}
 use Rattle.plan_sheet.specs.Delivery.{sheetOutcome}
+use Rattle.route.specs.declared.Routing.the-variants.{Refused as NotRouted}
+use Rattle.route.specs.Route.{routePacket, routeOf}
 use Rattle.script_writes.specs.Writes.{Write}
 use Rattle.scripter.specs.declared.Scripting.the-variants.{Written, Refused}
 use Rattle.scripter.specs.Scripting.{plannedSheet, boardWrites, scriptOf, scriptLength, scripting, roomAfter}
 use Rattle.scripter.specs.LongestLaws.{longestScript}
 use Rattle.script_run.specs.Run.{scriptParts, stateAfter, TakenInPlace}
+use Rattle.demands.specs.Demand3.{IsRequest}
 
 -- a board that the planner plans, given room for its sheet: `fullSheet` is that of any board
 pub record IsPlanned (b : List ℕ) : Type 0 where
@@ -59,3 +65,8 @@ pub record WriteScript : Type 0 where
   pub owner-or-none : (b : List ℕ) (requester tag : ℕ) → IsPlanned b → IsBoot requester tag → (j : ℕ) (sp : Space) (address : ℕ)
       → (sheetOutcome sp (stateAfter b requester tag j) address ≡ sheetOutcome sp (plannedSheet b) address)
       ⊎ (sheetOutcome sp (stateAfter b requester tag j) address ≡ refused noOwner)
+  -- so that a header read as such a request gets there, "with the sheet checks left out", what the router answers over the sheet, or 40
+  pub routed-or-none : (b : List ℕ) (requester tag : ℕ) → IsPlanned b → IsBoot requester tag → (j : ℕ)
+      → (header : List ℕ) (p : Packet) → readOf header ≡ Accepted p → (sp : Space) (address : ℕ) → IsRequest p sp address
+      → (routePacket p (stateAfter b requester tag j) ≡ routeOf header (plannedSheet b))
+      ⊎ (routePacket p (stateAfter b requester tag j) ≡ NotRouted 40)
