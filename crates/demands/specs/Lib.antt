@@ -1,6 +1,4 @@
--- Document 01's examples, the user's demands, what becomes of a packet that goes by ID, and of document 02 messages (E1), traces (E4),
--- the audit (E6), the index (E8), empty slots (E10), card to card (E11), open requests (E12), one card's switch (E13) and the write script
--- (E14).
+-- Document 01's examples, the user's demands, and what becomes of a packet that goes by ID. Document 02's requests stand in requests.
 pub mod Examples
 pub mod Demand2
 pub mod Demand3
@@ -8,21 +6,3 @@ pub mod RoutedLaws
 pub mod Demand3Laws
 pub mod ById
 pub mod ByIdLaws
-pub mod Messages
-pub mod MessagesLaws
-pub mod Trace
-pub mod TraceLaws
-pub mod Audit
-pub mod AuditLaws
-pub mod FastLabels
-pub mod FastLabelsLaws
-pub mod EmptySlots
-pub mod EmptySlotsLaws
-pub mod CardToCard
-pub mod CardToCardLaws
-pub mod OpenRequests
-pub mod OpenRequestsLaws
-pub mod OneSwitch
-pub mod OneSwitchLaws
-pub mod WriteScript
-pub mod WriteScriptLaws

@@ -25,7 +25,7 @@ use Rattle.trace.specs.FeedLaws.{short-front, Call, called-state, called-lines}
 use Rattle.trace_line.specs.Line.{labelWith, lineWith, lineOver}
 use Rattle.trace_line.specs.LineLaws.{line-front}
 use Rattle.annotator.specs.ProgramLaws.{program-no-length, program-long, program-short, program-pieces}
-use Rattle.demands.specs.Trace.{Labels, linesAfter, told, Annotates, Feeds, Ends, Calls, Prints, TraceAnnotated}
+use Rattle.requests.specs.Trace.{Labels, linesAfter, told, Annotates, Feeds, Ends, Calls, Prints, TraceAnnotated}
 
 -- ## One line
 

@@ -22,8 +22,8 @@ use Rattle.trace_line.specs.declared.Engine.the-variants.{Index}
 use Rattle.trace_line.specs.Line.{lineOver}
 use Rattle.trace_line.specs.Engine.{lineBy}
 use Rattle.trace_line.specs.LineLaws.{lines-agree}
-use Rattle.demands.specs.Trace.{told}
-use Rattle.demands.specs.FastLabels.{indexBytes, IsBuilt, FedAlike, FastLabels}
+use Rattle.requests.specs.Trace.{told}
+use Rattle.requests.specs.FastLabels.{indexBytes, IsBuilt, FedAlike, FastLabels}
 
 module _ (host s room : List ℕ) where
   abbrev number : ℕ

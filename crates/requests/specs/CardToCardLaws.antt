@@ -58,11 +58,11 @@ use Rattle.route_cards.specs.Sending.{numberOf as sendingNumber, requestOf, mas
 use Rattle.route_cards.specs.Search.{functionAt, IsType0}
 use Rattle.route_cards.specs.RecordLaws.{function-mem, type-0-no-bridge}
 use Rattle.route_cards.specs.RequestLaws.{header-first, sheet-next, other-45, no-start-45, request-sent}
 use Rattle.demands.specs.Demand3 as planned
-use Rattle.demands.specs.Audit as audited
-use Rattle.demands.specs.AuditLaws.{above-agree as audited-above}
-use Rattle.demands.specs.CardToCard.{IsCardRequest, MayStart, plannedBoard, acceptedBoard, sendNumber, SentTo, SentToHost, CardRouted}
-use Rattle.demands.specs.CardToCard.{CardCrosses, CardToCard}
+use Rattle.requests.specs.Audit as audited
+use Rattle.requests.specs.AuditLaws.{above-agree as audited-above}
+use Rattle.requests.specs.CardToCard.{IsCardRequest, MayStart, plannedBoard, acceptedBoard, sendNumber, SentTo, SentToHost, CardRouted}
+use Rattle.requests.specs.CardToCard.{CardCrosses, CardToCard}
 
 -- ## What is asked for
 

@@ -28,9 +28,9 @@ use Rattle.scripter.specs.AnswerLaws.{refused-as-planned, short-room, else-writ
 use Rattle.scripter.specs.LongestLaws.{script-length-le}
 use Rattle.script_run.specs.RunLaws.{parts-of-script, length-parts, taken-in-place, ends-as-planned, owner-or-none-after}
 use Rattle.script_run.specs.Run.{stateAfter}
 use Rattle.demands.specs.Demand3.{IsRequest}
 use Rattle.demands.specs.RoutedLaws.{aim-of-request}
-use Rattle.demands.specs.WriteScript.{IsPlanned, IsBoot, WriteScript}
+use Rattle.requests.specs.WriteScript.{IsPlanned, IsBoot, WriteScript}
 
 -- ## A request while the script runs
 

@@ -40,9 +40,9 @@ use Rattle.plan_answer.specs.declared.Planning.the-variants.{Planned}
 use Rattle.plan_answer.specs.Plan.{planning}
 use Rattle.plan_sheet.specs.Accepted.{fits-of-accepted}
 use Rattle.plan_sheet.specs.Answer.{planned-of-answer}
 use Rattle.demands.specs.Demand3.{Lawful, host, functions}
 use Rattle.demands.specs.Demand3Laws.{demand-3}
-use Rattle.demands.specs.EmptySlots.{versionOf, functionsAt, Spares, AsBefore, EmptySlots}
+use Rattle.requests.specs.EmptySlots.{versionOf, functionsAt, Spares, AsBefore, EmptySlots}
 
 -- ## Records
 

@@ -21,7 +21,7 @@ use Rattle.trace.specs.Feed.{fedOf, fedPut}
 use Rattle.trace_line.specs.declared.Engine.the-variants.{Index}
 use Rattle.trace_line.specs.Line.{lineOver}
 use Rattle.trace_line.specs.Engine.{lineBy}
-use Rattle.demands.specs.Trace.{told}
+use Rattle.requests.specs.Trace.{told}
 
 -- "The index takes 1,024 bytes and 256 a function"
 abbrev pub indexBytes : List ℕ → ℕ

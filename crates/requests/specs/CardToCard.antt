@@ -31,8 +31,8 @@ use Rattle.route_cards.specs.declared.Arrival.{Arrival}
 use Rattle.route_cards.specs.declared.Sending.the-variants.{Delivered, Host, Refused}
 use Rattle.route_cards.specs.Sending.{numberOf as sendingNumber, masterOf, sendingOf}
 use Rattle.route_cards.specs.Search.{functionAt, IsType0}
 use Rattle.demands.specs.Demand3 as planned
-use Rattle.demands.specs.Audit as audited
+use Rattle.requests.specs.Audit as audited
 
 -- ## What starts where
 

@@ -35,10 +35,10 @@ use Rattle.route.specs.Route.{numberOf, answer, walked, root, onHeading, from42
 use Rattle.route.specs.Listed.{listOf, onRoom, listAfter}
 use Rattle.route.specs.ListedLaws.{list-counted, broadcast-counts}
 use Rattle.route.specs.OrderLaws.{route-no-functions, route-wrong-type, route-headed, goes-to-every, goes-to-port, goes-up-iff}
 use Rattle.demands.specs.Demand3.{routeNumber}
-use Rattle.demands.specs.Messages.{IsMessage, IsMemoryRequest, IsCompletionFor, ReservedRouting}
-use Rattle.demands.specs.Messages.{Place, function, every-function, port}
-use Rattle.demands.specs.Messages.{refused, placeOf, Populated, Messages}
+use Rattle.requests.specs.Messages.{IsMessage, IsMemoryRequest, IsCompletionFor, ReservedRouting}
+use Rattle.requests.specs.Messages.{Place, function, every-function, port}
+use Rattle.requests.specs.Messages.{refused, placeOf, Populated, Messages}
 
 -- ## Where a packet is headed
 

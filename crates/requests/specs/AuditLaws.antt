@@ -58,11 +58,11 @@ use Rattle.audit_rule.specs.Host.{hostFor}
 use Rattle.audit_rule.specs.Accepted.{Accepted}
 use Rattle.audit_rule.specs.AcceptedLaws.{good-of-accepted}
 use Rattle.audit_rule.specs.AuditLaws.{audit-iff, audited-by-number}
 use Rattle.demands.specs.Demand3.{IsRequest, Routed}
 use Rattle.demands.specs.ById.{GoesById, RoutedById}
 use Rattle.demands.specs.ByIdLaws.{ComesById, routed-by-id, not-41}
-use Rattle.demands.specs.Audit.{busOf, bridgesAbove, HasBarOver, Owns, HasIdOver, mostInRow, hostRecord, Audits}
+use Rattle.requests.specs.Audit.{busOf, bridgesAbove, HasBarOver, Owns, HasIdOver, mostInRow, hostRecord, Audits}
 use Rattle.demands.specs.RoutedLaws.{trail-from-root, Comes, routed}
 
 -- ## Command words rewritten
 

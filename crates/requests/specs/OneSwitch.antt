@@ -25,11 +25,11 @@ use Rattle.route_cards.specs.Search.{functionAt}
 use Rattle.index_search.specs.Search.{searchOf}
 use Rattle.index_build.specs.Build.{indexAfter}
 use Rattle.trace_line.specs.Line.{lineOver}
 use Rattle.demands.specs.Demand3.{IsRequest}
 use Rattle.demands.specs.ById.{GoesById}
-use Rattle.demands.specs.Trace.{told}
-use Rattle.demands.specs.FastLabels.{IsBuilt}
-use Rattle.demands.specs.CardToCard.{IsCardRequest}
+use Rattle.requests.specs.Trace.{told}
+use Rattle.requests.specs.FastLabels.{IsBuilt}
+use Rattle.requests.specs.CardToCard.{IsCardRequest}
 
 -- "any two sheets that pass checks 20 to 29 and differ only in one function's command word": function k's, numbered from 1
 pub record DifferAt (k : ℕ) (s t : List ℕ) : Type 0 where

@@ -8,7 +8,7 @@ use Rattle.ledger.specs.StandingLaws.{standing}
 use Rattle.ledger.specs.SentencesLaws.{unread-first, no-request, no-completion, held-iff, full-iff, opened-else, missing-iff, mismatch-iff}
 use Rattle.ledger.specs.SentencesLaws.{more-iff, refused-same, read-closes, write-closes, other-closes, closes-iff, freed-room, freed-again}
 use Rattle.ledger.specs.SentencesLaws.{keys-differ}
-use Rattle.demands.specs.OpenRequests.{OpenRequests}
+use Rattle.requests.specs.OpenRequests.{OpenRequests}
 
 pub open-requests : OpenRequests
 open-requests =

@@ -55,14 +55,14 @@ use Rattle.trace.specs.Annotated.{numberAfter}
 use Rattle.trace_line.specs.Line.{labelOf, labelWith, lineWith, lineOver}
 use Rattle.index_search.specs.Search.{searchOf}
 use Rattle.index_build.specs.Build.{indexAfter}
 use Rattle.demands.specs.Demand3.{IsRequest}
 use Rattle.demands.specs.ById.{GoesById}
-use Rattle.demands.specs.Trace.{linesAfter, told, Annotates}
-use Rattle.demands.specs.TraceLaws.{trace-annotated}
-use Rattle.demands.specs.FastLabels.{IsBuilt}
-use Rattle.demands.specs.FastLabelsLaws.{fast-labels}
-use Rattle.demands.specs.CardToCard.{IsCardRequest}
-use Rattle.demands.specs.OneSwitch.{DifferAt, LiesIn, StaysClear, CardStaysClear, OneSwitch}
+use Rattle.requests.specs.Trace.{linesAfter, told, Annotates}
+use Rattle.requests.specs.TraceLaws.{trace-annotated}
+use Rattle.requests.specs.FastLabels.{IsBuilt}
+use Rattle.requests.specs.FastLabelsLaws.{fast-labels}
+use Rattle.requests.specs.CardToCard.{IsCardRequest}
+use Rattle.requests.specs.OneSwitch.{DifferAt, LiesIn, StaysClear, CardStaysClear, OneSwitch}
 
 -- ## What goes by an address
 
