@@ -1,20 +1,21 @@
 -- Wherever the cuts fall, an input of any length comes to the audit's answer on all its bytes. Assumes nothing.
 use mathlib.Core.Path.{_≡_, refl, sym, ap, ap₂, _∙_}
 use mathlib.Core.Bool.{Bool, true, false, cond}
-use mathlib.Core.List.{List, [], _∷_, _++_, append-nil, append-assoc, flatten}
-use Prim.Native.Nat.{ℕ, suc, _+_, _-_, _≤_, _<_, min}
+use mathlib.Core.List.{List, [], _++_, flatten}
+use Prim.Native.Nat.{ℕ, _+_, _-_, _≤_, _<_, min}
 use native.Mathlib.Omega.{arith}
-use lib.ListN.{length, set, take, drop, length-drop, take-append-drop, drop-of-length-le}
-use lib.Seq.{sets, sets-eq, take-set-le, take-at, take-all, length-take-le, drop-append-le, drop-append-add}
+use lib.ListN.{length, take, drop, length-drop}
+use lib.Seq.{length-take-le}
 use lib.Dec.{ltb}
 use borrow.Author.Tests.{lt-ltb, le-ltb, ltb-true, ltb-false}
-use Rattle.endian.specs.SetsLaws.{sets-sets}
-use Rattle.text.specs.Text.{Put}
-use Rattle.text.specs.TextLaws.{put-append, put-length}
+use Rattle.text.specs.Kept.{Kept}
+use Rattle.text.specs.KeptLaws.{kept-start, kept-more, count-of-kept, front-kept, all-kept, rest-append}
 use Rattle.records.specs.declared.frame.Stage.{Stage}
 use Rattle.records.specs.declared.frame.Stage.the-variants.{Start}
 use Rattle.records.specs.Frame.{stageOf, heardOf, endingOf}
 use Rattle.records.specs.FrameLaws.{stage-append, heard-append}
+use Rattle.records.specs.Pieces.{State, fedAll}
+use Rattle.records.specs.PiecesLaws.{fed-all}
 use Rattle.board_record.specs.declared.Host.{Host}
 use Rattle.board_record.specs.Host.{hostLength, hostOfPart, hostWrong}
 use Rattle.sheet.specs.Sheet.{fullSheet, sheetNumber}
@@ -42,47 +43,26 @@ sheetOf s = drop hostLength s
 
 -- s was fed, from a start with some room
 pub record Fed (s : List ℕ) (f : Feed) (room : List ℕ) : Type 0 where
-  pub room-before : List ℕ
-  pub size : length room-before ≡ kept
-  pub put : Put room-before 0 s room (f .count)
+  pub in-room : Kept kept s (f .count) room
   pub staged : f .stage ≡ stageOf Start (sheetOf s)
   pub noted : f .misframed ≡ heardOf heardBy Start false (sheetOf s)
 
 fed-start : (room : List ℕ) → length room ≡ kept → Fed [] started room
 unfolding stageOf heardOf
-fed-start room l =
-    record { room-before = room; size = l; put = record { stored = refl; place = omega arith }; staged = refl; noted = refl }
+fed-start room l = record { in-room = kept-start kept room l; staged = refl; noted = refl }
 
 -- a piece adds to the sheet what the host record does not take
-sheet-append : (n : ℕ) (s piece : List ℕ) → n ≡ min (length s) kept
-    → drop hostLength (s ++ piece) ≡ sheetOf s ++ drop (hostLength - n) piece
-sheet-append n s piece e = go (ltb (length s) hostLength) refl
-  where
-    go : (b : Bool) → ltb (length s) hostLength ≡ b → drop hostLength (s ++ piece) ≡ sheetOf s ++ drop (hostLength - n) piece
-    go true b =
-        let h = ltb-true (length s) hostLength b in
-        let k : hostLength ≡ length s + (hostLength - n) = omega arith in
-        let none : sheetOf s ≡ [] = drop-of-length-le s {i = hostLength} (omega arith) in
-        ap (λ (m : ℕ). drop m (s ++ piece)) k
-        ∙ drop-append-add s piece (hostLength - n)
-        ∙ ap (λ (x : List ℕ). x ++ drop (hostLength - n) piece) (sym none)
-    go false b =
-        let h = ltb-false (length s) hostLength b in
-        let z : hostLength - n ≡ 0 = omega arith in
-        drop-append-le hostLength s piece h ∙ ap (λ (m : ℕ). sheetOf s ++ drop m piece) (sym z)
-
-count-is : {s : List ℕ} {f : Feed} {room : List ℕ} → Fed s f room → f .count ≡ min (length s) kept
-count-is fed = omega (arith, fed .put .place, fed .size)
+sheet-append : (f : Feed) (s piece : List ℕ) → f .count ≡ min (length s) kept → sheetOf (s ++ piece) ≡ sheetOf s ++ sheetIn f piece
+sheet-append f s piece e =
+    let left : hostLength - length s ≡ hostLength - f .count = omega (arith, e) in
+    rest-append hostLength s piece ∙ ap (λ (m : ℕ). sheetOf s ++ drop m piece) left
 
 fed-more : {s : List ℕ} {f : Feed} {room : List ℕ} → Fed s f room → (piece : List ℕ)
     → Fed (s ++ piece) (fedOf f piece) (keptAfter f room piece)
 fed-more {s} {f} {room} before piece =
-    let l : length room ≡ kept = put-length (before .put) ∙ before .size in
-    let more = sheet-append (f .count) s piece (count-is before) in
+    let more = sheet-append f s piece (count-of-kept (before .in-room)) in
     record {
-      room-before = before .room-before;
-      size = before .size;
-      put = put-append (before .put) (record { stored = refl; place = rw l });
+      in-room = kept-more (before .in-room) piece;
       staged =
           ap (λ (g : Stage). stageOf g (sheetIn f piece)) (before .staged)
           ∙ sym (ap (stageOf Start) more ∙ stage-append Start (sheetOf s) (sheetIn f piece));
@@ -90,25 +70,6 @@ fed-more {s} {f} {room} before piece =
           ap₂ (λ (g : Stage) (m : Bool). heardOf heardBy g m (sheetIn f piece)) (before .staged) (before .noted)
           ∙ sym (ap (heardOf heardBy Start false) more ∙ heard-append heardBy Start false (sheetOf s) (sheetIn f piece));
     }
-
--- ## What is kept
-
--- stores from a place on leave what is before it
-take-sets : (k : ℕ) (o : List ℕ) (i : ℕ) (vs : List ℕ) → k ≤ i → take k (sets o i vs) ≡ take k o
-take-sets k o i [] h = refl
-take-sets k o i (v ∷ vs) h = take-sets k (set o i v) (suc i) vs (omega arith) ∙ take-set-le k o i v h
-
--- the first bytes of what was put at the start, as far as there is room
-front-of-sets : (k : ℕ) (o vs : List ℕ) → k ≤ length vs → k ≤ length o → take k (sets o 0 vs) ≡ take k vs
-front-of-sets k o vs h l =
-    let a = take k vs in
-    let b = drop k vs in
-    let n : length a ≡ k = length-take-le k vs h in
-    ap (λ (x : List ℕ). take k (sets o 0 x)) (sym (take-append-drop k vs))
-    ∙ ap (take k) (sym (sets-sets o 0 a b))
-    ∙ take-sets k (sets o 0 a) (0 + length a) b (omega arith)
-    ∙ ap (take k) (sets-eq a o 0 (omega arith))
-    ∙ take-at a (drop (0 + length a) o) k n
 
 -- ## Any input is audited
 
@@ -133,8 +94,8 @@ module _ (s : List ℕ) (long : mostBytes < length s) where
       go false w = sym (sheet-refused (take hostLength s) (sheetOf s) size h refl (hostWrong h) refl w n e d)
 
 module _ {s : List ℕ} {f : Feed} {room : List ℕ} (fed : Fed s f room) where
-  front-kept : (k : ℕ) → k ≤ length s → k ≤ kept → take k room ≡ take k s
-  front-kept k h l = ap (take k) (fed .put .stored) ∙ front-of-sets k (fed .room-before) s h (omega (arith, fed .size))
+  count-is : f .count ≡ min (length s) kept
+  count-is = count-of-kept (fed .in-room)
 
   number-is : mostBytes < length s → frameNumber f ≡ sheetNumber (sheetOf s)
   unfolding frameNumber
@@ -148,16 +109,11 @@ module _ {s : List ℕ} {f : Feed} {room : List ℕ} (fed : Fed s f room) where
 
   is-long : mostBytes < length s → isLong f ≡ true
   unfolding isLong
-  is-long h = lt-ltb mostBytes (f .count) (omega (arith, count-is fed))
+  is-long h = lt-ltb mostBytes (f .count) (omega (arith, count-is))
 
   is-short : length s ≤ mostBytes → isLong f ≡ false
   unfolding isLong
-  is-short h = le-ltb mostBytes (f .count) (omega (arith, count-is fed))
-
-  all-kept : length s ≤ mostBytes → take (f .count) room ≡ s
-  all-kept h =
-      let n : f .count ≡ length s = omega (arith, count-is fed) in
-      front-kept (f .count) (omega arith) (omega arith) ∙ take-all (f .count) s (omega arith)
+  is-short h = le-ltb mostBytes (f .count) (omega (arith, count-is))
 
   pub any-number : numberOf f room ≡ inputNumber s
   unfolding numberOf longNumber
@@ -166,29 +122,17 @@ module _ {s : List ℕ} {f : Feed} {room : List ℕ} (fed : Fed s f room) where
       go : (b : Bool) → ltb mostBytes (length s) ≡ b → numberOf f room ≡ inputNumber s
       go true e =
           let h = ltb-true mostBytes (length s) e in
-          rw (is-long h, front-kept hostLength (omega arith) (omega arith)) (long-input s h (frameNumber f) (number-is h) number-nonzero)
-      go false e = let h = ltb-false mostBytes (length s) e in rw (is-short h, all-kept h)
+          rw (is-long h, front-kept (fed .in-room) hostLength (omega arith) (omega arith))
+          (long-input s h (frameNumber f) (number-is h) number-nonzero)
+      go false e = let h = ltb-false mostBytes (length s) e in rw (is-short h, all-kept (fed .in-room) (omega arith))
 
 -- ## Pieces
 
-pub record State : Type 0 where
-  pub feed : Feed
-  pub room : List ℕ
+abbrev pub next : State Feed → List ℕ → State Feed
+next t piece = record { feed = fedOf (t .feed) piece; room = keptAfter (t .feed) (t .room) piece }
 
-unfoldable pub fedAll : State → List (List ℕ) → State
-fedAll t [] = t
-fedAll t (piece ∷ pieces) = fedAll (record { feed = fedOf (t .feed) piece; room = keptAfter (t .feed) (t .room) piece }) pieces
-
-fed-all : (s : List ℕ) (t : State) (pieces : List (List ℕ)) → Fed s (t .feed) (t .room)
-    → Fed (s ++ flatten pieces) (fedAll t pieces .feed) (fedAll t pieces .room)
-unfolding fedAll flatten
-fed-all s t [] f = rw (append-nil s) f
-fed-all s t (piece ∷ pieces) f =
-    rw (← append-assoc s piece (flatten pieces))
-    (fed-all (s ++ piece) (record { feed = fedOf (t .feed) piece; room = keptAfter (t .feed) (t .room) piece }) pieces (fed-more f piece))
-
-abbrev pub atEnd : List (List ℕ) → List ℕ → State
-atEnd pieces room = fedAll (record { feed = started; room = room }) pieces
+abbrev pub atEnd : List (List ℕ) → List ℕ → State Feed
+atEnd pieces room = fedAll next (record { feed = started; room = room }) pieces
 
 -- from a start, any pieces come to the audit of all their bytes, and to what the program prints for them
 pub record AuditedWhole (pieces : List (List ℕ)) (room : List ℕ) : Type 0 where
@@ -198,5 +142,8 @@ pub record AuditedWhole (pieces : List (List ℕ)) (room : List ℕ) : Type 0 wh
 pub pieces-audited : (pieces : List (List ℕ)) (room : List ℕ) → length room ≡ kept → AuditedWhole pieces room
 unfolding answerOf
 pieces-audited pieces room l =
-    let n = any-number (fed-all [] (record { feed = started; room = room }) pieces (fed-start room l)) in
+    let f =
+    fed-all next (λ s t. Fed s (t .feed) (t .room)) (λ s t f piece. fed-more f piece) [] (record { feed = started; room = room }) pieces
+    (fed-start room l) in
+    let n = any-number f in
     record { number-is = n; answer-is = ap numberText n }

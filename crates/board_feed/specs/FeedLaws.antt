@@ -1,22 +1,23 @@
 -- Wherever the cuts fall, an input of any length comes to the planner's answer on all its bytes. Assumes nothing.
 use mathlib.Core.Path.{_≡_, refl, sym, ap, ap₂, _∙_}
 use mathlib.Core.Bool.{Bool, true, false, cond, _||_}
-use mathlib.Core.List.{List, [], _∷_, _++_, append-nil, append-assoc, flatten}
+use mathlib.Core.List.{List, [], _++_, flatten}
 use Prim.Native.Nat.{ℕ, _+_, _≤_, _<_, min}
 use native.Mathlib.Omega.{arith}
-use lib.ListN.{length, take, drop}
-use lib.Seq.{sets-eq, take-at}
+use lib.ListN.{length, take}
 use lib.Dec.{eqb, ltb}
 use borrow.Author.Tests.{ne-eqb, lt-ltb, le-ltb, ltb-true, ltb-false}
 use Rattle.endian.specs.Endian.{Bytes}
-use Rattle.text.specs.Text.{Put}
-use Rattle.text.specs.TextLaws.{put-append, put-length}
+use Rattle.text.specs.Kept.{Kept}
+use Rattle.text.specs.KeptLaws.{kept-start, kept-more, count-of-kept, all-kept}
 use Rattle.records.specs.declared.frame.Stage.{Stage}
 use Rattle.records.specs.declared.frame.Stage.the-variants.{Start}
 use Rattle.records.specs.declared.frame.Ending.{Ending}
 use Rattle.records.specs.declared.frame.Ending.the-variants.{Empty, Unread, Whole, Cut}
 use Rattle.records.specs.Frame.{stageOf, heardOf, endingOf}
 use Rattle.records.specs.Limits.{mostFunctions}
+use Rattle.records.specs.Pieces.{State, fedAll}
+use Rattle.records.specs.PiecesLaws.{fed-all}
 use Rattle.board.specs.Board.{boardNumber}
 use Rattle.plan_answer.specs.declared.Planning.{Planning}
 use Rattle.plan_answer.specs.declared.Planning.the-variants.{Refused}
@@ -42,25 +43,19 @@ fed-is f room piece n g t l e staged tallied = rw (staged, tallied, e, l)
 
 -- s was fed, from a start with some room
 pub record Fed (s : List ℕ) (f : Feed) (room : List ℕ) : Type 0 where
-  pub room-before : List ℕ
-  pub size : length room-before ≡ kept
-  pub put : Put room-before 0 s room (f .count)
+  pub in-room : Kept kept s (f .count) room
   pub staged : f .stage ≡ boardStage Start s
   pub tallied : f .tally ≡ boardHeard Start fresh s
 
 pub fed-start : (room : List ℕ) → length room ≡ kept → Fed [] started room
 unfolding stageOf heardOf
-fed-start room l =
-    record { room-before = room; size = l; put = record { stored = refl; place = omega arith }; staged = refl; tallied = refl }
+fed-start room l = record { in-room = kept-start kept room l; staged = refl; tallied = refl }
 
 pub fed-more : {s : List ℕ} {f : Feed} {room : List ℕ} → Fed s f room → (piece : List ℕ)
     → Fed (s ++ piece) (fedOf f piece) (keptAfter f room piece)
 fed-more {s} {f} {room} before piece =
-    let l : length room ≡ kept = put-length (before .put) ∙ before .size in
     record {
-      room-before = before .room-before;
-      size = before .size;
-      put = put-append (before .put) (record { stored = refl; place = rw l });
+      in-room = kept-more (before .in-room) piece;
       staged = ap (λ (g : Stage). boardStage g piece) (before .staged) ∙ sym (board-stage-append Start s piece);
       tallied =
           ap₂ (λ (g : Stage) (t : Tally). boardHeard g t piece) (before .staged) (before .tallied)
@@ -101,7 +96,7 @@ module _ (s : List ℕ) (long : mostBytes < length s) where
 
 module _ {s : List ℕ} {f : Feed} {room : List ℕ} (fed : Fed s f room) where
   count-is : f .count ≡ min (length s) kept
-  count-is = omega (arith, fed .put .place, fed .size)
+  count-is = count-of-kept (fed .in-room)
 
   number-is : frameNumber f ≡ frameNumber (fedOf started s)
   unfolding frameNumber
@@ -116,10 +111,7 @@ module _ {s : List ℕ} {f : Feed} {room : List ℕ} (fed : Fed s f room) where
   is-short h = le-ltb mostBytes (f .count) (omega (arith, count-is))
 
   kept-is : length s ≤ mostBytes → take (f .count) room ≡ s
-  kept-is h =
-      let n : f .count ≡ length s = omega (arith, count-is) in
-      ap (take (f .count)) (fed .put .stored ∙ sets-eq s (fed .room-before) 0 (omega (arith, fed .size)))
-      ∙ take-at s (drop (0 + length s) (fed .room-before)) (f .count) (sym n)
+  kept-is h = all-kept (fed .in-room) (omega arith)
 
   -- of an input that is not too long all is kept
   pub kept-of-short : isLong f ≡ false → take (f .count) room ≡ s
@@ -149,24 +141,11 @@ module _ {s : List ℕ} {f : Feed} {room : List ℕ} (fed : Fed s f room) where
 
 -- ## Pieces
 
-pub record State : Type 0 where
-  pub feed : Feed
-  pub room : List ℕ
+abbrev pub next : State Feed → List ℕ → State Feed
+next t piece = record { feed = fedOf (t .feed) piece; room = keptAfter (t .feed) (t .room) piece }
 
-unfoldable pub fedAll : State → List (List ℕ) → State
-fedAll t [] = t
-fedAll t (piece ∷ pieces) = fedAll (record { feed = fedOf (t .feed) piece; room = keptAfter (t .feed) (t .room) piece }) pieces
-
-fed-all : (s : List ℕ) (t : State) (pieces : List (List ℕ)) → Fed s (t .feed) (t .room)
-    → Fed (s ++ flatten pieces) (fedAll t pieces .feed) (fedAll t pieces .room)
-unfolding fedAll flatten
-fed-all s t [] f = rw (append-nil s) f
-fed-all s t (piece ∷ pieces) f =
-    rw (← append-assoc s piece (flatten pieces))
-    (fed-all (s ++ piece) (record { feed = fedOf (t .feed) piece; room = keptAfter (t .feed) (t .room) piece }) pieces (fed-more f piece))
-
-abbrev pub atEnd : List (List ℕ) → List ℕ → State
-atEnd pieces room = fedAll (record { feed = started; room = room }) pieces
+abbrev pub atEnd : List (List ℕ) → List ℕ → State Feed
+atEnd pieces room = fedAll next (record { feed = started; room = room }) pieces
 
 -- from a start, any pieces come to document 01's plan of all their bytes, and to its text
 pub record PlannedWhole (pieces : List (List ℕ)) (room : List ℕ) : Type 0 where
@@ -177,5 +156,7 @@ pub record PlannedWhole (pieces : List (List ℕ)) (room : List ℕ) : Type 0 wh
 
 pub pieces-planned : (pieces : List (List ℕ)) (room : List ℕ) → length room ≡ kept → PlannedWhole pieces room
 pieces-planned pieces room l =
-    let f = fed-all [] (record { feed = started; room = room }) pieces (fed-start room l) in
+    let f =
+    fed-all next (λ s t. Fed s (t .feed) (t .room)) (λ s t f piece. fed-more f piece) [] (record { feed = started; room = room }) pieces
+    (fed-start room l) in
     record { planning-is = any-planning f; sheet-is = any-sheet f; answer-is = any-answer f }

@@ -1,19 +1,21 @@
 -- Wherever the cuts fall, an input of any length comes to the program's answer on all its bytes. Assumes nothing.
 use mathlib.Core.Path.{_≡_, refl, sym, ap, ap₂, _∙_}
 use mathlib.Core.Bool.{Bool, true, false, cond}
-use mathlib.Core.List.{List, [], _∷_, _++_, append-nil, append-assoc, flatten}
+use mathlib.Core.List.{List, [], _++_, flatten}
 use Prim.Native.Nat.{ℕ, _+_, _-_, _≤_, _<_, min}
 use native.Mathlib.Omega.{arith}
-use lib.ListN.{length, getD, take, drop, length-drop, drop-of-length-le}
-use lib.Seq.{sets-eq, take-at, take-all, length-take-le, getD-take, take-append-le, take-append-add, drop-append-le, drop-append-add}
-use lib.Dec.{ltb}
-use borrow.Author.Tests.{ltb-true, ltb-false}
+use lib.ListN.{length, getD, take, drop, length-take, length-drop}
+use lib.Seq.{take-all, length-take-le, getD-take}
 use Rattle.endian.specs.Endian.{Bytes}
 use Rattle.endian.specs.EndianLaws.{be-agree}
 use Rattle.endian.specs.BytesLaws.{bytes-drop}
 use Rattle.text.specs.Text.{Put, refusalText}
-use Rattle.text.specs.TextLaws.{put-append, put-length, refusal-short, put-whole}
+use Rattle.text.specs.TextLaws.{refusal-short, put-whole}
+use Rattle.text.specs.Kept.{Kept}
+use Rattle.text.specs.KeptLaws.{kept-start, kept-more, count-of-kept, front-kept, front-append, rest-append}
 use Rattle.records.specs.RecordsLaws.{fits-at}
+use Rattle.records.specs.Pieces.{fedAll}
+use Rattle.records.specs.PiecesLaws.{fed-all}
 use Rattle.board.specs.BoardLaws.{accepted-of-zero}
 use Rattle.sheet.specs.Sheet.{fullSheet}
 use Rattle.plan_answer.specs.declared.Planning.{Planning}
@@ -88,65 +90,30 @@ module _ (f : Input) (front kept answer after : List ℕ) (w : Scripting) (n : �
 
 -- s was fed, from a start with some room for the first three bytes and for the board
 pub record Fed (s : List ℕ) (f : Input) (front kept : List ℕ) : Type 0 where
-  pub front-before : List ℕ
-  pub size : length front-before ≡ frontSize
-  pub put : Put front-before 0 (take frontSize s) front (f .front)
+  pub in-front : Kept frontSize (take frontSize s) (f .front) front
   pub of-board : board-laws.Fed (boardIn s) (f .board) kept
 
 fed-start : (front kept : List ℕ) → length front ≡ frontSize → length kept ≡ board.kept → Fed [] started front kept
-fed-start front kept l k =
-    record {
-      front-before = front;
-      size = l;
-      put = record { stored = refl; place = omega arith };
-      of-board = board-laws.fed-start kept k;
-    }
+fed-start front kept l k = record { in-front = kept-start frontSize front l; of-board = board-laws.fed-start kept k }
 
 -- how much of a piece comes before the board
-module _ (n : ℕ) (s piece : List ℕ) (e : n ≡ min (length (take frontSize s)) frontSize) where
-  front-append : take frontSize (s ++ piece) ≡ take frontSize s ++ take (frontSize - n) piece
-  front-append = go (ltb (length s) frontSize) refl
-    where
-      go : (b : Bool) → ltb (length s) frontSize ≡ b → take frontSize (s ++ piece) ≡ take frontSize s ++ take (frontSize - n) piece
-      go true b =
-          let h = ltb-true (length s) frontSize b in
-          let all : take frontSize s ≡ s = take-all frontSize s (omega arith) in
-          let k : frontSize ≡ length s + (frontSize - n) = omega (arith, ap length all) in
-          ap (λ (m : ℕ). take m (s ++ piece)) k ∙ take-append-add s piece (frontSize - n)
-          ∙ ap (_++ take (frontSize - n) piece) (sym all)
-      go false b =
-          let h = ltb-false (length s) frontSize b in
-          let z : frontSize - n ≡ 0 = omega (arith, length-take-le frontSize s h) in
-          take-append-le frontSize s piece h ∙ sym (append-nil (take frontSize s))
-          ∙ ap (λ (m : ℕ). take frontSize s ++ take m piece) (sym z)
+module _ (f : Input) (s piece : List ℕ) (e : f .front ≡ min (length (take frontSize s)) frontSize) where
+  left : frontSize - length s ≡ frontSize - f .front
+  left = omega (arith, e, length-take frontSize s)
 
-  board-append : boardIn (s ++ piece) ≡ boardIn s ++ drop (frontSize - n) piece
-  board-append = go (ltb (length s) frontSize) refl
-    where
-      go : (b : Bool) → ltb (length s) frontSize ≡ b → boardIn (s ++ piece) ≡ boardIn s ++ drop (frontSize - n) piece
-      go true b =
-          let h = ltb-true (length s) frontSize b in
-          let all : take frontSize s ≡ s = take-all frontSize s (omega arith) in
-          let k : frontSize ≡ length s + (frontSize - n) = omega (arith, ap length all) in
-          let none : boardIn s ≡ [] = drop-of-length-le s {i = frontSize} (omega arith) in
-          ap (λ (m : ℕ). drop m (s ++ piece)) k ∙ drop-append-add s piece (frontSize - n)
-          ∙ ap (_++ drop (frontSize - n) piece) (sym none)
-      go false b =
-          let h = ltb-false (length s) frontSize b in
-          let z : frontSize - n ≡ 0 = omega (arith, length-take-le frontSize s h) in
-          drop-append-le frontSize s piece h ∙ ap (λ (m : ℕ). boardIn s ++ drop m piece) (sym z)
+  front-more : take frontSize (s ++ piece) ≡ take frontSize s ++ beforeBoard f piece
+  front-more = front-append frontSize s piece ∙ ap (λ (m : ℕ). take frontSize s ++ take m piece) left
+
+  board-more : boardIn (s ++ piece) ≡ boardIn s ++ ofBoard f piece
+  board-more = rest-append frontSize s piece ∙ ap (λ (m : ℕ). boardIn s ++ drop m piece) left
 
 fed-more : {s : List ℕ} {f : Input} {front kept : List ℕ} → Fed s f front kept → (piece : List ℕ)
     → Fed (s ++ piece) (fedOf f piece) (frontAfter f front piece) (keptAfter f kept piece)
 fed-more {s} {f} {front} {kept} before piece =
-    let l : length front ≡ frontSize = put-length (before .put) ∙ before .size in
-    let n : f .front ≡ min (length (take frontSize s)) frontSize = omega (arith, before .put .place, before .size) in
+    let n = count-of-kept (before .in-front) in
     record {
-      front-before = before .front-before;
-      size = before .size;
-      put =
-          rw (front-append (f .front) s piece n) (put-append (before .put) (record { stored = refl; place = rw l }));
-      of-board = rw (board-append (f .front) s piece n) (board-laws.fed-more (before .of-board) (ofBoard f piece));
+      in-front = rw (front-more f s piece n) (kept-more (before .in-front) (beforeBoard f piece));
+      of-board = rw (board-more f s piece n) (board-laws.fed-more (before .of-board) (ofBoard f piece));
     }
 
 -- ## Any input is scripted
@@ -156,10 +123,8 @@ module _ {s : List ℕ} {f : Input} {front kept : List ℕ} (fed : Fed s f front
   front-byte : frontSize ≤ length s → (j : ℕ) → j < frontSize → getD front j 0 ≡ getD s j 0
   front-byte long j h =
       let n : length (take frontSize s) ≡ frontSize = length-take-le frontSize s long in
-      let stored : front ≡ take frontSize s ++ drop (0 + length (take frontSize s)) (fed .front-before) =
-      fed .put .stored ∙ sets-eq (take frontSize s) (fed .front-before) 0 (omega (arith, fed .size)) in
       let same : take frontSize front ≡ take frontSize s =
-      ap (take frontSize) stored ∙ take-at (take frontSize s) (drop (0 + length (take frontSize s)) (fed .front-before)) frontSize n in
+      front-kept (fed .in-front) frontSize (omega (arith, n)) (omega arith) ∙ take-all frontSize (take frontSize s) (omega (arith, n)) in
       sym (getD-take frontSize front j 0 h) ∙ ap (λ (l : List ℕ). getD l j 0) same ∙ getD-take frontSize s j 0 h
 
   requester-is : frontSize ≤ length s → requesterIn front ≡ requesterIn s
@@ -213,7 +178,7 @@ pub record State : Type 0 where
   pub front : List ℕ
   pub kept : List ℕ
 
-abbrev next : State → List ℕ → State
+abbrev pub next : State → List ℕ → State
 next t piece =
     record {
       input = fedOf (t .input) piece;
@@ -221,19 +186,8 @@ next t piece =
       kept = keptAfter (t .input) (t .kept) piece;
     }
 
-unfoldable pub fedAll : State → List (List ℕ) → State
-fedAll t [] = t
-fedAll t (piece ∷ pieces) = fedAll (next t piece) pieces
-
-fed-all : (s : List ℕ) (t : State) (pieces : List (List ℕ)) → Fed s (t .input) (t .front) (t .kept)
-    → Fed (s ++ flatten pieces) (fedAll t pieces .input) (fedAll t pieces .front) (fedAll t pieces .kept)
-unfolding fedAll flatten
-fed-all s t [] f = rw (append-nil s) f
-fed-all s t (piece ∷ pieces) f =
-    rw (← append-assoc s piece (flatten pieces)) (fed-all (s ++ piece) (next t piece) pieces (fed-more f piece))
-
 abbrev pub atEnd : List (List ℕ) → List ℕ → List ℕ → State
-atEnd pieces front kept = fedAll (record { input = started; front = front; kept = kept }) pieces
+atEnd pieces front kept = fedAll next (record { input = started; front = front; kept = kept }) pieces
 
 -- from a start, any pieces come to what the program writes for all their bytes
 pub pieces-scripted : (pieces : List (List ℕ)) (front kept : List ℕ) → length front ≡ frontSize → length kept ≡ board.kept
@@ -241,4 +195,7 @@ pub pieces-scripted : (pieces : List (List ℕ)) (front kept : List ℕ) → len
     → answerOf (atEnd pieces front kept .input) (atEnd pieces front kept .front) (atEnd pieces front kept .kept)
     ≡ programOf (flatten pieces)
 pieces-scripted pieces front kept l k bytes =
-    any-answer (fed-all [] (record { input = started; front = front; kept = kept }) pieces (fed-start front kept l k)) bytes
+    let f =
+    fed-all next (λ s t. Fed s (t .input) (t .front) (t .kept)) (λ s t f piece. fed-more f piece) []
+    (record { input = started; front = front; kept = kept }) pieces (fed-start front kept l k) in
+    any-answer f bytes
