@@ -7,7 +7,7 @@ use native.Mathlib.Omega.{arith}
 use lib.Dec.{eqb}
 use borrow.Author.Tests.{eq-eqb, ne-eqb}
 use Rattle.lists.specs.Lists.{_∈_, All, Pairwise, any}
-use Rattle.lists.specs.BoolLaws.{false-of-or}
+use Rattle.arith.specs.BoolLaws.{false-of-or}
 use Rattle.lists.specs.ListLaws.{all-imp, all-elim, all-intro, all-map-intro, pairwise-imp-members, pairwise-map}
 use Rattle.lists.specs.KeepLaws.{all-of-none, none-of-all}
 use Rattle.board_record.specs.declared.Host.{Host}
