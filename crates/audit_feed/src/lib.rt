@@ -10,7 +10,7 @@ ghost use Rattle.text.specs.Text.{Put};
 ghost use Rattle.board_record.specs.Host.{hostLength};
 ghost use Rattle.audit_feed.specs.Program.{inputNumber, numberText};
 ghost use Rattle.audit_feed.specs.Feed.{started, heardBy, fedOf, isLong, frameNumber, longNumber, numberOf, answerOf};
-use auditor::HOST_SIZE;
+use board_record::HOST_LENGTH;
 use records::frame;
 use records::frame::Ending;
 use records::frame::Event;
@@ -18,7 +18,7 @@ use records::frame::Stage;
 use sheet_record::places;
 
 // A host record and a full sheet; one byte more tells that an input is longer.
-pub const KEPT: usize = HOST_SIZE + sheet::FULL + 1;
+pub const KEPT: usize = HOST_LENGTH + sheet::FULL + 1;
 
 // The longest answer: `refused`, a number of three digits, and the end of the line.
 pub const LONGEST: usize = 12;
@@ -72,7 +72,7 @@ impl Feed {
         ensures { λ r. ⌜ r ≡ numberOf self (now (kept .entry)) ⌝ }
     {
         if self.is_long() {
-            return self.long_number(text::front(kept, HOST_SIZE));
+            return self.long_number(text::front(kept, HOST_LENGTH));
         }
         audit(text::front(kept, self.count))
     }
@@ -137,7 +137,7 @@ fn hear(misframed: bool, event: Event) -> bool
 fn audit(input: &[u8]) -> u8
     ensures { λ r. ⌜ r ≡ inputNumber (now (input .entry)) ⌝ }
 {
-    auditor::audit(text::front(input, HOST_SIZE), rest(input, HOST_SIZE))
+    auditor::audit(text::front(input, HOST_LENGTH), rest(input, HOST_LENGTH))
 }
 
 fn put_number(answer: &mut [u8], number: u8) -> usize
@@ -153,10 +153,10 @@ fn put_number(answer: &mut [u8], number: u8) -> usize
 fn host_left(count: usize) -> usize
     ensures { λ r. ⌜ r ≡ hostLength - count ⌝ }
 {
-    if HOST_SIZE < count {
+    if HOST_LENGTH < count {
         return 0;
     }
-    HOST_SIZE - count
+    HOST_LENGTH - count
 }
 
 // The bytes after the first `count`, if there are any.

@@ -14,14 +14,11 @@ pub enum Check {
     Overlaps,
 }
 
-// The length of a host record's part.
-pub const HOST_SIZE: usize = 30;
-
 // Any bytes: the host record first, then the sheet by itself, then the sheet under the host.
 pub fn audit(host: &[u8], sheet: &[u8]) -> u8
     ensures { λ r. ⌜ r ≡ auditNumber (now (host .entry)) (now (sheet .entry)) ⌝ }
 {
-    if host.len() != HOST_SIZE {
+    if host.len() != board_record::HOST_LENGTH {
         return 20;
     }
     let h = board_record::host_of(host);

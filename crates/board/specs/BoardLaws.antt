@@ -16,7 +16,7 @@ use Rattle.records.specs.RecordsLaws.{length-part, parts-record, parts-end, par
 use Rattle.records.specs.Limits.{mostFunctions}
 use Rattle.board_record.specs.declared.Host.{Host}
 use Rattle.board_record.specs.declared.Function.{Function}
-use Rattle.board_record.specs.Host.{hostOfPart, hostWrong}
+use Rattle.board_record.specs.Host.{hostOfPart, hostWrong, hostLength, hostAt, functionsAt}
 use Rattle.board_record.specs.declared.Rule.{Rule}
 use Rattle.board_record.specs.declared.Rule.the-variants.{Length}
 use Rattle.board_record.specs.Function.{isShort, functionOfPart, wrongIn, headerWrong, readbacksWrong}
@@ -46,54 +46,55 @@ module _ (s : List ℕ) where
   -- the frame by the host's length and what follows it
   misframed-record : (n : ℕ) → nextOf (drop 1 s) ≡ Record n
       → misframed (partsOf (drop 1 s))
-      ≡ (not (partsOf (drop (1 + 2 + n) s) .whole) || not (eqb n 30) || anyPart isShort (partsFrom s (1 + 2 + n)))
+      ≡ (not (partsOf (drop (1 + 2 + n) s) .whole) || not (eqb n hostLength) || anyPart isShort (partsFrom s (1 + 2 + n)))
   unfolding misframed
   misframed-record n e = ap misframed (parts-record s 1 n e) ∙ rw (length-part s 1 n e)
 
-  pub misframed-host : (n : ℕ) → nextOf (drop 1 s) ≡ Record n → (n ≡ 30 → ⊥) → misframed (partsOf (drop 1 s)) ≡ true
+  pub misframed-host : (n : ℕ) → nextOf (drop 1 s) ≡ Record n → (n ≡ hostLength → ⊥) → misframed (partsOf (drop 1 s)) ≡ true
   misframed-host n e h =
       misframed-record n e
-      ∙ rw (ne-eqb n 30 h)
+      ∙ rw (ne-eqb n hostLength h)
       (ap (λ (t : Bool). t || anyPart isShort (partsFrom s (1 + 2 + n))) (or-true (not (partsOf (drop (1 + 2 + n) s) .whole))))
 
-  pub misframed-tail : (n : ℕ) → nextOf (drop 1 s) ≡ Record n → n ≡ 30 → misframed (partsOf (drop 1 s))
-      ≡ anyBreaks Length (partsOf (drop 33 s))
+  pub misframed-tail : (n : ℕ) → nextOf (drop 1 s) ≡ Record n → n ≡ hostLength → misframed (partsOf (drop 1 s))
+      ≡ anyBreaks Length (partsOf (drop functionsAt s))
   misframed-tail n e h =
-      let e₃₀ : nextOf (drop 1 s) ≡ Record 30 = e ∙ ap Record h in
-      misframed-record 30 e₃₀ ∙ go (partsOf (drop 33 s) .whole)
+      let sized-record : nextOf (drop 1 s) ≡ Record hostLength = e ∙ ap Record h in
+      misframed-record hostLength sized-record ∙ go (partsOf (drop functionsAt s) .whole)
     where
-      go : (w : Bool) → (not w || false || anyPart isShort (partsFrom s 33)) ≡ (not w || anyPart isShort (partsFrom s 33))
+      go : (w : Bool) → (not w || false || anyPart isShort (partsFrom s functionsAt)) ≡ (not w || anyPart isShort (partsFrom s functionsAt))
       go true = refl
       go false = refl
 
   -- a board that is not misframed has a host of 30 bytes first, and its functions from byte 33 on
-  pub host-of-framed : misframed (partsOf (drop 1 s)) ≡ false → nextOf (drop 1 s) ≡ Record 30
+  pub host-of-framed : misframed (partsOf (drop 1 s)) ≡ false → nextOf (drop 1 s) ≡ Record hostLength
   host-of-framed h = go (nextOf (drop 1 s)) refl
     where
-      sized : (n : ℕ) (t : Bool) → eqb n 30 ≡ t → nextOf (drop 1 s) ≡ Record n → nextOf (drop 1 s) ≡ Record 30
-      sized n true b e = e ∙ ap Record (eqb-true n 30 b)
-      sized n false b e = absurd (true≢false (sym (misframed-host n e (λ x. true≢false (sym (eq-eqb n 30 x) ∙ b))) ∙ h))
+      sized : (n : ℕ) (t : Bool) → eqb n hostLength ≡ t → nextOf (drop 1 s) ≡ Record n → nextOf (drop 1 s) ≡ Record hostLength
+      sized n true b e = e ∙ ap Record (eqb-true n hostLength b)
+      sized n false b e = absurd (true≢false (sym (misframed-host n e (λ x. true≢false (sym (eq-eqb n hostLength x) ∙ b))) ∙ h))
 
-      go : (q : Next) → nextOf (drop 1 s) ≡ q → nextOf (drop 1 s) ≡ Record 30
+      go : (q : Next) → nextOf (drop 1 s) ≡ q → nextOf (drop 1 s) ≡ Record hostLength
       go End e = absurd (true≢false (sym (misframed-end e) ∙ h))
       go Broken e = absurd (true≢false (sym (misframed-broken e) ∙ h))
-      go (Record n) e = sized n (eqb n 30) refl e
+      go (Record n) e = sized n (eqb n hostLength) refl e
 
   -- and its lengths end at the end, so that a rule is broken where a function breaks it
-  pub whole-of-framed : misframed (partsOf (drop 1 s)) ≡ false → partsOf (drop 33 s) .whole ≡ true
+  pub whole-of-framed : misframed (partsOf (drop 1 s)) ≡ false → partsOf (drop functionsAt s) .whole ≡ true
   whole-of-framed h =
-      let tail = sym (misframed-tail 30 (host-of-framed h) refl) ∙ h in
-      not-false (partsOf (drop 33 s) .whole) (false-of-or (not (partsOf (drop 33 s) .whole)) (anyPart isShort (partsFrom s 33)) tail .0)
+      let tail = sym (misframed-tail hostLength (host-of-framed h) refl) ∙ h in
+      let whole = partsOf (drop functionsAt s) .whole in
+      not-false whole (false-of-or (not whole) (anyPart isShort (partsFrom s functionsAt)) tail .0)
 
   pub breaks-of-framed : (rule : Rule) → misframed (partsOf (drop 1 s)) ≡ false
-      → anyBreaks rule (partsOf (drop 33 s)) ≡ anyPart (breaks rule) (partsFrom s 33)
-  breaks-of-framed rule h = ap (λ (w : Bool). not w || anyPart (breaks rule) (partsFrom s 33)) (whole-of-framed h)
+      → anyBreaks rule (partsOf (drop functionsAt s)) ≡ anyPart (breaks rule) (partsFrom s functionsAt)
+  breaks-of-framed rule h = ap (λ (w : Bool). not w || anyPart (breaks rule) (partsFrom s functionsAt)) (whole-of-framed h)
 
   pub framed : (v : ℕ) → misframed (partsOf (drop 1 s)) ≡ false → fromFrame v (partsOf (drop 1 s))
-      ≡ fromCount v (hostOfPart (take 30 (drop 3 s))) (partsFrom s 33)
+      ≡ fromCount v (hostOfPart (take hostLength (drop 3 s))) (partsFrom s functionsAt)
   unfolding fromFrame
   framed v h =
-      let p = parts-record s 1 30 (host-of-framed h) in
+      let p = parts-record s hostAt hostLength (host-of-framed h) in
       rw h (ap (λ (r : Parts). fromCount v (hostOfPart (getD (r .parts) 0 [])) (drop 1 (r .parts))) p)
 
 -- ---- 22
@@ -149,13 +150,13 @@ module _ (fs : List Function) where
 
 pub record Accepted (b : List ℕ) : Type 0 where
   pub version : isVersion (getD b 0 0) ≡ true
-  pub host-record : nextOf (drop 1 b) ≡ Record 30
-  pub host-read : hostOf b ≡ hostOfPart (take 30 (drop 3 b))
-  pub functions-read : functionsOf b ≡ map functionOfPart (partsFrom b 33)
-  pub whole : partsOf (drop 33 b) .whole ≡ true
-  pub few : length (partsFrom b 33) ≤ mostFunctions
-  pub of-version : anyPart (wrongIn (getD b 0 0)) (partsFrom b 33) ≡ false
-  pub headers : anyPart headerWrong (partsFrom b 33) ≡ false
+  pub host-record : nextOf (drop 1 b) ≡ Record hostLength
+  pub host-read : hostOf b ≡ hostOfPart (take hostLength (drop 3 b))
+  pub functions-read : functionsOf b ≡ map functionOfPart (partsFrom b functionsAt)
+  pub whole : partsOf (drop functionsAt b) .whole ≡ true
+  pub few : length (partsFrom b functionsAt) ≤ mostFunctions
+  pub of-version : anyPart (wrongIn (getD b 0 0)) (partsFrom b functionsAt) ≡ false
+  pub headers : anyPart headerWrong (partsFrom b functionsAt) ≡ false
   pub edges : hostWrong (hostOf b) ≡ false
   pub order : anyMisplaced 0 [] (functionsOf b) ≡ false
   pub readbacks : any readbacksWrong (functionsOf b) ≡ false
@@ -196,8 +197,9 @@ accepted-of-zero b e =
     let v = version-of-zero b e in
     let f = framed-of-zero (getD b 0 0) (partsOf (drop 1 b)) (v .1) in
     let h = host-of-framed b f in
-    let p = parts-record b 1 30 h in
-    let c = count-of-zero (getD b 0 0) (hostOfPart (take 30 (drop 3 b))) (partsFrom b 33) (sym (framed b (getD b 0 0) f) ∙ v .1) in
+    let p = parts-record b hostAt hostLength h in
+    let c =
+    count-of-zero (getD b 0 0) (hostOfPart (take hostLength (drop 3 b))) (partsFrom b functionsAt) (sym (framed b (getD b 0 0) f) ∙ v .1) in
     let host = ap (λ (r : Parts). hostOfPart (getD (r .parts) 0 [])) p in
     let functions = ap (λ (r : Parts). map functionOfPart (drop 1 (r .parts))) p in
     record {
@@ -206,9 +208,9 @@ accepted-of-zero b e =
       host-read = host;
       functions-read = functions;
       whole = whole-of-framed b f;
-      few = ltb-false mostFunctions (length (partsFrom b 33)) (c .0);
+      few = ltb-false mostFunctions (length (partsFrom b functionsAt)) (c .0);
       of-version = c .1;
-      headers = right-parts (getD b 0 0) (partsFrom b 33) (c .1);
+      headers = right-parts (getD b 0 0) (partsFrom b functionsAt) (c .1);
       edges = ap hostWrong host ∙ c .2;
       order = ap (anyMisplaced 0 []) functions ∙ c .3;
       readbacks = ap (any readbacksWrong) functions ∙ c .4;

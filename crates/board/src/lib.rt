@@ -6,10 +6,12 @@ ghost use lib.Dec.{ltb};
 ghost use Rattle.records.specs.Records.{partsOf, partsFrom, anyPart};
 ghost use Rattle.records.specs.Limits.{mostFunctions};
 ghost use Rattle.board_record.specs.Rules.{tooEarly};
+ghost use Rattle.board_record.specs.Host.{functionsAt};
 ghost use Rattle.board.specs.Pass.{anyBreaks};
 ghost use Rattle.board.specs.Board.{isVersion, misframed as isMisframed, boardNumber};
 use board_record::FUNCTIONS;
 use board_record::HOST;
+use board_record::HOST_LENGTH;
 use board_record::Rule;
 use records::Next;
 
@@ -33,7 +35,7 @@ pub fn check(board: &[u8]) -> u8
     if any_breaks(Rule::Header(version), board) {
         return 24;
     }
-    if board_record::host_wrong(board_record::host_of(records::part_at(board, HOST, 30))) {
+    if board_record::host_wrong(board_record::host_of(records::part_at(board, HOST, HOST_LENGTH))) {
         return 26;
     }
     if board_order::misplaced(board) {
@@ -62,7 +64,7 @@ fn misframed(board: &[u8]) -> bool
         Next::End => true,
         Next::Broken => true,
         Next::Record(n) => {
-            if n != 30 {
+            if n != HOST_LENGTH {
                 return true;
             }
             any_breaks(Rule::Length, board)
@@ -72,8 +74,8 @@ fn misframed(board: &[u8]) -> bool
 
 // The bytes break off, or some function breaks the rule.
 fn any_breaks(rule: Rule, board: &[u8]) -> bool
-    requires { ⌜ anyPart (tooEarly rule) (partsFrom (now board) 33) ≡ false ⌝ }
-    ensures { λ r. ⌜ r ≡ anyBreaks rule (partsOf (drop 33 (now (board .entry)))) ⌝ }
+    requires { ⌜ anyPart (tooEarly rule) (partsFrom (now board) functionsAt) ≡ false ⌝ }
+    ensures { λ r. ⌜ r ≡ anyBreaks rule (partsOf (drop functionsAt (now (board .entry)))) ⌝ }
 {
     let mut at = FUNCTIONS;
     loop {
@@ -97,7 +99,7 @@ fn any_breaks(rule: Rule, board: &[u8]) -> bool
 // ---- 22
 
 fn too_many(board: &[u8]) -> bool
-    ensures { λ r. ⌜ r ≡ ltb mostFunctions (length (partsFrom (now (board .entry)) 33)) ⌝ }
+    ensures { λ r. ⌜ r ≡ ltb mostFunctions (length (partsFrom (now (board .entry)) functionsAt)) ⌝ }
 {
     let mut at = FUNCTIONS;
     let mut count: usize = 0;

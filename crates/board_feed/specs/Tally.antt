@@ -9,11 +9,12 @@ use Rattle.records.specs.declared.frame.Ending.{Ending}
 use Rattle.records.specs.declared.frame.Ending.the-variants.{Empty, Unread, Whole, Cut}
 use Rattle.board_record.specs.Host.{hostLength}
 use Rattle.records.specs.Limits.{mostFunctions}
+use Rattle.board_record.specs.Function.{endLength}
 use Rattle.board_feed.specs.declared.Tally.{Tally}
 
 -- "30 or 14 bytes", and "function under 6"
 abbrev pub longestFunction : ℕ
-longestFunction = 30
+longestFunction = endLength
 
 abbrev pub shortestFunction : ℕ
 shortestFunction = 6

@@ -20,11 +20,11 @@ use sheet_text::LONGEST;
 const MOST_RECORDS: usize = 1 + records::MOST_FUNCTIONS;
 
 // Lengths of records: the host's, and what a function's lies between.
-const HOST_LENGTH: u32 = 30;
+const HOST_LENGTH: u32 = board_record::HOST_LENGTH as u32;
 
 const SHORTEST_FUNCTION: u32 = 6;
 
-const LONGEST_FUNCTION: usize = 30;
+const LONGEST_FUNCTION: usize = board_record::END;
 
 // What a lawful board can have at the most: the version and the host, then functions, each after its length.
 const LONGEST_BOARD: usize = board_record::FUNCTIONS

@@ -7,6 +7,7 @@ ghost use Prim.Native.Nat.{_+_, _≤_};
 ghost use Rattle.records.specs.Limits.{mostAbove};
 ghost use Rattle.records.specs.Records.{partsFrom, anyPart};
 ghost use Rattle.board_record.specs.Function.{functionOfPart, headerWrong};
+ghost use Rattle.board_record.specs.Host.{functionsAt};
 ghost use Rattle.board_order.specs.Order.{anyMisplaced};
 ghost use Rattle.board_order.specs.Stack.{unplacedAt, sharedAfter};
 ghost use Rattle.board_order.specs.Levels.{foundIn, openAfter};
@@ -23,8 +24,8 @@ pub enum Found {
 }
 
 pub fn misplaced(board: &[u8]) -> bool
-    requires { ⌜ anyPart headerWrong (partsFrom (now board) 33) ≡ false ⌝ }
-    ensures { λ r. ⌜ r ≡ anyMisplaced 0 [] (map functionOfPart (partsFrom (now (board .entry)) 33)) ⌝ }
+    requires { ⌜ anyPart headerWrong (partsFrom (now board) functionsAt) ≡ false ⌝ }
+    ensures { λ r. ⌜ r ≡ anyMisplaced 0 [] (map functionOfPart (partsFrom (now (board .entry)) functionsAt)) ⌝ }
 {
     // of each level: the record that it is the bus of, one more than the device/function of its last function, and than the device of its
     // last function 0 that is not alone

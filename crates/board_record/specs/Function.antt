@@ -12,11 +12,20 @@ use Rattle.board_record.specs.declared.Function.{Function}
 
 -- "six of 4 bytes for type 0, two for type 1 (30 or 14 bytes)"; version 2 adds three bytes at the end of a bridge's, "so the record is 17
 -- bytes"
+abbrev pub endLength : ℕ
+endLength = 30
+
+abbrev pub plainBridge : ℕ
+plainBridge = 14
+
+abbrev pub bridgeWithSpares : ℕ
+bridgeWithSpares = 17
+
 abbrev pub bridgeLength : ℕ → ℕ
-bridgeLength version = cond (eqb version 1) 14 17
+bridgeLength version = cond (eqb version 1) plainBridge bridgeWithSpares
 
 abbrev pub lengthFor : ℕ → ℕ → ℕ
-lengthFor version header = cond (isBridgeHeader header) (bridgeLength version) 30
+lengthFor version header = cond (isBridgeHeader header) (bridgeLength version) endLength
 
 -- a type 1's last four read-backs are 0
 abbrev pub readbacksFor : ℕ → List ℕ → List ℕ
@@ -27,8 +36,11 @@ readbacksFor header p =
 
 -- "one byte of spare buses and two bytes of spare low memory in MiB", as one number of three bytes: a bridge's. Past a record's end there
 -- are zeros, so that a bridge of version 1 has none
+abbrev pub sparesAt : ℕ
+sparesAt = plainBridge
+
 abbrev pub sparesFor : ℕ → List ℕ → ℕ
-sparesFor header p = cond (isBridgeHeader header) (be 3 p 14) 0
+sparesFor header p = cond (isBridgeHeader header) (be 3 p sparesAt) 0
 
 -- "parent record (2), device/function (1), header type (1), command (2), BAR read-backs"
 unfoldable pub functionOfPart : List ℕ → Function

@@ -13,7 +13,7 @@ use Rattle.endian.specs.Endian.{be}
 use Rattle.bar.specs.Bar.{slots, anyBad}
 use Rattle.bar.specs.Header.{headerType, isBridge as isBridgeHeader}
 use Rattle.board_record.specs.Function.{bridgeLength, lengthFor, readbacksFor, sparesFor, functionOfPart, wrongFor, wrongIn}
-use Rattle.board_record.specs.Function.{headerWrong, isBridge, slotCount}
+use Rattle.board_record.specs.Function.{headerWrong, isBridge, slotCount, endLength, plainBridge, bridgeWithSpares, sparesAt}
 use Rattle.board_record.specs.Function.{readbacksWrong}
 
 pub length-of-version : (version : ℕ) (p : List ℕ) → wrongIn version p ≡ false → length p ≡ lengthFor version (getD p 3 0)
@@ -25,8 +25,9 @@ length-of-version version p e =
     eqb-true (length p) (lengthFor version header) (not-false right (tests .1))
 
 -- a record of some version has 30 bytes, or is a bridge of 14 or 17
-pub header-elim : {P : Type 0} (p : List ℕ) → headerWrong p ≡ false → (isBridgeHeader (getD p 3 0) ≡ false → length p ≡ 30 → P)
-    → (isBridgeHeader (getD p 3 0) ≡ true → length p ≡ 14 → P) → (isBridgeHeader (getD p 3 0) ≡ true → length p ≡ 17 → P) → P
+pub header-elim : {P : Type 0} (p : List ℕ) → headerWrong p ≡ false → (isBridgeHeader (getD p 3 0) ≡ false → length p ≡ endLength → P)
+    → (isBridgeHeader (getD p 3 0) ≡ true → length p ≡ plainBridge → P)
+    → (isBridgeHeader (getD p 3 0) ≡ true → length p ≡ bridgeWithSpares → P) → P
 unfolding headerWrong
 header-elim {P} p e other first second = either (wrongIn 1 p) (wrongIn 2 p) refl refl e
   where
@@ -43,14 +44,14 @@ header-elim {P} p e other first second = either (wrongIn 1 p) (wrongIn 2 p) refl
     either true false w u h = in-second u (isBridgeHeader (getD p 3 0)) refl
     either true true w u h = absurd (true≢false h)
 
-pub length-of-end : (p : List ℕ) → headerWrong p ≡ false → isBridgeHeader (getD p 3 0) ≡ false → length p ≡ 30
+pub length-of-end : (p : List ℕ) → headerWrong p ≡ false → isBridgeHeader (getD p 3 0) ≡ false → length p ≡ endLength
 length-of-end p e b =
     header-elim p e (λ _ l. l) (λ t _. absurd (true≢false (sym t ∙ b))) (λ t _. absurd (true≢false (sym t ∙ b)))
 
-pub le-length : (p : List ℕ) → headerWrong p ≡ false → 14 ≤ length p
+pub le-length : (p : List ℕ) → headerWrong p ≡ false → plainBridge ≤ length p
 le-length p e = header-elim p e (λ _ l. omega arith) (λ _ l. omega arith) (λ _ l. omega arith)
 
-pub length-le : (p : List ℕ) → headerWrong p ≡ false → length p ≤ 30
+pub length-le : (p : List ℕ) → headerWrong p ≡ false → length p ≤ endLength
 length-le p e = header-elim p e (λ _ l. omega arith) (λ _ l. omega arith) (λ _ l. omega arith)
 
 -- what is right on a board of any version is a record of some version
@@ -65,7 +66,7 @@ right-of-version version p e = go (eqb version 1) refl
 -- ---- the spares
 
 -- a record that ends before them has none
-pub spares-none : (p : List ℕ) → length p ≤ 14 → be 3 p 14 ≡ 0
+pub spares-none : (p : List ℕ) → length p ≤ sparesAt → be 3 p sparesAt ≡ 0
 unfolding be
 spares-none p h =
     let a : getD p 14 0 ≡ 0 = List·getD-eq-default p 0 {n = 14} (omega arith) in
@@ -73,17 +74,17 @@ spares-none p h =
     let c : getD p 16 0 ≡ 0 = List·getD-eq-default p 0 {n = 16} (omega arith) in
     rw (a, b, c)
 
-pub spares-bytes : (p : List ℕ) → be 3 p 14 ≡ getD p 14 0 * 65536 + be 2 p 15
+pub spares-bytes : (p : List ℕ) → be 3 p sparesAt ≡ getD p sparesAt 0 * 65536 + be 2 p (sparesAt + 1)
 unfolding be
 spares-bytes p = refl
 
 -- in the words of the code
 module _ (p : List ℕ) where
-  pub spares-short : headerWrong p ≡ false → isBridgeHeader (getD p 3 0) ≡ true → length p < 17 → 0 ≡ sparesFor (getD p 3 0) p
+  pub spares-short : headerWrong p ≡ false → isBridgeHeader (getD p 3 0) ≡ true → length p < bridgeWithSpares → 0 ≡ sparesFor (getD p 3 0) p
   spares-short e b l =
       rw b (sym (spares-none p (header-elim p e (λ t _. absurd (true≢false (sym b ∙ t))) (λ _ m. omega arith) (λ _ m. omega arith))))
 
-  pub spares-whole : isBridgeHeader (getD p 3 0) ≡ true → getD p 14 0 * 65536 + be 2 p 15 ≡ sparesFor (getD p 3 0) p
+  pub spares-whole : isBridgeHeader (getD p 3 0) ≡ true → getD p sparesAt 0 * 65536 + be 2 p (sparesAt + 1) ≡ sparesFor (getD p 3 0) p
   spares-whole b = rw b (sym (spares-bytes p))
 
   pub spares-other : isBridgeHeader (getD p 3 0) ≡ false → 0 ≡ sparesFor (getD p 3 0) p
@@ -91,7 +92,7 @@ module _ (p : List ℕ) where
 
 module _ (p : List ℕ) where
   -- one byte of spare buses and two of spare memory, on a bridge
-  pub spares-of-bridge : isBridgeHeader (getD p 3 0) ≡ true → functionOfPart p .spares ≡ be 3 p 14
+  pub spares-of-bridge : isBridgeHeader (getD p 3 0) ≡ true → functionOfPart p .spares ≡ be 3 p sparesAt
   unfolding functionOfPart
   spares-of-bridge b = rw b
 
@@ -116,13 +117,13 @@ pub header-wrong-short : (version : ℕ) (p : List ℕ) → length p < 4 → wro
 unfolding wrongIn
 header-wrong-short version p h =
     let d : getD p 3 0 ≡ 0 = List·getD-eq-default p 0 {n = 3} (omega arith) in
-    rw (d, ne-eqb (length p) 30 (λ e. omega arith))
+    rw (d, ne-eqb (length p) endLength (λ e. omega arith))
 
 module _ (version n header : ℕ) where
   pub wrong-bridge : {k : ℕ} → k ≡ bridgeLength version → isBridgeHeader header ≡ true → wrongFor version n header ≡ not (eqb n k)
   wrong-bridge e h = rw (h, and-false (not (eqb (headerType header) 0)), e)
 
-  pub wrong-end : isBridgeHeader header ≡ false → wrongFor version n header ≡ (not (eqb (headerType header) 0) || not (eqb n 30))
+  pub wrong-end : isBridgeHeader header ≡ false → wrongFor version n header ≡ (not (eqb (headerType header) 0) || not (eqb n endLength))
   wrong-end h = rw (h, and-true (not (eqb (headerType header) 0)))
 
 -- ---- 25 by the slots

@@ -16,6 +16,13 @@ use Rattle.board_record.specs.declared.Host.{Host}
 abbrev pub hostLength : ℕ
 hostLength = 30
 
+-- its record stands after the version, and the functions' behind it
+abbrev pub hostAt : ℕ
+hostAt = 1
+
+abbrev pub functionsAt : ℕ
+functionsAt = hostAt + 2 + hostLength
+
 unfoldable pub hostOfPart : List ℕ → Host
 hostOfPart p =
     record {

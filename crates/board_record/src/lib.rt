@@ -43,17 +43,25 @@ pub enum Rule {
     ReadBacks,
 }
 
-// Where the host record stands, and, in a board that is not misframed, the first function's.
+// The length of the host record.
+pub const HOST_LENGTH: usize = 30;
+
+// Where it stands, and, in a board that is not misframed, the first function's.
 pub const HOST: usize = 1;
 
-pub const FUNCTIONS: usize = 33;
+pub const FUNCTIONS: usize = HOST + 2 + HOST_LENGTH;
 
 // Lengths of a function record: a bridge's on a board of version 1, and with its spares on one of version 2; any other's.
 const BRIDGE: usize = 14;
 
 const BRIDGE_WITH_SPARES: usize = 17;
 
-const END: usize = 30;
+pub const END: usize = 30;
+
+// Where a bridge's spares stand, a byte of buses and two of low memory.
+const SPARE_BUSES: usize = BRIDGE;
+
+const SPARE_LOW: usize = BRIDGE + 1;
 
 // ---- the host
 
@@ -187,7 +195,7 @@ pub fn spares_of(part: &[u8]) -> u32
         if part.len() < BRIDGE_WITH_SPARES {
             return 0;
         }
-        return part[14] as u32 * 65536 + endian::read_be16(part, 15) as u32;
+        return part[SPARE_BUSES] as u32 * 65536 + endian::read_be16(part, SPARE_LOW) as u32;
     }
     0
 }

@@ -20,15 +20,13 @@ pub const PIECE: usize = 16384;
 
 pub const LINES: usize = (PIECE / 2 + 1) * trace::LONGEST;
 
-const HOST_SIZE: usize = 30;
-
 pub fn label(
     sheet: &mut [u8; sheet::FULL],
     index: &mut [u8; INDEX],
     piece: &mut [u8; PIECE],
     lines: &mut [u8; LINES],
 ) {
-    let mut host = [0u8; HOST_SIZE];
+    let mut host = [0u8; board_record::HOST_LENGTH];
     match annotator::fill(console::PIECES, &mut host) {
         Filling::Full(left) => {
             label_under(left, &host, sheet, index, piece, lines);

@@ -25,6 +25,7 @@ use Rattle.plan_rule.specs.Placing.{placed}
 use Rattle.board_record.specs.declared.Host.{Host}
 use Rattle.board_record.specs.declared.Function.{Function}
 use Rattle.board_record.specs.Function.{isBridge, functionOfPart, headerWrong}
+use Rattle.board_record.specs.Host.{functionsAt}
 use Rattle.board.specs.Board.{hostOf, functionsOf}
 use Rattle.board.specs.BoardLaws.{accepted-of-zero}
 use Rattle.board.specs.ToPlacing.{toHost, toPlacing}
@@ -118,7 +119,7 @@ rest-step : (fs : List Function) (i : ℕ) (f : Function) (r : List Function) �
 rest-step fs i f r e = ap (λ (k : ℕ). drop k fs) (sym (add-one i)) ∙ sym (drop-drop 1 i fs) ∙ ap (drop 1) e
 
 pub standing-start : (b : List ℕ) {first : ℕ} {counts memo c sheet : List ℕ} → Ready b first counts memo c sheet
-    → Standing b c sheet c sheet 33 0
+    → Standing b c sheet c sheet functionsAt 0
 standing-start b r =
     let a = accepted-of-zero b (r .accepted) in
     record {
@@ -269,7 +270,7 @@ ready-of-placing {b} {h} {counts} {memo} {sheet} c base p base-is filled long =
   where
     few : length (functionsOf b) ≤ mostFunctions
     few = let a = accepted-of-zero b
-        (p .accepted) in omega (arith, ap length (a .functions-read), length-functions (partsFrom b 33), a .few)
+        (p .accepted) in omega (arith, ap length (a .functions-read), length-functions (partsFrom b functionsAt), a .few)
 
     same : base ≡ basesFor (hostOf b)
     same = base-is ∙ ap basesFor (p .host-read)

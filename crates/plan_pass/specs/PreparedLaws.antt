@@ -15,6 +15,7 @@ use Rattle.plan_rule.specs.Numbered.{over-le}
 use Rattle.board_record.specs.declared.Function.{Function}
 use Rattle.board_record.specs.Function.{isBridge, functionOfPart, spareLow, readbacksWrong}
 use Rattle.board_record.specs.FunctionLaws.{length-readbacks}
+use Rattle.board_record.specs.Host.{functionsAt}
 use Rattle.board.specs.Board.{boardNumber, functionsOf}
 use Rattle.board.specs.BoardLaws.{accepted-of-zero}
 use Rattle.board.specs.ToPlacing.{toFunction, toPlacing}
@@ -60,7 +61,7 @@ prepared-of-accepted b first counts memo e numbers counts-room counted spared me
     record {
       lawful = lawful-of-accepted b e;
       readable = λ i f at. readable-of-right f (right-at (functionsOf b) i f at (a .readbacks));
-      six = λ i f at. six-at (partsFrom b 33) i f (rw (← (a .functions-read)) at);
+      six = λ i f at. six-at (partsFrom b functionsAt) i f (rw (← (a .functions-read)) at);
       numbers = numbers;
       counts-room = counts-room;
       counted = λ k l. counted k l ∙ byte-kept (bridges (take k ps)) (omega (arith, numbers, bridges-split k ps));

@@ -11,7 +11,7 @@ use Rattle.records.specs.Limits.{mostFunctions}
 use Rattle.records.specs.Records.{partsFrom}
 use Rattle.lists.specs.Lists.{All, any}
 use Rattle.board_record.specs.declared.Host.{Host}
-use Rattle.board_record.specs.Host.{hostOfPart, hostWrong}
+use Rattle.board_record.specs.Host.{hostOfPart, hostWrong, hostLength, functionsAt}
 use Rattle.board_record.specs.Function.{functionOfPart, readbacksWrong}
 use Rattle.board.specs.Board.{boardNumber, hostOf, functionsOf}
 use Rattle.board.specs.BoardLaws.{Accepted, accepted-of-zero}
@@ -31,23 +31,23 @@ module _ (b : List ℕ) (bytes : Bytes b) (accepted : boardNumber b ≡ 0) where
   pub board-of-accepted : Board (toHost (hostOf b)) (toPlacing (functionsOf b))
   unfolding a
   board-of-accepted =
-      let part = take 30 (drop 3 b) in
+      let part = take hostLength (drop 3 b) in
       let right : hostWrong (hostOfPart part) ≡ false = ap hostWrong (sym (a .host-read)) ∙ a .edges in
-      let edges = edges-of-right part (bytes-take 30 (drop 3 b) (bytes-drop 3 b bytes)) right in
+      let edges = edges-of-right part (bytes-take hostLength (drop 3 b) (bytes-drop 3 b bytes)) right in
       record { lawful = lawful-of-accepted b accepted; edges = subst (λ (h : Host). HostEdges (toHost h)) (sym (a .host-read)) edges }
 
   functions : All FunctionFits (functionsOf b)
   unfolding a
   functions =
-      let parts = partsFrom b 33 in
+      let parts = partsFrom b functionsAt in
       let right : any readbacksWrong (map functionOfPart parts) ≡ false = ap (any readbacksWrong) (sym (a .functions-read))
       ∙ a .readbacks in
       subst (All FunctionFits) (sym (a .functions-read))
-      (functions-fit parts (bytes-parts (drop 33 b) (bytes-drop 33 b bytes)) (a .headers) right)
+      (functions-fit parts (bytes-parts (drop functionsAt b) (bytes-drop functionsAt b bytes)) (a .headers) right)
 
   few : length (functionsOf b) ≤ mostFunctions
   unfolding a
-  few = omega (arith, ap length (a .functions-read), length-map (partsFrom b 33) functionOfPart, a .few)
+  few = omega (arith, ap length (a .functions-read), length-map (partsFrom b functionsAt) functionOfPart, a .few)
 
   pub fits-of-accepted : BoardFits (hostOf b) (functionsOf b)
   unfolding a

@@ -20,6 +20,7 @@ use Rattle.plan_rule.specs.RecordLaws.{ordered-from}
 use Rattle.board_record.specs.declared.Function.{Function}
 use Rattle.board_record.specs.Function.{functionOfPart, isBridge, readbacksWrong}
 use Rattle.board_record.specs.FunctionLaws.{length-readbacks}
+use Rattle.board_record.specs.Host.{functionsAt}
 use Rattle.board.specs.Board.{boardNumber, functionsOf}
 use Rattle.board.specs.BoardLaws.{accepted-of-zero}
 use Rattle.board.specs.ToPlacing.{toFunction, toPlacing}
@@ -133,7 +134,7 @@ module _ {ps hs ss ps' hs' ss' : List ℕ} {n : ℕ} (b : List ℕ) (e : boardNu
   pub filled-few : n ≤ mostFunctions
   filled-few =
       let a = accepted-of-zero b e in
-      omega (arith, f .count, a .few, ap length (a .functions-read), length-map (partsFrom b 33) functionOfPart)
+      omega (arith, f .count, a .few, ap length (a .functions-read), length-map (partsFrom b functionsAt) functionOfPart)
 
   -- the parts of them that sizing takes lie inside
   pub room-filled : Room n ps' hs' ss'

@@ -15,6 +15,7 @@ use Rattle.records.specs.Limits.{mostFunctions}
 use Rattle.board_record.specs.declared.Function.{Function}
 use Rattle.board_record.specs.Function.{functionOfPart, headerWrong}
 use Rattle.board_record.specs.FunctionLaws.{length-readbacks}
+use Rattle.board_record.specs.Host.{functionsAt}
 use Rattle.board.specs.Board.{boardNumber, functionsOf}
 use Rattle.board.specs.BoardLaws.{accepted-of-zero}
 use Rattle.plan_tables.specs.Tables.{parentsOf, headOf, headsOf, readbacksOf, Room, Put, Filled, functionsFrom, Filling}
@@ -59,15 +60,15 @@ module _ {f : Function} {i : ℕ} {ps hs ss ps' hs' ss' : List ℕ} (p : Put f i
 
 -- ---- the pass
 
-pub filling-start : (b ps hs ss : List ℕ) → boardNumber b ≡ 0 → Room mostFunctions ps hs ss → Filling b ps hs ss 33 0 ps hs ss
+pub filling-start : (b ps hs ss : List ℕ) → boardNumber b ≡ 0 → Room mostFunctions ps hs ss → Filling b ps hs ss functionsAt 0 ps hs ss
 filling-start b ps hs ss e r =
     let a = accepted-of-zero b e in
     let fs = a .functions-read in
     record {
       lawful = a .headers;
-      few = omega (arith, a .few, length-map (partsFrom b 33) functionOfPart);
+      few = omega (arith, a .few, length-map (partsFrom b functionsAt) functionOfPart);
       room = r;
-      count = zero-add (length (functionsFrom b 33)) ∙ sym (ap length fs);
+      count = zero-add (length (functionsFrom b functionsAt)) ∙ sym (ap length fs);
       parents = sym (ap (λ (l : List Function). sets ps 0 (parentsOf l)) fs);
       heads = sym (ap (λ (l : List Function). sets hs 0 (headsOf l)) fs);
       readbacks = sym (ap (λ (l : List Function). sets ss 0 (readbacksOf l)) fs);

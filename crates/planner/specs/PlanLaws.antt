@@ -11,7 +11,7 @@ use Rattle.endian.specs.Endian.{Bytes}
 use Rattle.plan_rule.specs.Refusals.{refusalOf}
 use Rattle.board_record.specs.declared.Host.{Host}
 use Rattle.board_record.specs.declared.Function.{Function}
-use Rattle.board_record.specs.Host.{hostOfPart}
+use Rattle.board_record.specs.Host.{hostOfPart, hostLength}
 use Rattle.board.specs.Board.{boardNumber, hostOf, functionsOf}
 use Rattle.board.specs.BoardLaws.{accepted-of-zero}
 use Rattle.board.specs.ToPlacing.{toHost, toPlacing}
@@ -71,7 +71,8 @@ sheet-stored {n = n} b room e l g =
 
 -- ---- in the words of the code: the host read, the board measured, and the number that follows
 
-pub host-read-is : {p : List ℕ} {h : Host} (b : List ℕ) → boardNumber b ≡ 0 → p ≡ take 30 (drop (1 + 2) b) → h ≡ hostOfPart p → h ≡ hostOf b
+pub host-read-is : {p : List ℕ} {h : Host} (b : List ℕ) → boardNumber b ≡ 0 → p ≡ take hostLength (drop (1 + 2) b) → h ≡ hostOfPart p
+    → h ≡ hostOf b
 host-read-is b e part host = host ∙ ap hostOfPart part ∙ sym (accepted-of-zero b e .host-read)
 
 module _ {h : Host} {counts memo : List ℕ} {m : Measured} {n : ℕ} (b : List ℕ) (bytes : Bytes b) (accepted : boardNumber b ≡ 0)

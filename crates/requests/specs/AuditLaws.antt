@@ -21,7 +21,7 @@ use Rattle.pools.specs.declared.Space.the-variants.{Memory, Io as Ports}
 use Rattle.records.specs.RecordsLaws.{fits-at}
 use Rattle.board_record.specs.declared.Host.{Host}
 use Rattle.board_record.specs.Host as hosts
-use Rattle.board_record.specs.Host.{hostOfPart}
+use Rattle.board_record.specs.Host.{hostOfPart, hostLength, hostAt}
 use Rattle.board.specs.Board.{hostOf}
 use Rattle.board.specs.BoardLaws.{accepted-of-zero}
 use Rattle.board.specs.ToPlacing.{toHost}
@@ -372,7 +372,7 @@ module _ (b room : List ℕ) (n : ℕ) (bytes : Bytes b) (planned : planning b (
       let good : (sp : Space) → Good (hostFor sp (hostOfPart (hostRecord b))) (registersOf sp t) = λ sp.
       subst (λ (h : WalkHost). Good h (registersOf sp t)) (host-agree sp (hostOf b) ∙ ap (hostFor sp) (x .host-read)) (sheet .good sp) in
       record {
-        host-size = length-take-le 30 (drop 3 b) (omega (arith, fits-at b 1 30 (x .host-record), length-drop 3 b));
+        host-size = length-take-le hostLength (drop 3 b) (omega (arith, fits-at b hostAt hostLength (x .host-record), length-drop 3 b));
         host-edges = ap hosts.hostWrong (sym (x .host-read)) ∙ x .edges;
         passes = sheet .passes;
         tree = λ sp. subst (Tree (hostFor sp (hostOfPart (hostRecord b)))) (nodes-functions sp 1 (entriesOf t)) (good sp .tree);

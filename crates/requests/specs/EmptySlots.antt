@@ -22,7 +22,8 @@ use Rattle.plan_rule.specs.Pieces.{contentOf}
 use Rattle.plan_rule.specs.Placing.{placed}
 use Rattle.plan_rule.specs.Numbering.{bridgeCount, spareCount, busNumber, subordinateOf}
 use Rattle.plan_rule.specs.NoSpares.{NoSpares}
-use Rattle.board_record.specs.Function.{functionOfPart, bridgeLength, spareBuses, spareLow}
+use Rattle.board_record.specs.Function.{functionOfPart, bridgeLength, spareBuses, spareLow, sparesAt}
+use Rattle.board_record.specs.Host.{functionsAt}
 use Rattle.board.specs.Board.{isVersion, boardNumber}
 use Rattle.sheet.specs.Commands.{SameButCommands}
 use Rattle.plan_good.specs.SpareBuses.{BridgeAt, SparesLast, GreatestBelow}
@@ -36,14 +37,10 @@ use Rattle.demands.specs.Demand3.{Lawful, host, functions, planNumber, IsReques
 abbrev pub versionOf : List ℕ → ℕ
 versionOf b = getD b 0 0
 
--- where the functions' records start, after the version and the host's
-abbrev pub functionsAt : ℕ
-functionsAt = 33
-
 -- "one byte of spare buses and two bytes of spare low memory in MiB", "at the end of each bridge record": after its 14 bytes
 pub record Spares (p : List ℕ) : Type 0 where
-  pub buses : spareBuses (functionOfPart p) ≡ getD p 14 0
-  pub room : spareLow (functionOfPart p) ≡ be 2 p 15
+  pub buses : spareBuses (functionOfPart p) ≡ getD p sparesAt 0
+  pub room : spareLow (functionOfPart p) ≡ be 2 p (sparesAt + 1)
 
 -- "zero spares and the old plan": document 01's numbers, and windows over what lies on their bus
 pub record AsBefore (b : List ℕ) : Type 0 where

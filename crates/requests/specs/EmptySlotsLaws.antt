@@ -23,7 +23,7 @@ use Rattle.plan_rule.specs.Placing.{placed}
 use Rattle.plan_rule.specs.Numbering.{bridges, bridgeCount}
 use Rattle.plan_rule.specs.NumberingLaws.{bridges-and-spares}
 use Rattle.plan_rule.specs.NoSpares.{NoSpare, NoSpares, bridges-counted, bus-number-counted, content-alone}
-use Rattle.board_record.specs.Host.{hostOfPart, hostWrong}
+use Rattle.board_record.specs.Host.{hostOfPart, hostWrong, functionsAt}
 use Rattle.board_record.specs.Function.{functionOfPart, bridgeLength, wrongIn, readbacksWrong}
 use Rattle.board_record.specs.FunctionLaws.{length-of-version, spares-none, spares-bytes, spares-of-bridge, spares-of-end}
 use Rattle.board_order.specs.Order.{anyMisplaced}

@@ -16,6 +16,7 @@ use Rattle.text.specs.KeptLaws.{kept-start, kept-more, count-of-kept, front-kep
 use Rattle.records.specs.RecordsLaws.{fits-at}
 use Rattle.records.specs.Pieces.{fedAll}
 use Rattle.records.specs.PiecesLaws.{fed-all}
+use Rattle.board_record.specs.Host.{hostLength, hostAt}
 use Rattle.board.specs.BoardLaws.{accepted-of-zero}
 use Rattle.sheet.specs.Sheet.{fullSheet}
 use Rattle.plan_answer.specs.declared.Planning.{Planning}
@@ -138,7 +139,7 @@ module _ {s : List ℕ} {f : Input} {front kept : List ℕ} (fed : Fed s f front
   not-short : (n : ℕ) → planning (boardIn s) fullSheet ≡ Planned n → frontSize ≤ length s
   not-short n planned =
       let a = accepted-of-zero (boardIn s) (planned-of-answer (boardIn s) fullSheet n planned .accepted) in
-      omega (arith, fits-at (boardIn s) 1 30 (a .host-record), length-drop frontSize s)
+      omega (arith, fits-at (boardIn s) hostAt hostLength (a .host-record), length-drop frontSize s)
 
   planning-is : planningOf (f .board) kept fullSheet ≡ planning (boardIn s) fullSheet
   planning-is = any-planning (fed .of-board) fullSheet

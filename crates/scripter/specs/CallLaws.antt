@@ -13,6 +13,7 @@ use Rattle.records.specs.Records.{partsFrom}
 use Rattle.plan_rule.specs.Refusals.{refusalOf}
 use Rattle.board_record.specs.declared.Host.{Host}
 use Rattle.board_record.specs.Function.{functionOfPart}
+use Rattle.board_record.specs.Host.{functionsAt}
 use Rattle.board.specs.Board.{boardNumber, hostOf, functionsOf}
 use Rattle.board.specs.BoardLaws.{accepted-of-zero}
 use Rattle.board.specs.ToPlacing.{toHost, toPlacing}
@@ -78,7 +79,7 @@ module _ {h : Host} {counts memo : List ℕ} {m : Measured} {n : ℕ} (b : List 
     few : length (functionsOf b) ≤ mostFunctions
     few =
         let a = accepted-of-zero b accepted in
-        omega (arith, ap length (a .functions-read), length-map (partsFrom b 33) functionOfPart, a .few)
+        omega (arith, ap length (a .functions-read), length-map (partsFrom b functionsAt) functionOfPart, a .few)
 
     planned-is : onBoard (hostOf b) (functionsOf b) fullSheet ≡ Planned (sheetLength (length (functionsOf b)))
     planned-is = on-board-planned (hostOf b) (functionsOf b) fullSheet not-refused (omega (arith, few))

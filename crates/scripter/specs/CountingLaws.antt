@@ -18,6 +18,7 @@ use Rattle.plan_rule.specs.Layout.{Placed}
 use Rattle.plan_rule.specs.Refusals.{refusalOf}
 use Rattle.board_record.specs.declared.Function.{Function}
 use Rattle.board_record.specs.Function.{isBridge, slotCount, functionOfPart, headerWrong}
+use Rattle.board_record.specs.Host.{functionsAt}
 use Rattle.board.specs.Board.{boardNumber, hostOf, functionsOf}
 use Rattle.board.specs.BoardLaws.{accepted-of-zero}
 use Rattle.board.specs.ToPlacing.{toHost, toPlacing}
@@ -191,11 +192,13 @@ pub record Counted (b : List ℕ) (at count : ℕ) : Type 0 where
   pub rest : count + countIn (map functionOfPart (partsFrom b at)) ≡ countIn (functionsOf b)
   pub headers : anyPart headerWrong (partsFrom b at) ≡ false
 
-pub counted-start : (b : List ℕ) → boardNumber b ≡ 0 → Counted b 33 0
+pub counted-start : (b : List ℕ) → boardNumber b ≡ 0 → Counted b functionsAt 0
 counted-start b e =
     let a = accepted-of-zero b e in
     record {
-      rest = let z : 0 + countIn (map functionOfPart (partsFrom b 33)) ≡ countIn (map functionOfPart (partsFrom b 33)) = omega arith in
+      rest =
+          let z : 0 + countIn (map functionOfPart (partsFrom b functionsAt)) ≡ countIn (map functionOfPart (partsFrom b functionsAt)) =
+          omega arith in
           z ∙ ap countIn (sym (a .functions-read));
       headers = a .headers;
     }
@@ -207,7 +210,7 @@ few b e =
       arith,
       count-le (functionsOf b),
       ap length (a .functions-read),
-      length-map (partsFrom b 33) functionOfPart,
+      length-map (partsFrom b functionsAt) functionOfPart,
       a .few,
     )
 

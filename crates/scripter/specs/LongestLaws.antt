@@ -10,6 +10,7 @@ use Rattle.endian.specs.Endian.{Bytes}
 use Rattle.records.specs.Records.{partsFrom}
 use Rattle.plan_rule.specs.Numbering.{bridges, bridgeCount}
 use Rattle.plan_rule.specs.NumberingLaws.{bridges-and-spares}
+use Rattle.board_record.specs.Host.{functionsAt}
 use Rattle.plan_good.specs.Kept.{kept-of-planned}
 use Rattle.board_record.specs.declared.Function.{Function}
 use Rattle.board_record.specs.Function.{isBridge, functionOfPart}
@@ -52,7 +53,7 @@ script-length-le b n bytes planned =
     let fs = functionsOf b in
     let a = accepted-of-zero b (answer .accepted) in
     let fits = fits-of-accepted b bytes (answer .accepted) in
-    let few : length fs ≤ 512 = omega (arith, ap length (a .functions-read), length-map (partsFrom b 33) functionOfPart, a .few) in
+    let few : length fs ≤ 512 = omega (arith, ap length (a .functions-read), length-map (partsFrom b functionsAt) functionOfPart, a .few) in
     let kept = kept-of-planned (toHost (hostOf b)) (toPlacing fs) (answer .not-refused) in
     let taken : bridges (toPlacing fs) ≤ 255 = omega (arith, kept .buses, fits .board .edges .last-bus-is-byte) in
     let numbered : bridgeCount (toPlacing fs) ≤ 255 = omega (arith, taken, bridges-and-spares (toPlacing fs)) in

@@ -14,6 +14,7 @@ use Rattle.records.specs.Records.{nextOf, partsFrom}
 use Rattle.board_record.specs.declared.Host.{Host}
 use Rattle.board_record.specs.declared.Function.{Function}
 use Rattle.board_record.specs.Function.{isBridge, functionOfPart, headerWrong}
+use Rattle.board_record.specs.Host.{functionsAt}
 use Rattle.board.specs.Board.{functionsOf}
 use Rattle.board.specs.BoardLaws.{accepted-of-zero}
 use Rattle.sheet.specs.Sheet.{sheetLength, partsIn}
@@ -86,7 +87,7 @@ up-to-le pass b i =
     )
 
 pub passed-start : (pass : Pass) (b : List ℕ) {boot : Boot} {counts memo c room : List ℕ} {from : Place}
-    → Passing pass b boot counts memo c from room → Passed pass b boot c from room c room 33 0 from
+    → Passing pass b boot counts memo c from room → Passed pass b boot c from room c room functionsAt 0 from
 unfolding passWrites
 passed-start pass b {from = from} p =
     record { sheet = versioned b; standing = standing-start b (p .ready); wrote = wrote-nothing from }
@@ -117,7 +118,7 @@ module _ {pass : Pass} {b : List ℕ} {boot : Boot} {counts memo c₀ room₀ c 
           arith,
           inside (p .ready) (s .standing) n e,
           ap length (a .functions-read),
-          length-map (partsFrom b 33) functionOfPart,
+          length-map (partsFrom b functionsAt) functionOfPart,
           a .few,
         )
 

@@ -60,7 +60,11 @@ fn script_lawful(board: &[u8], requester: u16, tag: u8, room: &mut [u8]) -> Scri
 {
     let mut counts = [0u8; 2 + 2 * MOST_FUNCTIONS];
     let mut memo = [0u64; 7 * MOST_FUNCTIONS];
-    let host = board_record::host_of(records::part_at(board, 1, 30));
+    let host = board_record::host_of(records::part_at(
+        board,
+        board_record::HOST,
+        board_record::HOST_LENGTH,
+    ));
     let m = measure(board, host, &mut counts, &mut memo);
     let n = planner::refusal(host, m);
     if n != 0 {

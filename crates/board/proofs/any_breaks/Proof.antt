@@ -1,5 +1,6 @@
 -- `board::any_breaks` meets its contract. The invariant: no record left is asked too early, and what is left from the cursor on decides;
 -- the measure is the bytes left. Assumes nothing.
+use Rattle.board_record.specs.Host.{functionsAt}
 use Rattle.board.proofs.any_breaks.Statement.{statement}
 use Rattle.board.proofs.any_breaks.Tie as tie
 use native.Mathlib.Omega.{arith}
@@ -19,7 +20,7 @@ use Rattle.board.specs.PassLaws.{breaks-end, breaks-broken, breaks-hit, 
 abbrev Inv-loop : tie.InvT-loop
 Inv-loop rule board at₀ at =
     (anyPart (tooEarly rule) (partsFrom board at) ≡ false)
-    × (anyBreaks rule (partsOf (drop at board)) ≡ anyBreaks rule (partsOf (drop 33 board)))
+    × (anyBreaks rule (partsOf (drop at board)) ≡ anyBreaks rule (partsOf (drop functionsAt board)))
 
 abbrev μ-loop : tie.MeasureT-loop
 μ-loop rule board at₀ at = length board - at

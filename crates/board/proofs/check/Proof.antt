@@ -14,7 +14,7 @@ use Rattle.records.specs.RecordsLaws.{fits-at, length-part}
 use Rattle.board_record.specs.declared.Host.{Host}
 use Rattle.board_record.specs.declared.Function.{Function}
 use Rattle.board_record.specs.declared.Rule.the-variants.{Header, ReadBacks}
-use Rattle.board_record.specs.Host.{hostOfPart, hostWrong}
+use Rattle.board_record.specs.Host.{hostOfPart, hostWrong, hostLength, hostAt, functionsAt}
 use Rattle.board_record.specs.Function.{functionOfPart, wrongIn, headerWrong, readbacksWrong}
 use Rattle.board.specs.PassLaws.{any-never}
 use Rattle.board.specs.Board.{misframed, fromReadbacks, fromOrder, fromEdges, fromHeaders, fromCount, fromFrame}
@@ -46,10 +46,10 @@ abbrev bytes : tie.Start → List ℕ
 bytes c = c .args .board .now
 
 abbrev host : tie.Start → Host
-host c = hostOfPart (take 30 (drop 3 (bytes c)))
+host c = hostOfPart (take hostLength (drop 3 (bytes c)))
 
 abbrev functions : tie.Start → List Function
-functions c = map functionOfPart (partsFrom (bytes c) 33)
+functions c = map functionOfPart (partsFrom (bytes c) functionsAt)
 
 -- its version
 abbrev version : tie.Start → ℕ
@@ -64,22 +64,22 @@ whole : (c : tie.Else3) → misframed (partsOf (drop 1 (bytes (start-3 c)))) ≡
 whole c = sym (c .before .misframed .ensures) ∙ c .if3 .left
 
 past-3 : (c : tie.Else3)
-    → boardNumber (bytes (start-3 c)) ≡ fromCount (version (start-3 c)) (host (start-3 c)) (partsFrom (bytes (start-3 c)) 33)
+    → boardNumber (bytes (start-3 c)) ≡ fromCount (version (start-3 c)) (host (start-3 c)) (partsFrom (bytes (start-3 c)) functionsAt)
 past-3 c = past-2 (c .before .before) ∙ framed (bytes (start-3 c)) (version (start-3 c)) (whole c)
 
 past-4 : (c : tie.Else4)
-    → boardNumber (bytes (start-4 c)) ≡ fromHeaders (version (start-4 c)) (host (start-4 c)) (partsFrom (bytes (start-4 c)) 33)
+    → boardNumber (bytes (start-4 c)) ≡ fromHeaders (version (start-4 c)) (host (start-4 c)) (partsFrom (bytes (start-4 c)) functionsAt)
 past-4 c = past-3 (c .before .before) ∙ past-count _ _ _ (sym (c .before .too-many .ensures) ∙ c .if4 .left)
 
 headers : (c : tie.After-any-breaks)
-    → c .any-breaks .result ≡ anyPart (wrongIn (version (start-4 (c .before)))) (partsFrom (bytes (start-4 (c .before))) 33)
+    → c .any-breaks .result ≡ anyPart (wrongIn (version (start-4 (c .before)))) (partsFrom (bytes (start-4 (c .before))) functionsAt)
 headers c =
     c .any-breaks .ensures
     ∙ breaks-of-framed (bytes (start-4 (c .before))) (Header (version (start-4 (c .before)))) (whole (c .before .before .before))
 
 -- every record is one of some version
-records-right : (c : tie.Else5) → anyPart headerWrong (partsFrom (bytes (start-5 c)) 33) ≡ false
-records-right c = right-parts (version (start-5 c)) (partsFrom (bytes (start-5 c)) 33) (sym (headers (c .before)) ∙ c .if5 .left)
+records-right : (c : tie.Else5) → anyPart headerWrong (partsFrom (bytes (start-5 c)) functionsAt) ≡ false
+records-right c = right-parts (version (start-5 c)) (partsFrom (bytes (start-5 c)) functionsAt) (sym (headers (c .before)) ∙ c .if5 .left)
 
 past-5 : (c : tie.Else5) → boardNumber (bytes (start-5 c)) ≡ fromEdges (host (start-5 c)) (functions (start-5 c))
 past-5 c = past-4 (c .before .before) ∙ past-headers _ _ _ (sym (headers (c .before)) ∙ c .if5 .left)
@@ -98,7 +98,7 @@ readbacks c =
     let place = c .before .before .before .before .before .before .before .before .before .before .before in
     let s = bytes (start-7 (c .before)) in
     let w = whole place in
-    c .any-breaks2 .ensures ∙ breaks-of-framed s ReadBacks w ∙ sym (any-map readbacksWrong functionOfPart (partsFrom s 33))
+    c .any-breaks2 .ensures ∙ breaks-of-framed s ReadBacks w ∙ sym (any-map readbacksWrong functionOfPart (partsFrom s functionsAt))
 
 returns : tie.Need-returns
 unfolding boardNumber
@@ -131,19 +131,20 @@ unfolding fromCount
 returns-4 c = sym (past-3 (c .before .before) ∙ rw (sym (c .before .too-many .ensures) ∙ c .if4 .taken))
 
 any-breaks-requires : tie.Need-any-breaks-requires
-any-breaks-requires c κs = any-never (partsFrom (bytes (start-4 c)) 33)
+any-breaks-requires c κs = any-never (partsFrom (bytes (start-4 c)) functionsAt)
 
 returns-5 : tie.Need-returns-5
 unfolding fromHeaders
 returns-5 c = sym (past-4 (c .before .before) ∙ rw (sym (headers (c .before)) ∙ c .if5 .taken))
 
 part-at-requires : tie.Need-part-at-requires
-part-at-requires c κs = let s = bytes (start-5 c) in fits-at s 1 30 (host-of-framed s (whole (c .before .before .before .before)))
+part-at-requires c κs =
+    let s = bytes (start-5 c) in fits-at s hostAt hostLength (host-of-framed s (whole (c .before .before .before .before)))
 
 host-of-requires : tie.Need-host-of-requires
 host-of-requires c κs =
     let s = bytes (start-5 (c .before)) in
-    ap length (c .part-at .ensures) ∙ length-part s 1 30 (host-of-framed s (whole (c .before .before .before .before .before)))
+    ap length (c .part-at .ensures) ∙ length-part s hostAt hostLength (host-of-framed s (whole (c .before .before .before .before .before)))
 
 host-wrong-requires : tie.Need-host-wrong-requires
 host-wrong-requires c κs = search needs

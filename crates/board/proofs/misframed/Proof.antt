@@ -1,5 +1,6 @@
 -- `board::misframed` meets its contract: the host's length, then the rest. Assumes nothing.
 use borrow.Author.Needs.{needs}
+use Rattle.board_record.specs.Host.{functionsAt}
 use Rattle.board.proofs.misframed.Statement.{statement}
 use Rattle.board.proofs.misframed.Tie as tie
 use mathlib.Core.Path.{sym, _∙_}
@@ -30,7 +31,7 @@ returns c =
 any-breaks-requires : tie.Need-any-breaks-requires
 any-breaks-requires c κs =
     let args = c .before .before .before .before .before .before .args in
-    any-never (partsFrom (args .board .now) 33)
+    any-never (partsFrom (args .board .now) functionsAt)
 
 returns-2 : tie.Need-returns-2
 returns-2 c =

@@ -1,5 +1,6 @@
 -- `board::too_many` meets its contract. The invariant: those counted and those left are all; the measure is the bytes left. Assumes
 -- nothing.
+use Rattle.board_record.specs.Host.{functionsAt}
 use Rattle.board.proofs.too_many.Statement.{statement}
 use Rattle.board.proofs.too_many.Tie as tie
 use native.Mathlib.Omega.{arith}
@@ -14,7 +15,7 @@ use borrow.Author.Tests.{lt-ltb, le-ltb}
 use Rattle.board.specs.BoardLaws.{length-record, length-end, length-broken}
 
 abbrev Inv-loop : tie.InvT-loop
-Inv-loop board at₀ count₀ at count = (count ≤ mostFunctions) × (count + length (partsFrom board at) ≡ length (partsFrom board 33))
+Inv-loop board at₀ count₀ at count = (count ≤ mostFunctions) × (count + length (partsFrom board at) ≡ length (partsFrom board functionsAt))
 
 abbrev μ-loop : tie.MeasureT-loop
 μ-loop board at₀ count₀ at count = length board - at
@@ -34,7 +35,7 @@ returns c =
     let s = args .board .now in
     let at = c .before .before .before .loop .at in
     let e = sym (c .before .before .next-at .ensures) ∙ c .enum-told .given .1 in
-    sym (le-ltb mostFunctions (length (partsFrom s 33)) (omega (arith, length-end s at e)))
+    sym (le-ltb mostFunctions (length (partsFrom s functionsAt)) (omega (arith, length-end s at e)))
 
 enum-told-2 : tie.Need-enum-told-2 Inv-loop μ-loop
 enum-told-2 c = search needs
@@ -45,7 +46,7 @@ returns-2 c =
     let s = args .board .now in
     let at = c .before .before .before .loop .at in
     let e = sym (c .before .before .next-at .ensures) ∙ c .enum-told2 .given .1 in
-    sym (le-ltb mostFunctions (length (partsFrom s 33)) (omega (arith, length-broken s at e)))
+    sym (le-ltb mostFunctions (length (partsFrom s functionsAt)) (omega (arith, length-broken s at e)))
 
 enum-known-n : tie.Need-enum-known-n Inv-loop μ-loop
 enum-known-n c = search needs
@@ -59,7 +60,7 @@ returns-3 c =
     let s = args .board .now in
     let at = loop .at in
     let e = sym (next-at .ensures) ∙ c .before .before .n .given .1 in
-    sym (lt-ltb mostFunctions (length (partsFrom s 33)) (omega (arith, length-record s at _ e)))
+    sym (lt-ltb mostFunctions (length (partsFrom s functionsAt)) (omega (arith, length-record s at _ e)))
 
 add-count : tie.Need-add-count Inv-loop μ-loop
 add-count c = omega arith

@@ -1,5 +1,6 @@
 -- `board_order::misplaced` meets its contract. The invariant: with the levels that are open, the functions left from the cursor on decide
 -- 23, and their headers passed check 24; the measure is the bytes left. Assumes nothing.
+use Rattle.board_record.specs.Host.{functionsAt}
 use Rattle.board_order.proofs.misplaced.Statement.{statement}
 use Rattle.board_order.proofs.misplaced.Tie as tie
 use native.Mathlib.Omega.{arith}
@@ -36,7 +37,7 @@ Inv-loop board buses₀ nexts₀ shared₀ levels₀ number₀ at₀ buses nexts
     × (length shared ≡ mostAbove + 2)
     × (anyPart headerWrong (partsFrom board at) ≡ false)
     × (unplacedFrom number (deepest buses nexts shared levels) (map functionOfPart (partsFrom board at))
-    ≡ anyMisplaced 0 [] (map functionOfPart (partsFrom board 33)))
+    ≡ anyMisplaced 0 [] (map functionOfPart (partsFrom board functionsAt)))
 
 abbrev μ-loop : tie.MeasureT-loop
 μ-loop board buses₀ nexts₀ shared₀ levels₀ number₀ at₀ buses nexts shared levels number at = length board - at
@@ -112,7 +113,7 @@ loop-holds c = (
   refl,
   c .before .pre,
   unplaced-host
-      (map functionOfPart (partsFrom (c .before .args .board .now) 33)),
+      (map functionOfPart (partsFrom (c .before .args .board .now) functionsAt)),
 )
 
 next-at-requires : tie.Need-next-at-requires Inv-loop μ-loop

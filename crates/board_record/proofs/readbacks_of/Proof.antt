@@ -3,12 +3,13 @@ use borrow.Author.Needs.{needs}
 use mathlib.Core.Path.{_≡_, sym, _∙_}
 use native.Mathlib.Omega.{arith}
 use lib.ListN.{length}
+use Rattle.board_record.specs.Function.{endLength}
 use Rattle.board_record.specs.FunctionLaws.{le-length, length-of-end}
 use Rattle.board_record.proofs.readbacks_of.Statement.{statement}
 use Rattle.board_record.proofs.readbacks_of.Tie as tie
 
 -- where a function is no bridge
-left : (c : tie.Else1) → length (c .before .before .before .before .args .part .now) ≡ 30
+left : (c : tie.Else1) → length (c .before .before .before .before .args .part .now) ≡ endLength
 left c =
     let s = c .before .before .before .before in
     length-of-end (s .args .part .now) (s .pre) (sym (c .before .is-bridge .ensures) ∙ c .if1 .left)

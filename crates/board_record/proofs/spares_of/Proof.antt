@@ -1,5 +1,6 @@
 -- `board_record::spares_of` meets its contract: a bridge of 17 bytes has them, no other record does. Assumes nothing.
 use borrow.Author.Needs.{needs}
+use Rattle.board_record.specs.Function.{sparesAt}
 use Rattle.board_record.proofs.spares_of.Statement.{statement}
 use Rattle.board_record.proofs.spares_of.Tie as tie
 use mathlib.Core.Path.{sym, _∙_}
@@ -24,10 +25,10 @@ shared-slice-read-result : tie.Need-shared-slice-read-result
 shared-slice-read-result c = search needs
 
 cast-result : tie.Need-cast-result
-cast-result c = omega (arith, c .shared-slice-known3 .given 14)
+cast-result c = omega (arith, c .shared-slice-known3 .given sparesAt)
 
 mul-result : tie.Need-mul-result
-mul-result c = omega (arith, c .shared-slice-known3 .given 14)
+mul-result c = omega (arith, c .shared-slice-known3 .given sparesAt)
 
 read-be16-requires : tie.Need-read-be16-requires
 read-be16-requires c κs = search needs
@@ -36,7 +37,7 @@ cast-result-2 : tie.Need-cast-result-2
 cast-result-2 c = search needs
 
 add-result : tie.Need-add-result
-add-result c = omega (arith, c .before .shared-slice-known3 .given 14, c .read-be16 .ensures)
+add-result c = omega (arith, c .before .shared-slice-known3 .given sparesAt, c .read-be16 .ensures)
 
 returns-2 : tie.Need-returns-2
 returns-2 c =
@@ -44,7 +45,7 @@ returns-2 c =
     let start = bridge .before .before .before .before in (
       rw (c .read-be16 .ensures .0)
           (spares-whole (start .args .part .now) (sym (bridge .before .is-bridge .ensures) ∙ bridge .if1 .taken)),
-      omega (arith, c .before .shared-slice-known3 .given 14, c .read-be16 .ensures),
+      omega (arith, c .before .shared-slice-known3 .given sparesAt, c .read-be16 .ensures),
     )
 
 returns-3 : tie.Need-returns-3

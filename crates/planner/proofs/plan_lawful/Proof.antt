@@ -1,5 +1,6 @@
 -- `planner::plan_lawful` meets its contract. Assumes nothing.
 use borrow.Author.Needs.{needs}
+use Rattle.board_record.specs.Host.{hostLength, hostAt}
 use Rattle.planner.proofs.plan_lawful.Statement.{statement}
 use Rattle.planner.proofs.plan_lawful.Tie as tie
 use native.Mathlib.Omega.{arith}
@@ -13,12 +14,12 @@ use Rattle.planner.specs.PlanLaws.{lawful-sheet}
 part-at-requires : tie.Need-part-at-requires
 part-at-requires c κs =
     let args = c .before .before .args in
-    fits-at (args .board .now) 1 30 (accepted-of-zero (args .board .now) (c .before .before .pre) .host-record)
+    fits-at (args .board .now) hostAt hostLength (accepted-of-zero (args .board .now) (c .before .before .pre) .host-record)
 
 host-of-requires : tie.Need-host-of-requires
 host-of-requires c κs =
     let args = c .before .before .before .args in
-    ap length (c .part-at .ensures) ∙ length-part (args .board .now) 1 30
+    ap length (c .part-at .ensures) ∙ length-part (args .board .now) hostAt hostLength
     (accepted-of-zero (args .board .now) (c .before .before .before .pre) .host-record)
 
 slice-aggregate-measure : tie.Need-slice-aggregate-measure

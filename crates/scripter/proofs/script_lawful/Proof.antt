@@ -3,6 +3,7 @@ use mathlib.Core.Path.{refl, ap, _∙_}
 use native.Mathlib.Omega.{arith}
 use lib.ListN.{length}
 use borrow.Author.Needs.{needs}
+use Rattle.board_record.specs.Host.{hostLength, hostAt}
 use Rattle.scripter.specs.CallLaws.{script-refused, script-short, script-written, script-fits, script-placing, script-stored}
 use Rattle.planner.specs.PlanLaws.{host-read-is}
 use Rattle.board.specs.BoardLaws.{accepted-of-zero}
@@ -15,14 +16,15 @@ part-at-requires c κs =
     let at-args = c .before .before in
     let args = at-args .args in
     let pre = at-args .pre in
-    fits-at (args .board .now) 1 30 (accepted-of-zero (args .board .now) pre .host-record)
+    fits-at (args .board .now) hostAt hostLength (accepted-of-zero (args .board .now) pre .host-record)
 
 host-of-requires : tie.Need-host-of-requires
 host-of-requires c κs =
     let at-args = c .before .before .before in
     let args = at-args .args in
     let pre = at-args .pre in
-    ap length (c .part-at .ensures) ∙ length-part (args .board .now) 1 30 (accepted-of-zero (args .board .now) pre .host-record)
+    ap length (c .part-at .ensures)
+    ∙ length-part (args .board .now) hostAt hostLength (accepted-of-zero (args .board .now) pre .host-record)
 
 slice-aggregate-measure : tie.Need-slice-aggregate-measure
 slice-aggregate-measure c = search needs
