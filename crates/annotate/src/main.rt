@@ -2,7 +2,7 @@
 // answered, from fixed room.
 fn main() {
     let mut sheet = [0u8; sheet::FULL];
-    let mut piece = [0u8; annotator::PIECE];
-    let mut lines = [0u8; annotator::LINES];
-    annotator::annotate(&mut sheet, &mut piece, &mut lines);
+    let mut piece = [0u8; stream_trace::PIECE];
+    let mut lines = [0u8; stream_trace::LINES];
+    stream_trace::annotate(&mut sheet, &mut piece, &mut lines);
 }

@@ -2,8 +2,8 @@
 // index. An input of any length is answered, from fixed room.
 fn main() {
     let mut sheet = [0u8; sheet::FULL];
-    let mut index = [0u8; labeller::INDEX];
-    let mut piece = [0u8; labeller::PIECE];
-    let mut lines = [0u8; labeller::LINES];
-    labeller::label(&mut sheet, &mut index, &mut piece, &mut lines);
+    let mut index = [0u8; stream_label::INDEX];
+    let mut piece = [0u8; stream_label::PIECE];
+    let mut lines = [0u8; stream_label::LINES];
+    stream_label::label(&mut sheet, &mut index, &mut piece, &mut lines);
 }

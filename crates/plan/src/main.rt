@@ -23,7 +23,7 @@ fn plan(piece: &mut [u8], kept: &mut [u8; KEPT]) {
                 left = fewer;
             }
             Piece::End => {
-                printer::print(input, kept);
+                stream_plan::print(input, kept);
                 return;
             }
             Piece::Failed => {

@@ -28,7 +28,7 @@ use Rattle.trace.specs.TraceLaws.{stateAll, linesAll}
 use Rattle.trace.specs.Feed.{fedOf, fedPut, finishedOf, finishedPut}
 use Rattle.trace.specs.FeedLaws.{Call, taken, stateCalled, linesCalled}
 use Rattle.trace_line.specs.Line.{lineOver}
-use Rattle.annotator.specs.Program.{programOf}
+use Rattle.stream_trace.specs.Program.{programOf}
 
 -- ## One line
 

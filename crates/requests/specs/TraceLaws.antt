@@ -24,8 +24,8 @@ use Rattle.trace.specs.Feed.{textPut, fedOf, endedOf}
 use Rattle.trace.specs.FeedLaws.{short-front, Call, called-state, called-lines}
 use Rattle.trace_line.specs.Line.{labelWith, lineWith, lineOver}
 use Rattle.trace_line.specs.LineLaws.{line-front}
-use Rattle.annotator.specs.ProgramLaws.{program-no-length, program-long, program-short, program-pieces}
 use Rattle.requests.specs.Trace.{Labels, linesAfter, told, Annotates, Feeds, Ends, Calls, Prints, TraceAnnotated}
+use Rattle.stream_trace.specs.ProgramLaws.{program-no-length, program-long, program-short, program-pieces}
 
 -- ## One line
 

@@ -58,7 +58,7 @@ pub fn end(line: Line, word: &[u8; WORD], kept: &[u8; KEPT]) -> bool {
 
 fn answer(line: Line, word: &[u8; WORD], kept: &[u8; KEPT]) -> bool {
     if check::same(front(word, line.letters), b"board") {
-        return printer::print(line.input, kept);
+        return stream_plan::print(line.input, kept);
     }
     print_wrong()
 }

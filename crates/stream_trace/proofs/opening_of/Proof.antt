@@ -1,8 +1,8 @@
--- `annotator::opening_of` meets its contract. Assumes nothing.
-use Rattle.annotator.proofs.opening_of.Statement.{statement}
-use Rattle.annotator.proofs.opening_of.Tie as tie
+-- `stream_trace::opening_of` meets its contract. Assumes nothing.
+use Rattle.stream_trace.proofs.opening_of.Statement.{statement}
+use Rattle.stream_trace.proofs.opening_of.Tie as tie
 use mathlib.Core.Path.{sym}
-use Rattle.annotator.specs.ProgramLaws.{opening-long, opening-sheet}
+use Rattle.stream_trace.specs.ProgramLaws.{opening-long, opening-sheet}
 
 returns : tie.Need-returns
 returns c = sym (opening-long _ (c .if1 .taken))

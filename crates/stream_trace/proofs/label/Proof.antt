@@ -1,8 +1,8 @@
--- `annotator::label` meets its contract: a piece that was taken moves the state by all of it. Assumes nothing.
+-- `stream_trace::label` meets its contract: a piece that was taken moves the state by all of it. Assumes nothing.
 use borrow.Author.Needs.{needs}
-use Rattle.annotator.proofs.label.Statement.{statement}
-use Rattle.annotator.proofs.label.Tie as tie
-use Rattle.annotator.specs.PartsLaws.{taken-of-zero}
+use Rattle.stream_trace.proofs.label.Statement.{statement}
+use Rattle.stream_trace.proofs.label.Tie as tie
+use Rattle.stream_trace.specs.PartsLaws.{taken-of-zero}
 
 feed-by-requires : tie.Need-feed-by-requires
 feed-by-requires c κs = search needs

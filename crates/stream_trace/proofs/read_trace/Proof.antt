@@ -1,7 +1,7 @@
--- `annotator::read_trace` is safe and ends: the rooms stay as long as they were, and the measure is the number of pieces that may still
+-- `stream_trace::read_trace` is safe and ends: the rooms stay as long as they were, and the measure is the number of pieces that may still
 -- come. Assumes nothing.
-use Rattle.annotator.proofs.read_trace.Statement.{statement}
-use Rattle.annotator.proofs.read_trace.Tie as tie
+use Rattle.stream_trace.proofs.read_trace.Statement.{statement}
+use Rattle.stream_trace.proofs.read_trace.Tie as tie
 use borrow.Author.Needs.{needs}
 use native.Mathlib.Omega.{arith}
 use mathlib.Core.Path.{_≡_, refl, subst}

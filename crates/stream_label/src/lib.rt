@@ -4,9 +4,9 @@
 ghost use mathlib.Core.Path.{_≡_};
 ghost use lib.ListN.{length};
 ghost use Rattle.board_record.specs.Host.{hostLength};
-ghost use Rattle.labeller.specs.Indexed.{Indexed};
-use annotator::Filling;
-use annotator::SheetRead;
+ghost use Rattle.stream_label.specs.Indexed.{Indexed};
+use stream_trace::Filling;
+use stream_trace::SheetRead;
 use trace_line::Engine;
 
 // The index of a full sheet, 1,024 bytes and 256 a function: 132,096 for 512 functions, which E4's 64 KiB cannot hold, so this program
@@ -27,7 +27,7 @@ pub fn label(
     lines: &mut [u8; LINES],
 ) {
     let mut host = [0u8; board_record::HOST_LENGTH];
-    match annotator::fill(console::PIECES, &mut host) {
+    match stream_trace::fill(console::PIECES, &mut host) {
         Filling::Full(left) => {
             label_under(left, &host, sheet, index, piece, lines);
         }
@@ -53,7 +53,7 @@ fn label_under(
         print_refused(26, lines);
         return;
     }
-    match annotator::read_sheet(start, sheet) {
+    match stream_trace::read_sheet(start, sheet) {
         SheetRead::Whole(size, left) => {
             label_sheet(left, host, text::front(sheet, size), index, piece, lines);
         }
@@ -80,7 +80,7 @@ fn label_sheet(
         print_refused(number, lines);
         return;
     }
-    annotator::read_trace(start, Engine::Index, index, piece, lines);
+    stream_trace::read_trace(start, Engine::Index, index, piece, lines);
 }
 
 // The audit's number; where it is 0, the sheet's index. There is room for any, so no build gives 11.

@@ -8,7 +8,7 @@ ghost use lib.ListN.{length};
 ghost use Rattle.trace.specs.Trace.{stateOf};
 ghost use Rattle.trace.specs.FeedLaws.{longestLine};
 ghost use Rattle.trace_line.specs.Engine.{Knows};
-ghost use Rattle.annotator.specs.Program.{openingOf};
+ghost use Rattle.stream_trace.specs.Program.{openingOf};
 use console::Piece;
 use trace::Trace;
 use trace_line::Engine;

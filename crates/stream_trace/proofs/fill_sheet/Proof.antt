@@ -1,7 +1,7 @@
--- `annotator::fill_sheet` is safe. Assumes nothing.
+-- `stream_trace::fill_sheet` is safe. Assumes nothing.
 use borrow.Author.Needs.{needs}
-use Rattle.annotator.proofs.fill_sheet.Statement.{statement}
-use Rattle.annotator.proofs.fill_sheet.Tie as tie
+use Rattle.stream_trace.proofs.fill_sheet.Statement.{statement}
+use Rattle.stream_trace.proofs.fill_sheet.Tie as tie
 use mathlib.Core.Path.{sym}
 use lib.Seq.{length-take-le}
 

@@ -1,6 +1,6 @@
--- `annotator::fill` is safe and ends. The invariant: the room keeps its length; the measure is the bytes that it lacks. Assumes nothing.
-use Rattle.annotator.proofs.fill.Statement.{statement}
-use Rattle.annotator.proofs.fill.Tie as tie
+-- `stream_trace::fill` is safe and ends. The invariant: the room keeps its length; the measure is the bytes that it lacks. Assumes nothing.
+use Rattle.stream_trace.proofs.fill.Statement.{statement}
+use Rattle.stream_trace.proofs.fill.Tie as tie
 use Prim.Native.Nat.{_-_, _≤_}
 use mathlib.Core.Path.{_≡_, subst, _∙_}
 use lib.ListN.{length, length-drop}

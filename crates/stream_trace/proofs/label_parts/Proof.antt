@@ -1,7 +1,7 @@
--- `annotator::label_parts` meets its contract: no part is refused. The invariant: from the state so far, the rest of the piece comes to
+-- `stream_trace::label_parts` meets its contract: no part is refused. The invariant: from the state so far, the rest of the piece comes to
 -- what the whole piece comes to, and the room stays as long as it was; the measure is the bytes left. Assumes nothing.
-use Rattle.annotator.proofs.label_parts.Statement.{statement}
-use Rattle.annotator.proofs.label_parts.Tie as tie
+use Rattle.stream_trace.proofs.label_parts.Statement.{statement}
+use Rattle.stream_trace.proofs.label_parts.Tie as tie
 use Prim.Native.Nat.{_+_, _-_, _/_, _≤_}
 use mathlib.Core.Path.{_≡_, refl, sym, _∙_}
 use mathlib.Core.Bool.{true≢false}
@@ -11,7 +11,7 @@ use borrow.Author.Needs.{needs}
 use Rattle.trace.specs.Trace.{stateOf}
 use Rattle.trace.specs.FeedLaws.{Sound}
 use Rattle.trace_line.specs.Engine.{lineBy}
-use Rattle.annotator.specs.PartsLaws.{part-sound, part-state, parts-done}
+use Rattle.stream_trace.specs.PartsLaws.{part-sound, part-state, parts-done}
 
 abbrev Inv-loop : tie.InvT-loop
 Inv-loop engine bytes piece lines₀ most t₀ i₀ lines t i =

@@ -1,8 +1,8 @@
--- `labeller::index_sheet` meets its contract. Assumes nothing.
+-- `stream_label::index_sheet` meets its contract. Assumes nothing.
 use borrow.Author.Needs.{needs}
-use Rattle.labeller.proofs.index_sheet.Statement.{statement}
-use Rattle.labeller.proofs.index_sheet.Tie as tie
-use Rattle.labeller.specs.Indexed.{indexed}
+use Rattle.stream_label.proofs.index_sheet.Statement.{statement}
+use Rattle.stream_label.proofs.index_sheet.Tie as tie
+use Rattle.stream_label.specs.Indexed.{indexed}
 
 build-requires : tie.Need-build-requires
 build-requires c κs = search needs

@@ -13,9 +13,9 @@ use Rattle.board_record.specs.Host.{hostLength, hostOfPart, hostWrong}
 use Rattle.audit_rule.specs.Audit.{auditNumber}
 use Rattle.trace.specs.Annotated.{annotated}
 use Rattle.trace_line.specs.Line.{lineOver}
-use Rattle.annotator.specs.declared.Opening.{Opening}
-use Rattle.annotator.specs.declared.Opening.the-variants.{Sheet, Long}
-use Rattle.annotator.specs.Program.{openingOf}
+use Rattle.stream_trace.specs.declared.Opening.{Opening}
+use Rattle.stream_trace.specs.declared.Opening.the-variants.{Sheet, Long}
+use Rattle.stream_trace.specs.Program.{openingOf}
 
 -- "A sheet that E6 refuses gets E6's number and no index."
 unfoldable pub onNumber : ℕ → List ℕ → List ℕ → List ℕ

@@ -15,9 +15,9 @@ use Rattle.sheet.specs.Sheet.{fullSheet}
 use Rattle.trace.specs.Trace.{fresh, endLine}
 use Rattle.trace.specs.TraceLaws.{stateAll, linesAll, pieces-told}
 use Rattle.trace_line.specs.Line.{lineOver}
-use Rattle.annotator.specs.declared.Opening.{Opening}
-use Rattle.annotator.specs.declared.Opening.the-variants.{Sheet, Long}
-use Rattle.annotator.specs.Program.{overSheet, openingOf, fromOpening, programOf}
+use Rattle.stream_trace.specs.declared.Opening.{Opening}
+use Rattle.stream_trace.specs.declared.Opening.the-variants.{Sheet, Long}
+use Rattle.stream_trace.specs.Program.{overSheet, openingOf, fromOpening, programOf}
 
 -- ## A length
 

@@ -1,9 +1,9 @@
--- `annotator::read_sheet` is safe: a sheet that is opened fits the room for it. Assumes nothing.
+-- `stream_trace::read_sheet` is safe: a sheet that is opened fits the room for it. Assumes nothing.
 use borrow.Author.Needs.{needs}
-use Rattle.annotator.proofs.read_sheet.Statement.{statement}
-use Rattle.annotator.proofs.read_sheet.Tie as tie
+use Rattle.stream_trace.proofs.read_sheet.Statement.{statement}
+use Rattle.stream_trace.proofs.read_sheet.Tie as tie
 use native.Mathlib.Omega.{arith}
-use Rattle.annotator.specs.ProgramLaws.{opened-le}
+use Rattle.stream_trace.specs.ProgramLaws.{opened-le}
 
 slice-aggregate-fill : tie.Need-slice-aggregate-fill
 slice-aggregate-fill c = search needs

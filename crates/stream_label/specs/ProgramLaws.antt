@@ -17,11 +17,11 @@ use Rattle.trace.specs.Trace.{fresh, endLine}
 use Rattle.trace.specs.TraceLaws.{stateAll, linesAll, pieces-told}
 use Rattle.trace_line.specs.declared.Engine.the-variants.{Index}
 use Rattle.trace_line.specs.Engine.{lineBy}
-use Rattle.annotator.specs.declared.Opening.{Opening}
-use Rattle.annotator.specs.Program.{openingOf}
-use Rattle.annotator.specs.ProgramLaws.{opening-long, opening-sheet, sizeOf}
-use Rattle.labeller.specs.Program.{onNumber, overSheet, fromOpening, fromLength, fromHost, programOf}
-use Rattle.labeller.specs.Indexed.{Indexed}
+use Rattle.stream_trace.specs.declared.Opening.{Opening}
+use Rattle.stream_trace.specs.Program.{openingOf}
+use Rattle.stream_trace.specs.ProgramLaws.{opening-long, opening-sheet, sizeOf}
+use Rattle.stream_label.specs.Program.{onNumber, overSheet, fromOpening, fromLength, fromHost, programOf}
+use Rattle.stream_label.specs.Indexed.{Indexed}
 
 -- ## The host record
 

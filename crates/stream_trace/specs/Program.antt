@@ -10,8 +10,8 @@ use Rattle.endian.specs.Endian.{be}
 use Rattle.sheet.specs.Sheet.{fullSheet}
 use Rattle.trace.specs.Annotated.{annotated}
 use Rattle.trace_line.specs.Line.{lineOver}
-use Rattle.annotator.specs.declared.Opening.{Opening}
-use Rattle.annotator.specs.declared.Opening.the-variants.{Sheet, Long}
+use Rattle.stream_trace.specs.declared.Opening.{Opening}
+use Rattle.stream_trace.specs.declared.Opening.the-variants.{Sheet, Long}
 
 -- a sheet of so many bytes, then the trace
 unfoldable pub overSheet : ℕ → List ℕ → List ℕ
