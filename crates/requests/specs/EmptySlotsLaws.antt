@@ -42,7 +42,7 @@ use Rattle.plan_sheet.specs.Accepted.{fits-of-accepted}
 use Rattle.plan_sheet.specs.Answer.{planned-of-answer}
 use Rattle.demands.specs.Demand3.{Lawful, host, functions}
 use Rattle.demands.specs.Demand3Laws.{demand-3}
-use Rattle.requests.specs.EmptySlots.{versionOf, functionsAt, Spares, AsBefore, EmptySlots}
+use Rattle.requests.specs.EmptySlots.{versionOf, Spares, AsBefore, EmptySlots}
 
 -- ## Records
 
