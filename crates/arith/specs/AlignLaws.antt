@@ -19,7 +19,7 @@ multiple-trans a b c h k = mod-eq-zero-of-dvd a (dvd-trans a (dvd-of-mod-eq-zero
 pub multiple-add : (a x y : ℕ) → Multiple a x → Multiple a y → Multiple a (x + y)
 multiple-add a x y h k = add-mod x y a ∙ rw (h, k) (zero-mod a)
 
-pub multiple-div : (a x : ℕ) → Multiple a x → x / a * a ≡ x
+multiple-div : (a x : ℕ) → Multiple a x → x / a * a ≡ x
 multiple-div a x h = let d = div-add-mod' x a in omega arith
 
 module _ (a : ℕ) (pos : 0 < a) where
@@ -35,7 +35,7 @@ module _ (a : ℕ) (pos : 0 < a) where
   align-le-align-up x h = le-of-dvd (omega (arith, le-align-up x)) (dvd-of-mod-eq-zero a (align-up-multiple x))
 
   -- No multiple comes before it
-  pub align-up-least : (x m : ℕ) → x ≤ m → Multiple a m → alignUp a x ≤ m
+  align-up-least : (x m : ℕ) → x ≤ m → Multiple a m → alignUp a x ≤ m
   unfolding alignUp
   align-up-least x m h e =
       let q : ℕ = (x + (a - 1)) / a in

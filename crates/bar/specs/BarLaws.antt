@@ -25,7 +25,7 @@ cond-intro P false x y p q = q
 
 -- ## Sizes
 
-pub sized-bar : (pool : Pool) (wide : Bool) (r : ℕ) → SizedSlot (barOf pool wide r)
+sized-bar : (pool : Pool) (wide : Bool) (r : ℕ) → SizedSlot (barOf pool wide r)
 unfolding sized
 sized-bar pool wide r = go (eqb z 0) refl
   where
@@ -75,15 +75,15 @@ sized-slots (r ∷ u ∷ us) (suc i) = go (isWide r) i (λ k. sized-slots us k) 
 
 -- ## The slot at a place
 
-pub slot-here-none : (s : List ℕ) (i : ℕ) → length s ≤ i → slotHere (drop i s) ≡ Unused
+slot-here-none : (s : List ℕ) (i : ℕ) → length s ≤ i → slotHere (drop i s) ≡ Unused
 unfolding slotHere
 slot-here-none s i h = rw (drop-of-length-le s h)
 
-pub slot-here-last : (s : List ℕ) (i : ℕ) → i < length s → length s ≤ i + 1 → slotHere (drop i s) ≡ narrowSlot (getD s i 0)
+slot-here-last : (s : List ℕ) (i : ℕ) → i < length s → length s ≤ i + 1 → slotHere (drop i s) ≡ narrowSlot (getD s i 0)
 unfolding slotHere
 slot-here-last s i h l = rw (drop-cons s i 0 h, drop-of-length-le s {i = suc i} (omega arith))
 
-pub slot-here-pair : (s : List ℕ) (i : ℕ) → i + 1 < length s
+slot-here-pair : (s : List ℕ) (i : ℕ) → i + 1 < length s
     → slotHere (drop i s) ≡ cond (isWide (getD s i 0)) (wideSlot (getD s i 0) (getD s (i + 1) 0)) (narrowSlot (getD s i 0))
 unfolding slotHere
 slot-here-pair s i h =
@@ -148,7 +148,7 @@ slots-head [] p = absurd none
 slots-head (r ∷ []) p = refl
 slots-head (r ∷ u ∷ us) p = refl
 
-pub slots-step : (s : List ℕ) → 0 < length s → isBad (slotHere s) ≡ false → slots s ≡ slotHere s ∷ slotsAfter (slotHere s) s
+slots-step : (s : List ℕ) → 0 < length s → isBad (slotHere s) ≡ false → slots s ≡ slotHere s ∷ slotsAfter (slotHere s) s
 unfolding slots slotHere
 slots-step [] p l = absurd none
   where

@@ -64,11 +64,11 @@ size-from-ones w k (suc n) j l h m = go (eqb (onesFrom w j) (onesFrom w k)) refl
     go true e on = omega (arith, eqb-true (onesFrom w j) (onesFrom w k) e, pow-lt m, pow-mono l)
     go false e on = on (lt-of-le-ne l (λ s. eqb-false _ _ e (ap (onesFrom w) (sym s))))
 
-pub size-of-ones : (w k j : ℕ) → k ≤ j → j < w → sizeOf w k (onesFrom w j) ≡ 2 ^ j
+size-of-ones : (w k j : ℕ) → k ≤ j → j < w → sizeOf w k (onesFrom w j) ≡ 2 ^ j
 size-of-ones w k j l m = size-from-ones w k (w - k) j l (omega arith) m
 
 -- a mask that is ones from no bit has no size
-pub size-zero-of-none : (w k mask : ℕ) → (SizeBit w k mask (sizeOf w k mask) → ⊥) → sizeOf w k mask ≡ 0
+size-zero-of-none : (w k mask : ℕ) → (SizeBit w k mask (sizeOf w k mask) → ⊥) → sizeOf w k mask ≡ 0
 size-zero-of-none w k mask none = ⊎-elim (λ z. z) (λ s. absurd (none s)) (size-cases w k mask)
 
 -- ## The size as the complement plus one, in the words of the code: ones + 1 is 2 ^ w, least is 2 ^ k

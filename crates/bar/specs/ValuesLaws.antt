@@ -84,7 +84,7 @@ module _ (pool : Pool) (wide : Bool) (size : ℕ) (z : BarSize pool wide size) (
   pub base-value : baseOf (Bar pool wide size) (valueOf (Bar pool wide size) r base) ≡ base
   base-value = ap (λ (x : ℕ). x * 2 ^ typeBits pool) (digits-div (base / 2 ^ typeBits pool) typed-lt) ∙ without-type-base
 
-  pub type-value : typeOf pool (valueOf (Bar pool wide size) r base) ≡ typeOf pool r
+  type-value : typeOf pool (valueOf (Bar pool wide size) r base) ≡ typeOf pool r
   type-value = digits-mod (base / 2 ^ typeBits pool) typed-lt
 
   pub value-lt : valueOf (Bar pool wide size) r base < 2 ^ width pool wide

@@ -80,7 +80,7 @@ module _ (s : List ℕ) where
       go (Record n) e = sized n (eqb n hostLength) refl e
 
   -- and its lengths end at the end, so that a rule is broken where a function breaks it
-  pub whole-of-framed : misframed (partsOf (drop 1 s)) ≡ false → partsOf (drop functionsAt s) .whole ≡ true
+  whole-of-framed : misframed (partsOf (drop 1 s)) ≡ false → partsOf (drop functionsAt s) .whole ≡ true
   whole-of-framed h =
       let tail = sym (misframed-tail hostLength (host-of-framed h) refl) ∙ h in
       let whole = partsOf (drop functionsAt s) .whole in

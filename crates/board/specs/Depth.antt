@@ -83,7 +83,7 @@ few-above-from before (f ∷ fs) lawful e (suc i) l =
     let place : length before + suc i ≡ suc (length before) + i = omega arith in
     rw place (few-above-from (f ∷ before) fs lawful (both .1) i (omega arith))
 
-pub few-above-of-placed : (fs : List Function) → Lawful (toPlacing fs) → anyMisplaced 0 [] fs ≡ false
+few-above-of-placed : (fs : List Function) → Lawful (toPlacing fs) → anyMisplaced 0 [] fs ≡ false
     → (k : ℕ) → length (aboveByParents (toPlacing fs) k) ≤ mostAbove
 unfolding aboveByParents aboveWithin
 few-above-of-placed fs lawful e zero = omega arith

@@ -25,7 +25,7 @@ use Rattle.board.specs.ToPlacing.{toFunction, toPlacing}
 
 -- ---- sizes are powers of two
 
-pub sized-functions : (fs : List Function) → Sized (toPlacing fs)
+sized-functions : (fs : List Function) → Sized (toPlacing fs)
 sized-functions [] = tt
 sized-functions (f ∷ fs) = (bars-from-sized 0 (take (slotCount f) (f .readbacks)), sized-functions fs)
 
@@ -88,7 +88,7 @@ depth-first-of (f ∷ fs) before ok h e =
     )
 
 -- no function misplaced is depth-first order
-pub depth-first-of-placed : (fs : List Function) → anyMisplaced 0 [] fs ≡ false → DepthFirst onlyHost 1 (toPlacing fs)
+depth-first-of-placed : (fs : List Function) → anyMisplaced 0 [] fs ≡ false → DepthFirst onlyHost 1 (toPlacing fs)
 unfolding any parents
 depth-first-of-placed fs e = depth-first-of fs [] onlyHost (λ j m. alone (eqb j 0) m) e
   where
@@ -96,7 +96,7 @@ depth-first-of-placed fs e = depth-first-of fs [] onlyHost (λ j m. alone (eqb j
     alone true m = refl
     alone false m = m
 
-pub lawful-of-placed : (fs : List Function) → anyMisplaced 0 [] fs ≡ false → Lawful (toPlacing fs)
+lawful-of-placed : (fs : List Function) → anyMisplaced 0 [] fs ≡ false → Lawful (toPlacing fs)
 lawful-of-placed fs e = record { ordered = depth-first-of-placed fs e; sized = sized-functions fs }
 
 -- a board that is accepted is lawful for numbering and placing

@@ -84,7 +84,7 @@ module _ (s : List ℕ) (long : mostBytes < length s) where
   long-number : boardNumber s ≡ frameNumber (fedOf started s)
   long-number = sym (long-board-number s long)
 
-  pub long-planning : (size : ℕ) → planning s size ≡ Refused (frameNumber (fedOf started s))
+  long-planning : (size : ℕ) → planning s size ≡ Refused (frameNumber (fedOf started s))
   unfolding planning
   long-planning size = rw (long-number, ne-eqb (frameNumber (fedOf started s)) 0 (frame-nonzero (fedOf started s)))
 
@@ -126,7 +126,7 @@ module _ {s : List ℕ} {f : Feed} {room : List ℕ} (fed : Fed s f room) where
       go true e = let h = ltb-true mostBytes (length s) e in rw (is-long h, number-is) (sym (long-planning s h size))
       go false e = let h = ltb-false mostBytes (length s) e in rw (is-short h, kept-is h)
 
-  pub any-sheet : (sheet : List ℕ) → sheetOf f room sheet ≡ sheetAfter s sheet
+  any-sheet : (sheet : List ℕ) → sheetOf f room sheet ≡ sheetAfter s sheet
   unfolding sheetOf
   any-sheet sheet = go (ltb mostBytes (length s)) refl
     where
@@ -135,7 +135,7 @@ module _ {s : List ℕ} {f : Feed} {room : List ℕ} (fed : Fed s f room) where
       go false e = let h = ltb-false mostBytes (length s) e in rw (is-short h, kept-is h)
 
   -- and printed
-  pub any-answer : Bytes s → (sheet : List ℕ) → answerOf f room sheet ≡ boardText s (length sheet)
+  any-answer : Bytes s → (sheet : List ℕ) → answerOf f room sheet ≡ boardText s (length sheet)
   unfolding answerOf
   any-answer bytes sheet = rw (any-planning (length sheet), any-sheet sheet) (planner-prints s sheet bytes)
 

@@ -171,7 +171,7 @@ long-board-number (v ∷ r) h =
     go false = ap (λ (g : Stage). numberAt (endingOf g) (heardOf heardBy Other fresh r)) (stage-other r)
 
 -- two pieces in a row are one
-pub fed-append : (f : Feed) (a b : List ℕ) → frameNumber (fedOf (fedOf f a) b) ≡ frameNumber (fedOf f (a ++ b))
+fed-append : (f : Feed) (a b : List ℕ) → frameNumber (fedOf (fedOf f a) b) ≡ frameNumber (fedOf f (a ++ b))
 unfolding frameNumber
 fed-append f a b =
     ap₂ (λ (g : Stage) (t : Tally). numberAt (endingOf g) t) (sym (board-stage-append (f .stage) a b))

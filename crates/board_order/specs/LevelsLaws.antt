@@ -44,7 +44,7 @@ module _ (p : ℕ) (buses : List ℕ) where
 -- ---- what is found is what stays open
 
 module _ (p : ℕ) (b n s : List ℕ) where
-  pub closeTo-found : (k i : ℕ) → foundIn p b k ≡ At i → closeTo p (deepest b n s k) ≡ deepest b n s (suc i)
+  closeTo-found : (k i : ℕ) → foundIn p b k ≡ At i → closeTo p (deepest b n s k) ≡ deepest b n s (suc i)
   unfolding foundIn closeTo deepest
   closeTo-found zero i e = let z : _≡_ {A = ℕ} 0 1 = cc in absurd (omega arith)
   closeTo-found (suc k) i e = go (eqb p (getD b k 0)) refl (closeTo-found k i)
@@ -57,7 +57,7 @@ module _ (p : ℕ) (b n s : List ℕ) where
           rw h (ap (λ (j : ℕ). deepest b n s (suc j)) r)
       go false h on = rw h (on (rw h at e))
 
-  pub closeTo-nowhere : (k : ℕ) → foundIn p b k ≡ Nowhere → closeTo p (deepest b n s k) ≡ []
+  closeTo-nowhere : (k : ℕ) → foundIn p b k ≡ Nowhere → closeTo p (deepest b n s k) ≡ []
   unfolding foundIn closeTo deepest
   closeTo-nowhere zero e = refl
   closeTo-nowhere (suc k) e = go (eqb p (getD b k 0)) refl (closeTo-nowhere k)
@@ -67,7 +67,7 @@ module _ (p : ℕ) (b n s : List ℕ) where
       go true h on = let q : At k ≡ Nowhere = rw h at e in let z : _≡_ {A = ℕ} 0 1 = cc in absurd (omega arith)
       go false h on = rw h (on (rw h at e))
 
-  pub length-deepest : (k : ℕ) → length (deepest b n s k) ≡ k
+  length-deepest : (k : ℕ) → length (deepest b n s k) ≡ k
   unfolding deepest
   length-deepest zero = refl
   length-deepest (suc k) = ap suc (length-deepest k)

@@ -58,7 +58,7 @@ module _ (n p : ℕ) (g : Function) (before : List Function) where
   above-later e = rw e
 
 -- records above are no later than the nearest
-pub le-of-above : (n p : ℕ) (before : List Function) → All (λ b. b ≤ n) (above n p before)
+le-of-above : (n p : ℕ) (before : List Function) → All (λ b. b ≤ n) (above n p before)
 unfolding above
 le-of-above zero p before = tt
 le-of-above (suc n) p [] = tt
@@ -76,7 +76,7 @@ le-of-above (suc n) p (g ∷ before) = go (eqb p (suc n)) refl (le-of-above n (g
 abbrev pub upToHost : ℕ → ℕ → List Function → List ℕ
 upToHost n p before = above n p before ++ 0 ∷ []
 
-pub le-up-to-host : (n p : ℕ) (before : List Function) → All (λ b. b ≤ n) (upToHost n p before)
+le-up-to-host : (n p : ℕ) (before : List Function) → All (λ b. b ≤ n) (upToHost n p before)
 le-up-to-host n p before = all-append (λ b. b ≤ n) (above n p before) (0 ∷ []) (le-of-above n p before) (omega arith, tt)
 
 -- each comes before those below it
@@ -100,11 +100,11 @@ unfoldable pub fromOn : ℕ → List ℕ → List ℕ
 fromOn p [] = []
 fromOn p (x ∷ xs) = let later = fromOn p xs in cond (eqb p x) (x ∷ xs) later
 
-pub fromOn-here : (p x : ℕ) (xs : List ℕ) → eqb p x ≡ true → fromOn p (x ∷ xs) ≡ x ∷ xs
+fromOn-here : (p x : ℕ) (xs : List ℕ) → eqb p x ≡ true → fromOn p (x ∷ xs) ≡ x ∷ xs
 unfolding fromOn
 fromOn-here p x xs e = rw e
 
-pub fromOn-later : (p x : ℕ) (xs : List ℕ) → eqb p x ≡ false → fromOn p (x ∷ xs) ≡ fromOn p xs
+fromOn-later : (p x : ℕ) (xs : List ℕ) → eqb p x ≡ false → fromOn p (x ∷ xs) ≡ fromOn p xs
 unfolding fromOn
 fromOn-later p x xs e = rw e
 
@@ -140,7 +140,7 @@ fromOn-host p e = go (eqb p 0) refl e
     go false h e = absurd (false≢true e)
 
 -- what stands above a record that stands above is above it
-pub fromOn-up-to-host : (n q p : ℕ) (before : List Function)
+fromOn-up-to-host : (n q p : ℕ) (before : List Function)
     → any (eqb p) (upToHost n q before) ≡ true → fromOn p (upToHost n q before) ≡ upToHost n p before
 unfolding above
 fromOn-up-to-host zero q p before e = fromOn-host p e

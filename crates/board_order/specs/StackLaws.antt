@@ -30,16 +30,16 @@ abbrev pub levels : List Function → List Level
 levels before = map (levelOf before) (parents (length before) before)
 
 module _ (b : ℕ) (g : Function) (before : List Function) where
-  pub level-same : eqb (g .parent) b ≡ true → levelOf (g ∷ before) b ≡ entered g (levelOf before b)
+  level-same : eqb (g .parent) b ≡ true → levelOf (g ∷ before) b ≡ entered g (levelOf before b)
   unfolding lastSibling lastShared
   level-same e = rw e
 
-  pub level-other : eqb (g .parent) b ≡ false → levelOf (g ∷ before) b ≡ levelOf before b
+  level-other : eqb (g .parent) b ≡ false → levelOf (g ∷ before) b ≡ levelOf before b
   unfolding lastSibling lastShared
   level-other e = rw e
 
 -- a record that comes later is nobody's parent yet
-pub level-fresh : (b : ℕ) (before : List Function) → Ordered before → length before < b → levelOf before b ≡ fresh b
+level-fresh : (b : ℕ) (before : List Function) → Ordered before → length before < b → levelOf before b ≡ fresh b
 unfolding lastSibling lastShared
 level-fresh b [] o h = refl
 level-fresh b (g ∷ before) o h =
@@ -47,7 +47,7 @@ level-fresh b (g ∷ before) o h =
     (ne-eqb (g .parent) b (λ x. omega (arith, le-of-parent (length before) (g .parent) before (o .0 .parent-open))))
     ∙ level-fresh b before (o .1) (omega arith)
 
-pub closeTo-levels : (p : ℕ) (before : List Function) (bs : List ℕ)
+closeTo-levels : (p : ℕ) (before : List Function) (bs : List ℕ)
     → closeTo p (map (levelOf before) bs) ≡ map (levelOf before) (fromOn p bs)
 unfolding closeTo fromOn
 closeTo-levels p before [] = refl
@@ -66,10 +66,10 @@ zero-test : (p d : ℕ) (g : Function) (before : List Function) (a b c : Bool) �
 unfolding any
 zero-test p d g before a b c e h k = rw (e, h, k)
 
-pub sibling-same : (p : ℕ) (g : Function) (before : List Function) → eqb (g .parent) p ≡ true → lastSibling p (g ∷ before) ≡ suc (g .devfn)
+sibling-same : (p : ℕ) (g : Function) (before : List Function) → eqb (g .parent) p ≡ true → lastSibling p (g ∷ before) ≡ suc (g .devfn)
 sibling-same p g before e = ap (λ (l : Level). l .next) (level-same p g before e)
 
-pub sibling-other : (p : ℕ) (g : Function) (before : List Function) → eqb (g .parent) p ≡ false → lastSibling p (g ∷ before)
+sibling-other : (p : ℕ) (g : Function) (before : List Function) → eqb (g .parent) p ≡ false → lastSibling p (g ∷ before)
     ≡ lastSibling p before
 sibling-other p g before e = ap (λ (l : Level). l .next) (level-other p g before e)
 
@@ -144,7 +144,7 @@ module _ (p : ℕ) (before : List Function) (e : any (eqb p) (parents (length be
       let u = fromOn-parents (length before) p before e in
       sym u ∙ fromOn-cons p (parents (length before) before) e ∙ ap (λ (xs : List ℕ). p ∷ drop 1 xs) u
 
-  pub closeTo-open : closeTo p (levels before) ≡ levelOf before p ∷ map (levelOf before) (outer p before)
+  closeTo-open : closeTo p (levels before) ≡ levelOf before p ∷ map (levelOf before) (outer p before)
   closeTo-open =
       closeTo-levels p before (parents (length before) before)
       ∙ ap (map (levelOf before)) (fromOn-parents (length before) p before e ∙ up-cons)
@@ -155,7 +155,7 @@ module _ (p : ℕ) (before : List Function) (e : any (eqb p) (parents (length be
       ∙ omega (arith, ap length up-cons, length-append (above (length before) p before) (0 ∷ []))
 
 -- the deepest open bus tells whether a function is misplaced
-pub unplaced-agree : (before : List Function) (f : Function) → Ordered before
+unplaced-agree : (before : List Function) (f : Function) → Ordered before
     → unplaced (closeTo (f .parent) (levels before)) f ≡ misplaced (length before) before f
 unfolding misplaced
 unplaced-agree before f o = go (any (eqb (f .parent)) (parents (length before) before)) refl
@@ -179,7 +179,7 @@ unplaced-agree before f o = go (any (eqb (f .parent)) (parents (length before) b
         ∙ rw e
 
 -- a function in its place leaves the open buses as the records then say
-pub enter-levels : (before : List Function) (f : Function) → Ordered before → Placed (length before) before f
+enter-levels : (before : List Function) (f : Function) → Ordered before → Placed (length before) before f
     → enter (suc (length before)) f (closeTo (f .parent) (levels before)) ≡ levels (f ∷ before)
 enter-levels before f o h =
     ap (enter (suc n) f) (closeTo-open p before (h .parent-open)) ∙ go (isBridge f) refl
@@ -215,7 +215,7 @@ enter-levels before f o h =
 
 -- ---- all functions
 
-pub unplacedFrom-agree : (fs before : List Function) → Ordered before
+unplacedFrom-agree : (fs before : List Function) → Ordered before
     → unplacedFrom (length before) (levels before) fs ≡ anyMisplaced (length before) before fs
 unfolding unplacedFrom anyMisplaced
 unplacedFrom-agree [] before o = refl

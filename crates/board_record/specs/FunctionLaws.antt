@@ -25,7 +25,7 @@ length-of-version version p e =
     eqb-true (length p) (lengthFor version header) (not-false right (tests .1))
 
 -- a record of some version has 30 bytes, or is a bridge of 14 or 17
-pub header-elim : {P : Type 0} (p : List ℕ) → headerWrong p ≡ false → (isBridgeHeader (getD p 3 0) ≡ false → length p ≡ endLength → P)
+header-elim : {P : Type 0} (p : List ℕ) → headerWrong p ≡ false → (isBridgeHeader (getD p 3 0) ≡ false → length p ≡ endLength → P)
     → (isBridgeHeader (getD p 3 0) ≡ true → length p ≡ plainBridge → P)
     → (isBridgeHeader (getD p 3 0) ≡ true → length p ≡ bridgeWithSpares → P) → P
 unfolding headerWrong

@@ -76,7 +76,7 @@ length-beBytes = order.length-write big-endian
 pub bytes-beBytes : (n x : ℕ) → Bytes (beBytes n x)
 bytes-beBytes = order.bytes-write big-endian
 
-pub beBytes-add : (m n x : ℕ) → beBytes (m + n) x ≡ beBytes m (x / 256 ^ n) ++ beBytes n x
+beBytes-add : (m n x : ℕ) → beBytes (m + n) x ≡ beBytes m (x / 256 ^ n) ++ beBytes n x
 unfolding beBytes
 beBytes-add zero n x = rw (zero-add n)
 beBytes-add (suc m) n x =
@@ -146,7 +146,7 @@ length-leBytes = order.length-write little-endian
 pub bytes-leBytes : (n x : ℕ) → Bytes (leBytes n x)
 bytes-leBytes = order.bytes-write little-endian
 
-pub leBytes-add : (m n x : ℕ) → leBytes (m + n) x ≡ leBytes m x ++ leBytes n (x / 256 ^ m)
+leBytes-add : (m n x : ℕ) → leBytes (m + n) x ≡ leBytes m x ++ leBytes n (x / 256 ^ m)
 unfolding leBytes
 leBytes-add zero n x = rw (zero-add n, div-one x)
 leBytes-add (suc m) n x =

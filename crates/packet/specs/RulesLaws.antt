@@ -27,7 +27,7 @@ passed {n = n} k e f = ap (λ (b : Bool). cond b k n) (sym e ∙ f)
 pub stopped : {t b : Bool} {k : ℕ} (n : ℕ) → t ≡ b → t ≡ true → cond b k n ≡ k
 stopped {k = k} n e f = ap (λ (b : Bool). cond b k n) (sym e ∙ f)
 
-pub rule-number-memory : (k : MemoryKind) (h : Head) (e : Enables) (a : ℕ) → ruleNumber (Memory k h e a)
+rule-number-memory : (k : MemoryKind) (h : Head) (e : Enables) (a : ℕ) → ruleNumber (Memory k h e a)
     ≡ cond (not (eqb (a % 4) 0) || eqb (h .at) 3) 4
     (cond (eqb (h .form) 4 && ltb a (2 ^ 32)) 6
     (cond (not (enablesLawful (h .length) a e)) 7

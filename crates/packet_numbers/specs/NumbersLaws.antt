@@ -56,7 +56,7 @@ above-parts ns enough request outcome five five' =
 
 -- ## What the test says of every place
 
-pub at-most : (ms ns : List ℕ) → anyAbove ms ns ≡ false → length ms ≤ length ns → (i : ℕ) → i < length ms → getD ns i 0 ≤ getD ms i 0
+at-most : (ms ns : List ℕ) → anyAbove ms ns ≡ false → length ms ≤ length ns → (i : ℕ) → i < length ms → getD ns i 0 ≤ getD ms i 0
 unfolding anyAbove
 at-most [] ns e l i h = absurd (omega arith)
 at-most (m ∷ ms) [] e l i h = absurd (omega arith)
@@ -74,7 +74,7 @@ within-elim at [] ns w i h = absurd (omega arith)
 within-elim at (m ∷ ms) ns w zero h = rw (add-zero at) (w .0)
 within-elim at (m ∷ ms) ns w (suc i) h = rw (add-suc at i, ← suc-add at i) (within-elim (suc at) ms ns (w .1) i (omega arith))
 
-pub within-intro : (at : ℕ) (ms ns : List ℕ) → ((i : ℕ) → i < length ms → getD ns (at + i) 0 ≤ getD ms i 0) → Within at ms ns
+within-intro : (at : ℕ) (ms ns : List ℕ) → ((i : ℕ) → i < length ms → getD ns (at + i) 0 ≤ getD ms i 0) → Within at ms ns
 within-intro at [] ns h = tt
 within-intro at (m ∷ ms) ns h = (
   rw (add-zero at) at (h 0 (omega arith)),

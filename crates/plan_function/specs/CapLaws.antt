@@ -22,18 +22,18 @@ use Rattle.plan_function.specs.Function.{belowWindow}
 abbrev pub capEnds : Ends → Ends
 capEnds c q = cap (c q)
 
-pub size-pos : (q : Pool) (wide : Bool) (z : ℕ) → BarSize q wide z → 0 < z
+size-pos : (q : Pool) (wide : Bool) (z : ℕ) → BarSize q wide z → 0 < z
 size-pos q wide z b = omega (arith, b .power, pow-pos (b .bit))
 
 -- ## BARs
 
-pub cap-start : (c : Ends) (x : Slot) → SizedSlot x → cap (startOf (capEnds c) x) ≡ cap (startOf c x)
+cap-start : (c : Ends) (x : Slot) → SizedSlot x → cap (startOf (capEnds c) x) ≡ cap (startOf c x)
 cap-start c Unused h = refl
 cap-start c (Bar q wide z) h = cap-align z (size-pos q wide z h) (c q)
 cap-start c Upper h = refl
 cap-start c Bad h = refl
 
-pub cap-after-bar : (c : Ends) (x : Slot) → SizedSlot x → (q : Pool) → cap (afterBar (capEnds c) x q) ≡ cap (afterBar c x q)
+cap-after-bar : (c : Ends) (x : Slot) → SizedSlot x → (q : Pool) → cap (afterBar (capEnds c) x q) ≡ cap (afterBar c x q)
 cap-after-bar c Unused h q = cap-cap (c q)
 cap-after-bar c (Bar p wide z) h q = go (samePool p q)
   where

@@ -134,7 +134,7 @@ ends-kept e = λ i q. each q i
     each High = refl
     each Io = refl
 
-pub kept-ext : (e f : Ends) → ((q : Pool) → cap (e q) ≡ cap (f q)) → keptCursors e ≡ keptCursors f
+kept-ext : (e f : Ends) → ((q : Pool) → cap (e q) ≡ cap (f q)) → keptCursors e ≡ keptCursors f
 kept-ext e f h = λ i. record { low = h Low i; high = h High i; io = h Io i }
 
 -- what was kept is kept

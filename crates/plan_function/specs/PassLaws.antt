@@ -29,22 +29,22 @@ module _ {A : Type 0} (k : ℕ) (t : Placed → Bool) (g : Placed → A) (d : A)
   firstOf [] = d
   firstOf (x ∷ xs) = let later = firstOf xs in cond (eqb (x .piece .owner) k && t x) (g x) later
 
-  pub first-skip : (xs ys : List Placed) → All (λ x. (eqb (x .piece .owner) k && t x) ≡ false) xs → firstOf (xs ++ ys) ≡ firstOf ys
+  first-skip : (xs ys : List Placed) → All (λ x. (eqb (x .piece .owner) k && t x) ≡ false) xs → firstOf (xs ++ ys) ≡ firstOf ys
   unfolding firstOf
   first-skip [] ys h = refl
   first-skip (x ∷ xs) ys h = rw (h .0) (first-skip xs ys (h .1))
 
-  pub first-none : (xs : List Placed) → All (λ x. (eqb (x .piece .owner) k && t x) ≡ false) xs → firstOf xs ≡ d
+  first-none : (xs : List Placed) → All (λ x. (eqb (x .piece .owner) k && t x) ≡ false) xs → firstOf xs ≡ d
   unfolding firstOf
   first-none [] h = refl
   first-none (x ∷ xs) h = rw (h .0) (first-none xs (h .1))
 
-  pub first-append : (xs ys : List Placed) → All (λ x. (eqb (x .piece .owner) k && t x) ≡ false) ys → firstOf (xs ++ ys) ≡ firstOf xs
+  first-append : (xs ys : List Placed) → All (λ x. (eqb (x .piece .owner) k && t x) ≡ false) ys → firstOf (xs ++ ys) ≡ firstOf xs
   unfolding firstOf
   first-append [] ys h = first-none ys h
   first-append (x ∷ xs) ys h = ap (cond (eqb (x .piece .owner) k && t x) (g x)) (first-append xs ys h)
 
-pub bar-start-first : (k j : ℕ) (xs : List Placed) → barStart k j xs ≡ firstOf k (λ x. isPart (x .piece .part) j) (λ x. x .start) 0 xs
+bar-start-first : (k j : ℕ) (xs : List Placed) → barStart k j xs ≡ firstOf k (λ x. isPart (x .piece .part) j) (λ x. x .start) 0 xs
 unfolding barStart firstOf
 bar-start-first k j [] = refl
 bar-start-first k j (x ∷ xs) = ap (cond (eqb (x .piece .owner) k && isPart (x .piece .part) j) (x .start)) (bar-start-first k j xs)
@@ -80,7 +80,7 @@ later k i fs = pieces (suc (k + i)) (drop (suc i) fs)
 head-is : (g f : Function) (gs fs : List Function) → _≡_ {A = List Function} (g ∷ gs) (f ∷ fs) → g ≡ f
 head-is g f gs fs e = cc
 
-pub cursors-from-step : (c : Cursors) (k : ℕ) (fs : List Function) (i : ℕ) (f : Function) → IsAt fs i f
+cursors-from-step : (c : Cursors) (k : ℕ) (fs : List Function) (i : ℕ) (f : Function) → IsAt fs i f
     → cursorsFrom c k fs (suc i) ≡ cursorsAfter (cursorsFrom c k fs i) (ownPieces (k + i) f (later k i fs))
 unfolding cursorsFrom
 cursors-from-step c k [] i f e = absurd (cons≢nil (sym e ∙ drop-nil i))
@@ -89,7 +89,7 @@ cursors-from-step c k (g ∷ fs) (suc i) f e =
     let s : suc k + i ≡ k + suc i = omega arith in
     rw (← s) (cursors-from-step (cursorsAfter c (ownPieces k g (pieces (suc k) fs))) (suc k) fs i f e)
 
-pub place-split : (c : Cursors) (k : ℕ) (fs : List Function) (i : ℕ) (f : Function) → Sized fs → IsAt fs i f
+place-split : (c : Cursors) (k : ℕ) (fs : List Function) (i : ℕ) (f : Function) → Sized fs → IsAt fs i f
     → Split (k + i) (place (cursorsFrom c k fs i) (ownPieces (k + i) f (later k i fs))) (place c (pieces k fs))
 unfolding cursorsFrom
 place-split c k [] i f z e = absurd (cons≢nil (sym e ∙ drop-nil i))

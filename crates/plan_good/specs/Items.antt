@@ -66,7 +66,7 @@ module _ (sp : Space) (k : ℕ) (xs : List Placed) where
       let s = keep-elim (isBarOf sp k) xs n in
       (x, s .0, bar-of-is sp k x (s .1), e)
 
-  pub windows-elim : {r : Range} → r ∈ windowsOf sp xs k → (x : Placed) × (x ∈ xs) × PieceOf sp k true x × (rangeOf x ≡ r)
+  windows-elim : {r : Range} → r ∈ windowsOf sp xs k → (x : Placed) × (x ∈ xs) × PieceOf sp k true x × (rangeOf x ≡ r)
   windows-elim m =
       let (x, n, e) = Memᴰ·of-map rangeOf _ m in
       let s = keep-elim (isWindowOf sp k) xs n in

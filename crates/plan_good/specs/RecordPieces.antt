@@ -25,7 +25,7 @@ use Rattle.plan_good.specs.Spaces.{rangePool}
 use Rattle.plan_good.specs.Registers.{rangeOf, isBarOf, isWindowOf, barsOf}
 use Rattle.plan_good.specs.Items.{bar-of-is}
 
-pub pieces-placed : (c : Cursors) (ps : List Piece) → map (λ (x : Placed). x .piece) (place c ps) ≡ ps
+pieces-placed : (c : Cursors) (ps : List Piece) → map (λ (x : Placed). x .piece) (place c ps) ≡ ps
 unfolding place
 pieces-placed c [] = refl
 pieces-placed c (p ∷ ps) = ap (p ∷_) (pieces-placed _ ps)
@@ -149,7 +149,7 @@ module _ (sp : Space) (h : Host) (fs : List Function) (lawful : Lawful fs) (i : 
   rest = pieces (suc (suc i)) (drop (suc i) fs)
 
   -- The placed BARs of record i + 1 in the space are its BARs of that space in slot order
-  pub bars-of-record : map (λ (x : Placed). x .piece) (keep (isBarOf sp (suc i)) (placed h fs))
+  bars-of-record : map (λ (x : Placed). x .piece) (keep (isBarOf sp (suc i)) (placed h fs))
       ≡ barPieces (suc i) (f .parent) (keep (λ x. inSpace sp (x .pool)) (f .bars))
   unfolding placed ownPieces rest
   bars-of-record =

@@ -41,7 +41,7 @@ Later n m = n .bridge ≡ true → m .bridge ≡ true → n .secondary < m .seco
 
 module _ (h : Host) (fs : List Function) (lawful : Lawful fs) (devfn : ℕ → ℕ) where
   -- So one bridge at most leads to a bus
-  pub only-bridge-to : (bus : ℕ) {b : Numbered} → b ∈ planRows h fs → b .bridge ≡ true → b .secondary ≡ bus
+  only-bridge-to : (bus : ℕ) {b : Numbered} → b ∈ planRows h fs → b .bridge ≡ true → b .secondary ≡ bus
       → bridgesTo bus (planNodes h fs devfn) ≡ planNode devfn b ∷ []
   only-bridge-to bus {b} m is leads =
       keep-only test clash (planNodes h fs devfn) later (Memᴰ·map (planNode devfn) m)

@@ -120,7 +120,7 @@ length-map : (vs : List ℕ) → length (map word vs) ≡ length vs
 length-map [] = refl
 length-map (v ∷ vs) = ap suc (length-map vs)
 
-pub length-keptValues : (set : List ℕ) (m : ℕ) (e : Ends) → m ≤ length set → anyBad (slots (take m set)) ≡ false
+length-keptValues : (set : List ℕ) (m : ℕ) (e : Ends) → m ≤ length set → anyBad (slots (take m set)) ≡ false
     → length (keptValues set m e) ≡ m
 unfolding keptValues
 length-keptValues set m e h good =
@@ -137,7 +137,7 @@ map-drop g (suc i) (x ∷ xs) = map-drop g i xs
 abbrev pub RecordAt : List Function → ℕ → Function → Type 0
 RecordAt fs i f = drop i fs ≡ f ∷ drop (suc i) fs
 
-pub is-at-of-record : (fs : List Function) (i : ℕ) (f : Function) → RecordAt fs i f → IsAt (toPlacing fs) i (toFunction f)
+is-at-of-record : (fs : List Function) (i : ℕ) (f : Function) → RecordAt fs i f → IsAt (toPlacing fs) i (toFunction f)
 is-at-of-record fs i f e =
     map-drop toFunction i fs ∙ ap (map toFunction) e
     ∙ ap (λ (l : List placing.Function). toFunction f ∷ l) (sym (map-drop toFunction (suc i) fs))
@@ -214,7 +214,7 @@ module _ {first : ℕ} {fs : List Function} {counts memo : List ℕ} (prepared :
 
   -- ## No bridge
 
-  pub leaf-planned : Room h ps → isBridge f ≡ false
+  leaf-planned : Room h ps → isBridge f ≡ false
       → plannedOf (leafRegisters first counts c f) ≡ record { entry = entryFor first ps (placed h ps) (suc i) f; command = f .command }
   unfolding plannedOf leafRegisters
   leaf-planned room e =
@@ -235,7 +235,7 @@ module _ {first : ℕ} {fs : List Function} {counts memo : List ℕ} (prepared :
         command = f .command;
       }
 
-  pub leaf-agrees : 3 * suc (length fs) ≤ length c → isBridge f ≡ false → Agrees h ps (length fs) (suc i) (endsIn (leafNext c f))
+  leaf-agrees : 3 * suc (length fs) ≤ length c → isBridge f ≡ false → Agrees h ps (length fs) (suc i) (endsIn (leafNext c f))
   unfolding leafNext
   leaf-agrees room e =
       agrees-leaf h ps (prepared .lawful) i (toFunction f) is-at (f .readbacks) (slotCount f) refl (length fs) (endsIn c) agrees inside
@@ -261,7 +261,7 @@ module _ {first : ℕ} {fs : List Function} {counts memo : List ℕ} (prepared :
     next-is : laidAt memo i .next ≡ busLaid ps (suc i) (laidFrom (suc i)) .next
     next-is = ap (λ (l : Laid). l .next) (prepared .stored i f at bridge)
 
-    pub next-fits : laidAt memo i .next ≤ length fs
+    next-fits : laidAt memo i .next ≤ length fs
     next-fits = omega (
       arith,
       next-is,
@@ -280,7 +280,7 @@ module _ {first : ℕ} {fs : List Function} {counts memo : List ℕ} (prepared :
     unfolding busLaid
     next-later = omega (arith, next-is)
 
-    pub last-fits : NumberFits first counts (laidAt memo i .next) (f .parent)
+    last-fits : NumberFits first counts (laidAt memo i .next) (f .parent)
     last-fits =
         number-fits (laidAt memo i .next) (f .parent) next-fits (omega (arith, parent-le))
         (omega (
@@ -289,7 +289,7 @@ module _ {first : ℕ} {fs : List Function} {counts memo : List ℕ} (prepared :
           bridges-take-mono i (laidAt memo i .next) ps (omega (arith, next-later)),
         ))
 
-    pub bridge-planned : Room h ps
+    bridge-planned : Room h ps
         → plannedOf (bridgeRegisters first counts memo c i f)
         ≡ record { entry = entryFor first ps (placed h ps) (suc i) f; command = f .command }
     unfolding plannedOf bridgeRegisters
@@ -314,7 +314,7 @@ module _ {first : ℕ} {fs : List Function} {counts memo : List ℕ} (prepared :
           command = f .command;
         }
 
-    pub bridge-agrees : 3 * suc (length fs) ≤ length c → Agrees h ps (length fs) (suc i) (endsIn (bridgeNext memo c i f))
+    bridge-agrees : 3 * suc (length fs) ≤ length c → Agrees h ps (length fs) (suc i) (endsIn (bridgeNext memo c i f))
     unfolding bridgeNext
     bridge-agrees room =
         agrees-bridge h ps (prepared .lawful) i (toFunction f) is-at (f .readbacks) (slotCount f) refl (length fs) (endsIn c) agrees

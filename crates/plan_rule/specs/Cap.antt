@@ -48,7 +48,7 @@ cappedLaid l = record { next = l .next; extent = λ q. capped (l .extent q) }
 pub cap-cap : (x : ℕ) → cap (cap x) ≡ cap x
 cap-cap x = omega arith
 
-pub capped-capped : (e : Extent) → capped (capped e) ≡ capped e
+capped-capped : (e : Extent) → capped (capped e) ≡ capped e
 capped-capped e = ap (λ (n : ℕ). record { end = n; align = e .align }) (cap-cap (e .end))
 
 -- An aligned capped end, capped, is the aligned end, capped
@@ -76,7 +76,7 @@ cap-grow-whole e z a pos =
     let s : cap (alignUp a (cap (e .end)) + z) ≡ cap (alignUp a (e .end) + z) = omega (arith, cap-align a pos (e .end)) in
     ap (λ (n : ℕ). record { end = n; align = max (e .align) a }) s
 
-pub cap-extend : (e : Extent) (ps : List Piece) → All HasAlign ps → capped (extend (capped e) ps) ≡ capped (extend e ps)
+cap-extend : (e : Extent) (ps : List Piece) → All HasAlign ps → capped (extend (capped e) ps) ≡ capped (extend e ps)
 unfolding extend
 cap-extend e [] h = capped-capped e
 cap-extend e (p ∷ ps) h =
@@ -100,7 +100,7 @@ cap-with-bars q e (b ∷ bs) h =
     step true = cap-grow-whole e (b .size) (b .size) (pos-of-power (h .0))
     step false = capped-capped e
 
-pub cap-with-window : (q : Pool) (e inner : Extent) → capped (withWindow q (capped e) (capped inner)) ≡ capped (withWindow q e inner)
+cap-with-window : (q : Pool) (e inner : Extent) → capped (withWindow q (capped e) (capped inner)) ≡ capped (withWindow q e inner)
 cap-with-window q e inner = go (eqb (inner .align) 0)
   where
     g : ℕ
@@ -122,7 +122,7 @@ cap-with-window q e inner = go (eqb (inner .align) 0)
     go false = ap (λ (n : ℕ). record { end = n; align = max (e .align) a }) ends
 
 -- The spare room on a capped bus
-pub cap-spare : (q : Pool) (n : ℕ) (e : Extent) → capped (withSpare q n (capped e)) ≡ capped (withSpare q n e)
+cap-spare : (q : Pool) (n : ℕ) (e : Extent) → capped (withSpare q n (capped e)) ≡ capped (withSpare q n e)
 cap-spare low n e = go (eqb n 0)
   where
     go : (t : Bool) → capped (spareGrown t (capped e) n) ≡ capped (spareGrown t e n)
@@ -135,7 +135,7 @@ pub cap-spared : (n : ℕ) (l : Laid) → cappedLaid (spared n (cappedLaid l)) �
 cap-spared n l = laid-ext _ _ refl (λ q. cap-spare q n (l .extent q))
 
 -- For all pools at once
-pub cap-window-laid : (l inner : Laid) → cappedLaid (windowLaid (cappedLaid l) (cappedLaid inner)) ≡ cappedLaid (windowLaid l inner)
+cap-window-laid : (l inner : Laid) → cappedLaid (windowLaid (cappedLaid l) (cappedLaid inner)) ≡ cappedLaid (windowLaid l inner)
 cap-window-laid l inner = laid-ext _ _ refl (λ q. cap-with-window q (l .extent q) (inner .extent q))
 
 pub cap-bus-laid : (fs : List Function) → Sized fs → (b : ℕ) (l : Laid) → cappedLaid (busLaid fs b (cappedLaid l))
@@ -151,7 +151,7 @@ cap-bus-laid fs h b l =
     has-align))
 
 -- Past a pool that ends below 2^52 is the same of both
-pub cap-past : (last x : ℕ) → last < 4503599627370496 → ltb (suc last) (cap x) ≡ ltb (suc last) x
+cap-past : (last x : ℕ) → last < 4503599627370496 → ltb (suc last) (cap x) ≡ ltb (suc last) x
 cap-past last x h =
     ⊎-elim
     (λ (l : x ≤ suc last). le-ltb (suc last) (cap x) (omega arith) ∙ sym (le-ltb (suc last) x l))

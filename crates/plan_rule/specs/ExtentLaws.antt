@@ -96,7 +96,7 @@ module _ (k b : ℕ) (q : Pool) where
           settle false = refl
 
 -- The spare room, in the walk's words
-pub extend-spare : (k n : ℕ) (q : Pool) (e : Extent) → extend e (sparePieces k n q) ≡ withSpare q n e
+extend-spare : (k n : ℕ) (q : Pool) (e : Extent) → extend e (sparePieces k n q) ≡ withSpare q n e
 unfolding extend
 extend-spare k n low e = go (eqb n 0)
   where

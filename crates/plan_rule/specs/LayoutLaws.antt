@@ -61,19 +61,19 @@ abbrev pub Divides : ℕ → Piece → Type 0
 Divides s p = HasAlign p × Multiple (p .align) s
 
 module _ (s : ℕ) where
-  pub start-at-add : (e : ℕ) (p : Piece) → Divides s p → startAt (s + e) p ≡ s + startAt e p
+  start-at-add : (e : ℕ) (p : Piece) → Divides s p → startAt (s + e) p ≡ s + startAt e p
   start-at-add e p h = align-up-add (p .align) (h .0) s e (h .1)
 
-  pub end-at-add : (e : ℕ) (p : Piece) → Divides s p → endAt (s + e) p ≡ s + endAt e p
+  end-at-add : (e : ℕ) (p : Piece) → Divides s p → endAt (s + e) p ≡ s + endAt e p
   end-at-add e p h = omega (arith, start-at-add e p h)
 
-  pub layout-end-add : (e : ℕ) (ps : List Piece) → All (Divides s) ps → layoutEnd (s + e) ps ≡ s + layoutEnd e ps
+  layout-end-add : (e : ℕ) (ps : List Piece) → All (Divides s) ps → layoutEnd (s + e) ps ≡ s + layoutEnd e ps
   unfolding layoutEnd
   layout-end-add e [] h = refl
   layout-end-add e (p ∷ ps) h = ap (λ (n : ℕ). layoutEnd n ps) (end-at-add e p (h .0)) ∙ layout-end-add (endAt e p) ps (h .1)
 
   -- Window start plus offset
-  pub layout-add : (e : ℕ) (ps : List Piece) → All (Divides s) ps → layout (s + e) ps ≡ map (shift s) (layout e ps)
+  layout-add : (e : ℕ) (ps : List Piece) → All (Divides s) ps → layout (s + e) ps ≡ map (shift s) (layout e ps)
   unfolding layout
   layout-add e [] h = refl
   layout-add e (p ∷ ps) h = cc (start-at-add e p (h .0), end-at-add e p (h .0), layout-add (endAt e p) ps (h .1))

@@ -122,7 +122,7 @@ module _ (first : ℕ) (all : List Function) where
     pub last-fits : A i ≤ T i
     pub under-last : (j : ℕ) → ok j ≡ true → A j ≤ A i
 
-  pub chain-start : Chain onlyHost 0
+  chain-start : Chain onlyHost 0
   chain-start =
       record {
         earlier = λ j e. omega (arith, eqb-true j 0 e);

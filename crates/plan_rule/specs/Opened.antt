@@ -154,7 +154,7 @@ bus-laid ok k (f ∷ fs) d l h c b q =
         )
 
 -- Every alignment on a window's bus divides the window's start
-pub content-divides : (content : List Piece) (w : Placed) → All Shaped content → SizedBy content (w .piece) → Shaped (w .piece) → Aligned w
+content-divides : (content : List Piece) (w : Placed) → All Shaped content → SizedBy content (w .piece) → Shaped (w .piece) → Aligned w
     → All (Divides (w .start)) content
 content-divides content w h s t a =
     all-imp₂ _ _ _ content h (le-largest-align content)

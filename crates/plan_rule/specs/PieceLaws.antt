@@ -118,7 +118,7 @@ pub has-align : (p : Piece) → Shaped p → HasAlign p
 has-align p s = pos-of-power (s .align-power)
 
 -- What holds something reaches as far as its largest alignment
-pub largest-align-le : (e : ℕ) (ps : List Piece) → All Shaped ps → largestAlign ps ≤ layoutEnd e ps
+largest-align-le : (e : ℕ) (ps : List Piece) → All Shaped ps → largestAlign ps ≤ layoutEnd e ps
 unfolding layoutEnd largestAlign
 largest-align-le e [] h = omega arith
 largest-align-le e (p ∷ ps) h =
@@ -129,7 +129,7 @@ largest-align-le e (p ∷ ps) h =
       largest-align-le (endAt e p) ps (h .1),
     )
 
-pub layout-end-pos : (ps : List Piece) → All Shaped ps → (ps ≡ [] → ⊥) → 0 < layoutEnd 0 ps
+layout-end-pos : (ps : List Piece) → All Shaped ps → (ps ≡ [] → ⊥) → 0 < layoutEnd 0 ps
 unfolding layoutEnd
 layout-end-pos [] h n = absurd (n refl)
 layout-end-pos (p ∷ ps) h n =
@@ -196,7 +196,7 @@ pub content-shaped : (k n : ℕ) (q : Pool) (rest : List Piece) → All Shaped r
 content-shaped k n q rest h =
     all-append Shaped (select k q rest) (sparePieces k n q) (all-keep (isOn k q) Shaped rest h) (spare-shaped k n q)
 
-pub shaped-of-own : (k : ℕ) (f : Function) (rest : List Piece) → All Shaped rest → (p : Piece) → Own k f rest p → Shaped p
+shaped-of-own : (k : ℕ) (f : Function) (rest : List Piece) → All Shaped rest → (p : Piece) → Own k f rest p → Shaped p
 shaped-of-own k f rest h p o = ⊎-elim is-window is-bar (true-or-false (isWindow (p .part)))
   where
     is-window : isWindow (p .part) ≡ true → Shaped p
@@ -244,7 +244,7 @@ pieces-parent P k (f ∷ fs) h g =
     all-pieces (λ p. P (p .bus)) k f fs (h .0) (λ p o. rw (o .bus-is) (g .0)) (pieces-parent P (suc k) fs (h .1) (g .1))
 
 -- A bus that some piece is on is a later record's, or one of those that may be parents
-pub pieces-bus : (ok : ℕ → Bool) (k : ℕ) (fs : List Function) → DepthFirst ok k fs → Sized fs
+pieces-bus : (ok : ℕ → Bool) (k : ℕ) (fs : List Function) → DepthFirst ok k fs → Sized fs
     → All (λ p. (k ≤ p .bus) ⊎ (ok (p .bus) ≡ true)) (pieces k fs)
 unfolding pieces
 pieces-bus ok k [] d h = tt
@@ -296,7 +296,7 @@ pub is-window-of : (b : ℕ) (q : Pool) (p : Piece) → WindowOf b q p → isWin
 is-window-of b q p w = rw (w .is-window, eq-eqb (p .owner) b (w .owner-is), w .pool-is) (same-pool-refl q)
 
 -- Where a bus has content, its bridge has a window
-pub window-there : (k : ℕ) (f : Function) (rest : List Piece) → f .bridge ≡ true → (q : Pool) → (select k q rest ≡ [] → ⊥)
+window-there : (k : ℕ) (f : Function) (rest : List Piece) → f .bridge ≡ true → (q : Pool) → (select k q rest ≡ [] → ⊥)
     → Some (WindowOf k q) (ownPieces k f rest)
 unfolding ownPieces windowPieces
 window-there k f rest e q n = rw e (some-right (WindowOf k q) (barPieces k (f .parent) (f .bars)) _ (go q n))

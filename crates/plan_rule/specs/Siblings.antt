@@ -34,7 +34,7 @@ MemoryApart h = h .base low ≤ h .last low → h .base high ≤ h .last high �
 
 module _ (first : ℕ) (h : Host) (fs : List Function) (lawful : Lawful fs) where
   -- Pieces of one pool on one bus, told by its number
-  pub apart-by-number : Pairwise (λ x y. busOf first fs x ≡ busOf first fs y → x .piece .pool ≡ y .piece .pool → Before x y) (placed h fs)
+  apart-by-number : Pairwise (λ x y. busOf first fs x ≡ busOf first fs y → x .piece .pool ≡ y .piece .pool → Before x y) (placed h fs)
   unfolding placed
   apart-by-number =
       pairwise-imp _ _ (λ x y g e. g .1 (rises-unique first fs (x .piece .bus) (y .piece .bus) (g .0 .0) (g .0 .1) e)) (placed h fs)

@@ -130,7 +130,7 @@ module _ (fs : List Function) (lawful : Lawful fs) where
   ordered-at b i f e r = subst (DepthFirst (r .allowed) (suc i)) e (r .ordered)
 
   -- The next record is of this bus or of one above
-  pub parent-le : (b i : ℕ) (f : Function) → Ready fs b i → IsAt fs i f → f .parent ≤ b
+  parent-le : (b i : ℕ) (f : Function) → Ready fs b i → IsAt fs i f → f .parent ≤ b
   parent-le b i f r e = r .below (f .parent) (ordered-at b i f e r .0)
 
   -- Where it is not of this bus, the walk over this bus has ended

@@ -110,7 +110,7 @@ type-of-header p e = go (wrongIn 1 p) (wrongIn 2 p) refl refl e
     go true false w u h = type-of-version 2 p u
     go true true w u h = absurd (true≢false h)
 
-pub function-fits : (p : List ℕ) → Bytes p → headerWrong p ≡ false → readbacksWrong (functionOfPart p) ≡ false
+function-fits : (p : List ℕ) → Bytes p → headerWrong p ≡ false → readbacksWrong (functionOfPart p) ≡ false
     → FunctionFits (functionOfPart p)
 unfolding functionOfPart readbacksWrong
 function-fits p b e r =

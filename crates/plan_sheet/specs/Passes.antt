@@ -59,7 +59,7 @@ absent k j e (x ∷ es) h =
     let other = ne-eqb (x .id) (e .id) (λ same. h .0 (ap (λ (n : ℕ). n / 256) (sym same)) (ap (λ (n : ℕ). n % 256) (sym same))) in
     rw other (absent k (j + 1) e es (h .1))
 
-pub once-of-distinct : (k : ℕ) (es : List Entry) → DistinctIds (nodesFrom k es) → idTwice es ≡ false
+once-of-distinct : (k : ℕ) (es : List Entry) → DistinctIds (nodesFrom k es) → idTwice es ≡ false
 unfolding idTwice nodesFrom
 once-of-distinct k [] h = refl
 once-of-distinct k (e ∷ es) h = rw (absent k (k + 1) e es (h .0)) (once-of-distinct (k + 1) es (h .1))
@@ -160,7 +160,7 @@ module _ (h : Host) (fs : List Function) (fits : BoardFits h fs) (planned : refu
       (subst DistinctIds (sym (nodes-agree h fs fits planned))
       (planned-ids (toHost h) ps (fits .board .lawful) (devfnOf fs) (fits .siblings-rise)))
 
-  pub planned-checked : Checked (sheetBytes (planOf h fs))
+  planned-checked : Checked (sheetBytes (planOf h fs))
   planned-checked =
       record {
         version = version-sheetBytes (planOf h fs);

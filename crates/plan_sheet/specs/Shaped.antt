@@ -60,13 +60,13 @@ row-from first all k (suc i) (g ∷ fs) f gs e =
     let place : k + suc i ≡ suc k + i = omega arith in
     rw place (List·Memᴰ·tail (row-from first all (suc k) i fs f gs e))
 
-pub row-at : (first i : ℕ) (fs : List Function) (f : Function) (gs : List Function) → StandsAt fs i f gs
+row-at : (first i : ℕ) (fs : List Function) (f : Function) (gs : List Function) → StandsAt fs i f gs
     → rowOf first (toPlacing fs) (suc i) (toFunction f) ∈ numbered first (toPlacing fs)
 row-at first i fs f gs e = let place : 1 + i ≡ suc i = omega arith in rw place at (row-from first (toPlacing fs) 1 i fs f gs e)
 
 -- ## Bus numbers
 
-pub bus-number-le : (first : ℕ) (ps : List placing.Function) (k : ℕ) → busNumber first ps k ≤ first + bridges ps
+bus-number-le : (first : ℕ) (ps : List placing.Function) (k : ℕ) → busNumber first ps k ≤ first + bridges ps
 unfolding busNumber
 bus-number-le first ps k = omega (arith, bridges-split k ps)
 

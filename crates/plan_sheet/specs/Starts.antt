@@ -38,7 +38,7 @@ use Rattle.plan_good.specs.RecordPieces.{pieces-of-record}
 
 -- ## The search for a BAR, among the pieces of one record
 
-pub bar-start-own : (k j : ℕ) (xs : List Placed) → barStart k j xs ≡ barStart k j (keep (λ x. eqb (x .piece .owner) k) xs)
+bar-start-own : (k j : ℕ) (xs : List Placed) → barStart k j xs ≡ barStart k j (keep (λ x. eqb (x .piece .owner) k) xs)
 unfolding barStart keep
 bar-start-own k j [] = refl
 bar-start-own k j (x ∷ xs) = go (eqb (x .piece .owner) k) refl (bar-start-own k j xs)
@@ -152,7 +152,7 @@ addressBits Low = 32
 addressBits High = 52
 addressBits Io = 16
 
-pub last-lt : {h : Host} → HostEdges h → (q : Pool) → IsOpen h q → h .last q < 2 ^ addressBits q
+last-lt : {h : Host} → HostEdges h → (q : Pool) → IsOpen h q → h .last q < 2 ^ addressBits q
 last-lt e Low l = e .low-ends-below-4-GiB l
 last-lt e High l = e .high-ends-below-2^52 l
 last-lt e Io l = e .io-ends-below-64-KiB l
@@ -196,7 +196,7 @@ module _ (h : Host) (fs : List placing.Function) (lawful : Lawful fs) (i : ℕ) 
       ∙ first-start (suc i) (f .parent) (barsFrom 0 ss) windows own own-pieces only (bars-rise 0 ss) x j mine is)
 
   -- and every BAR has its placed piece
-  pub placed-bar : (c : placing.Bar) → c ∈ barsFrom 0 ss → PlacedBar h fs i (f .parent) c
+  placed-bar : (c : placing.Bar) → c ∈ barsFrom 0 ss → PlacedBar h fs i (f .parent) c
   unfolding own
   placed-bar c m =
       let among : barPiece (suc i) (f .parent) c ∈ map (λ (x : Placed). x .piece) own =

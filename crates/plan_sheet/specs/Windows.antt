@@ -36,7 +36,7 @@ pub record WindowAt (q : Pool) (xs : List Placed) (x : Placed) : Type 0 where
   pub is-window : isWindow (x .piece .part) ≡ true
   pub pool-is : x .piece .pool ≡ q
 
-pub window-for-cases : (k : ℕ) (q : Pool) (xs : List Placed)
+window-for-cases : (k : ℕ) (q : Pool) (xs : List Placed)
     → (windowFor k q xs ≡ closed q) ⊎ ((x : Placed) × WindowAt q xs x × (windowFor k q xs ≡ opened q (x .start) (endOf x)))
 unfolding windowFor
 window-for-cases k q [] = inl refl

@@ -39,7 +39,7 @@ cut-window q e inner h =
 
 -- ## Cutting
 
-pub says-cut : (l : placing.Laid) → says (cut l) ≡ cappedLaid l
+says-cut : (l : placing.Laid) → says (cut l) ≡ cappedLaid l
 says-cut l = laid-ext (says (cut l)) (cappedLaid l) refl each
   where
     each : (q : Pool) → says (cut l) .extent q ≡ cappedLaid l .extent q
@@ -47,14 +47,14 @@ says-cut l = laid-ext (says (cut l)) (cappedLaid l) refl each
     each High = refl
     each Io = refl
 
-pub cut-capped : (l : placing.Laid) → cut (cappedLaid l) ≡ cut l
+cut-capped : (l : placing.Laid) → cut (cappedLaid l) ≡ cut l
 cut-capped l = rw (cap-cap (l .extent Low .end), cap-cap (l .extent High .end), cap-cap (l .extent Io .end))
 
 pub cut-of-capped : (l m : placing.Laid) → cappedLaid l ≡ cappedLaid m → cut l ≡ cut m
 cut-of-capped l m e = sym (cut-capped l) ∙ ap cut e ∙ cut-capped m
 
 -- what was cut is whole
-pub whole-cut : (l : placing.Laid) → Whole (cut l)
+whole-cut : (l : placing.Laid) → Whole (cut l)
 whole-cut l = ap cut (says-cut l) ∙ cut-capped l
 
 pub whole-of-cut : (l : Laid) (m : placing.Laid) → l ≡ cut m → Whole l
@@ -90,7 +90,7 @@ pub with-spare-none : (n : ℕ) (l : Laid) → Whole l → n ≡ 0 → l ≡ cut
 with-spare-none n l w z =
     rw (eq-eqb n 0 z) (λ i. record { next = l .next; low = whole-in l w Low i; high = whole-in l w High i; io = whole-in l w Io i })
 
-pub cut-add-bars : (bs : List records.Bar) (m : placing.Laid) → AllSized bs → cut (addBars bs (says (cut m))) ≡ cut (addBars bs m)
+cut-add-bars : (bs : List records.Bar) (m : placing.Laid) → AllSized bs → cut (addBars bs (says (cut m))) ≡ cut (addBars bs m)
 cut-add-bars bs m h =
     ap (λ (x : placing.Laid). cut (addBars bs x)) (says-cut m)
     ∙ cut-of-capped (addBars bs (cappedLaid m)) (addBars bs m) (cap-add-bars bs m h)

@@ -24,7 +24,7 @@ set-sets o i v j (w ∷ ws) h =
     ∙ ap (λ (p : List ℕ). sets p (suc j) ws) (set-comm o j i w v (λ e. omega arith))
 
 -- a run stored before a later one
-pub sets-before : (o : List ℕ) (i : ℕ) (vs : List ℕ) (j : ℕ) (ws : List ℕ) → i + length vs ≤ j → sets (sets o j ws) i vs
+sets-before : (o : List ℕ) (i : ℕ) (vs : List ℕ) (j : ℕ) (ws : List ℕ) → i + length vs ≤ j → sets (sets o j ws) i vs
     ≡ sets (sets o i vs) j ws
 sets-before o i [] j ws h = refl
 sets-before o i (v ∷ vs) j ws h =
@@ -32,14 +32,14 @@ sets-before o i (v ∷ vs) j ws h =
 
 -- ## The numbers of a run of records
 
-pub length-memo-of : (fs : List Function) (i : ℕ) (f : Function) → length (memoOf fs i f) ≡ 7
+length-memo-of : (fs : List Function) (i : ℕ) (f : Function) → length (memoOf fs i f) ≡ 7
 length-memo-of fs i f = go (f .bridge)
   where
     go : (t : Bool) → length (cond t (numbersOf (below fs i (f .spareLow))) noNumbers) ≡ 7
     go true = refl
     go false = refl
 
-pub length-memo-from : (fs : List Function) (i : ℕ) (gs : List Function) → length (memoFrom fs i gs) ≡ 7 * length gs
+length-memo-from : (fs : List Function) (i : ℕ) (gs : List Function) → length (memoFrom fs i gs) ≡ 7 * length gs
 unfolding memoFrom
 length-memo-from fs i [] = refl
 length-memo-from fs i (f ∷ gs) =
@@ -58,7 +58,7 @@ module _ (fs : List Function) where
   length-between : (i j : ℕ) → j ≤ length fs → length (take (j - i) (drop i fs)) ≡ j - i
   length-between i j h = omega (arith, length-take (j - i) (drop i fs), length-drop i fs)
 
-  pub length-memo-between : (i j : ℕ) → j ≤ length fs → length (memoBetween fs i j) ≡ 7 * (j - i)
+  length-memo-between : (i j : ℕ) → j ≤ length fs → length (memoBetween fs i j) ≡ 7 * (j - i)
   length-memo-between i j h = length-memo-from fs i (take (j - i) (drop i fs)) ∙ ap (λ (n : ℕ). 7 * n) (length-between i j h)
 
   pub memo-between-none : (i : ℕ) → memoBetween fs i i ≡ []
@@ -66,7 +66,7 @@ module _ (fs : List Function) where
   memo-between-none i = let e : i - i ≡ 0 = omega arith in rw e
 
   -- runs that meet
-  pub memo-between-add : (i j k : ℕ) → i ≤ j → j ≤ k → j ≤ length fs → memoBetween fs i k ≡ memoBetween fs i j ++ memoBetween fs j k
+  memo-between-add : (i j k : ℕ) → i ≤ j → j ≤ k → j ≤ length fs → memoBetween fs i k ≡ memoBetween fs i j ++ memoBetween fs j k
   memo-between-add i j k h l m =
       let n : k - i ≡ (j - i) + (k - j) = omega arith in
       let s : i + (j - i) ≡ j = omega arith in
@@ -78,7 +78,7 @@ module _ (fs : List Function) where
       (drop-drop (j - i) i fs ∙ ap (λ (x : ℕ). drop x fs) s)
 
   -- a record, then those after it
-  pub memo-between-cons : (i k : ℕ) (f : Function) → IsAt fs i f → i < k → memoBetween fs i k ≡ memoOf fs i f ++ memoBetween fs (suc i) k
+  memo-between-cons : (i k : ℕ) (f : Function) → IsAt fs i f → i < k → memoBetween fs i k ≡ memoOf fs i f ++ memoBetween fs (suc i) k
   unfolding memoFrom
   memo-between-cons i k f e h =
       let n : k - i ≡ suc (k - suc i) = omega arith in
@@ -126,7 +126,7 @@ module _ (fs : List Function) (o : List ℕ) where
   memo-between-all = let e : length fs - 0 ≡ length fs = omega arith in ap (memoFrom fs 0) (ap (λ (n : ℕ). take n fs) e ∙ take-length fs)
 
   module _ (room : 7 * length fs ≤ length o) (i : ℕ) (f : Function) (e : IsAt fs i f) (h : i < length fs) where
-    pub memo-at : (k : ℕ) → k < 7 → getD (sets o 0 (memoFrom fs 0 fs)) (7 * i + k) 0 ≡ getD (memoOf fs i f) k 0
+    memo-at : (k : ℕ) → k < 7 → getD (sets o 0 (memoFrom fs 0 fs)) (7 * i + k) 0 ≡ getD (memoOf fs i f) k 0
     memo-at k l =
         let n : ℕ = length fs in
         let z : 0 + (7 * i + k) ≡ 7 * i + k = omega arith in

@@ -42,11 +42,11 @@ six-of-parts : (ps : List (List ℕ)) → SixEach (map functionOfPart ps)
 six-of-parts [] = tt
 six-of-parts (p ∷ ps) = (length-readbacks p, six-of-parts ps)
 
-pub six-of-board : (b : List ℕ) → SixEach (functionsOf b)
+six-of-board : (b : List ℕ) → SixEach (functionsOf b)
 unfolding functionsOf
 six-of-board b = six-of-parts (drop 1 (partsOf (drop 1 b) .parts))
 
-pub length-readbacksOf : (fs : List Function) → SixEach fs → length (readbacksOf fs) ≡ 6 * length fs
+length-readbacksOf : (fs : List Function) → SixEach fs → length (readbacksOf fs) ≡ 6 * length fs
 unfolding flatMap
 length-readbacksOf [] s = refl
 length-readbacksOf (f ∷ fs) s =
@@ -56,7 +56,7 @@ length-readbacksOf (f ∷ fs) s =
 -- ---- the lists that the arrays start with
 
 -- a head is read back
-pub header-of-head : (f : Function) → headerIn (headOf f) ≡ f .header % 256
+header-of-head : (f : Function) → headerIn (headOf f) ≡ f .header % 256
 header-of-head f = omega arith
 
 pub spares-of-head : (f : Function) → sparesIn (headOf f) ≡ f .spares
@@ -84,7 +84,7 @@ function-of-head f =
       spareBuses = x j / 65536;
     }
 
-pub functions-of-lists : (fs : List Function) → SixEach fs → functionsIn (parentsOf fs) (headsOf fs) (readbacksOf fs) ≡ toPlacing fs
+functions-of-lists : (fs : List Function) → SixEach fs → functionsIn (parentsOf fs) (headsOf fs) (readbacksOf fs) ≡ toPlacing fs
 unfolding functionsIn flatMap
 functions-of-lists [] s = refl
 functions-of-lists (f ∷ fs) s =
@@ -108,7 +108,7 @@ readable-of (f ∷ fs) s e (suc i) h =
     (drop-append-add (f .readbacks) (readbacksOf fs) (6 * i))
     ∙ readable-of fs (s .1) (false-of-or (readbacksWrong f) (any readbacksWrong fs) e .1) i (omega arith)
 
-pub board-of-lists : (b : List ℕ) → boardNumber b ≡ 0
+board-of-lists : (b : List ℕ) → boardNumber b ≡ 0
     → Board (parentsOf (functionsOf b)) (headsOf (functionsOf b)) (readbacksOf (functionsOf b))
 board-of-lists b e =
     let fs = functionsOf b in
@@ -149,10 +149,10 @@ module _ {ps hs ss ps' hs' ss' : List ℕ} {n : ℕ} (b : List ℕ) (e : boardNu
   pub length-take-parents : length (take n ps') ≡ n
   length-take-parents = length-take-le n ps' (room-filled .parents)
 
-  pub length-take-heads : length (take n hs') ≡ n
+  length-take-heads : length (take n hs') ≡ n
   length-take-heads = length-take-le n hs' (room-filled .heads)
 
-  pub take-parents : take n ps' ≡ parentsOf (functionsOf b)
+  take-parents : take n ps' ≡ parentsOf (functionsOf b)
   take-parents =
       take-stored ps (parentsOf (functionsOf b)) n (f .parents) (length-map (functionsOf b) (λ g. g .parent) ∙ sym (f .count))
       (omega (arith, filled-few, r .parents))
@@ -162,7 +162,7 @@ module _ {ps hs ss ps' hs' ss' : List ℕ} {n : ℕ} (b : List ℕ) (e : boardNu
       take-stored hs (headsOf (functionsOf b)) n (f .heads) (length-map (functionsOf b) headOf ∙ sym (f .count))
       (omega (arith, filled-few, r .heads))
 
-  pub take-readbacks : take (6 * n) ss' ≡ readbacksOf (functionsOf b)
+  take-readbacks : take (6 * n) ss' ≡ readbacksOf (functionsOf b)
   take-readbacks =
       take-stored ss (readbacksOf (functionsOf b)) (6 * n) (f .readbacks)
       (length-readbacksOf (functionsOf b) (six-of-board b) ∙ ap (λ (k : ℕ). 6 * k) (sym (f .count)))
@@ -177,7 +177,7 @@ module _ {ps hs ss ps' hs' ss' : List ℕ} {n : ℕ} (b : List ℕ) (e : boardNu
   board-filled = rw (take-parents, take-heads, take-readbacks) (board-of-lists b e)
 
   -- a parent is an earlier record
-  pub parents-earlier : (i : ℕ) → i < n → getD (take n ps') i 0 ≤ i
+  parents-earlier : (i : ℕ) → i < n → getD (take n ps') i 0 ≤ i
   parents-earlier i l =
       let fs = functionsIn (take n ps') (take n hs') (take (6 * n) ss') in
       let lawful = lawful-of-board board-filled in

@@ -41,16 +41,16 @@ head-is p h s e g l = omega (arith, e, g)
 -- ---- one function stored
 
 module _ {f : Function} {i : ℕ} {ps hs ss ps' hs' ss' : List ℕ} (p : Put f i ps hs ss ps' hs' ss') where
-  pub put-parents : length ps' ≡ length ps
+  put-parents : length ps' ≡ length ps
   put-parents = ap length (p .parents) ∙ length-set ps i (f .parent)
 
-  pub put-heads : length hs' ≡ length hs
+  put-heads : length hs' ≡ length hs
   put-heads = ap length (p .heads) ∙ length-set hs i (headOf f)
 
-  pub put-readbacks : length ss' ≡ length ss
+  put-readbacks : length ss' ≡ length ss
   put-readbacks = ap length (p .readbacks) ∙ length-sets ss (6 * i) (f .readbacks)
 
-  pub put-room : (n : ℕ) → Room n ps hs ss → Room n ps' hs' ss'
+  put-room : (n : ℕ) → Room n ps hs ss → Room n ps' hs' ss'
   put-room n r =
       record {
         parents = omega (arith, put-parents, r .parents);

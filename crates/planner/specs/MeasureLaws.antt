@@ -40,7 +40,7 @@ use Rattle.planner.specs.Measure.{runsOut, refusalBy, IsMeasured}
 abbrev pub OpenEndsLow : placing.Host → Pool → Type 0
 OpenEndsLow h q = h .base q ≤ h .last q → h .last q < 4503599627370496
 
-pub open-ends-low : {h : placing.Host} → HostEdges h → (q : Pool) → OpenEndsLow h q
+open-ends-low : {h : placing.Host} → HostEdges h → (q : Pool) → OpenEndsLow h q
 open-ends-low e Low o = omega (arith, e .low-ends-below-4-GiB o)
 open-ends-low e High o = e .high-ends-below-2^52 o
 open-ends-low e Io o = omega (arith, e .io-ends-below-64-KiB o)

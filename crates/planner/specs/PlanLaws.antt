@@ -47,11 +47,11 @@ sheet-after-is b room e g = g ∙ ap (λ (p : Planning). sheetAs p b room) e
 -- ---- a lawful one
 
 module _ (h : Host) (fs : List Function) (room : ℕ) where
-  pub on-board-refused : (refusalOf (toHost h) (toPlacing fs) ≡ 0 → ⊥) → onBoard h fs room ≡ Refused (refusalOf (toHost h) (toPlacing fs))
+  on-board-refused : (refusalOf (toHost h) (toPlacing fs) ≡ 0 → ⊥) → onBoard h fs room ≡ Refused (refusalOf (toHost h) (toPlacing fs))
   unfolding onBoard
   on-board-refused n = rw (ne-eqb (refusalOf (toHost h) (toPlacing fs)) 0 n)
 
-  pub on-board-short : refusalOf (toHost h) (toPlacing fs) ≡ 0 → room < sheetLength (length fs) → onBoard h fs room ≡ Refused 11
+  on-board-short : refusalOf (toHost h) (toPlacing fs) ≡ 0 → room < sheetLength (length fs) → onBoard h fs room ≡ Refused 11
   unfolding onBoard onRoom
   on-board-short e l = rw (eq-eqb (refusalOf (toHost h) (toPlacing fs)) 0 e, lt-ltb room (sheetLength (length fs)) l)
 
@@ -61,7 +61,7 @@ module _ (h : Host) (fs : List Function) (room : ℕ) where
   on-board-planned e l = rw (eq-eqb (refusalOf (toHost h) (toPlacing fs)) 0 e, le-ltb room (sheetLength (length fs)) l)
 
 -- the sheet's bytes, and past them what was there
-pub sheet-stored : {s : List ℕ} {n : ℕ} (b room : List ℕ) → n ≡ sheetLength (length (functionsOf b)) → n ≤ length room
+sheet-stored : {s : List ℕ} {n : ℕ} (b room : List ℕ) → n ≡ sheetLength (length (functionsOf b)) → n ≤ length room
     → s ≡ sets room 0 (sheetBytes (planOf (hostOf b) (functionsOf b))) → s ≡ sheetAs (Planned n) b room
 sheet-stored {n = n} b room e l g =
     let bytes = sheetBytes (planOf (hostOf b) (functionsOf b)) in

@@ -80,7 +80,7 @@ stage-byte n b s =
     ap (λ (g : Stage). stageOf g (b ∷ s)) (inside-suc n) ∙ ap (λ (k : ℕ). stageOf (insideOf k) s) e
 
 -- the first bytes of a record
-pub stage-inside : (left : ℕ) (s : List ℕ) → length s ≤ left → stageOf (insideOf left) s ≡ insideOf (left - length s)
+stage-inside : (left : ℕ) (s : List ℕ) → length s ≤ left → stageOf (insideOf left) s ≡ insideOf (left - length s)
 unfolding stageOf
 stage-inside left [] h = let e : left ≡ left - 0 = omega arith in ap insideOf e
 stage-inside zero (b ∷ s) h = absurd (omega arith)
@@ -108,7 +108,7 @@ module _ {A : Type 0} (hear : A → Event → A) where
   unfolding heardBytes
   heardBytes-suc n b a s = let e : suc n - 1 ≡ n = omega arith in ap (λ (k : ℕ). heardBytes hear k (hear a (Byte b k)) s) e
 
-  pub heard-inside : (left : ℕ) (a : A) (s : List ℕ) → length s ≤ left → heardOf hear (insideOf left) a s ≡ heardBytes hear left a s
+  heard-inside : (left : ℕ) (a : A) (s : List ℕ) → length s ≤ left → heardOf hear (insideOf left) a s ≡ heardBytes hear left a s
   unfolding heardOf heardBytes
   heard-inside left a [] h = refl
   heard-inside zero a (b ∷ s) h = absurd (omega arith)

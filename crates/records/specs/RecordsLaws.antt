@@ -43,7 +43,7 @@ module _ (P : List ℕ → Type 0) (stray : (a : ℕ) → P (a ∷ []))
       go true h e = short a b s (ltb-true (length s) (a * 256 + b) h)
       go false h e = let z : _≡_ {A = ℕ} 0 1 = cc in absurd (omega arith)
 
-pub nil-of-end : (s : List ℕ) → nextOf s ≡ End → s ≡ []
+nil-of-end : (s : List ℕ) → nextOf s ≡ End → s ≡ []
 unfolding nextOf
 nil-of-end [] e = refl
 nil-of-end (a ∷ []) e = let z : _≡_ {A = ℕ} 0 1 = cc in absurd (omega arith)
@@ -57,12 +57,12 @@ pub empty-of-end : (s : List ℕ) → nextOf s ≡ End → length s ≡ 0
 empty-of-end s e = ap length (nil-of-end s e)
 
 -- a record that is found lies inside
-pub fits-of-record : (s : List ℕ) (n : ℕ) → nextOf s ≡ Record n → 2 + n ≤ length s
+fits-of-record : (s : List ℕ) (n : ℕ) → nextOf s ≡ Record n → 2 + n ≤ length s
 fits-of-record = record-elim (λ (s : List ℕ) (n : ℕ). 2 + n ≤ length s) (λ a b s h. omega arith)
 
 -- ---- the bound does not matter
 
-pub partsOver-agree : (m n : ℕ) (s : List ℕ) → length s < m → length s < n → partsOver m s ≡ partsOver n s
+partsOver-agree : (m n : ℕ) (s : List ℕ) → length s < m → length s < n → partsOver m s ≡ partsOver n s
 unfolding partsOver
 partsOver-agree zero n s g h = absurd (omega arith)
 partsOver-agree (suc m) zero s g h = absurd (omega arith)

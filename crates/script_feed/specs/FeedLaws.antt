@@ -160,7 +160,7 @@ module _ {s : List ℕ} {f : Input} {front kept : List ℕ} (fed : Fed s f front
           ap (λ (x : Scripting). answerAs x (boardIn s) front) (else-written (boardIn s) longestScript n e fits)
           ∙ by-front (boardIn s) (not-short n e)
 
-  pub any-answer : Bytes s → answerOf f front kept ≡ programOf s
+  any-answer : Bytes s → answerOf f front kept ≡ programOf s
   unfolding answerOf scriptingOf
   any-answer bytes = go (isLong (f .board)) refl
     where

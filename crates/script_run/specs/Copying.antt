@@ -69,7 +69,7 @@ pub record NamedAt (at enables x : ℕ) : Type 0 where
   pub is-named : named enables byte ≡ true
   pub place-is : x ≡ at + byte
 
-pub places-elim : (at enables x : ℕ) → x ∈ placesAt at enables → NamedAt at enables x
+places-elim : (at enables x : ℕ) → x ∈ placesAt at enables → NamedAt at enables x
 places-elim at enables x m = first (List·Memᴰ·append-cases (oneIf (named enables 0) (at + 0)) m)
   where
     found : (i : ℕ) → i < 4 → x ∈ oneIf (named enables i) (at + i) → NamedAt at enables x
@@ -94,7 +94,7 @@ places-elim at enables x m = first (List·Memᴰ·append-cases (oneIf (named ena
     first (inl n) = found 0 (omega arith) n
     first (inr n) = second (List·Memᴰ·append-cases (oneIf (named enables 1) (at + 1)) n)
 
-pub places-intro : (at enables i : ℕ) → i < 4 → named enables i ≡ true → at + i ∈ placesAt at enables
+places-intro : (at enables i : ℕ) → i < 4 → named enables i ≡ true → at + i ∈ placesAt at enables
 places-intro at enables zero h e = Memᴰ·append-left _ (one-if-intro _ (at + 0) e)
 places-intro at enables (suc zero) h e = Memᴰ·append-right (oneIf (named enables 0) (at + 0))
     (Memᴰ·append-left _ (one-if-intro _ (at + 1) e))

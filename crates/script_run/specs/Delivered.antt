@@ -90,7 +90,7 @@ module _ (s : List ℕ) (framed : Framed 1 s) where
       let n : k + suc d ≡ k + 1 + d = omega arith in
       rw (n, entries-index s framed k (omega arith)) (List·Memᴰ·tail (node-from d (k + 1) (omega arith)))
 
-  pub node-member : (k : ℕ) → k < length (entriesOf s) → nodeAt k ∈ nodesOf s
+  node-member : (k : ℕ) → k < length (entriesOf s) → nodeAt k ∈ nodesOf s
   node-member k h = let z : 0 + k ≡ k = omega arith in rw z at (node-from k 0 (omega arith))
 
   elim-from : (m k : ℕ) → k + m ≡ length (entriesOf s) → (x : Node) → x ∈ nodesFrom (k + 1) (entriesFrom s (recordAt k))
@@ -107,7 +107,7 @@ module _ (s : List ℕ) (framed : Framed 1 s) where
       go (inl same) later = (k, omega arith, same)
       go (inr there) later = later there
 
-  pub node-elim : (x : Node) → x ∈ nodesOf s → (j : ℕ) × (j < length (entriesOf s)) × (x ≡ nodeAt j)
+  node-elim : (x : Node) → x ∈ nodesOf s → (j : ℕ) × (j < length (entriesOf s)) × (x ≡ nodeAt j)
   node-elim x m = elim-from (length (entriesOf s)) 0 (omega arith) x m
 
 -- a way up goes across bridges of the sheet
@@ -141,7 +141,7 @@ module _ {host : Host} {final : List ℕ} (sc : Scriptable host final) (boot : B
   all : All (WriteIn final) (done ++ (w ∷ rest))
   all = subst (All (WriteIn final)) at (writes-in final (sc .framed))
 
-  pub all-done : All (WriteIn final) done
+  all-done : All (WriteIn final) done
   all-done = all-left _ done (w ∷ rest) all
 
   pub here : WriteIn final w
@@ -334,7 +334,7 @@ module _ {host : Host} {final : List ℕ} (sc : Scriptable host final) (boot : B
       ∙ sym (state-append final done (w ∷ []))
 
   -- one record of the script does what its write says
-  pub write-performed : (tag : ℕ) → tag < 256 → performed (writePart boot tag w) state ≡ stateOf final (done ++ (w ∷ []))
+  write-performed : (tag : ℕ) → tag < 256 → performed (writePart boot tag w) state ≡ stateOf final (done ++ (w ∷ []))
   unfolding performed
   write-performed tag small =
       let p = packetOf boot tag w in

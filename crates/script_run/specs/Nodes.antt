@@ -30,7 +30,7 @@ use Rattle.script_run.specs.StateLaws.{stateOf, hit, length-state, state
 
 -- ## A frame by its length bytes
 
-pub framed-by-index : (s : List ℕ) (n : ℕ) → length s ≡ sheetLength n → ((k : ℕ) → k < n → be 2 s (recordAt k) ≡ recordSize)
+framed-by-index : (s : List ℕ) (n : ℕ) → length s ≡ sheetLength n → ((k : ℕ) → k < n → be 2 s (recordAt k) ≡ recordSize)
     → (m k : ℕ) → k + m ≡ n → isFramed (drop (recordAt k) s) ≡ true
 framed-by-index s n l sized zero k e = framed-end s (recordAt k) (next-end s (recordAt k) (omega arith))
 framed-by-index s n l sized (suc m) k e =
@@ -115,7 +115,7 @@ module _ (final : List ℕ) (framed : Framed 1 final) (done : List Write) (all :
       byte (suc zero) l = kept-byte k 1 (omega arith) refl
       byte (suc (suc i)) l = absurd (omega arith)
 
-  pub header-kept : (k : ℕ) → headerOf (partAt state k) ≡ headerOf (partAt final k)
+  header-kept : (k : ℕ) → headerOf (partAt state k) ≡ headerOf (partAt final k)
   header-kept k = kept-byte k headerTypeAt (omega arith) refl
 
   bus-register : IsRegister 0x18

@@ -37,7 +37,7 @@ module _ {A : Type 0} where
       go (inr (more, q)) = inr (more, ap₂ _∷_ (sym head) q)
 
   -- what comes before an element in a list that rises stands before it
-  pub before-of-less : (n : A → ℕ) (done : List A) (w : A) (tail : List A) → Pairwise (λ x y. n x < n y) (done ++ (w ∷ tail))
+  before-of-less : (n : A → ℕ) (done : List A) (w : A) (tail : List A) → Pairwise (λ x y. n x < n y) (done ++ (w ∷ tail))
       → (v : A) → v ∈ done ++ (w ∷ tail) → n v < n w → v ∈ done
   before-of-less n done w tail rising v m less = go (List·Memᴰ·append-cases done m)
     where
@@ -66,7 +66,7 @@ buses-from k (p ∷ ps) =
     go true = (omega arith, tt)
     go false = tt
 
-pub buses-rise : (k : ℕ) (ps : List (List ℕ)) → Pairwise (λ v w. v .number < w .number) (passWrites Buses k ps)
+buses-rise : (k : ℕ) (ps : List (List ℕ)) → Pairwise (λ v w. v .number < w .number) (passWrites Buses k ps)
 unfolding passWrites
 buses-rise k [] = tt
 buses-rise k (p ∷ ps) = go (isBridge (headerOf p)) (buses-rise (suc k) ps)

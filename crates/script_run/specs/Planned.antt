@@ -52,7 +52,7 @@ above-less {fs} lawful (suc n) (suc k) = go (parentOf fs (suc k)) (parent-before
     go zero l on = tt
     go (suc p) l on = (omega arith, all-imp _ _ (aboveWithin n fs (suc p)) (on (suc p)) (λ j h. omega arith))
 
-pub parents-less : {fs : List Function} → Lawful fs → (k : ℕ) → All (λ j. j < k) (aboveByParents fs k)
+parents-less : {fs : List Function} → Lawful fs → (k : ℕ) → All (λ j. j < k) (aboveByParents fs k)
 unfolding aboveByParents
 parents-less lawful k = above-less lawful k k
 

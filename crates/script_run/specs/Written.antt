@@ -77,7 +77,7 @@ module _ (final : List ℕ) (k : ℕ) (p : List ℕ) (part-is : p ≡ partAt fin
       go true = (one-write (0x10 + 4 * j) fourBytes register (bar-enables (isBridge (headerOf p)) j below), tt)
       go false = tt
 
-  pub record-in : (pass : Pass) → All (WriteIn final) (writesIn pass (suc k) p)
+  record-in : (pass : Pass) → All (WriteIn final) (writesIn pass (suc k) p)
   record-in Buses = go (isBridge (headerOf p)) refl
     where
       go : (b : Bool) → isBridge (headerOf p) ≡ b → All (WriteIn final) (cond b (writeOf (suc k) p 0x18 threeBytes ∷ []) [])
@@ -112,7 +112,7 @@ rest-from {final} {k} f =
       inside = omega (arith, f .inside);
     }
 
-pub pass-in : (final : List ℕ) (pass : Pass) (k : ℕ) (ps : List (List ℕ)) → PartsFrom final k ps
+pass-in : (final : List ℕ) (pass : Pass) (k : ℕ) (ps : List (List ℕ)) → PartsFrom final k ps
     → All (WriteIn final) (passWrites pass (suc k) ps)
 unfolding passWrites
 pass-in final pass k [] f = tt
@@ -121,7 +121,7 @@ pass-in final pass k (p ∷ ps) f =
     (record-in final k p (f .part-is 0 (omega arith) ∙ ap (partAt final) (add-zero k)) (omega (arith, f .inside)) pass)
     (pass-in final pass (suc k) ps (rest-from f))
 
-pub parts-from : (final : List ℕ) → Framed 1 final → PartsFrom final 0 (partsIn final)
+parts-from : (final : List ℕ) → Framed 1 final → PartsFrom final 0 (partsIn final)
 parts-from final f =
     record {
       part-is = λ j h. let n : 0 + j ≡ j = omega arith in part-index final j f h ∙ ap (partAt final) (sym n);

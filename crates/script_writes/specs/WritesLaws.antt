@@ -13,7 +13,7 @@ use Rattle.script_writes.specs.Writes.{writeOf, threeBytes, fourBytes, i
 use Rattle.script_writes.specs.Writes.{writesIn, passWrites}
 
 module _ (k : ℕ) (p : List ℕ) where
-  pub bars-split : (m n j : ℕ) → barWrites k p (m + n) j ≡ barWrites k p m j ++ barWrites k p n (j + m)
+  bars-split : (m n j : ℕ) → barWrites k p (m + n) j ≡ barWrites k p m j ++ barWrites k p n (j + m)
   unfolding barWrites
   bars-split zero n j =
       let z : 0 + n ≡ n = omega arith in

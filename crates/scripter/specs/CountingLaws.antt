@@ -66,11 +66,11 @@ own-le f = go (isBridge f)
     go true = omega arith
     go false = omega arith
 
-pub write-count-le : (f : Function) → writeCount f ≤ 13
+write-count-le : (f : Function) → writeCount f ≤ 13
 unfolding writeCount
 write-count-le f = omega (arith, used-le (slotCount f) (f .readbacks) 0, own-le f)
 
-pub count-le : (fs : List Function) → countIn fs ≤ 13 * length fs
+count-le : (fs : List Function) → countIn fs ≤ 13 * length fs
 unfolding countIn
 count-le [] = omega arith
 count-le (f ∷ fs) = omega (arith, write-count-le f, count-le fs)

@@ -70,7 +70,7 @@ pub record Passed (pass : Pass) (b : List ℕ) (boot : Boot) (c₀ : List ℕ) (
   pub standing : Standing b c₀ (versioned b) c sheet at i
   pub wrote : Wrote boot room₀ from (writesUpTo pass b i) room next
 
-pub pass-of : (pass : Pass) (b : List ℕ) → passOf pass b ≡ passWrites pass 1 (map partBytes (planOn b))
+pass-of : (pass : Pass) (b : List ℕ) → passOf pass b ≡ passWrites pass 1 (map partBytes (planOn b))
 pass-of pass b = ap (passWrites pass 1) (partsIn-sheetBytes (planOn b))
 
 up-to-le : (pass : Pass) (b : List ℕ) (i : ℕ) → length (writesUpTo pass b i) ≤ length (passOf pass b)

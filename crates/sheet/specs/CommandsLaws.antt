@@ -68,7 +68,7 @@ module _ (p q : List ℕ) (h : (i : ℕ) → (i / 2 ≡ commandAt / 2 → ⊥) �
       )
   window-same Io = cc (byte-past ioBaseAt (omega arith), byte-past ioLimitAt (omega arith))
 
-  pub entry-same : entryOf p ≡ entryOf q
+  entry-same : entryOf p ≡ entryOf q
   unfolding entryOf
   entry-same =
       cc (
@@ -178,7 +178,7 @@ module _ {s t : List ℕ} (same : SameButCommands s t) where
   framed-keeps : Framed 1 s → Framed 1 t
   framed-keeps f = record { inside = omega (arith, same .same-length, f .inside); sized = framed-same (f .inside) ∙ f .sized }
 
-  pub entries-same : Framed 1 s → entriesOf t ≡ entriesOf s
+  entries-same : Framed 1 s → entriesOf t ≡ entriesOf s
   entries-same f = entries-from 0 1 (entriesOf s) (omega arith) f (framed-keeps f) refl
 
   pub registers-same : Framed 1 s → (space : Space) → registersOf space t ≡ registersOf space s
@@ -207,7 +207,7 @@ module _ {s t : List ℕ} (same : SameButCommands s t) where
 
 -- ## One word rewritten
 
-pub same-of-command : (s : List ℕ) (id command : ℕ) → SameButCommands s (withCommand (lookupOf s id) s command)
+same-of-command : (s : List ℕ) (id command : ℕ) → SameButCommands s (withCommand (lookupOf s id) s command)
 same-of-command s id command = go (lookupOf s id) refl
   where
     stored : (a : ℕ) → LookedUp s id a → (i : ℕ) → (InCommand i → ⊥) → getD (sets s (commandFrom a) (leBytes 2 command)) i 0 ≡ getD s i 0

@@ -114,7 +114,7 @@ rises-of-right k e w small b =
       last-is-byte = small;
     }
 
-pub rise-of-right : (k : ℕ) (es : List Entry) → anyBreaks Buses es ≡ false → All BusBytes es → BridgesRise (nodesFrom k es)
+rise-of-right : (k : ℕ) (es : List Entry) → anyBreaks Buses es ≡ false → All BusBytes es → BridgesRise (nodesFrom k es)
 unfolding anyBreaks breaks nodesFrom
 rise-of-right k [] w small = tt
 rise-of-right k (e ∷ es) w small =
@@ -131,7 +131,7 @@ absent k j e (x ∷ es) h =
     let both = false-of-or (eqb (x .id) (e .id)) (hasId (e .id) es) h in
     (λ p q. eqb-false (x .id) (e .id) (both .0) (omega arith), absent k (j + 1) e es (both .1))
 
-pub distinct-of-once : (k : ℕ) (es : List Entry) → idTwice es ≡ false → DistinctIds (nodesFrom k es)
+distinct-of-once : (k : ℕ) (es : List Entry) → idTwice es ≡ false → DistinctIds (nodesFrom k es)
 unfolding idTwice nodesFrom
 distinct-of-once k [] h = tt
 distinct-of-once k (e ∷ es) h =

@@ -27,7 +27,7 @@ dwordBytes-take write zero m vs i h = refl
 dwordBytes-take write (suc n) m vs i h =
     ap₂ (λ (x : ℕ) (rest : List ℕ). write x ++ rest) (getD-take m vs i 0 (omega arith)) (dwordBytes-take write n m vs (i + 1) (omega arith))
 
-pub length-dwordBytes : (k : ℕ) (write : ℕ → List ℕ) → ((x : ℕ) → length (write x) ≡ k)
+length-dwordBytes : (k : ℕ) (write : ℕ → List ℕ) → ((x : ℕ) → length (write x) ≡ k)
     → (n : ℕ) (vs : List ℕ) (i : ℕ) → length (dwordBytes write n vs i) ≡ n * k
 unfolding dwordBytes
 length-dwordBytes k write l zero vs i = sym (zero-mul k)
@@ -113,7 +113,7 @@ module _ (p : Planned) where
   pub length-marks-body : length (marks ++ common ++ body) ≡ 68
   length-marks-body = simp (length-append, length-beBytes, length-common, length-body)
 
-  pub length-readbacks : length readbacks ≡ 24
+  length-readbacks : length readbacks ≡ 24
   length-readbacks = length-dwordBytes 4 (beBytes 4) (length-beBytes 4) 6 (p .entry .readbacks) 0
 
   pub length-recordBytes : length (recordBytes p) ≡ stride
@@ -133,7 +133,7 @@ length-sheetBytes (p ∷ ps) =
 -- ## A sheet written record by record
 
 -- the next record stands after those before it
-pub sheetBytes-snoc : (ps : List Planned) (p : Planned) → sheetBytes (ps ++ p ∷ []) ≡ sheetBytes ps ++ recordBytes p
+sheetBytes-snoc : (ps : List Planned) (p : Planned) → sheetBytes (ps ++ p ∷ []) ≡ sheetBytes ps ++ recordBytes p
 unfolding sheetBytes flatMap
 sheetBytes-snoc [] p = ap (_∷_ 1) (append-nil (recordBytes p))
 sheetBytes-snoc (q ∷ ps) p =

@@ -38,7 +38,7 @@ module _ {read : ℕ → List ℕ → ℕ → ℕ} {write : ℕ → ℕ → List
       let split : before ++ (write 4 x ++ rest) ++ after ≡ before ++ write 4 x ++ (rest ++ after) = simp append-assoc in
       ap₂ (read 4) split (sym l) ∙ read-write-at o 4 x before (rest ++ after) h
 
-  pub dwords-dwordBytes : (n i at : ℕ) (before after vs : List ℕ) → length before ≡ at → length vs ≡ i + n → Dwords vs
+  dwords-dwordBytes : (n i at : ℕ) (before after vs : List ℕ) → length before ≡ at → length vs ≡ i + n → Dwords vs
       → dwords (read 4) n (before ++ dwordBytes (write 4) n vs i ++ after) at ≡ drop i vs
   unfolding dwords dwordBytes
   dwords-dwordBytes zero i at before after vs l c d = sym (drop-of-length-le vs {i = i} (omega arith))
@@ -80,11 +80,11 @@ module _ (p : Planned) where
   unfolding partBytes configBytes commonBytes beBytes leBytes
   headerOf-partBytes = refl
 
-  pub idOf-partBytes : e .id < 2 ^ 16 → idOf (partBytes p) ≡ e .id
+  idOf-partBytes : e .id < 2 ^ 16 → idOf (partBytes p) ≡ e .id
   unfolding partBytes be beBytes
   idOf-partBytes h = be-beBytes 2 (e .id) ∙ mod-eq-of-lt h
 
-  pub commandOf-partBytes : p .command < 2 ^ 16 → commandOf (partBytes p) ≡ p .command
+  commandOf-partBytes : p .command < 2 ^ 16 → commandOf (partBytes p) ≡ p .command
   unfolding partBytes configBytes commonBytes le beBytes leBytes
   commandOf-partBytes h = le-leBytes 2 (p .command) ∙ mod-eq-of-lt h
 
@@ -225,7 +225,7 @@ drop-recordBytes : (p : Planned) (rest : List ℕ) → drop (2 + recordSize) (re
 drop-recordBytes p rest = drop-at (recordBytes p) rest stride (length-recordBytes p)
 
 -- the parts of a sheet are those of its functions in order, and their lengths end at the end
-pub partsOf-records : (ps : List Planned) → partsOf (flatMap recordBytes ps) ≡ record { parts = map partBytes ps; whole = true }
+partsOf-records : (ps : List Planned) → partsOf (flatMap recordBytes ps) ≡ record { parts = map partBytes ps; whole = true }
 unfolding flatMap nextOf
 partsOf-records [] = partsOf-step [] End refl
 partsOf-records (p ∷ ps) =
@@ -233,7 +233,7 @@ partsOf-records (p ∷ ps) =
     partsOf-step (recordBytes p ++ rest) (Record recordSize) (nextOf-recordBytes p rest)
     ∙ rw (take-recordBytes p rest, drop-recordBytes p rest, partsOf-records ps)
 
-pub partsOf-sheetBytes : (ps : List Planned) → partsOf (drop 1 (sheetBytes ps)) ≡ record { parts = map partBytes ps; whole = true }
+partsOf-sheetBytes : (ps : List Planned) → partsOf (drop 1 (sheetBytes ps)) ≡ record { parts = map partBytes ps; whole = true }
 unfolding sheetBytes
 partsOf-sheetBytes ps = partsOf-records ps
 

@@ -87,7 +87,7 @@ window-hits q w address c =
 
 -- ## The test of one BAR, in the words of the code
 
-pub held-by-size : (base size address : ℕ) → base ≤ address → ltb (address - base) size ≡ ltb address (base + size)
+held-by-size : (base size address : ℕ) → base ≤ address → ltb (address - base) size ≡ ltb address (base + size)
 held-by-size base size address h = go (ltb (address - base) size) refl
   where
     go : (b : Bool) → ltb (address - base) size ≡ b → b ≡ ltb address (base + size)

@@ -14,7 +14,7 @@ use Rattle.endian.specs.SetsLaws.{sets-sets, sets-comm}
 use Rattle.text.specs.Text.{Put, ascii, digit, hexadecimal, decimalOver, decimal, refusalText}
 
 -- stores past the end change nothing
-pub sets-out : (o : List ℕ) (i : ℕ) (vs : List ℕ) → length o ≤ i → sets o i vs ≡ o
+sets-out : (o : List ℕ) (i : ℕ) (vs : List ℕ) → length o ≤ i → sets o i vs ≡ o
 sets-out o i [] h = refl
 sets-out o i (v ∷ vs) h = rw (set-out o i v h) (sets-out o (suc i) vs (omega arith))
 

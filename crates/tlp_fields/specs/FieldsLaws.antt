@@ -150,7 +150,7 @@ lengthOf-lengthCode n low high = go (eqb (n % 1024) 0) refl
     go true e = omega (arith, eqb-true (n % 1024) 0 e)
     go false e = let d = eqb-false (n % 1024) 0 e in omega arith
 
-pub completionLength-lengthCode : (k : Completing) (h : Head) (o : Outcome) → lengthFits (Completion k h o) ≡ true
+completionLength-lengthCode : (k : Completing) (h : Head) (o : Outcome) → lengthFits (Completion k h o) ≡ true
     → completionLength k (lengthCode (h .length)) ≡ h .length
 unfolding lengthFits
 completionLength-lengthCode Cpl h o f = let z = eqb-true (h .length) 0 f in omega arith
@@ -158,7 +158,7 @@ completionLength-lengthCode CplD h o f = let n = length-in-elim (h .length) f in
 completionLength-lengthCode CplLk h o f = let z = eqb-true (h .length) 0 f in omega arith
 completionLength-lengthCode CplDLk h o f = let n = length-in-elim (h .length) f in lengthOf-lengthCode (h .length) (n .0) (n .1)
 
-pub messageLength-lengthCode : (k : Messaging) (h : Head) (routing : MessageRouting) (code tail : ℕ)
+messageLength-lengthCode : (k : Messaging) (h : Head) (routing : MessageRouting) (code tail : ℕ)
     → lengthFits (Message k h routing code tail) ≡ true → messageLength k (lengthCode (h .length)) ≡ h .length
 unfolding lengthFits
 messageLength-lengthCode Msg h routing code tail f = let z = eqb-true (h .length) 0 f in omega arith

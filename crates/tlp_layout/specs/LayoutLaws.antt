@@ -37,7 +37,7 @@ pub length-request : (h : Head) (e : Enables) → length (requestBytes h e) ≡ 
 unfolding requestBytes beBytes
 length-request h e = refl
 
-pub length-target : (t : Target) → length (targetBytes t) ≡ 4
+length-target : (t : Target) → length (targetBytes t) ≡ 4
 unfolding targetBytes beBytes
 length-target t = refl
 
@@ -45,7 +45,7 @@ pub length-outcome : (o : Outcome) → length (outcomeBytes o) ≡ 4
 unfolding outcomeBytes beBytes
 length-outcome o = refl
 
-pub length-completion : (h : Head) (o : Outcome) → length (completionBytes h o) ≡ 8
+length-completion : (h : Head) (o : Outcome) → length (completionBytes h o) ≡ 8
 unfolding completionBytes outcomeBytes beBytes
 length-completion h o = refl
 
@@ -54,7 +54,7 @@ unfolding messageBytes beBytes
 length-message h code = refl
 
 -- an address takes what the front and the request leave of the form's dwords
-pub length-address : (h : Head) (a : ℕ) → (h .form ≡ 3) ⊎ (h .form ≡ 4) → 8 + length (addressBytes h a) ≡ 4 * h .form
+length-address : (h : Head) (a : ℕ) → (h .form ≡ 3) ⊎ (h .form ≡ 4) → 8 + length (addressBytes h a) ≡ 4 * h .form
 unfolding addressBytes beBytes
 length-address h a = ⊎-elim (λ e. rw e) (λ e. rw e)
 

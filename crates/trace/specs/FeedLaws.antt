@@ -55,7 +55,7 @@ longestLine = 40
 abbrev pub Sound : ℕ → Type 0
 Sound number = number < 18446744073709551616
 
-pub number-sound : (n : ℕ) → Sound (numberAfter n)
+number-sound : (n : ℕ) → Sound (numberAfter n)
 unfolding numberAfter
 number-sound n = omega arith
 

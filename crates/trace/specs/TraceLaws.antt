@@ -76,7 +76,7 @@ module _ (line : ℕ → List ℕ → List ℕ) where
       ap (λ (l : List ℕ). toldFrom g a l s .lines) (sym (append-nil x))
       ∙ sym (ap (λ (t : Told). t .lines) (heard-map hear hear (onto x) (onto-told x) g (record { account = a; lines = [] }) s))
 
-  pub lines-append : (t : Trace) (s r : List ℕ) → linesOf line t (s ++ r) ≡ linesOf line t s ++ linesOf line (stateOf t s) r
+  lines-append : (t : Trace) (s r : List ℕ) → linesOf line t (s ++ r) ≡ linesOf line t s ++ linesOf line (stateOf t s) r
   unfolding linesOf stateOf
   lines-append t s r =
       let first = toldFrom (t .stage) (accountOf t) [] s in
@@ -190,7 +190,7 @@ module _ (line : ℕ → List ℕ → List ℕ) where
       ∙ parts-lined t (partsOf s .parts) l
 
   -- a whole trace and its end, from a fresh state
-  pub told-fresh : (s : List ℕ) → linesOf line fresh s ++ endLine (stateOf fresh s) ≡ annotated line s
+  told-fresh : (s : List ℕ) → linesOf line fresh s ++ endLine (stateOf fresh s) ≡ annotated line s
   unfolding linesOf stateOf annotated stageOf heardOf versionOf endOf
   told-fresh [] = refl
   told-fresh (v ∷ s) = ap (λ (e : Ending). linesOf line fresh (v ∷ s) ++ endText e) (ending-agree (v ∷ s)) ∙ go (eqb v 1)
@@ -231,7 +231,7 @@ module _ (line : ℕ → List ℕ → List ℕ) where
   linesAll t [] = []
   linesAll t (piece ∷ pieces) = linesOf line t piece ++ linesAll (stateOf t piece) pieces
 
-  pub lines-all : (t : Trace) (pieces : List (List ℕ)) → linesAll t pieces ≡ linesOf line t (flatten pieces)
+  lines-all : (t : Trace) (pieces : List (List ℕ)) → linesAll t pieces ≡ linesOf line t (flatten pieces)
   unfolding linesAll flatten linesOf heardOf
   lines-all t [] = refl
   lines-all t (piece ∷ pieces) =

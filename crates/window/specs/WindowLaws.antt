@@ -17,23 +17,23 @@ use Rattle.window.specs.Window.{isNibbled, Fits}
 
 -- ## Registers of one address
 
-pub register-lt : (q : Pool) (a : ℕ) → register q a < fields q * 16
+register-lt : (q : Pool) (a : ℕ) → register q a < fields q * 16
 register-lt Low a = omega arith
 register-lt High a = omega arith
 register-lt Io a = omega arith
 
-pub register-nibble : (q : Pool) (a : ℕ) → register q a % 16 ≡ nibble q
+register-nibble : (q : Pool) (a : ℕ) → register q a % 16 ≡ nibble q
 register-nibble Low a = omega arith
 register-nibble High a = omega arith
 register-nibble Io a = omega arith
 
-pub upper-lt : (q : Pool) (a : ℕ) → a < bound q → upper q a < uppers q
+upper-lt : (q : Pool) (a : ℕ) → a < bound q → upper q a < uppers q
 upper-lt Low a h = lit< tt
 upper-lt High a h = omega arith
 upper-lt Io a h = lit< tt
 
 -- the registers of an address stand for the first address of its granule
-pub address-register : (q : Pool) (a : ℕ) → a < bound q → address q (upper q a) (register q a) ≡ a / granule q * granule q
+address-register : (q : Pool) (a : ℕ) → a < bound q → address q (upper q a) (register q a) ≡ a / granule q * granule q
 address-register Low a h = omega arith
 address-register High a h = omega (arith, div-div-eq-div-mul a 1048576 4096)
 address-register Io a h = omega arith
