@@ -1,20 +1,10 @@
--- What a call that delivers packets answers, and what the search by an index does. Assumes nothing.
+-- What the search by an index answers as numbers. Assumes nothing.
 use Prim.Native.Nat.{ℕ}
-use mathlib.Core.List.{List, _∷_, _++_}
-use Rattle.packet_numbers.specs.Numbers.{numbersOf}
+use mathlib.Core.List.{List}
 use Rattle.route_list.specs.Counted.{counted}
-use Rattle.route.specs.declared.Routing.{Routing}
-use Rattle.route.specs.declared.Routing.the-variants.{Delivered, Broadcast, Port, Refused}
 use Rattle.index_search.specs.Search.{searchOf}
-use Rattle.capi_answers.specs.Answers.{Answer, refuses, gives}
-
--- Record, bridges, and the packet as it arrives. A broadcast has record 0, how many functions, and after the packet their record numbers,
--- a list for so many; the port has 0 and 0.
-abbrev pub onRouting : Routing → (ℕ → List ℕ) → Answer
-onRouting (Delivered d) list = gives (d .owner ∷ d .bridges ∷ numbersOf (d .packet))
-onRouting (Broadcast n p) list = gives (0 ∷ n ∷ (numbersOf p ++ list n))
-onRouting (Port p) list = gives (0 ∷ 0 ∷ numbersOf p)
-onRouting (Refused n) list = refuses n
+use Rattle.capi_answers.specs.Answers.{Answer}
+use Rattle.capi_routing.specs.Routing.{onRouting}
 
 -- the functions of an index are records 1 to their count
 abbrev pub findAnswer : List ℕ → List ℕ → Answer

@@ -5,12 +5,13 @@ use mathlib.Core.List.{List, _∷_}
 use Rattle.packet_numbers.specs.Numbers.{numbersOf}
 use Rattle.walk.specs.Walk.{noOwner}
 use Rattle.route_list.specs.Counted.{counted}
-use Rattle.route.specs.declared.Delivery.{Delivery}
-use Rattle.route.specs.declared.Routing.{Routing}
-use Rattle.route.specs.declared.Routing.the-variants.{Delivered, Refused}
+use Rattle.route_answer.specs.declared.Delivery.{Delivery}
+use Rattle.route_answer.specs.declared.Routing.{Routing}
+use Rattle.route_answer.specs.declared.Routing.the-variants.{Delivered, Refused}
 use Rattle.index_search.specs.Search.{searchOf}
 use Rattle.capi_answers.specs.Answers.{refuses, gives}
-use Rattle.capi_find.specs.Calls.{onRouting, findAnswer}
+use Rattle.capi_routing.specs.Routing.{onRouting}
+use Rattle.capi_find.specs.Calls.{findAnswer}
 
 module _ (header ix : List ℕ) where
   pub find-none : searchOf header ix ≡ Refused noOwner → findAnswer header ix ≡ refuses 40

@@ -20,7 +20,6 @@ use packet::Outcome;
 use packet::Packet;
 use pairs::ConfigKind;
 use pairs::Kind;
-use route::Routing;
 
 // Any bytes may be given as an index.
 pub fn find(header: &[u8], index: &[u8], answer: &mut [u64]) -> u32
@@ -51,17 +50,7 @@ fn find_any(header: &[u8], index: &[u8], answer: &mut [u64]) -> u32
     ensures { λ r. ⌜ r ≡ returned (findAnswer (now (header .entry)) (now (index .entry))) (now (answer .entry)) ⌝ }
     ensures { λ _. ⌜ now (answer .exit) ≡ filled (findAnswer (now (header .entry)) (now (index .entry))) (now (answer .entry)) ⌝ }
 {
-    match index_search::search(header, index) {
-        Routing::Delivered(d) => {
-            let p = d.packet;
-            capi_answers::give_delivery(d.owner as u64, d.bridges as u64, p, answer)
-        }
-        Routing::Broadcast(functions, p) => {
-            capi_answers::give_broadcast(functions as usize, p, answer)
-        }
-        Routing::Port(p) => capi_answers::give_delivery(0, 0, p, answer),
-        Routing::Refused(n) => n as u32,
-    }
+    capi_routing::give_routing(index_search::search(header, index), answer)
 }
 
 // ---- kind by kind, where nothing refuses the header

@@ -17,8 +17,8 @@ use Rattle.board.specs.Board.{functionsOf}
 use Rattle.plan_good.specs.ById.{HasIdAsNumbered}
 use Rattle.board.specs.ToPlacing.{devfnOf}
 use Rattle.claims.specs.declared.Aim.the-variants.{Id}
-use Rattle.route.specs.declared.Delivery.{Delivery}
-use Rattle.route.specs.declared.Routing.the-variants.{Delivered}
+use Rattle.route_answer.specs.declared.Delivery.{Delivery}
+use Rattle.route_answer.specs.declared.Routing.the-variants.{Delivered}
 use Rattle.route.specs.Route.{routeOf}
 use Rattle.demands.specs.Demand3.{host, functions, bridgesAbove, routeNumber, DeliveredTo, Crosses}
 

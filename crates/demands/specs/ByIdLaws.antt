@@ -36,9 +36,10 @@ use Rattle.claims.specs.declared.Aim.the-variants.{Id}
 use Rattle.claims.specs.Claims.{tallyFor}
 use Rattle.route_arrival.specs.declared.Heading.the-variants.{Aimed, Up, Every, Port}
 use Rattle.route_arrival.specs.Arrival.{headingOf, kindWrong, typeWrong, arrived}
-use Rattle.route.specs.declared.Delivery.{Delivery}
-use Rattle.route.specs.declared.Routing.the-variants.{Delivered, Refused}
-use Rattle.route.specs.Route.{numberOf as routingNumber, answer, walked, root, routeOf}
+use Rattle.route_answer.specs.declared.Delivery.{Delivery}
+use Rattle.route_answer.specs.declared.Routing.the-variants.{Delivered, Refused}
+use Rattle.route_answer.specs.Routing.{numberOf as routingNumber, answer}
+use Rattle.route.specs.Route.{walked, root, routeOf}
 use Rattle.route.specs.OrderLaws.{route-no-functions, route-wrong-type, goes-by-aim, goes-up, goes-to-every, goes-to-port}
 use Rattle.demands.specs.Demand3.{functions, IsRequest, bridgesAbove, routeNumber, DeliveredTo, Crosses}
 use Rattle.demands.specs.Demand3Laws.{demand-3}

@@ -38,9 +38,10 @@ use Rattle.plan_answer.specs.Plan.{numberOf as planningNumber, planning, sheetA
 use Rattle.claims.specs.declared.Aim.{Aim}
 use Rattle.claims.specs.declared.Aim.the-variants.{Address}
 use Rattle.claims.specs.Claims.{tallyFor}
-use Rattle.route.specs.declared.Delivery.{Delivery}
-use Rattle.route.specs.declared.Routing.the-variants.{Delivered}
-use Rattle.route.specs.Route.{numberOf as routingNumber, root, routeOf}
+use Rattle.route_answer.specs.declared.Delivery.{Delivery}
+use Rattle.route_answer.specs.declared.Routing.the-variants.{Delivered}
+use Rattle.route_answer.specs.Routing.{numberOf as routingNumber}
+use Rattle.route.specs.Route.{root, routeOf}
 
 -- ## A board
 

@@ -50,9 +50,10 @@ use Rattle.plan_answer.specs.Plan.{barStart, windowFor, valuesFrom, plannedFrom
 use Rattle.plan_answer.specs.Plan.{numberOf as planningNumber, sheetAfter}
 use Rattle.sheet_text.specs.Listing.{words, windowText, bridgeText, endText, lineOf, countText, planText}
 use Rattle.sheet_text.specs.BoardText.{boardText}
-use Rattle.route.specs.declared.Routing.{Routing}
-use Rattle.route.specs.declared.Routing.the-variants.{Delivered, Broadcast, Port, Refused as NotDelivered}
-use Rattle.route.specs.Route.{numberOf as routingNumber, routeOf, fromSheet, routePacket, from42}
+use Rattle.route_answer.specs.declared.Routing.{Routing}
+use Rattle.route_answer.specs.declared.Routing.the-variants.{Delivered, Broadcast, Port, Refused as NotDelivered}
+use Rattle.route_answer.specs.Routing.{numberOf as routingNumber}
+use Rattle.route.specs.Route.{routeOf, fromSheet, routePacket, from42}
 
 -- the Length that a reading reports; a refused header has none, and 0 is no Length of a memory request
 abbrev pub lengthRead : Reading → ℕ

@@ -24,9 +24,10 @@ use Rattle.sheet.specs.Sheet.{sheetNumber}
 use Rattle.claims.specs.declared.Aim.the-variants.{Address}
 use Rattle.route_arrival.specs.declared.Heading.the-variants.{Aimed}
 use Rattle.route_arrival.specs.Arrival.{headingOf}
-use Rattle.route.specs.declared.Delivery.{Delivery}
-use Rattle.route.specs.declared.Routing.the-variants.{Delivered}
-use Rattle.route.specs.Route.{numberOf as routingNumber, answer, walked, root, routeOf}
+use Rattle.route_answer.specs.declared.Delivery.{Delivery}
+use Rattle.route_answer.specs.declared.Routing.the-variants.{Delivered}
+use Rattle.route_answer.specs.Routing.{numberOf as routingNumber, answer}
+use Rattle.route.specs.Route.{walked, root, routeOf}
 use Rattle.route.specs.RequestLaws.{route-request, request-delivered-iff}
 use Rattle.demands.specs.Demand3.{IsRequest, routeNumber, DeliveredTo, Crosses, Routed}
 

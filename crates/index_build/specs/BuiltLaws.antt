@@ -17,7 +17,8 @@ use Rattle.sheet.specs.Sheet.{entriesOf}
 use Rattle.sheet.specs.SheetLaws.{checked-of-zero}
 use Rattle.claims.specs.declared.Aim.{Aim}
 use Rattle.route.specs.Route.{walked, root, routeOf}
-use Rattle.route.specs.Listed.{onRoom, listAfter}
+use Rattle.route_answer.specs.Listed.{onRoom, listedAfter}
+use Rattle.route.specs.Listed.{listAfter}
 use Rattle.audit_rule.specs.Audit.{auditNumber}
 use Rattle.audit_rule.specs.Accepted.{Accepted}
 use Rattle.audit_rule.specs.AuditLaws.{audit-iff}
@@ -36,7 +37,7 @@ use Rattle.index_slots.specs.Slots as slots
 use Rattle.index_slots.specs.Slots.{Slot, noSlot, slotAt}
 use Rattle.index_table.specs.Search.{foundAt, Last, Searchable}
 use Rattle.index_table.specs.BuiltLaws.{Lawful, built-searchable, length-built, getD-built-past}
-use Rattle.index_search.specs.Search.{functionsIn, answerOver, outcomeOver, searchOf, listedAfter}
+use Rattle.index_search.specs.Search.{functionsIn, answerOver, outcomeOver, searchOf}
 use Rattle.index_search.specs.SearchLaws.{IndexOf, search-agrees, search-listed-agrees}
 use Rattle.index_pass.specs.Pass.{slotOf}
 use Rattle.index_pass.specs.PassLaws.{passes-room}

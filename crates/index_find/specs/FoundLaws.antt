@@ -15,9 +15,9 @@ use Rattle.claims.specs.declared.Aim.{Aim}
 use Rattle.route_arrival.specs.declared.Heading.{Heading}
 use Rattle.route_arrival.specs.declared.Heading.the-variants.{Aimed}
 use Rattle.route_arrival.specs.Arrival.{headingOf, typeWrong}
-use Rattle.route.specs.declared.Routing.{Routing}
-use Rattle.route.specs.declared.Routing.the-variants.{Refused}
-use Rattle.route.specs.Route.{answer, headedOver, typedOver, routeOver, wrongType}
+use Rattle.route_answer.specs.declared.Routing.{Routing}
+use Rattle.route_answer.specs.declared.Routing.the-variants.{Refused}
+use Rattle.route_answer.specs.Routing.{answer, headedOver, typedOver, routeOver, wrongType}
 use Rattle.index_rule.specs.Owners.{keyOf, inReach}
 use Rattle.index_layout.specs.Words.{recordIn, bridgesIn}
 use Rattle.index_search.specs.Search.{functionsIn, rootIn, answerOver, outcomeBy, outcomeOver, outcomeIn, searchPacket, searchOf}

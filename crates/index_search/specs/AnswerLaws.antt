@@ -1,12 +1,10 @@
 -- What the search answers, one step each in the words of the code. Assumes nothing.
 use mathlib.Core.Path.{_≡_, refl, sym, ap, _∙_}
 use mathlib.Core.Bool.{Bool, true, false, cond, not, _&&_}
-use mathlib.Core.List.{List, _++_}
+use mathlib.Core.List.{List}
 use Prim.Native.Nat.{ℕ, _+_, _-_, _/_, _%_, _^_, _<_, _≤_}
-use native.Mathlib.Nat.{zero-add}
 use native.Mathlib.Omega.{arith}
-use lib.ListN.{length, drop}
-use lib.Seq.{sets, sets-eq}
+use lib.ListN.{length, List·getD-eq-default}
 use lib.Dec.{eqb, leb, ltb}
 use borrow.Author.Tests.{eq-eqb, ne-eqb, lt-ltb, le-ltb, ltb-true, ltb-false, lt-leb, le-leb}
 use Rattle.endian.specs.Endian.{le}
@@ -19,25 +17,18 @@ use Rattle.pools.specs.declared.Space.{Space}
 use Rattle.pools.specs.declared.Space.the-variants.{Memory, Io as Ports}
 use Rattle.claims.specs.declared.Aim.{Aim}
 use Rattle.claims.specs.declared.Aim.the-variants.{Address, Id}
-use Rattle.route_arrival.specs.declared.Heading.{Heading}
-use Rattle.route_arrival.specs.declared.Heading.the-variants.{Aimed, Up, Every, Port as ToPort}
-use Rattle.route_arrival.specs.Arrival.{headingOf, typeWrong, arrived}
-use Rattle.route_list.specs.Counted.{counted}
-use Rattle.route_list.specs.CountedLaws.{length-counted}
-use Rattle.route.specs.declared.Delivery.{Delivery}
-use Rattle.route.specs.declared.Routing.{Routing}
-use Rattle.route.specs.declared.Routing.the-variants.{Delivered, Broadcast, Port, Refused}
-use Rattle.route.specs.Route.{answer, headedOver, typedOver}
-use Rattle.route.specs.Listed.{onRoom}
 use Rattle.index_rule.specs.Owners.{keyOf, inReach}
 use Rattle.index_rule.specs.Search.{isOver}
 use Rattle.index_layout.specs.Places.{indexSize, functionsPlace}
 use Rattle.index_layout.specs.Keys.{memoryEnd, ioSize, idSize, ioBase, idBase, noKey, segmentOf}
 use Rattle.index_layout.specs.Words.{recordIn, bridgesIn, sizeIn, wordLimit}
 use Rattle.index_slots.specs.Slots.{keyAt, wordAt}
+use Rattle.route_answer.specs.declared.Routing.{Routing}
+use Rattle.route_answer.specs.declared.Routing.the-variants.{Delivered, Refused}
+use Rattle.route_answer.specs.Routing.{arrives, answer, routeOver}
 use Rattle.index_table.specs.Search.{foundAt}
-use Rattle.index_search.specs.Search.{functionsIn, rootIn, answerOver, outcomeBy, outcomeOver, outcomeIn}
-use Rattle.index_search.specs.Search.{searchPacket, fromReading, searchOf, listedAfter}
+use Rattle.index_search.specs.Search.{functionsIn, rootIn, answerOver, outcomeBy, outcomeOver}
+use Rattle.index_search.specs.Search.{searchPacket, fromReading, searchOf}
 
 -- ## An index's number of functions
 
@@ -65,6 +56,11 @@ module _ (ix : List ℕ) where
           → indexSize n ≤ length ix
       go true f g = absurd (some g)
       go false f g = omega (arith, g, ltb-false (length ix) (indexSize (le 2 ix functionsPlace)) f)
+
+-- ## Its root bus
+
+pub root-of-short : (ix : List ℕ) → length ix < 3 → 0 ≡ rootIn ix
+root-of-short ix h = sym (List·getD-eq-default ix 0 {n = 2} (omega (arith, h)))
 
 -- ## A slot
 
@@ -148,57 +144,19 @@ module _ (p : Packet) (ix : List ℕ) (n : ℕ) (aim : Aim) (r : Bool) (e : r �
     pub aimed-at-nobody : recordIn word ≡ 0 → Refused 40 ≡ answer p (outcomeOver ix n aim)
     aimed-at-nobody z = rw (by-word, eq-eqb (recordIn word) 0 z)
 
-    pub aimed-at-owner : ¬ (recordIn word ≡ 0) → (q : Packet) → q ≡ arrived p
-        → Delivered (record { owner = recordIn word; bridges = bridgesIn word; packet = q }) ≡ answer p (outcomeOver ix n aim)
-    aimed-at-owner some q h =
-        ap (λ (x : Packet). Delivered (record { owner = recordIn word; bridges = bridgesIn word; packet = x })) h
-        ∙ sym (rw (by-word, ne-eqb (recordIn word) 0 some))
+    pub aimed-at-owner : ¬ (recordIn word ≡ 0) → (r : Routing) → r ≡ Delivered (arrives p (recordIn word) (bridgesIn word))
+        → r ≡ answer p (outcomeOver ix n aim)
+    aimed-at-owner some r h = h ∙ sym (rw (by-word, ne-eqb (recordIn word) 0 some))
 
 -- ## A packet
 
--- n functions, and none of the checks has refused the packet: what is left is where it is headed
-pub record Past (p : Packet) (ix : List ℕ) (n : ℕ) (h : Heading) : Type 0 where
-  pub count-is : n ≡ functionsIn ix
-  pub answer-is : headedOver (functionsIn ix) (λ aim. outcomeIn ix aim) h p ≡ searchPacket p ix
-
-module _ (p : Packet) (ix : List ℕ) (n : ℕ) (count : n ≡ functionsIn ix) where
-  pub no-functions : n ≡ 0 → Refused 40 ≡ searchPacket p ix
-  unfolding searchPacket
-  no-functions z = rw (eq-eqb (functionsIn ix) 0 (sym count ∙ z))
-
-  -- b is the test of the packet's type
-  module _ (some : ¬ (n ≡ 0)) (b : Bool) (t : b ≡ typeWrong (rootIn ix) p) where
-    functions : typedOver (functionsIn ix) (rootIn ix) (λ aim. outcomeIn ix aim) p ≡ searchPacket p ix
-    unfolding searchPacket
-    functions = rw (ne-eqb (functionsIn ix) 0 (λ z. some (count ∙ z)))
-
-    pub wrong-type : b ≡ true → Refused 42 ≡ searchPacket p ix
-    wrong-type y = rw (← t, y) at functions
-
-    pub past-checks : b ≡ false → (h : Heading) → h ≡ headingOf p → Past p ix n h
-    past-checks right h headed =
-        record {
-          count-is = count;
-          answer-is =
-              ap (λ (x : Heading). headedOver (functionsIn ix) (λ aim. outcomeIn ix aim) x p) headed ∙ (rw (← t, right) at functions);
-        }
-
-module _ {p : Packet} {ix : List ℕ} {n : ℕ} {h : Heading} (past : Past p ix n h) where
-  headed-as : (x : Heading) → h ≡ x → headedOver (functionsIn ix) (λ aim. outcomeIn ix aim) x p ≡ searchPacket p ix
-  headed-as x e = ap (λ (y : Heading). headedOver (functionsIn ix) (λ aim. outcomeIn ix aim) y p) (sym e) ∙ past .answer-is
-
-  -- r is the answer for what it is looked for by
-  pub headed-by-aim : (aim : Aim) (r : Routing) → h ≡ Aimed aim → r ≡ answer p (outcomeOver ix n aim) → r ≡ searchPacket p ix
-  headed-by-aim aim r e f = f ∙ ap (λ (k : ℕ). answer p (outcomeOver ix k aim)) (past .count-is) ∙ headed-as (Aimed aim) e
-
-  pub headed-up : h ≡ Up → Refused 43 ≡ searchPacket p ix
-  headed-up e = headed-as Up e
-
-  pub headed-to-every : h ≡ Every → Broadcast n p ≡ searchPacket p ix
-  headed-to-every e = ap (λ (k : ℕ). Broadcast k p) (past .count-is) ∙ headed-as Every e
-
-  pub headed-to-port : h ≡ ToPort → Port p ≡ searchPacket p ix
-  headed-to-port e = headed-as ToPort e
+-- n functions and a root bus
+pub over-index : (p : Packet) (ix : List ℕ) (n top : ℕ) → n ≡ functionsIn ix → top ≡ rootIn ix
+    → routeOver n top (λ aim. outcomeOver ix n aim) p ≡ searchPacket p ix
+unfolding searchPacket
+over-index p ix n top count first =
+    ap (λ (b : ℕ). routeOver n b (λ aim. outcomeOver ix n aim) p) first
+    ∙ ap (λ (k : ℕ). routeOver k (rootIn ix) (λ aim. outcomeOver ix k aim) p) count
 
 -- ## A header
 
@@ -210,39 +168,3 @@ module _ (header ix : List ℕ) (reading : Reading) (e : reading ≡ readOf head
   pub packet-searched : (p : Packet) (r : Routing) → reading ≡ Accepted p → r ≡ searchPacket p ix → r ≡ searchOf header ix
   unfolding searchOf
   packet-searched p r f q = q ∙ ap (λ (x : Reading). fromReading x ix) (sym f ∙ e)
-
--- ## A broadcast's list
-
--- r is the answer o without the list
-module _ (o : Routing) (list : List ℕ) (r : Routing) (e : r ≡ o) where
-  abbrev room : ℕ
-  room = length list
-
-  -- what was answered, and what the slice holds after
-  abbrev pub Listed : Routing → List ℕ → Type 0
-  Listed x after = (x ≡ onRoom o room) × (after ≡ listedAfter x list)
-
-  on-room : (x : Routing) → r ≡ x → onRoom x room ≡ onRoom o room
-  on-room x f = ap (λ (y : Routing). onRoom y room) (sym f ∙ e)
-
-  pub listed-delivered : (d : Delivery) → r ≡ Delivered d → Listed (Delivered d) list
-  listed-delivered d f = (on-room (Delivered d) f, refl)
-
-  pub listed-port : (p : Packet) → r ≡ Port p → Listed (Port p) list
-  listed-port p f = (on-room (Port p) f, refl)
-
-  pub listed-refused : (n : ℕ) → r ≡ Refused n → Listed (Refused n) list
-  listed-refused n f = (on-room (Refused n) f, refl)
-
-  module _ (functions : ℕ) (p : Packet) (f : r ≡ Broadcast functions p) where
-    pub listed-short : room < functions → Listed (Refused 11) list
-    listed-short h = (rw (lt-ltb room functions h) at (on-room (Broadcast functions p) f), refl)
-
-    pub listed-whole : (after : List ℕ) → functions ≤ room → after ≡ sets list 0 (counted 1 functions)
-        → Listed (Broadcast functions p) after
-    listed-whole after h g = (rw (le-ltb room functions h) at (on-room (Broadcast functions p) f), g ∙ stored)
-      where
-        stored : sets list 0 (counted 1 functions) ≡ counted 1 functions ++ drop functions list
-        stored =
-            sets-eq (counted 1 functions) list 0 (omega (arith, length-counted 1 functions))
-            ∙ rw (zero-add (length (counted 1 functions)), length-counted 1 functions)

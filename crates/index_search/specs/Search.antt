@@ -3,8 +3,8 @@
 -- nothing.
 use Prim.Native.Nat.{ℕ}
 use mathlib.Core.Bool.{cond}
-use mathlib.Core.List.{List, _++_}
-use lib.ListN.{length, getD, drop}
+use mathlib.Core.List.{List}
+use lib.ListN.{length, getD}
 use lib.Dec.{eqb, ltb}
 use Rattle.endian.specs.Endian.{le}
 use Rattle.packet.specs.declared.Packet.{Packet}
@@ -13,10 +13,9 @@ use Rattle.tlp.specs.declared.Reading.the-variants.{Accepted, Refused as NotRea
 use Rattle.tlp.specs.Reading.{readOf}
 use Rattle.walk.specs.Walk.{Outcome, delivered, refused, noOwner}
 use Rattle.claims.specs.declared.Aim.{Aim}
-use Rattle.route_list.specs.Counted.{counted}
-use Rattle.route.specs.declared.Routing.{Routing}
-use Rattle.route.specs.declared.Routing.the-variants.{Delivered, Broadcast, Port, Refused}
-use Rattle.route.specs.Route.{routeOver}
+use Rattle.route_answer.specs.declared.Routing.{Routing}
+use Rattle.route_answer.specs.declared.Routing.the-variants.{Refused}
+use Rattle.route_answer.specs.Routing.{routeOver}
 use Rattle.index_rule.specs.Owners.{keyOf, inReach}
 use Rattle.index_rule.specs.Search.{answerAt}
 use Rattle.index_layout.specs.Places.{indexSize, functionsPlace, rootPlace}
@@ -63,12 +62,3 @@ fromReading (NotRead n) ix = Refused n
 
 unfoldable pub searchOf : List ℕ → List ℕ → Routing
 searchOf header ix = fromReading (readOf header) ix
-
--- ## A broadcast's list
-
--- what the lent slice holds after the answer: the record numbers from 1 on, and past them what it held
-abbrev pub listedAfter : Routing → List ℕ → List ℕ
-listedAfter (Delivered d) list = list
-listedAfter (Broadcast functions p) list = counted 1 functions ++ drop functions list
-listedAfter (Port p) list = list
-listedAfter (Refused n) list = list

@@ -1,11 +1,9 @@
 -- Where an index finds what the router's walk over a sheet comes to, the search answers as the router does, and so are its lists. Assumes
 -- nothing.
 use mathlib.Core.Path.{_≡_, refl, sym, ap, _∙_}
-use mathlib.Core.Bool.{Bool, true, false, cond}
-use mathlib.Core.List.{List, _++_}
+use mathlib.Core.List.{List}
 use Prim.Native.Nat.{ℕ, _<_}
-use lib.ListN.{length, drop}
-use lib.Dec.{ltb}
+use lib.ListN.{length}
 use borrow.Author.Tests.{eq-eqb}
 use Rattle.packet.specs.declared.Packet.{Packet}
 use Rattle.tlp.specs.declared.Reading.{Reading}
@@ -14,13 +12,15 @@ use Rattle.tlp.specs.Reading.{readOf}
 use Rattle.sheet.specs.Sheet.{sheetNumber}
 use Rattle.sheet.specs.Spaces.{nodesOf}
 use Rattle.claims.specs.declared.Aim.{Aim}
-use Rattle.route.specs.declared.Routing.{Routing}
-use Rattle.route.specs.declared.Routing.the-variants.{Delivered, Broadcast, Port, Refused}
-use Rattle.route.specs.Route.{walked, root, routeOver, routePacket, fromSheet, routeOf, fromReading as fromReadingOver}
-use Rattle.route.specs.RouteLaws.{packet-over, route-agree}
-use Rattle.route.specs.Listed.{onRoom, listAfter}
-use Rattle.route.specs.ListedLaws.{list-of-broadcast}
-use Rattle.index_search.specs.Search.{functionsIn, rootIn, outcomeIn, searchPacket, fromReading, searchOf, listedAfter}
+use Rattle.route_answer.specs.declared.Routing.{Routing}
+use Rattle.route_answer.specs.Routing.{routeOver}
+use Rattle.route_answer.specs.Listed.{onRoom, listedAfter}
+use Rattle.route_answer.specs.OnwardLaws.{route-agree}
+use Rattle.route.specs.Route.{walked, root, routePacket, fromSheet, routeOf, fromReading as fromReadingOver}
+use Rattle.route.specs.RouteLaws.{packet-over}
+use Rattle.route.specs.Listed.{listAfter}
+use Rattle.route.specs.ListedLaws.{listed-over-sheet}
+use Rattle.index_search.specs.Search.{functionsIn, rootIn, outcomeIn, searchPacket, fromReading, searchOf}
 
 -- an index of a sheet: as many functions, the same root bus if there are any, and what the walk from it comes to
 pub record IndexOf (ix s : List ℕ) : Type 0 where
@@ -57,19 +57,6 @@ module _ (ix s : List ℕ) (of : IndexOf ix s) where
 
       -- with a lent slice: the answer, and what the slice holds after
       pub search-listed-agrees : (found ≡ routed) × (listedAfter found list ≡ listAfter routed s list)
-      search-listed-agrees = (same, ap (λ (r : Routing). listedAfter r list) same ∙ go (routeOf header s) refl)
-        where
-          same : found ≡ routed
-          same = ap (λ (r : Routing). onRoom r (length list)) (search-agrees header)
-
-          room : (functions : ℕ) (p : Packet) (t : Bool) → routeOf header s ≡ Broadcast functions p
-              → let r = cond t (Refused 11) (Broadcast functions p) in listedAfter r list ≡ listAfter r s list
-          room functions p true e = refl
-          room functions p false e =
-              ap (λ (l : List ℕ). l ++ drop functions list) (sym (list-of-broadcast header s functions p e))
-
-          go : (r : Routing) → routeOf header s ≡ r → listedAfter (onRoom r (length list)) list ≡ listAfter (onRoom r (length list)) s list
-          go (Delivered d) e = refl
-          go (Broadcast functions p) e = room functions p (ltb (length list) functions) e
-          go (Port p) e = refl
-          go (Refused n) e = refl
+      search-listed-agrees =
+          let same : found ≡ routed = ap (λ (r : Routing). onRoom r (length list)) (search-agrees header) in
+          (same, ap (λ (r : Routing). listedAfter r list) same ∙ listed-over-sheet header s list)

@@ -4,19 +4,18 @@ ghost use mathlib.Core.Path.{_≡_};
 ghost use mathlib.Core.Bool.{true};
 ghost use Prim.Native.Nat.{_<_, _≤_};
 ghost use lib.ListN.{length};
-ghost use Rattle.route.specs.Route.{answer};
-ghost use Rattle.route.specs.Listed.{onRoom};
+ghost use Rattle.route_answer.specs.Routing.{answer};
+ghost use Rattle.route_answer.specs.Listed.{onRoom, listedAfter};
 ghost use Rattle.index_rule.specs.Owners.{inReach, keyOf};
 ghost use Rattle.index_rule.specs.Search.{isOver};
 ghost use Rattle.index_layout.specs.Places.{indexSize};
 ghost use Rattle.index_layout.specs.Keys.{noKey, segmentOf};
-ghost use Rattle.index_search.specs.Search.{functionsIn, outcomeBy, answerOver, outcomeOver, searchPacket, searchOf, listedAfter};
+ghost use Rattle.index_search.specs.Search.{functionsIn, outcomeBy, answerOver, outcomeOver, searchPacket, searchOf, rootIn};
 use claims::Aim;
 use packet::Packet;
 use pools::Space;
-use route::Delivery;
-use route::Routing;
-use route_arrival::Heading;
+use route_answer::Next;
+use route_answer::Routing;
 use tlp::Reading;
 
 // A header by an index: the header's number before the index is read. What is left is a packet.
@@ -36,19 +35,7 @@ pub fn search_listed(header: &[u8], index: &[u8], list: &mut [u64]) -> Routing
     ensures { λ r. ⌜ r ≡ onRoom (searchOf (now (header .entry)) (now (index .entry))) (length (now (list .entry))) ⌝ }
     ensures { λ r. ⌜ now (list .exit) ≡ listedAfter r (now (list .entry)) ⌝ }
 {
-    match search(header, index) {
-        Routing::Delivered(d) => Routing::Delivered(d),
-        Routing::Broadcast(functions, p) => {
-            let size = functions as usize;
-            if list.len() < size {
-                return Routing::Refused(11);
-            }
-            route_list::put_list(list, 0, size);
-            Routing::Broadcast(functions, p)
-        }
-        Routing::Port(p) => Routing::Port(p),
-        Routing::Refused(n) => Routing::Refused(n),
-    }
+    route_answer::listed(search(header, index), list)
 }
 
 // A packet by an index: 40 for no functions, 42 and 43, then where it is headed.
@@ -56,17 +43,9 @@ pub fn search_packet(p: Packet, index: &[u8]) -> Routing
     ensures { λ r. ⌜ r ≡ searchPacket p (now (index .entry)) ⌝ }
 {
     let n = functions_in(index);
-    if n == 0 {
-        return Routing::Refused(40);
-    }
-    if route_arrival::type_wrong(p, index[index_layout::ROOT]) {
-        return Routing::Refused(42);
-    }
-    match route_arrival::heading_of(p) {
-        Heading::Aimed(aim) => search_aimed(p, index, n, aim),
-        Heading::Up => Routing::Refused(43),
-        Heading::Every => Routing::Broadcast(n as u16, p),
-        Heading::Port => Routing::Port(p),
+    match route_answer::onward(p, n as u16, root_in(index)) {
+        Next::Aimed(aim) => search_aimed(p, index, n, aim),
+        Next::Answered(r) => r,
     }
 }
 
@@ -84,6 +63,16 @@ pub fn functions_in(index: &[u8]) -> usize
         return 0;
     }
     n
+}
+
+// The root bus that it says; 0, if it is too short for one.
+fn root_in(index: &[u8]) -> u8
+    ensures { λ r. ⌜ r ≡ rootIn (now (index .entry)) ⌝ }
+{
+    if index.len() <= index_layout::ROOT {
+        return 0;
+    }
+    index[index_layout::ROOT]
 }
 
 // The word of the slot that holds a key of segment w, or 0 where none does: of its eight bytes the four that say something. The one place
@@ -115,11 +104,7 @@ fn search_aimed(p: Packet, index: &[u8], n: usize, aim: Aim) -> Routing
     if record == 0 {
         return Routing::Refused(40);
     }
-    Routing::Delivered(Delivery {
-        owner: record as u16,
-        bridges: index_layout::bridges_in(word) as u8,
-        packet: route_arrival::arrived(p),
-    })
+    route_answer::deliver(p, record as u16, index_layout::bridges_in(word) as u8)
 }
 
 // ---- keys

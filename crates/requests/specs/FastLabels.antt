@@ -10,11 +10,12 @@ use lib.ListN.{length, getD}
 use Rattle.endian.specs.Endian.{Bytes}
 use Rattle.sheet.specs.Sheet.{entriesOf}
 use Rattle.route.specs.Route.{routeOf}
-use Rattle.route.specs.Listed.{onRoom, listAfter}
+use Rattle.route_answer.specs.Listed.{onRoom, listedAfter}
+use Rattle.route.specs.Listed.{listAfter}
 use Rattle.audit_rule.specs.Audit.{auditNumber}
 use Rattle.audit_rule.specs.Accepted.{Accepted}
 use Rattle.index_layout.specs.Places.{indexSize}
-use Rattle.index_search.specs.Search.{searchOf, listedAfter}
+use Rattle.index_search.specs.Search.{searchOf}
 use Rattle.index_build.specs.Build.{buildNumber, indexAfter}
 use Rattle.trace.specs.declared.Trace.{Trace}
 use Rattle.trace.specs.Feed.{fedOf, fedPut}

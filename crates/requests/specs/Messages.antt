@@ -20,11 +20,12 @@ use Rattle.tlp.specs.declared.Reading.the-variants.{Accepted, Refused as NotRea
 use Rattle.tlp.specs.Reading.{readOf}
 use Rattle.sheet.specs.Sheet.{sheetNumber}
 use Rattle.sheet.specs.Spaces.{nodesOf}
-use Rattle.route.specs.declared.Routing.{Routing}
-use Rattle.route.specs.declared.Routing.the-variants.{Delivered, Broadcast as ToEvery, Port, Refused}
+use Rattle.route_answer.specs.declared.Routing.{Routing}
+use Rattle.route_answer.specs.declared.Routing.the-variants.{Delivered, Broadcast as ToEvery, Port, Refused}
 use Rattle.route.specs.Route.{routeOf}
-use Rattle.route.specs.Listed.{listOf, onRoom, listAfter}
+use Rattle.route.specs.Listed.{listOf, listAfter}
 use Rattle.demands.specs.Demand3.{routeNumber}
+use Rattle.route_answer.specs.Listed.{onRoom}
 
 -- p is a message with this routing, and this is the number that its bytes 8 to 15 are
 abbrev pub IsMessage : Packet → MessageRouting → ℕ → Type 0

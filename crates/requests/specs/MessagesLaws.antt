@@ -29,11 +29,13 @@ use Rattle.route_list.specs.CountedLaws.{length-counted, getD-counted}
 use Rattle.route_arrival.specs.declared.Heading.{Heading}
 use Rattle.route_arrival.specs.declared.Heading.the-variants.{Aimed, Up, Every, Port as ToPort}
 use Rattle.route_arrival.specs.Arrival.{messageHeading, headingOf, typeWrong}
-use Rattle.route.specs.declared.Routing.{Routing}
-use Rattle.route.specs.declared.Routing.the-variants.{Delivered, Broadcast as ToEvery, Port, Refused}
-use Rattle.route.specs.Route.{numberOf, answer, walked, root, onHeading, from42, routePacket, fromSheet, routeOf}
-use Rattle.route.specs.Listed.{listOf, onRoom, listAfter}
+use Rattle.route.specs.Route.{walked, root, onHeading, from42, routePacket, fromSheet, routeOf}
+use Rattle.route.specs.Listed.{listOf, listAfter}
 use Rattle.route.specs.ListedLaws.{list-counted, broadcast-counts}
+use Rattle.route_answer.specs.declared.Routing.{Routing}
+use Rattle.route_answer.specs.declared.Routing.the-variants.{Delivered, Broadcast as ToEvery, Port, Refused}
+use Rattle.route_answer.specs.Routing.{numberOf, answer}
+use Rattle.route_answer.specs.Listed.{onRoom}
 use Rattle.route.specs.OrderLaws.{route-no-functions, route-wrong-type, route-headed, goes-to-every, goes-to-port, goes-up-iff}
 use Rattle.demands.specs.Demand3.{routeNumber}
 use Rattle.requests.specs.Messages.{IsMessage, IsMemoryRequest, IsCompletionFor, ReservedRouting}

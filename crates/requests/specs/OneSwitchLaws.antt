@@ -40,9 +40,10 @@ use Rattle.claims.specs.declared.Aim.the-variants.{Address, Id}
 use Rattle.route_arrival.specs.declared.Heading.{Heading}
 use Rattle.route_arrival.specs.declared.Heading.the-variants.{Aimed, Up, Every, Port}
 use Rattle.route_arrival.specs.Arrival.{headingOf, typeWrong}
-use Rattle.route.specs.declared.Routing.{Routing}
-use Rattle.route.specs.declared.Routing.the-variants.{Refused}
-use Rattle.route.specs.Route.{wrongType, answer, walked, root, headedOver, routeOver, routePacket, fromSheet, fromReading, routeOf}
+use Rattle.route_answer.specs.declared.Routing.{Routing}
+use Rattle.route_answer.specs.declared.Routing.the-variants.{Refused}
+use Rattle.route_answer.specs.Routing.{wrongType, answer, headedOver, routeOver}
+use Rattle.route.specs.Route.{walked, root, routePacket, fromSheet, fromReading, routeOf}
 use Rattle.route.specs.RouteLaws.{packet-over}
 use Rattle.route_cards.specs.declared.start.Request.{Request}
 use Rattle.route_cards.specs.declared.start.Request.the-variants.{At, Other}

@@ -16,8 +16,8 @@ use Rattle.packet_text.specs.Labels.{kindText}
 use Rattle.tlp.specs.declared.Reading.the-variants.{Accepted, Refused as NotRead}
 use Rattle.tlp.specs.Reading.{readOf}
 use Rattle.sheet.specs.Sheet.{fullSheet}
-use Rattle.route.specs.declared.Delivery.{Delivery}
-use Rattle.route.specs.declared.Routing.the-variants.{Delivered, Broadcast, Port, Refused}
+use Rattle.route_answer.specs.declared.Delivery.{Delivery}
+use Rattle.route_answer.specs.declared.Routing.the-variants.{Delivered, Broadcast, Port, Refused}
 use Rattle.route.specs.Route.{routeOf}
 use Rattle.trace.specs.declared.Trace.{Trace}
 use Rattle.trace.specs.declared.Fed.{Fed}

@@ -28,10 +28,12 @@ use Rattle.sheet.specs.Sheet.{allSized, isFramed, entriesFrom, commandsOf, allZ
 use Rattle.sheet.specs.Sheet.{from29, from25, from28, from27, from24, from22, from20, from21, sheetNumber}
 use Rattle.sheet.specs.Spaces.{functionsFrom, nodesFrom}
 use Rattle.sheet.specs.Examples.{p8, p10, sunk}
-use Rattle.route.specs.declared.Routing.{Routing}
-use Rattle.route.specs.declared.Routing.the-variants.{Delivered, Broadcast, Port, Refused}
-use Rattle.route.specs.Route.{numberOf, routeOf, fromSheet, routePacket, from42}
-use Rattle.route.specs.Listed.{onRoom, listAfter}
+use Rattle.route_answer.specs.declared.Routing.{Routing}
+use Rattle.route_answer.specs.declared.Routing.the-variants.{Delivered, Broadcast, Port, Refused}
+use Rattle.route_answer.specs.Routing.{numberOf}
+use Rattle.route.specs.Route.{routeOf, fromSheet, routePacket, from42}
+use Rattle.route_answer.specs.Listed.{onRoom}
+use Rattle.route.specs.Listed.{listAfter}
 
 -- ## Headers of twelve bytes, by byte 0
 

@@ -1,15 +1,10 @@
--- A broadcast's list has each record number of the sheet just once, in order, and its count is the sheet's; then the call's answers, in the
--- words of the code. Assumes nothing.
+-- A broadcast's list has each record number of the sheet just once, in order, and its count is the sheet's. Assumes nothing.
 use mathlib.Core.Path.{_≡_, refl, sym, ap, subst, _∙_}
 use mathlib.Core.Bool.{Bool, true, false, cond}
 use mathlib.Core.List.{List, [], _∷_, map, _++_}
-use Prim.Native.Nat.{ℕ, _+_, _<_, _≤_}
-use native.Mathlib.Nat.{zero-add}
-use native.Mathlib.Omega.{arith}
+use Prim.Native.Nat.{ℕ, _+_}
 use lib.ListN.{length, drop}
-use lib.Seq.{sets, sets-eq}
-use lib.Dec.{eqb}
-use borrow.Author.Tests.{lt-ltb, le-ltb}
+use lib.Dec.{eqb, ltb}
 use Rattle.packet.specs.declared.Packet.{Packet}
 use Rattle.tlp.specs.declared.Reading.{Reading}
 use Rattle.tlp.specs.declared.Reading.the-variants.{Accepted, Refused as NotRead}
@@ -20,15 +15,15 @@ use Rattle.sheet_record.specs.Entry.{Entry}
 use Rattle.sheet.specs.Sheet.{entriesOf, sheetNumber}
 use Rattle.sheet.specs.Spaces.{nodesFrom, nodesOf}
 use Rattle.route_list.specs.Counted.{counted}
-use Rattle.route_list.specs.CountedLaws.{length-counted}
 use Rattle.route_arrival.specs.declared.Heading.{Heading}
 use Rattle.route_arrival.specs.declared.Heading.the-variants.{Aimed, Up, Every, Port as ToPort}
 use Rattle.route_arrival.specs.Arrival.{headingOf, typeWrong}
-use Rattle.route.specs.declared.Delivery.{Delivery}
-use Rattle.route.specs.declared.Routing.{Routing}
-use Rattle.route.specs.declared.Routing.the-variants.{Delivered, Broadcast, Port, Refused}
-use Rattle.route.specs.Route.{wrongType, answer, walked, root, onHeading, from42, routePacket, fromSheet, fromReading, routeOf}
-use Rattle.route.specs.Listed.{listOf, onRoom, listAfter}
+use Rattle.route_answer.specs.declared.Routing.{Routing}
+use Rattle.route_answer.specs.declared.Routing.the-variants.{Delivered, Broadcast, Port, Refused}
+use Rattle.route_answer.specs.Routing.{wrongType, answer}
+use Rattle.route_answer.specs.Listed.{onRoom, listedAfter}
+use Rattle.route.specs.Route.{walked, root, onHeading, from42, routePacket, fromSheet, fromReading, routeOf}
+use Rattle.route.specs.Listed.{listOf, listAfter}
 
 -- ## The list
 
@@ -87,39 +82,31 @@ pub list-of-broadcast : (header s : List ℕ) (functions : ℕ) (p : Packet) →
     → listOf s ≡ counted 1 functions
 list-of-broadcast header s functions p e = list-counted s ∙ ap (counted 1) (sym (broadcast-counts header s functions p e))
 
--- ## The call's answers
+-- ## What a lent slice holds
 
--- r is the router's answer without the list
-module _ (header s list : List ℕ) (r : Routing) (e : r ≡ routeOf header s) where
-  abbrev room : ℕ
-  room = length list
+-- a list of the numbers 1 to a broadcast's count is the sheet's, short room or not
+pub listed-over-sheet : (header s list : List ℕ) → let r = onRoom (routeOf header s) (length list) in
+    listedAfter r list ≡ listAfter r s list
+listed-over-sheet header s list = go (routeOf header s) refl
+  where
+    room : (functions : ℕ) (p : Packet) (t : Bool) → routeOf header s ≡ Broadcast functions p
+        → let r = cond t (Refused 11) (Broadcast functions p) in listedAfter r list ≡ listAfter r s list
+    room functions p true e = refl
+    room functions p false e = ap (λ (l : List ℕ). l ++ drop functions list) (sym (list-of-broadcast header s functions p e))
 
-  -- what was answered, and what the slice holds after
-  abbrev pub Answered : Routing → List ℕ → Type 0
-  Answered x after = (x ≡ onRoom (routeOf header s) room) × (after ≡ listAfter x s list)
+    go : (r : Routing) → routeOf header s ≡ r → listedAfter (onRoom r (length list)) list ≡ listAfter (onRoom r (length list)) s list
+    go (Delivered d) e = refl
+    go (Broadcast functions p) e = room functions p (ltb (length list) functions) e
+    go (Port p) e = refl
+    go (Refused n) e = refl
 
-  on-room : (x : Routing) → r ≡ x → onRoom x room ≡ onRoom (routeOf header s) room
-  on-room x f = ap (λ (y : Routing). onRoom y room) (sym f ∙ e)
-
-  pub listed-delivered : (d : Delivery) → r ≡ Delivered d → Answered (Delivered d) list
-  listed-delivered d f = (on-room (Delivered d) f, refl)
-
-  pub listed-port : (p : Packet) → r ≡ Port p → Answered (Port p) list
-  listed-port p f = (on-room (Port p) f, refl)
-
-  pub listed-refused : (n : ℕ) → r ≡ Refused n → Answered (Refused n) list
-  listed-refused n f = (on-room (Refused n) f, refl)
-
-  module _ (functions : ℕ) (p : Packet) (f : r ≡ Broadcast functions p) where
-    pub listed-short : room < functions → Answered (Refused 11) list
-    listed-short h = (rw (lt-ltb room functions h) at (on-room (Broadcast functions p) f), refl)
-
-    pub listed-whole : (after : List ℕ) → functions ≤ room → after ≡ sets list 0 (counted 1 functions)
-        → Answered (Broadcast functions p) after
-    listed-whole after h g = (rw (le-ltb room functions h) at (on-room (Broadcast functions p) f), g ∙ stored)
-      where
-        stored : sets list 0 (counted 1 functions) ≡ listOf s ++ drop functions list
-        stored =
-            sets-eq (counted 1 functions) list 0 (omega (arith, length-counted 1 functions))
-            ∙ rw (zero-add (length (counted 1 functions)), length-counted 1 functions)
-            (ap (λ (l : List ℕ). l ++ drop functions list) (sym (list-of-broadcast header s functions p (sym e ∙ f))))
+-- o is the router's answer without the list
+pub route-listed : (header s list : List ℕ) (o : Routing) → o ≡ routeOf header s → (r : Routing) (after : List ℕ)
+    → (r ≡ onRoom o (length list)) × (after ≡ listedAfter r list)
+    → (r ≡ onRoom (routeOf header s) (length list)) × (after ≡ listAfter r s list)
+route-listed header s list o e r after (f, g) =
+    let same = f ∙ ap (λ (x : Routing). onRoom x (length list)) e in (
+      same,
+      g ∙ ap (λ (x : Routing). listedAfter x list) same ∙ listed-over-sheet header s list
+      ∙ ap (λ (x : Routing). listAfter x s list) (sym same),
+    )

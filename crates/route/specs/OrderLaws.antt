@@ -22,8 +22,9 @@ use Rattle.route_arrival.specs.declared.Heading.{Heading}
 use Rattle.route_arrival.specs.declared.Heading.the-variants.{Aimed, Up, Every, Port as ToPort}
 use Rattle.route_arrival.specs.Arrival.{headingOf, typeWrong}
 use Rattle.route_arrival.specs.ArrivalLaws.{right-of-not-by-id, not-by-id-of-up, not-by-id-of-every, not-by-id-of-port}
-use Rattle.route.specs.declared.Routing.the-variants.{Broadcast, Port, Refused}
-use Rattle.route.specs.Route.{numberOf, wrongType, onlyUp, answer, walked, root, onHeading, from42, routePacket, fromSheet, routeOf}
+use Rattle.route_answer.specs.declared.Routing.the-variants.{Broadcast, Port, Refused}
+use Rattle.route_answer.specs.Routing.{numberOf, wrongType, onlyUp, answer}
+use Rattle.route.specs.Route.{walked, root, onHeading, from42, routePacket, fromSheet, routeOf}
 
 -- ## The walk's numbers
 

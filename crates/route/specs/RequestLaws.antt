@@ -24,9 +24,10 @@ use Rattle.claims.specs.declared.Aim.the-variants.{Address}
 use Rattle.route_arrival.specs.declared.Heading.the-variants.{Aimed}
 use Rattle.route_arrival.specs.Arrival.{headingOf, arrived}
 use Rattle.route_arrival.specs.ArrivalLaws.{right-of-not-by-id, unchanged-of-not-by-id, not-by-id-of-address}
-use Rattle.route.specs.declared.Delivery.{Delivery}
-use Rattle.route.specs.declared.Routing.the-variants.{Delivered, Refused}
-use Rattle.route.specs.Route.{arrives, answer, walked, root, from42, routePacket, fromSheet, routeOf}
+use Rattle.route_answer.specs.declared.Delivery.{Delivery}
+use Rattle.route_answer.specs.declared.Routing.the-variants.{Delivered, Refused}
+use Rattle.route_answer.specs.Routing.{arrives, answer}
+use Rattle.route.specs.Route.{walked, root, from42, routePacket, fromSheet, routeOf}
 
 module _ (space : Space) (address : ℕ) where
   pub arrives-unchanged : (p : Packet) → headingOf p ≡ Aimed (Address space address) → arrived p ≡ p

@@ -17,37 +17,13 @@ use Rattle.sheet.specs.Spaces.{nodesOf}
 use Rattle.claims.specs.declared.Aim.{Aim}
 use Rattle.claims.specs.Claims.{tallyFor}
 use Rattle.route_arrival.specs.declared.Heading.{Heading}
-use Rattle.route_arrival.specs.declared.Heading.the-variants.{Aimed, Up, Every, Port as ToPort}
-use Rattle.route_arrival.specs.Arrival.{headingOf, typeWrong, arrived}
+use Rattle.route_answer.specs.declared.Routing.{Routing}
+use Rattle.route_answer.specs.declared.Routing.the-variants.{Refused}
+use Rattle.route_answer.specs.Routing.{headedOver, typedOver}
 use Rattle.route.specs.declared.Walked.{Walked}
 use Rattle.route.specs.declared.Walked.the-variants.{Delivered as WalkedTo, Refused as WalkRefused}
-use Rattle.route.specs.declared.Delivery.{Delivery}
-use Rattle.route.specs.declared.Routing.{Routing}
-use Rattle.route.specs.declared.Routing.the-variants.{Delivered, Broadcast, Port, Refused}
-
--- document 01's number of a routing
-abbrev pub numberOf : Routing → ℕ
-numberOf (Delivered d) = 0
-numberOf (Broadcast functions p) = 0
-numberOf (Port p) = 0
-numberOf (Refused n) = n
-
-abbrev pub wrongType : ℕ
-wrongType = 42
-
--- a message that only travels up
-abbrev pub onlyUp : ℕ
-onlyUp = 43
 
 -- ## The walk
-
--- the packet at the function with this record number, after so many bridges
-abbrev pub arrives : Packet → ℕ → ℕ → Delivery
-arrives p number crossed = record { owner = number; bridges = crossed; packet = arrived p }
-
-abbrev pub answer : Packet → Outcome → Routing
-answer p (delivered number crossed) = Delivered (arrives p number crossed)
-answer p (refused n) = Refused n
 
 -- where the code's walk ends, as the walk has it
 abbrev pub outcomeOf : Walked → Outcome
@@ -60,23 +36,6 @@ walked aim s bus crossed = walkFrom (tallyFor aim s) bus crossed
 
 abbrev pub root : List ℕ → ℕ
 root s = rootOf (nodesOf s)
-
--- ## A packet, over any number of functions, root bus and outcome by what the packet is looked for by. One definition for all who route.
-
--- 43, the outcome, every function, or the port
-abbrev pub headedOver : ℕ → (Aim → Outcome) → Heading → Packet → Routing
-headedOver functions outcome (Aimed aim) p = answer p (outcome aim)
-headedOver functions outcome Up p = Refused onlyUp
-headedOver functions outcome Every p = Broadcast functions p
-headedOver functions outcome ToPort p = Port p
-
--- 42 before the outcome; 43 at the same place: no packet can get both
-abbrev pub typedOver : ℕ → ℕ → (Aim → Outcome) → Packet → Routing
-typedOver functions bus outcome p = cond (typeWrong bus p) (Refused wrongType) (headedOver functions outcome (headingOf p) p)
-
--- 40 where there are no functions before 42
-abbrev pub routeOver : ℕ → ℕ → (Aim → Outcome) → Packet → Routing
-routeOver functions bus outcome p = cond (eqb functions 0) (Refused noOwner) (typedOver functions bus outcome p)
 
 -- ## A packet over a sheet that passes its checks: the walk begins on the bus of the first record
 

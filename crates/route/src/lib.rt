@@ -5,43 +5,17 @@ ghost use Prim.Native.Nat.{_≤_};
 ghost use lib.ListN.{length};
 ghost use Rattle.sheet.specs.Sheet.{sheetNumber};
 ghost use Rattle.sheet.specs.SheetLaws.{Checked};
-ghost use Rattle.route.specs.Route.{numberOf, answer, outcomeOf, walked, routePacket, routeOf};
-ghost use Rattle.route.specs.Listed.{onRoom, listAfter};
+ghost use Rattle.route_answer.specs.Routing.{answer};
+ghost use Rattle.route_answer.specs.Listed.{onRoom};
+ghost use Rattle.route.specs.Route.{outcomeOf, walked, root, routePacket, routeOf};
+ghost use Rattle.route.specs.Listed.{listAfter};
 use claims::Aim;
 use claims::Claim;
 use claims::Tally;
 use packet::Packet;
-use route_arrival::Heading;
+use route_answer::Next;
+use route_answer::Routing;
 use tlp::Reading;
-
-// The record that gets a packet, by its number, the bridges crossed on the way, and the packet as it arrives.
-pub struct Delivery {
-    pub owner: u16,
-    pub bridges: u8,
-    pub packet: Packet,
-}
-
-// What becomes of a packet: delivered to one function; to every function, so many; ended at the port; or refused by number.
-pub enum Routing {
-    Delivered(Delivery),
-    Broadcast(u16, Packet),
-    Port(Packet),
-    Refused(u8),
-}
-
-impl Routing {
-    // Document 01's number: 0 when not refused.
-    pub fn number(self) -> u8
-        ensures { λ r. ⌜ r ≡ numberOf self ⌝ }
-    {
-        match self {
-            Routing::Delivered(_) => 0,
-            Routing::Broadcast(_, _) => 0,
-            Routing::Port(_) => 0,
-            Routing::Refused(n) => n,
-        }
-    }
-}
 
 // A header over a sheet: the header's number before the sheet is read, then the sheet's. What is left is a packet over a sheet that passes.
 pub fn route(header: &[u8], sheet: &[u8]) -> Routing
@@ -64,19 +38,7 @@ pub fn route_listed(header: &[u8], sheet: &[u8], list: &mut [u64]) -> Routing
     ensures { λ r. ⌜ r ≡ onRoom (routeOf (now (header .entry)) (now (sheet .entry))) (length (now (list .entry))) ⌝ }
     ensures { λ r. ⌜ now (list .exit) ≡ listAfter r (now (sheet .entry)) (now (list .entry)) ⌝ }
 {
-    match route(header, sheet) {
-        Routing::Delivered(d) => Routing::Delivered(d),
-        Routing::Broadcast(functions, p) => {
-            let size = functions as usize;
-            if list.len() < size {
-                return Routing::Refused(11);
-            }
-            route_list::put_list(list, 0, size);
-            Routing::Broadcast(functions, p)
-        }
-        Routing::Port(p) => Routing::Port(p),
-        Routing::Refused(n) => Routing::Refused(n),
-    }
+    route_answer::listed(route(header, sheet), list)
 }
 
 // A packet over a sheet that is known to pass its checks: 40 for no functions, 42 and 43, then where it is headed. For who checks a sheet
@@ -85,20 +47,22 @@ pub fn route_packet(p: Packet, sheet: &[u8]) -> Routing
     requires { ⌜ sheetNumber (now sheet) ≡ 0 ⌝ }
     ensures { λ r. ⌜ r ≡ routePacket p (now (sheet .entry)) ⌝ }
 {
-    let functions = sheet::count(sheet);
-    if functions == 0 {
-        return Routing::Refused(40);
+    let root = root_of(sheet);
+    match route_answer::onward(p, sheet::count(sheet) as u16, root) {
+        Next::Aimed(aim) => route_aimed(p, sheet, aim, root),
+        Next::Answered(r) => r,
     }
-    let root = sheet_record::bus_of(sheet::part(sheet, 0));
-    if route_arrival::type_wrong(p, root) {
-        return Routing::Refused(42);
+}
+
+// The bus of the first record, on which a walk starts; 0 where there is none.
+pub fn root_of(sheet: &[u8]) -> u8
+    requires { ⌜ Checked (now sheet) ⌝ }
+    ensures { λ r. ⌜ r ≡ root (now (sheet .entry)) ⌝ }
+{
+    if sheet::count(sheet) == 0 {
+        return 0;
     }
-    match route_arrival::heading_of(p) {
-        Heading::Aimed(aim) => route_aimed(p, sheet, aim, root),
-        Heading::Up => Routing::Refused(43),
-        Heading::Every => Routing::Broadcast(functions as u16, p),
-        Heading::Port => Routing::Port(p),
-    }
+    sheet_record::bus_of(sheet::part(sheet, 0))
 }
 
 // ---- the walk
@@ -115,11 +79,7 @@ fn route_aimed(p: Packet, sheet: &[u8], aim: Aim, root: u8) -> Routing
     ensures { λ r. ⌜ r ≡ answer p (walked aim (now (sheet .entry)) root 0) ⌝ }
 {
     match walk(sheet, aim, root, 0) {
-        Walked::Delivered(number, crossed) => Routing::Delivered(Delivery {
-            owner: number,
-            bridges: crossed,
-            packet: route_arrival::arrived(p),
-        }),
+        Walked::Delivered(number, crossed) => route_answer::deliver(p, number, crossed),
         Walked::Refused(n) => Routing::Refused(n),
     }
 }

@@ -17,18 +17,17 @@ use Rattle.bar.specs.Bar.{anyBad}
 use Rattle.lists.specs.Lists.{_∈_}
 use Rattle.lists.specs.ListLaws.{all-intro}
 use Rattle.lists.specs.KeepLaws.{keep-none}
-use Rattle.walk.specs.Registers.{Registers, rootOf, enabledIn}
+use Rattle.walk.specs.Registers.{Registers, enabledIn}
 use Rattle.walk.specs.Climb.{nowhere, startAt}
 use Rattle.walk.specs.ClimbLaws.{start-is}
 use Rattle.sheet_record.specs.Places.{commandAt, recordSize}
-use Rattle.sheet_record.specs.Entry.{Entry, entryOf, headerOf, isBridge, busOf, commandOf}
+use Rattle.sheet_record.specs.Entry.{entryOf, headerOf, isBridge, busOf, commandOf}
 use Rattle.sheet_record.specs.Spaces.{slotsOf, functionOf}
 use Rattle.sheet.specs.Sheet.{entriesFrom, entriesOf, commandsOf, partAt, sheetLength, recordAt, commandPlace}
-use Rattle.sheet.specs.Spaces.{functionsFrom, nodesFrom, registersOf}
-use Rattle.sheet.specs.IndexLaws.{length-part, record-fits, entries-index, functions-index, functions-end, length-entries, length-commands}
+use Rattle.sheet.specs.Spaces.{functionsFrom, registersOf}
+use Rattle.sheet.specs.IndexLaws.{length-part, record-fits, functions-index, functions-end, length-entries, length-commands}
 use Rattle.sheet.specs.IndexLaws.{command-index}
 use Rattle.sheet.specs.SheetLaws.{Checked, numbered-functions, lawful-index}
-use Rattle.route.specs.Route.{root}
 use Rattle.route_cards.specs.Sending.{masters, masterOf}
 use Rattle.route_cards.specs.Search.{partOf, functionAt, IsRecord, IsType0, Type0Told, startAnswer}
 
@@ -131,13 +130,6 @@ module _ (s : List ℕ) (c : Checked s) (number : ℕ) where
     pub part-fits : sheetLength (number - 1 + 1) ≤ length s
     part-fits = record-fits s (c .framed) (number - 1) inside
 
-    -- the first record is there
-    pub first-fits : sheetLength (0 + 1) ≤ length s
-    first-fits = record-fits s (c .framed) 0 (omega (arith, r .from-1, r .in-sheet))
-
-    pub first-sized : (f : List ℕ) → f ≡ partAt s 0 → length f ≡ recordSize
-    first-sized f e = ap length e ∙ length-part s 0 first-fits
-
     -- p is its part
     module _ (p : List ℕ) (e : p ≡ partOf s number) where
       pub sized : length p ≡ recordSize
@@ -178,10 +170,3 @@ module _ (s : List ℕ) (c : Checked s) (number : ℕ) (r : IsRecord s number) (
   pub bus-is : (space : Space) → functionAt space s number .node .bus ≡ busOf p
   unfolding entryOf
   bus-is space = ap busOf (sym e)
-
--- f is the first record's part
-pub root-is : (s : List ℕ) → Checked s → (number : ℕ) → IsRecord s number → (f : List ℕ) → f ≡ partAt s 0 → root s ≡ busOf f
-unfolding nodesFrom entryOf
-root-is s c number r f e =
-    ap (λ (es : List Entry). rootOf (nodesFrom 1 es)) (entries-index s (c .framed) 0 (omega (arith, r .from-1, r .in-sheet)))
-    ∙ ap busOf (sym e)

@@ -17,7 +17,7 @@ use Rattle.walk.specs.Climb.{sentOf as outcomeSent}
 use Rattle.walk.specs.ClimbLaws.{Falling, falling-of-bridges, climb-step, from-bus, further, walk-shift}
 use Rattle.sheet_record.specs.Entry.{entryOf, busOf, commandOf}
 use Rattle.sheet_record.specs.Spaces.{barsOf}
-use Rattle.sheet.specs.Sheet.{entriesOf, partAt, sheetNumber}
+use Rattle.sheet.specs.Sheet.{entriesOf, sheetNumber}
 use Rattle.sheet.specs.Spaces.{registersOf, enabledOf}
 use Rattle.sheet.specs.SheetLaws.{Checked, zero-of-checked, passes-of-zero, numbered-functions}
 use Rattle.claims.specs.declared.Aim.the-variants.{Address}
@@ -40,7 +40,7 @@ use Rattle.route_cards.specs.declared.Sending.the-variants.{Delivered, H
 use Rattle.route_cards.specs.Sending.{requestOf, masters, masterOf, answer, sendRequest, climbed, onRequest, sendPacket, fromSheet}
 use Rattle.route_cards.specs.Sending.{fromReading, sendingOf}
 use Rattle.route_cards.specs.Search.{partOf, functionAt, IsType0, Type0Told, startAnswer, anyHolds, upOf, sentOf}
-use Rattle.route_cards.specs.RecordLaws.{function-mem, start-of-type-0, type-0-no-bridge, master-is, bus-is, root-is}
+use Rattle.route_cards.specs.RecordLaws.{function-mem, start-of-type-0, type-0-no-bridge, master-is, bus-is}
 
 -- ## Down: document 01's walk, with the bridges crossed before it added
 
@@ -134,16 +134,15 @@ module _ (packet : Packet) (s : List ℕ) (c : Checked s) (number : ℕ) (type-0
       unfolding sendFrom
       own-bar o = rw (master-here ∙ y, bars-are ∙ o)
 
-      -- f is the first record's part
-      module _ (o : b ≡ false) (f : List ℕ) (first : f ≡ partAt s 0) (top : ℕ) (own : top ≡ busOf f) (bus : ℕ) (at : bus ≡ busOf p)
-          (r : Climbed) (done : sentOf r ≡ climbed space address s top bus 0) where
+      module _ (o : b ≡ false) (top : ℕ) (first : top ≡ root s) (bus : ℕ) (at : bus ≡ busOf p) (r : Climbed)
+          (done : sentOf r ≡ climbed space address s top bus 0) where
         sent-is : answer packet (climbed space address s top bus 0) ≡ sent
         unfolding sendFrom
         sent-is =
             rw (
               master-here ∙ y,
               bars-are ∙ o,
-              own ∙ sym (root-is s c number (type-0 .is-record) f first),
+              first,
               at ∙ sym
                   (bus-is s c number (type-0 .is-record) p e space),
             )

@@ -104,7 +104,7 @@ fn send_request(number: u16, p: Packet, sheet: &[u8], space: Space, address: u64
     if holds::bars_hold(part, space, address) {
         return Sending::Refused(40);
     }
-    let root = sheet_record::bus_of(sheet::part(sheet, 0));
+    let root = route::root_of(sheet);
     match climb(sheet, space, address, root, sheet_record::bus_of(part), 0) {
         Climbed::Arrives(owner, bridges) => Sending::Delivered(Arrival {
             owner: owner,

@@ -48,10 +48,11 @@ use Rattle.sheet.specs.IndexLaws.{entries-index}
 use Rattle.sheet.specs.Spaces.{nodesFrom, nodesOf}
 use Rattle.claims.specs.declared.Aim.the-variants.{Id}
 use Rattle.route_arrival.specs.Arrival.{kindWrong, arrived}
-use Rattle.route.specs.declared.Delivery.{Delivery}
-use Rattle.route.specs.declared.Routing.{Routing}
-use Rattle.route.specs.declared.Routing.the-variants.{Delivered}
-use Rattle.route.specs.Route.{answer, walked, root, from42, routePacket}
+use Rattle.route_answer.specs.declared.Delivery.{Delivery}
+use Rattle.route_answer.specs.declared.Routing.{Routing}
+use Rattle.route_answer.specs.declared.Routing.the-variants.{Delivered}
+use Rattle.route_answer.specs.Routing.{answer}
+use Rattle.route.specs.Route.{walked, root, from42, routePacket}
 use Rattle.walk_written.specs.Copied.{copied}
 use Rattle.walk_written.specs.Partly.{blank, masked, delivered-partly}
 use Rattle.script_writes.specs.declared.Boot.{Boot}

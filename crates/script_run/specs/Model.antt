@@ -15,8 +15,8 @@ use Rattle.tlp.specs.Reading.{readOf}
 use Rattle.sheet_record.specs.Places.{registersAt, register, headerTypeAt, readbacksAt}
 use Rattle.sheet.specs.Sheet.{recordAt}
 use Rattle.sheet.specs.Commands.{placeIn}
-use Rattle.route.specs.declared.Routing.{Routing}
-use Rattle.route.specs.declared.Routing.the-variants.{Delivered, Broadcast, Port, Refused}
+use Rattle.route_answer.specs.declared.Routing.{Routing}
+use Rattle.route_answer.specs.declared.Routing.the-variants.{Delivered, Broadcast, Port, Refused}
 use Rattle.route.specs.Route.{routePacket}
 use Rattle.script_writes.specs.Writes.{named}
 

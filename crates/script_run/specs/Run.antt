@@ -11,7 +11,7 @@ use Rattle.board.specs.Board.{functionsOf}
 use Rattle.board.specs.ToPlacing.{toPlacing}
 use Rattle.tlp.specs.declared.Reading.the-variants.{Accepted}
 use Rattle.tlp.specs.Reading.{readOf}
-use Rattle.route.specs.declared.Routing.the-variants.{Delivered}
+use Rattle.route_answer.specs.declared.Routing.the-variants.{Delivered}
 use Rattle.route.specs.Route.{routePacket}
 use Rattle.script_writes.specs.Writes.{Write}
 use Rattle.script_writes.specs.Script.{packetWith, packetOf, fourOf}

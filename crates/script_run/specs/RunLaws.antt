@@ -27,8 +27,8 @@ use Rattle.plan_answer.specs.declared.Planning.the-variants.{Planned}
 use Rattle.plan_answer.specs.Plan.{planning}
 use Rattle.plan_sheet.specs.Answer.{AnswersPlanned, planned-of-answer}
 use Rattle.plan_sheet.specs.Delivery.{sheetOutcome}
-use Rattle.route.specs.declared.Delivery.{Delivery}
-use Rattle.route.specs.declared.Routing.the-variants.{Delivered}
+use Rattle.route_answer.specs.declared.Delivery.{Delivery}
+use Rattle.route_answer.specs.declared.Routing.the-variants.{Delivered}
 use Rattle.route.specs.Route.{routePacket}
 use Rattle.script_writes.specs.declared.Boot.{Boot}
 use Rattle.script_writes.specs.Writes.{Write, writesOf}

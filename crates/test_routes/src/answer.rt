@@ -1,8 +1,8 @@
 // The answer to a line of the script, put into lent bytes from their start.
 use packet::Packet;
 use plan_answer::Planning;
-use route::Delivery;
-use route::Routing;
+use route_answer::Delivery;
+use route_answer::Routing;
 use route_cards::Arrival;
 use route_cards::Sending;
 use sheet::Lookup;

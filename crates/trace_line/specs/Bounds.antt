@@ -44,9 +44,10 @@ use Rattle.claims.specs.Claims.{tallyFor}
 use Rattle.route_arrival.specs.declared.Heading.{Heading}
 use Rattle.route_arrival.specs.declared.Heading.the-variants.{Aimed, Up, Every, Port as ToPort}
 use Rattle.route_arrival.specs.Arrival.{headingOf, typeWrong}
-use Rattle.route.specs.declared.Routing.{Routing}
-use Rattle.route.specs.declared.Routing.the-variants.{Delivered, Broadcast, Port, Refused}
-use Rattle.route.specs.Route.{wrongType, answer, walked, root, headedOver, typedOver, routeOver, from42}
+use Rattle.route_answer.specs.declared.Routing.{Routing}
+use Rattle.route_answer.specs.declared.Routing.the-variants.{Delivered, Broadcast, Port, Refused}
+use Rattle.route_answer.specs.Routing.{wrongType, answer, headedOver, typedOver, routeOver}
+use Rattle.route.specs.Route.{walked, root, from42}
 use Rattle.route.specs.Route.{routePacket, fromSheet, fromReading, routeOf}
 use Rattle.index_rule.specs.Owners.{keyOf, inReach}
 use Rattle.index_rule.specs.Search.{isOver, answerAt}

@@ -5,7 +5,7 @@ use mathlib.Core.Path.{_≡_}
 use mathlib.Core.List.{List}
 use Rattle.packet.specs.declared.Packet.{Packet}
 use Rattle.sheet.specs.Sheet.{sheetNumber}
-use Rattle.route.specs.declared.Routing.{Routing}
+use Rattle.route_answer.specs.declared.Routing.{Routing}
 use Rattle.route.specs.Route.{fromSheet, routeOf}
 use Rattle.index_search.specs.Search.{searchPacket, searchOf}
 use Rattle.trace_line.specs.declared.Engine.{Engine}

@@ -19,8 +19,8 @@ use Rattle.packet_text.specs.Labels.{kindText, named}
 use Rattle.tlp.specs.declared.Reading.{Reading}
 use Rattle.tlp.specs.declared.Reading.the-variants.{Accepted, Refused as NotRead}
 use Rattle.tlp.specs.Reading.{readOf}
-use Rattle.route.specs.declared.Routing.{Routing}
-use Rattle.route.specs.Route.{answer}
+use Rattle.route_answer.specs.declared.Routing.{Routing}
+use Rattle.route_answer.specs.Routing.{answer}
 use Rattle.index_search.specs.Search.{outcomeBy, searchOf}
 use Rattle.trace_line.specs.declared.Engine.{Engine}
 use Rattle.trace_line.specs.declared.Engine.the-variants.{Index}

@@ -21,8 +21,8 @@ use Rattle.tlp.specs.declared.Reading.the-variants.{Accepted, Refused as NotRea
 use Rattle.tlp.specs.Reading.{readOf}
 use Rattle.tlp.specs.FrontLaws.{read-front}
 use Rattle.sheet.specs.Sheet.{sheetNumber}
-use Rattle.route.specs.declared.Routing.{Routing}
-use Rattle.route.specs.declared.Routing.the-variants.{Delivered, Broadcast, Port, Refused}
+use Rattle.route_answer.specs.declared.Routing.{Routing}
+use Rattle.route_answer.specs.declared.Routing.the-variants.{Delivered, Broadcast, Port, Refused}
 use Rattle.route.specs.Route.{routePacket, fromSheet, fromReading, routeOf}
 use Rattle.index_search.specs.Search.{searchOf}
 use Rattle.trace_line.specs.declared.Engine.{Engine}

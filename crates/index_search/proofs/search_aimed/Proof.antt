@@ -39,17 +39,17 @@ returns-2 c =
     (not-false (reached .before .in-reach .result) (reached .if1 .left)) _ _ (key .key-of .ensures .0) (word .word-over .ensures)
     (sym (read .record-in .ensures .0) ∙ c .if2 .taken)
 
-cast-t11 : tie.Need-cast-t11
-cast-t11 c = search needs
+cast-deliver : tie.Need-cast-deliver
+cast-deliver c = search needs
 
 bridges-in-requires : tie.Need-bridges-in-requires
 bridges-in-requires c κs = search needs
 
-cast-t13 : tie.Need-cast-t13
-cast-t13 c = search needs
+cast-deliver-2 : tie.Need-cast-deliver-2
+cast-deliver-2 c = search needs
 
-arrived-requires : tie.Need-arrived-requires
-arrived-requires c κs = search needs
+deliver-requires : tie.Need-deliver-requires
+deliver-requires c κs = search needs
 
 returns-3 : tie.Need-returns-3
 returns-3 c =
@@ -63,7 +63,7 @@ returns-3 c =
     rw (read .record-in .ensures .0, bridges .bridges-in .ensures .0)
     (aimed-at-owner (entry .args .p) _ _ (entry .args .aim) _ (reached .before .in-reach .ensures)
     (not-false (reached .before .in-reach .result) (reached .if1 .left)) _ _ (key .key-of .ensures .0) (word .word-over .ensures)
-    (λ z. some .if2 .left (read .record-in .ensures .0 ∙ z)) _ (c .arrived .ensures))
+    (λ z. some .if2 .left (read .record-in .ensures .0 ∙ z)) _ (c .deliver .ensures))
 
 pub search-aimed-spec : {M : Type 1} → statement M
 search-aimed-spec =
@@ -76,8 +76,8 @@ search-aimed-spec =
     word-over-requires
     record-in-requires
     returns-2
-    cast-t11
+    cast-deliver
     bridges-in-requires
-    cast-t13
-    arrived-requires
+    cast-deliver-2
+    deliver-requires
     returns-3)

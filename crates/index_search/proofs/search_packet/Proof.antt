@@ -1,98 +1,77 @@
--- `index_search::search_packet`: no functions, then the type by the root bus, then where the packet is headed. Assumes nothing.
-use native.Mathlib.Omega.{arith}
+-- `index_search::search_packet`: by the checks before the search, or what the index has for its key. Assumes nothing.
 use borrow.Author.Needs.{needs}
-use Rattle.index_search.specs.AnswerLaws.{Past, functions-fit, no-functions, wrong-type, past-checks}
-use Rattle.index_search.specs.AnswerLaws.{headed-by-aim, headed-up, headed-to-every, headed-to-port}
+use mathlib.Core.Path.{subst}
+use Rattle.route_answer.specs.declared.Next.{Next}
+use Rattle.route_answer.specs.Routing.{Goes}
+use Rattle.route_answer.specs.OnwardLaws.{some-functions, answered, looked-for}
+use Rattle.index_search.specs.Search.{outcomeOver}
+use Rattle.index_search.specs.AnswerLaws.{functions-fit, over-index}
 use Rattle.index_search.proofs.search_packet.Statement.{statement}
 use Rattle.index_search.proofs.search_packet.Tie as tie
 
 functions-in-requires : tie.Need-functions-in-requires
 functions-in-requires c κs = search needs
 
-returns : tie.Need-returns
-returns c = no-functions (c .before .before .before .args .p) _ _ (c .before .functions-in .ensures .0) (c .if1 .taken)
+cast-onward : tie.Need-cast-onward
+cast-onward c = search needs
 
-shared-slice-read-type-wrong : tie.Need-shared-slice-read-type-wrong
-shared-slice-read-type-wrong c =
-    let room = functions-fit _ _ (c .before .before .functions-in .ensures .0) (c .before .if1 .left) in
-    omega (arith, room)
+root-in-requires : tie.Need-root-in-requires
+root-in-requires c κs = search needs
 
-type-wrong-requires : tie.Need-type-wrong-requires
-type-wrong-requires c κs = search needs
-
-returns-2 : tie.Need-returns-2
-returns-2 c =
-    let typed = c .before in
-    let some = typed .before .before in
-    let counted = some .before in
-    wrong-type (counted .before .before .args .p) _ _ (counted .functions-in .ensures .0) (some .if1 .left) _ (typed .type-wrong .ensures)
-    (c .if2 .taken)
-
-heading-of-requires : tie.Need-heading-of-requires
-heading-of-requires c κs = search needs
+onward-requires : tie.Need-onward-requires
+onward-requires c κs = search needs
 
 enum-known-aim : tie.Need-enum-known-aim
 enum-known-aim c = search needs
 
 search-aimed-requires : tie.Need-search-aimed-requires
 search-aimed-requires c κs =
-    let some = c .before .before .before .before .before .before .before in
-    functions-fit _ _ (some .before .functions-in .ensures .0) (some .if1 .left)
+    let aimed = c .before in
+    let next = aimed .before .before in
+    let rooted = next .before in
+    let counted = rooted .before in
+    let p = counted .before .before .args .p in
+    let n = counted .functions-in .result in
+    let top = rooted .root-in .result in
+    functions-fit _ _ (counted .functions-in .ensures .0)
+    (some-functions p n top _ (subst (Goes p n top) (aimed .aim .given .1) (next .onward .ensures)))
 
-enum-told : tie.Need-enum-told
-enum-told c = search needs
+enum-known-r : tie.Need-enum-known-r
+enum-known-r c = search needs
 
-enum-told-2 : tie.Need-enum-told-2
-enum-told-2 c = search needs
+returns : tie.Need-returns
+returns c =
+    let next = c .before .before .before .before in
+    let rooted = next .before in
+    let counted = rooted .before in
+    let entry = counted .before .before in
+    let n = counted .functions-in .result in
+    looked-for (entry .args .p) n (rooted .root-in .result) _ (next .onward .ensures)
+    (λ aim. outcomeOver (entry .args .index .now) n aim)
+    (over-index (entry .args .p) _ _ _ (counted .functions-in .ensures .0) (rooted .root-in .ensures)) _
+    (c .before .before .aim .given .1) _ (c .search-aimed .ensures)
 
-cast-t11 : tie.Need-cast-t11
-cast-t11 c = search needs
-
-enum-told-3 : tie.Need-enum-told-3
-enum-told-3 c = search needs
-
--- no check has refused the packet
-past : (c : tie.After-heading-of)
-    → Past (c .before .before .before .before .before .before .before .args .p)
-    (c .before .before .before .before .before .before .before .args .index .now)
-    (c .before .before .before .before .before .functions-in .result) (c .heading-of .result)
-past c =
-    let right = c .before in
-    let typed = right .before in
-    let some = typed .before .before in
-    let counted = some .before in
-    past-checks (counted .before .before .args .p) _ _ (counted .functions-in .ensures .0) (some .if1 .left) _ (typed .type-wrong .ensures)
-    (right .if2 .left) _ (c .heading-of .ensures)
-
-returns-3 : tie.Need-returns-3
-returns-3 c = headed-by-aim (past (c .before .before .before .before)) _ _ (c .before .before .aim .given .1) (c .search-aimed .ensures)
-
-returns-4 : tie.Need-returns-4
-returns-4 c = headed-up (past (c .before .before)) (c .enum-told .given .1)
-
-returns-5 : tie.Need-returns-5
-returns-5 c = headed-to-every (past (c .before .before)) (c .enum-told2 .given .1)
-
-returns-6 : tie.Need-returns-6
-returns-6 c = headed-to-port (past (c .before .before)) (c .enum-told3 .given .1)
+returns-2 : tie.Need-returns-2
+returns-2 c =
+    let next = c .before .before .before in
+    let rooted = next .before in
+    let counted = rooted .before in
+    let entry = counted .before .before in
+    let n = counted .functions-in .result in
+    answered (entry .args .p) n (rooted .root-in .result) _ (next .onward .ensures)
+    (λ aim. outcomeOver (entry .args .index .now) n aim)
+    (over-index (entry .args .p) _ _ _ (counted .functions-in .ensures .0) (rooted .root-in .ensures)) _ (c .before .r .given .1)
 
 pub search-packet-spec : {M : Type 1} → statement M
 search-packet-spec =
     tie.close
     (tie.spec
     functions-in-requires
-    returns
-    shared-slice-read-type-wrong
-    type-wrong-requires
-    returns-2
-    heading-of-requires
+    cast-onward
+    root-in-requires
+    onward-requires
     enum-known-aim
     search-aimed-requires
-    enum-told
-    enum-told-2
-    cast-t11
-    enum-told-3
-    returns-3
-    returns-4
-    returns-5
-    returns-6)
+    enum-known-r
+    returns
+    returns-2)

@@ -4,7 +4,7 @@ use native.Mathlib.Omega.{arith}
 use lib.ListN.{length}
 use borrow.Author.Tests.{not-true, not-false}
 use Rattle.sheet_record.specs.Places.{recordSize}
-use Rattle.route_cards.specs.RecordLaws.{part-fits, first-fits, first-sized, sized, lawful}
+use Rattle.route_cards.specs.RecordLaws.{part-fits, sized, lawful}
 use Rattle.route_cards.specs.StepLaws.{start-unmastered, own-bar, sent-delivered, sent-to-host, sent-refused}
 use borrow.Author.Needs.{needs}
 use Rattle.route_cards.proofs.send_request.Statement.{statement}
@@ -46,20 +46,14 @@ returns-2 c =
     own-bar (entry .args .p) _ (entry .pre .0) _ (entry .pre .1) (entry .args .space) (entry .args .address) _ (parted .part .ensures) _
     (mastered .is-master .ensures) (not-false _ (passed .if1 .left)) _ (c .before .bars-hold .ensures) (c .if2 .taken)
 
-part-requires-2 : tie.Need-part-requires-2
-part-requires-2 c κs =
-    let entry = c .before .before .before .before .before .before in first-fits _ (entry .pre .0) _ (entry .pre .1 .is-record)
+root-of-requires : tie.Need-root-of-requires
+root-of-requires c κs = c .before .before .before .before .before .before .pre .0
 
 bus-of-requires : tie.Need-bus-of-requires
-bus-of-requires c κs =
-    let entry = c .before .before .before .before .before .before .before in
-    first-sized _ (entry .pre .0) _ (entry .pre .1 .is-record) _ (c .part2 .ensures)
-
-bus-of-requires-2 : tie.Need-bus-of-requires-2
-bus-of-requires-2 c κs = whole (c .before .before .before .before .before .before)
+bus-of-requires c κs = whole (c .before .before .before .before .before)
 
 climb-requires : tie.Need-climb-requires
-climb-requires c κs = (c .before .before .before .before .before .before .before .before .before .pre .0, omega arith)
+climb-requires c κs = (c .before .before .before .before .before .before .before .before .pre .0, omega arith)
 
 enum-known-owner : tie.Need-enum-known-owner
 enum-known-owner c = search needs
@@ -75,8 +69,7 @@ returns-3 c =
     let done = c .before .before .before in
     let owned = done .before in
     let topped = owned .before in
-    let first = topped .before in
-    let clear = first .before in
+    let clear = topped .before in
     let held = clear .before in
     let passed = held .before in
     let mastered = passed .before in
@@ -85,16 +78,14 @@ returns-3 c =
     sent-delivered (entry .args .p) _ (entry .pre .0) _ (entry .pre .1) (entry .args .space) (entry .args .address) _
     (parted .part .ensures) _
     (mastered .is-master .ensures) (not-false _ (passed .if1 .left)) _ (held .bars-hold .ensures) (clear .if2 .left) _
-    (first .part2 .ensures) _
-    (topped .bus-of .ensures) _ (owned .bus-of2 .ensures) (done .climb .result) (done .climb .ensures) _ _ (c .before .owner .given .1)
+    (topped .root-of .ensures) _ (owned .bus-of .ensures) (done .climb .result) (done .climb .ensures) _ _ (c .before .owner .given .1)
 
 returns-4 : tie.Need-returns-4
 returns-4 c =
     let done = c .before .before .before in
     let owned = done .before in
     let topped = owned .before in
-    let first = topped .before in
-    let clear = first .before in
+    let clear = topped .before in
     let held = clear .before in
     let passed = held .before in
     let mastered = passed .before in
@@ -103,16 +94,14 @@ returns-4 c =
     sent-to-host (entry .args .p) _ (entry .pre .0) _ (entry .pre .1) (entry .args .space) (entry .args .address) _ (parted .part .ensures)
     _
     (mastered .is-master .ensures) (not-false _ (passed .if1 .left)) _ (held .bars-hold .ensures) (clear .if2 .left) _
-    (first .part2 .ensures) _
-    (topped .bus-of .ensures) _ (owned .bus-of2 .ensures) (done .climb .result) (done .climb .ensures) _ (c .before .bridges .given .1)
+    (topped .root-of .ensures) _ (owned .bus-of .ensures) (done .climb .result) (done .climb .ensures) _ (c .before .bridges .given .1)
 
 returns-5 : tie.Need-returns-5
 returns-5 c =
     let done = c .before .before .before in
     let owned = done .before in
     let topped = owned .before in
-    let first = topped .before in
-    let clear = first .before in
+    let clear = topped .before in
     let held = clear .before in
     let passed = held .before in
     let mastered = passed .before in
@@ -121,8 +110,7 @@ returns-5 c =
     sent-refused (entry .args .p) _ (entry .pre .0) _ (entry .pre .1) (entry .args .space) (entry .args .address) _ (parted .part .ensures)
     _
     (mastered .is-master .ensures) (not-false _ (passed .if1 .left)) _ (held .bars-hold .ensures) (clear .if2 .left) _
-    (first .part2 .ensures) _
-    (topped .bus-of .ensures) _ (owned .bus-of2 .ensures) (done .climb .result) (done .climb .ensures) _ (c .before .n .given .1)
+    (topped .root-of .ensures) _ (owned .bus-of .ensures) (done .climb .result) (done .climb .ensures) _ (c .before .n .given .1)
 
 pub send-request-spec : {M : Type 1} → statement M
 send-request-spec =
@@ -134,9 +122,8 @@ send-request-spec =
     returns
     bars-hold-requires
     returns-2
-    part-requires-2
+    root-of-requires
     bus-of-requires
-    bus-of-requires-2
     climb-requires
     enum-known-owner
     enum-known-bridges
