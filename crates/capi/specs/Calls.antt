@@ -26,7 +26,7 @@ use Rattle.plan_answer.specs.declared.Planning.{Planning}
 use Rattle.plan_answer.specs.declared.Planning.the-variants.{Planned, Refused as NotPlanned}
 use Rattle.plan_answer.specs.Plan.{planning, sheetAfter}
 use Rattle.capi_answers.specs.Answers.{Answer, refuses, gives, leftBeside}
-use Rattle.capi_find.specs.Calls.{onRouting}
+use Rattle.capi_routing.specs.Routing.{onRouting}
 
 -- 0.24.0: 10,000 times the major number, 100 times the minor one, the patch
 abbrev pub versionNumber : ℕ

@@ -44,18 +44,19 @@ use Rattle.plan_answer.specs.declared.Planning.{Planning}
 use Rattle.plan_answer.specs.declared.Planning.the-variants.{Planned, Refused as NotPlanned}
 use Rattle.plan_answer.specs.Plan.{onRoom, onBoard, planning, numberOf as planningNumber, sheetAfter}
 use Rattle.route_list.specs.Counted.{counted}
-use Rattle.route.specs.declared.Routing.{Routing}
-use Rattle.route.specs.declared.Routing.the-variants.{Delivered, Broadcast, Port, Refused as NotDelivered}
+use Rattle.route_answer.specs.declared.Routing.{Routing}
+use Rattle.route_answer.specs.declared.Routing.the-variants.{Delivered, Broadcast, Port, Refused as NotDelivered}
 use Rattle.route.specs.Route.{routeOf}
 use Rattle.route.specs.Listed.{listOf}
 use Rattle.route.specs.ListedLaws.{list-of-broadcast}
 use Rattle.index_search.specs.Search.{searchOf}
 use Rattle.index_build.specs.Build.{buildNumber, indexAfter}
 use Rattle.index_build.specs.BuiltLaws.{search-is-route}
-use Rattle.capi_answers.specs.Answers.{refuses, gives, returned, filled, leftBeside}
+use Rattle.capi_answers.specs.Answers.{Answer, refuses, gives, returned, filled, leftBeside}
 use Rattle.capi_answers.specs.AnswersLaws.{Answered, answered-short}
 use Rattle.capi.specs.Calls.{onWriting, onParsed, roomOf, unownedOf, word, commandNumber, commandLeft, onPlanning, planAnswer}
-use Rattle.capi_find.specs.Calls.{onRouting, findAnswer}
+use Rattle.capi_routing.specs.Routing.{onRouting}
+use Rattle.capi_find.specs.Calls.{findAnswer}
 use Rattle.capi.specs.Calls.{sheetLeft, routeAnswer}
 
 -- the number with no room for the answer
@@ -228,16 +229,9 @@ module _ (board sheet written : List ℕ) where
 
 -- ## Routing
 
--- a broadcast's answer has the numbers 1 to the count
-pub answer-broadcast : (header s : List ℕ) (n : ℕ) (p : Packet) → routeOf header s ≡ Broadcast n p
-    → gives (0 ∷ n ∷ (numbersOf p ++ counted 1 n)) ≡ routeAnswer header s
-answer-broadcast header s n p e =
-    ap (λ (list : List ℕ). gives (0 ∷ n ∷ (numbersOf p ++ list))) (sym (list-of-broadcast header s n p e))
-    ∙ ap (λ (r : Routing). onRouting r (λ n. listOf s)) (sym e)
-
--- where an index finds what the router answers over a sheet, the two calls answer the same
-pub find-agrees : (header ix s : List ℕ) → searchOf header ix ≡ routeOf header s → findAnswer header ix ≡ routeAnswer header s
-find-agrees header ix s e = ap (λ (r : Routing). onRouting r (counted 1)) e ∙ go (routeOf header s) refl
+-- a broadcast's list has the numbers 1 to the count
+answer-over-sheet : (header s : List ℕ) → onRouting (routeOf header s) (counted 1) ≡ routeAnswer header s
+answer-over-sheet header s = go (routeOf header s) refl
   where
     go : (r : Routing) → routeOf header s ≡ r → onRouting r (counted 1) ≡ onRouting r (λ n. listOf s)
     go (Delivered d) f = refl
@@ -245,6 +239,17 @@ find-agrees header ix s e = ap (λ (r : Routing). onRouting r (counted 1)) e ∙
         ap (λ (list : List ℕ). gives (0 ∷ n ∷ (numbersOf p ++ list))) (sym (list-of-broadcast header s n p f))
     go (Port p) f = refl
     go (NotDelivered n) f = refl
+
+-- o is what the router answers
+pub route-answered : (header s slice : List ℕ) (o : Routing) → o ≡ routeOf header s → (r : ℕ) (after : List ℕ)
+    → Answered (onRouting o (counted 1)) slice r after → Answered (routeAnswer header s) slice r after
+route-answered header s slice o e r after given =
+    let same = ap (λ (x : Routing). onRouting x (counted 1)) e ∙ answer-over-sheet header s in
+    (given .0 ∙ ap (λ (a : Answer). returned a slice) same, given .1 ∙ ap (λ (a : Answer). filled a slice) same)
+
+-- where an index finds what the router answers over a sheet, the two calls answer the same
+pub find-agrees : (header ix s : List ℕ) → searchOf header ix ≡ routeOf header s → findAnswer header ix ≡ routeAnswer header s
+find-agrees header ix s e = ap (λ (r : Routing). onRouting r (counted 1)) e ∙ answer-over-sheet header s
 
 -- the index that a build left finds every header as the router does over its sheet: number, record, bridges, packet and list
 pub find-is-route : (host s slice header : List ℕ) → Bytes host → Bytes s → buildNumber host s (length slice) ≡ 0

@@ -46,9 +46,10 @@ use Rattle.claims.specs.Claims.{tallyFor}
 use Rattle.route_arrival.specs.declared.Heading.{Heading}
 use Rattle.route_arrival.specs.declared.Heading.the-variants.{Aimed, Up, Every, Port as ToPort}
 use Rattle.route_arrival.specs.Arrival.{headingOf, typeWrong}
-use Rattle.route.specs.declared.Routing.{Routing}
-use Rattle.route.specs.declared.Routing.the-variants.{Refused as NotDelivered}
-use Rattle.route.specs.Route.{answer, walked, root, headedOver, typedOver, routeOver, from42, routePacket, fromSheet, fromReading}
+use Rattle.route_answer.specs.declared.Routing.{Routing}
+use Rattle.route_answer.specs.declared.Routing.the-variants.{Refused as NotDelivered}
+use Rattle.route_answer.specs.Routing.{answer, headedOver, typedOver, routeOver}
+use Rattle.route.specs.Route.{walked, root, from42, routePacket, fromSheet, fromReading}
 use Rattle.route.specs.Route.{routeOf}
 use Rattle.route.specs.Listed.{listOf}
 use Rattle.route_list.specs.Counted.{counted}
@@ -77,7 +78,8 @@ use Rattle.capi_cards.specs.Numbered.{NumberedOutcome, numbered-walk, numbered-
 use Rattle.capi_script.specs.Calls.{scriptAnswer}
 use Rattle.capi_script.specs.Refused.{script-numbered}
 use Rattle.capi.specs.Calls.{onReading, readAnswer, onWriting, onParsed, writeAnswer, onLookup, lookupAnswer}
-use Rattle.capi_find.specs.Calls.{onRouting, findAnswer}
+use Rattle.capi_routing.specs.Routing.{onRouting}
+use Rattle.capi_find.specs.Calls.{findAnswer}
 use Rattle.capi.specs.Calls.{onRecordId, idAnswer, routeAnswer}
 use Rattle.capi.specs.Calls.{onPlanning, planAnswer}
 

@@ -22,7 +22,6 @@ ghost use Rattle.capi.specs.Calls.{commandNumber, commandLeft, routeAnsw
 use packet::Packet;
 use packet_numbers::Parsed;
 use plan_answer::Planning;
-use route::Routing;
 use sheet::Lookup;
 use sheet::RecordId;
 use tlp::Reading;
@@ -166,17 +165,7 @@ pub extern "C" fn cartsundial_route(header: &[u8], sheet: &[u8], answer: &mut [u
     ensures { λ r. ⌜ r ≡ returned (routeAnswer (now (header .entry)) (now (sheet .entry))) (now (answer .entry)) ⌝ }
     ensures { λ _. ⌜ now (answer .exit) ≡ filled (routeAnswer (now (header .entry)) (now (sheet .entry))) (now (answer .entry)) ⌝ }
 {
-    match route::route(header, sheet) {
-        Routing::Delivered(d) => {
-            let p = d.packet;
-            capi_answers::give_delivery(d.owner as u64, d.bridges as u64, p, answer)
-        }
-        Routing::Broadcast(functions, p) => {
-            capi_answers::give_broadcast(functions as usize, p, answer)
-        }
-        Routing::Port(p) => capi_answers::give_delivery(0, 0, p, answer),
-        Routing::Refused(n) => n as u32,
-    }
+    capi_routing::give_routing(route::route(header, sheet), answer)
 }
 
 // Walks a request that starts at a function of the sheet, by its record number: the answer is that of a route, with the bridges crossed up

@@ -1,100 +1,24 @@
 -- `capi::cartsundial_route` meets its contract: by what the router answers. Assumes nothing.
 use borrow.Author.Needs.{needs}
-use mathlib.Core.Path.{sym, ap, _∙_}
-use Rattle.capi_answers.specs.Answers.{Answer, returned, filled}
-use Rattle.capi.specs.CallsLaws.{answer-broadcast}
+use Rattle.capi.specs.CallsLaws.{route-answered}
 use Rattle.capi.proofs.cartsundial_route.Statement.{statement}
 use Rattle.capi.proofs.cartsundial_route.Tie as tie
 
 route-requires : tie.Need-route-requires
 route-requires c κs = search needs
 
-enum-known-d : tie.Need-enum-known-d
-enum-known-d c = search needs
-
-cast-give-delivery : tie.Need-cast-give-delivery
-cast-give-delivery c = search needs
-
-cast-give-delivery-2 : tie.Need-cast-give-delivery-2
-cast-give-delivery-2 c = search needs
-
-give-delivery-requires : tie.Need-give-delivery-requires
-give-delivery-requires c κs = search needs
-
-enum-known-functions : tie.Need-enum-known-functions
-enum-known-functions c = search needs
-
-cast-give-broadcast : tie.Need-cast-give-broadcast
-cast-give-broadcast c = search needs
-
-give-broadcast-requires : tie.Need-give-broadcast-requires
-give-broadcast-requires c κs = search needs
-
-enum-known-p : tie.Need-enum-known-p
-enum-known-p c = search needs
-
-give-delivery-requires-2 : tie.Need-give-delivery-requires-2
-give-delivery-requires-2 c κs = search needs
-
-enum-known-n : tie.Need-enum-known-n
-enum-known-n c = search needs
-
-cast-result : tie.Need-cast-result
-cast-result c = search needs
+give-routing-requires : tie.Need-give-routing-requires
+give-routing-requires c κs = search needs
 
 same-length : tie.Need-same-length
 same-length c = search needs
 
 returns : tie.Need-returns
 returns c =
-    let delivered = c .before .before .before .before .before .before .before in
-    rw (sym (delivered .before .before .route .ensures) ∙ delivered .d .given .1) (c .before .before .give-delivery .ensures)
-
-same-length-2 : tie.Need-same-length-2
-same-length-2 c = search needs
-
-returns-2 : tie.Need-returns-2
-returns-2 c =
-    let given = c .before .before .give-broadcast .ensures in
-    let broadcast = c .before .before .before .before .before in
-    let route = broadcast .before .before in
-    let start = route .before .before .before .before .args in
-    let slice = start .answer .now in
-    let e = sym (route .route .ensures) ∙ broadcast .functions .given .1 in
-    let same = answer-broadcast (start .header .now) (start .sheet .now) _ _ e in
-    (given .0 ∙ ap (λ (a : Answer). returned a slice) same, given .1 ∙ ap (λ (a : Answer). filled a slice) same)
-
-same-length-3 : tie.Need-same-length-3
-same-length-3 c = search needs
-
-returns-3 : tie.Need-returns-3
-returns-3 c =
-    let port = c .before .before .before .before .before in
-    rw (sym (port .before .before .route .ensures) ∙ port .p .given .1) (c .before .before .give-delivery2 .ensures)
-
-returns-4 : tie.Need-returns-4
-returns-4 c = let e = sym (c .before .before .before .route .ensures) ∙ c .before .n .given .1 in (rw e, rw e)
+    let given = c .before .before in
+    let routed = given .before .before in
+    route-answered _ _ (routed .before .before .before .before .args .answer .now) _ (routed .route .ensures) _ _
+    (given .give-routing .ensures)
 
 pub cartsundial-route-spec : {M : Type 1} → statement M
-cartsundial-route-spec =
-    tie.close
-    (tie.spec
-    route-requires
-    enum-known-d
-    cast-give-delivery
-    cast-give-delivery-2
-    give-delivery-requires
-    enum-known-functions
-    cast-give-broadcast
-    give-broadcast-requires
-    enum-known-p
-    give-delivery-requires-2
-    enum-known-n
-    cast-result
-    same-length
-    returns
-    same-length-2
-    returns-2
-    same-length-3
-    returns-3
-    returns-4)
+cartsundial-route-spec = tie.close (tie.spec route-requires give-routing-requires same-length returns)
