@@ -1,5 +1,6 @@
--- What the program does step by step prints what the definition says: a host record, the two bytes of a length, a sheet, then the trace in
--- pieces by the sheet's index, wherever the cuts fall. Assumes nothing.
+-- What the definition says of an input, told step by step as the program goes: a host record, the two bytes of a length, a sheet, then the
+-- lines of the trace's pieces by the sheet's index, wherever the cuts fall, and of its end. That the body prints these, each once and in
+-- order, is in no contract (as of the annotator), and tests/label compares. Assumes nothing.
 use mathlib.Core.Path.{_≡_, sym, ap, _∙_}
 use mathlib.Core.Bool.{true, false}
 use mathlib.Core.List.{List, _∷_, _++_, flatten}

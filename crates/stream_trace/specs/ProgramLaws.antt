@@ -1,5 +1,6 @@
--- What the program does step by step prints what the definition says: the two bytes of a length, then a sheet, then the trace in pieces,
--- wherever the cuts fall. Assumes nothing.
+-- What the definition says of an input, told step by step as the program goes: the two bytes of a length, then a sheet, then the lines of
+-- the trace's pieces, wherever the cuts fall, and of its end. What is left to be printed after each piece is in the contracts of `feed_by`
+-- and `finish`; that the body prints each once, in order, is in no contract, and tests/annotate compares. Assumes nothing.
 use mathlib.Core.Path.{_≡_, refl, sym, ap, _∙_}
 use mathlib.Core.Bool.{Bool, true, false, cond}
 use mathlib.Core.List.{List, [], _∷_, _++_, flatten}
