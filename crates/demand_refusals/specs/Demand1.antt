@@ -15,13 +15,14 @@ use Rattle.plan_answer.specs.declared.Planning.the-variants.{Refused as NotPlan
 use Rattle.plan_answer.specs.Plan.{planning, sheetAfter}
 use Rattle.board_feed.specs.declared.Feed.{Feed}
 use Rattle.board_feed.specs.Feed.{planningOf, sheetOf}
-use Rattle.route.specs.declared.Routing.the-variants.{Refused}
+use Rattle.route_answer.specs.declared.Routing.the-variants.{Refused}
 use Rattle.route.specs.Route.{routeOf}
-use Rattle.route.specs.Listed.{onRoom, listAfter}
+use Rattle.route_answer.specs.Listed.{onRoom, listedAfter}
+use Rattle.route.specs.Listed.{listAfter}
 use Rattle.trace.specs.declared.Trace.{Trace}
 use Rattle.trace.specs.Feed.{fedOf, fedPut, finishedOf, finishedPut}
 use Rattle.index_build.specs.Build.{buildNumber, indexAfter}
-use Rattle.index_search.specs.Search.{searchOf, listedAfter}
+use Rattle.index_search.specs.Search.{searchOf}
 use Rattle.ledger.specs.Ledger.{openNumber, openAfter, completeNumber, completeAfter}
 use Rattle.scripter.specs.declared.Scripting.the-variants.{Refused as NotScripted}
 use Rattle.scripter.specs.Scripting as scripter

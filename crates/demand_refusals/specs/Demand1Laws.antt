@@ -16,13 +16,13 @@ use Rattle.plan_answer.specs.declared.Planning.the-variants.{Refused as NotPlan
 use Rattle.plan_answer.specs.Plan.{planning, sheetAs, sheetAfter}
 use Rattle.board_feed.specs.declared.Feed.{Feed}
 use Rattle.board_feed.specs.Feed.{isLong, frameNumber, planningOf, sheetOf}
-use Rattle.route.specs.declared.Routing.{Routing}
+use Rattle.route_answer.specs.declared.Routing.{Routing}
 use Rattle.route.specs.Listed.{listAfter}
 use Rattle.trace.specs.declared.Trace.{Trace}
 use Rattle.trace.specs.declared.Finished.{Finished}
 use Rattle.trace.specs.Trace.{linesOf, endLine}
 use Rattle.trace.specs.Feed.{textPut, takenFed, refusedFed, fedOf, fedPut, endedOf, finishedOf, finishedPut}
-use Rattle.index_search.specs.Search.{listedAfter}
+use Rattle.route_answer.specs.Listed.{listedAfter}
 use Rattle.ledger.specs.Ledger.{openingOf, completingOf}
 use Rattle.ledger.specs.SentencesLaws.{refused-same}
 use Rattle.scripter.specs.declared.Scripting.{Scripting}

@@ -18,7 +18,7 @@ use Rattle.sheet.specs.Sheet.{fullSheet}
 use Rattle.plan_answer.specs.declared.Planning.the-variants.{Planned, Refused as NotPlanned}
 use Rattle.plan_answer.specs.Plan.{planning}
 use Rattle.plan_sheet.specs.Delivery.{sheetOutcome}
-use Rattle.route.specs.declared.Routing.the-variants.{Refused as NotRouted}
+use Rattle.route_answer.specs.declared.Routing.the-variants.{Refused as NotRouted}
 use Rattle.route.specs.Route.{routePacket, routeOf}
 use Rattle.script_writes.specs.Writes.{Write}
 use Rattle.scripter.specs.declared.Scripting.the-variants.{Written, Refused}

@@ -20,8 +20,9 @@ use Rattle.claims.specs.declared.Aim.the-variants.{Address}
 use Rattle.route_arrival.specs.declared.Heading.the-variants.{Aimed}
 use Rattle.route_arrival.specs.Arrival.{headingOf}
 use Rattle.route_arrival.specs.ArrivalLaws.{right-of-not-by-id, not-by-id-of-address}
-use Rattle.route.specs.declared.Routing.the-variants.{Refused}
-use Rattle.route.specs.Route.{answer, root, from42, routePacket, routeOf}
+use Rattle.route_answer.specs.declared.Routing.the-variants.{Refused}
+use Rattle.route_answer.specs.Routing.{answer}
+use Rattle.route.specs.Route.{root, from42, routePacket, routeOf}
 use Rattle.route.specs.RequestLaws.{route-request}
 use Rattle.scripter.specs.Scripting.{plannedSheet, boardWrites, bootOf}
 use Rattle.scripter.specs.AnswerLaws.{refused-as-planned, short-room, else-written, refused-keeps-room, script-starts-room}

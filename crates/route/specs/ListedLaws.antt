@@ -108,5 +108,5 @@ route-listed header s list o e r after (f, g) =
     let same = f ∙ ap (λ (x : Routing). onRoom x (length list)) e in (
       same,
       g ∙ ap (λ (x : Routing). listedAfter x list) same ∙ listed-over-sheet header s list
-      ∙ ap (λ (x : Routing). listAfter x s list) (sym same),
+          ∙ ap (λ (x : Routing). listAfter x s list) (sym same),
     )
