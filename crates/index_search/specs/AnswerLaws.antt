@@ -19,7 +19,7 @@ use Rattle.claims.specs.declared.Aim.{Aim}
 use Rattle.claims.specs.declared.Aim.the-variants.{Address, Id}
 use Rattle.index_rule.specs.Owners.{keyOf, inReach}
 use Rattle.index_rule.specs.Search.{isOver}
-use Rattle.index_layout.specs.Places.{indexSize, functionsPlace}
+use Rattle.index_layout.specs.Places.{rootPlace, indexSize, functionsPlace}
 use Rattle.index_layout.specs.Keys.{memoryEnd, ioSize, idSize, ioBase, idBase, noKey, segmentOf}
 use Rattle.index_layout.specs.Words.{recordIn, bridgesIn, sizeIn, wordLimit}
 use Rattle.index_slots.specs.Slots.{keyAt, wordAt}
@@ -59,7 +59,7 @@ module _ (ix : List ℕ) where
 
 -- ## Its root bus
 
-pub root-of-short : (ix : List ℕ) → length ix < 3 → 0 ≡ rootIn ix
+pub root-of-short : (ix : List ℕ) → length ix ≤ rootPlace → 0 ≡ rootIn ix
 root-of-short ix h = sym (List·getD-eq-default ix 0 {n = 2} (omega (arith, h)))
 
 -- ## A slot
