@@ -1,5 +1,6 @@
 //! What Linux says of machines: `lspci -vvx` with iomem and ioports or a boot log, and sysfs. tests/command/linux has lines of
-//! boots of Linux 6.1 in QEMU 7.2: over firmware's places (SeaBIOS, OVMF), and over its own.
+//! boots of Linux 6.1 in QEMU 7.2: six trees, each over the places of SeaBIOS and of OVMF, over SeaBIOS's with Linux asked to
+//! number and to place anew where something is missing (realloc), and over Linux's own.
 
 mod run;
 
@@ -8,13 +9,23 @@ use run::{folder, repository, run};
 use std::fs;
 use std::path::{Path, PathBuf};
 
-/// Each with the audit's verdict: SeaBIOS leaves prefetchable windows below 4 GiB, and Linux once a BAR outside its bridge.
-const MACHINES: [(&str, &str); 4] = [
-    ("switch-linux", "accepted"),
-    ("switch-seabios", "refused 51"),
-    ("conventional-linux", "refused 51"),
-    ("hotplug-ovmf", "accepted"),
-];
+const TREES: [&str; 6] = ["ports", "switch", "conventional", "deep", "hotplug", "noio"];
+const PLACED_BY: [&str; 4] = ["seabios", "ovmf", "realloc", "linux"];
+
+fn machines() -> impl Iterator<Item = String> {
+    TREES.iter().flat_map(|tree| PLACED_BY.iter().map(move |by| format!("{tree}-{by}")))
+}
+
+/// The audit's: SeaBIOS leaves prefetchable windows below 4 GiB where there is anything for them, and Linux once a BAR outside
+/// its bridge.
+fn verdict(machine: &str) -> &'static str {
+    let is_low = (machine.ends_with("-seabios") || machine.ends_with("-realloc")) && !machine.starts_with("hotplug");
+    if is_low || machine == "conventional-linux" {
+        "refused 51"
+    } else {
+        "accepted"
+    }
+}
 
 fn file(machine: &str, ending: &str) -> String {
     format!("tests/command/linux/{machine}.{ending}")
@@ -38,18 +49,19 @@ fn sheet_of(start: &Path) -> Vec<u8> {
 
 /// The verdict, by the windows of the running machine and by those of its boot log.
 #[test]
-fn machines() {
-    for (machine, verdict) in MACHINES {
-        let [lspci, iomem, ioports, dmesg] = ["lspci", "iomem", "ioports", "dmesg"].map(|ending| file(machine, ending));
-        let (line, start) = imported(machine, &[&lspci, &iomem, &ioports]);
+fn verdicts() {
+    for machine in machines() {
+        let verdict = verdict(&machine);
+        let [lspci, iomem, ioports, dmesg] =
+            ["lspci", "iomem", "ioports", "dmesg"].map(|ending| file(&machine, ending));
+        let (line, start) = imported(&machine, &[&lspci, &iomem, &ioports]);
         assert!(line.starts_with("0000:00: ") && line.contains(verdict), "{machine}: {line}");
         let (line, by_log) = imported(&format!("{machine}-log"), &[&dmesg, &lspci]);
         assert!(line.contains(verdict), "{machine}: {line}");
         assert!(sheet_of(&start) == sheet_of(&by_log));
-        assert_eq!(
-            fs::read_to_string(with(&start, "host.txt")).unwrap(),
-            fs::read_to_string(with(&by_log, "host.txt")).unwrap()
-        );
+        let hosts = [&start, &by_log].map(|start| fs::read_to_string(with(start, "host.txt")).unwrap());
+        // With pci=nocrs the boot log has one window for everything, and iomem names no root bus.
+        assert!(hosts[0] == hosts[1] || machine.ends_with("-realloc"), "{machine}: {hosts:?}");
         let audit = run(&["audit", &with(&start, "sheet.txt"), "--host", &with(&start, "host.txt")], b"");
         assert!(audit.out.starts_with(verdict.as_bytes()), "{machine}");
     }
@@ -58,15 +70,15 @@ fn machines() {
 /// A sheet that is exported and imported again is the same; and so it is by sysfs.
 #[test]
 fn again() {
-    for (machine, _) in MACHINES {
-        let (_, start) = imported(&format!("{machine}-again"), &[&file(machine, "lspci")]);
+    for machine in machines() {
+        let (_, start) = imported(&format!("{machine}-again"), &[&file(&machine, "lspci")]);
         let exported = run(&["export", &with(&start, "sheet.txt")], b"").out;
         let dump = folder("import").join("dump");
         fs::write(&dump, &exported).unwrap();
         let (_, back) = imported("back", &[dump.to_str().unwrap()]);
         let sheet = sheet_of(&start);
         assert!(sheet.len() > 92 && sheet == sheet_of(&back), "{machine}");
-        let (_, by_sysfs) = imported("sysfs", &[sysfs(machine, &sheet).to_str().unwrap()]);
+        let (_, by_sysfs) = imported("sysfs", &[sysfs(&machine, &sheet).to_str().unwrap()]);
         assert!(sheet == sheet_of(&by_sysfs), "{machine}");
     }
 }
@@ -91,11 +103,13 @@ fn sysfs(machine: &str, sheet: &[u8]) -> PathBuf {
 /// The board is planned, and every function has the ID that it had.
 #[test]
 fn boards() {
-    for (machine, _) in MACHINES {
-        let [lspci, iomem, ioports] = ["lspci", "iomem", "ioports"].map(|ending| file(machine, ending));
-        let (_, start) = imported(&format!("{machine}-board"), &[&lspci, &iomem, &ioports]);
+    for machine in machines() {
+        let [lspci, iomem, ioports, dmesg] =
+            ["lspci", "iomem", "ioports", "dmesg"].map(|ending| file(&machine, ending));
+        let (_, start) = imported(&format!("{machine}-board"), &[&lspci, &iomem, &ioports, &dmesg]);
         let board: Board = fs::read_to_string(with(&start, "board.txt")).unwrap().parse().unwrap();
-        let planned = Sheet::new(board.plan().unwrap()).unwrap();
+        let planned = board.plan().unwrap_or_else(|refusal| panic!("{machine}: {refusal}"));
+        let planned = Sheet::new(planned).unwrap();
         let found = Sheet::new(sheet_of(&start)).unwrap();
         assert_eq!(planned.functions().len(), found.functions().len());
         for function in found.functions() {
