@@ -104,7 +104,7 @@ fn summary() {
 /// Every subcommand has its help.
 #[test]
 fn helps() {
-    for name in ["plan", "audit", "route", "decode", "label", "ledger", "show", "convert", "export"] {
+    for name in ["plan", "audit", "route", "decode", "label", "ledger", "show", "convert", "import", "export"] {
         let ran = run(&[name, "--help"], b"");
         assert_eq!((ran.status, ran.error.as_str()), (0, ""));
         assert!(ran.out.starts_with(format!("cartsundial {name} ").as_bytes()));
