@@ -136,11 +136,11 @@ eight-more n h = digits-more 8 n h
 pub digits-le : (d n : ℕ) → n < tens (suc d) → length (decimal n) ≤ suc d
 unfolding tens
 digits-le zero n h = omega (arith, one-digit n (omega arith))
-digits-le (suc d) n h = go (ltb n 10) refl
+digits-le (suc d) n h = go (ltb n 10) refl (digits-le d (n / 10) (omega arith))
   where
-    go : (b : Bool) → ltb n 10 ≡ b → length (decimal n) ≤ suc (suc d)
-    go true e = omega (arith, one-digit n (ltb-true n 10 e))
-    go false e = omega (arith, one-more n (ltb-false n 10 e), digits-le d (n / 10) (omega arith))
+    go : (b : Bool) → ltb n 10 ≡ b → length (decimal (n / 10)) ≤ suc d → length (decimal n) ≤ suc (suc d)
+    go true e on = omega (arith, one-digit n (ltb-true n 10 e))
+    go false e on = omega (arith, one-more n (ltb-false n 10 e), on)
 
 pub three-digits : (n : ℕ) → n < 1000 → length (decimal n) ≤ 3
 unfolding tens
