@@ -6,7 +6,7 @@ use lib.Dec.{eqb}
 use Rattle.lists.specs.Lists.{any}
 use Rattle.walk.specs.Ranges.{Range}
 use Rattle.sheet_record.specs.Entry.{Entry, bus}
-use Rattle.audit_rule.specs.Ranges.{rangesOf, overlap}
+use Rattle.sheet_ranges.specs.Ranges.{rangesOf, overlap}
 use Rattle.audit_rule.specs.Audit.{anyPair, anyOverlap, overlapOnBus}
 
 -- a function of this bus has a range that overlaps one of these

@@ -14,12 +14,12 @@ use Rattle.sheet_record.specs.Entry.{Entry, busOf, entryOf, bus}
 use Rattle.sheet.specs.Sheet.{Framed, entriesFrom, entriesOf, partAt, recordAt}
 use Rattle.sheet.specs.CheckLaws.{entries-past, count-entries}
 use Rattle.sheet.specs.IndexLaws.{entries-index}
-use Rattle.audit_rule.specs.Ranges.{rangesOf, overlap, spaceNumber}
+use Rattle.sheet_ranges.specs.Ranges.{rangesOf, overlap, spaceNumber}
+use Rattle.sheet_ranges.specs.declared.Item.{Item}
+use Rattle.sheet_ranges.specs.Items.{poolWith, rangeOf, itemAt, rangesFrom}
+use Rattle.sheet_ranges.specs.ItemsLaws.{number-of-pool, space-of-number}
+use Rattle.sheet_ranges.specs.SearchLaws.{items-none, items-more, bus-of-entry}
 use Rattle.audit_rule.specs.Audit.{anyPair, anyOverlap, overlapOnBus, overlaps}
-use Rattle.audit_ranges.specs.declared.Item.{Item}
-use Rattle.audit_ranges.specs.Items.{poolWith, rangeOf, itemAt, rangesFrom}
-use Rattle.audit_ranges.specs.ItemsLaws.{number-of-pool, space-of-number}
-use Rattle.audit_ranges.specs.SearchLaws.{items-none, items-more, bus-of-entry}
 use Rattle.audit_apart.specs.Apart.{overlapsOn, overlapsAt}
 
 -- ## Two ranges

@@ -11,11 +11,11 @@ ghost use Rattle.sheet_record.specs.Entry.{entryOf};
 ghost use Rattle.sheet.specs.declared.Rule.the-variants.{ReadBacks};
 ghost use Rattle.sheet.specs.Sheet.{breaks, partAt, recordAt, entriesFrom, entriesOf};
 ghost use Rattle.sheet.specs.SheetLaws.{Checked};
-ghost use Rattle.audit_rule.specs.Ranges.{overlap as overlapOf, spaceNumber};
+ghost use Rattle.sheet_ranges.specs.Ranges.{overlap as overlapOf, spaceNumber};
+ghost use Rattle.sheet_ranges.specs.Items.{rangeOf, rangesFrom, rangesIn};
 ghost use Rattle.audit_rule.specs.Audit.{anyPair, anyOverlap, overlaps as overlapsOf};
-ghost use Rattle.audit_ranges.specs.Items.{rangeOf, rangesFrom, rangesIn};
 ghost use Rattle.audit_apart.specs.Apart.{overlapsOn, overlapsAt};
-use audit_ranges::Item;
+use sheet_ranges::Item;
 use sheet_record::places;
 
 // Some two of a checked sheet's ranges are of one bus and one space, and overlap.
@@ -55,8 +55,8 @@ fn overlaps_at(sheet: &[u8], k: usize) -> bool
         ⌝ }
 {
     let part = sheet::part(sheet, k);
-    let mut own = [0u64; audit_ranges::ROOM];
-    let n = audit_ranges::ranges_of(part, &mut own);
+    let mut own = [0u64; sheet_ranges::ROOM];
+    let n = sheet_ranges::ranges_of(part, &mut own);
     if any_pair(&own, n) {
         return true;
     }
@@ -68,7 +68,7 @@ fn meets_later(sheet: &[u8], from: usize, bus: u8, own: &[u64], n: usize) -> boo
     requires { ⌜ Checked (now sheet) × (3 * n ≤ length (now own)) ⌝ }
     ensures { λ r. ⌜ r ≡ any (overlapsOn bus (rangesIn n (now (own .entry)))) (entriesFrom (now (sheet .entry)) (recordAt from)) ⌝ }
 {
-    let mut room = [0u64; audit_ranges::ROOM];
+    let mut room = [0u64; sheet_ranges::ROOM];
     let records = sheet::count(sheet);
     let mut j = from;
     while j < records {
@@ -99,7 +99,7 @@ fn meets(part: &[u8], bus: u8, own: &[u64], n: usize, room: &mut [u64]) -> bool
     if !is_on(part, bus) {
         return false;
     }
-    let m = audit_ranges::ranges_of(part, room);
+    let m = sheet_ranges::ranges_of(part, room);
     any_overlap(own, n, room, m)
 }
 
@@ -126,7 +126,7 @@ fn overlaps_any(a: Item, others: &[u64], from: usize, m: usize) -> bool
 {
     let mut j = from;
     while j < m {
-        if overlap(a, audit_ranges::item_at(others, j)) {
+        if overlap(a, sheet_ranges::item_at(others, j)) {
             return true;
         }
         j += 1;
@@ -141,7 +141,7 @@ fn any_overlap(own: &[u64], n: usize, others: &[u64], m: usize) -> bool
 {
     let mut i: usize = 0;
     while i < n {
-        if overlaps_any(audit_ranges::item_at(own, i), others, 0, m) {
+        if overlaps_any(sheet_ranges::item_at(own, i), others, 0, m) {
             return true;
         }
         i += 1;
@@ -156,7 +156,7 @@ fn any_pair(own: &[u64], n: usize) -> bool
 {
     let mut i: usize = 0;
     while i < n {
-        if overlaps_any(audit_ranges::item_at(own, i), own, i + 1, n) {
+        if overlaps_any(sheet_ranges::item_at(own, i), own, i + 1, n) {
             return true;
         }
         i += 1;

@@ -9,16 +9,16 @@ use Rattle.board_record.specs.declared.Host.{Host}
 use Rattle.walk.specs.Ranges.{Range}
 use Rattle.sheet_record.specs.Entry.{Entry, busOf, entryOf}
 use Rattle.sheet.specs.Sheet.{entriesOf, partAt}
-use Rattle.audit_rule.specs.Parents.{underHost, parentOf}
-use Rattle.audit_rule.specs.Ranges.{windowsIn, rangesOf, rangesAbove, poolNumber, inside}
-use Rattle.audit_rule.specs.Audit.{outsideAll, misplaced}
-use Rattle.audit_leaders.specs.declared.Parent.{Parent}
-use Rattle.audit_leaders.specs.declared.Parent.the-variants.{Host as UnderHost, Bridge, Nowhere}
-use Rattle.audit_leaders.specs.Table.{IsParent}
-use Rattle.audit_ranges.specs.declared.Item.{Item}
-use Rattle.audit_ranges.specs.Items.{poolWith, rangeOf, rangesIn}
-use Rattle.audit_ranges.specs.ItemsLaws.{number-of-pool, ranges-nil}
-use Rattle.audit_ranges.specs.SearchLaws.{bus-of-entry}
+use Rattle.sheet_above.specs.Parents.{parentOf}
+use Rattle.sheet_above.specs.declared.Parent.{Parent}
+use Rattle.sheet_above.specs.declared.Parent.the-variants.{Host as UnderHost, Bridge, Nothing, Several}
+use Rattle.sheet_above.specs.Table.{IsParent}
+use Rattle.sheet_ranges.specs.Ranges.{windowsIn, rangesOf, poolsIn, poolNumber, inside}
+use Rattle.sheet_ranges.specs.declared.Item.{Item}
+use Rattle.sheet_ranges.specs.Items.{poolWith, rangeOf, rangesIn}
+use Rattle.sheet_ranges.specs.ItemsLaws.{number-of-pool, ranges-nil}
+use Rattle.sheet_ranges.specs.SearchLaws.{bus-of-entry}
+use Rattle.audit_rule.specs.Audit.{rangesAbove, outsideAll, misplaced}
 
 -- ## Two ranges
 
@@ -33,8 +33,9 @@ inside-items a outer s u e f = rw (e, f, leb·suc-suc (a .last) (outer .last))
 -- ## What a function's ranges may lie in: q stands above its bus, and rs are put
 
 module _ (h : Host) (s : List ℕ) (root bus : ℕ) (q : Parent) (above : IsParent s root bus q) where
-  pub above-host : q ≡ UnderHost → (rs : List Range) → rs ≡ rangesAbove h underHost → rs ≡ rangesAbove h (parentOf root (entriesOf s) bus)
-  above-host e rs f = f ∙ ap (rangesAbove h) (sym (above .same ∙ rw e))
+  pub above-host : q ≡ UnderHost → (rs : List Range) → rs ≡ poolsIn h → rs ≡ rangesAbove h (parentOf root (entriesOf s) bus)
+  unfolding rangesAbove
+  above-host e rs f = rw (above .same, e) f
 
   -- p is the bridge's part
   pub above-bridge : (k : ℕ) → q ≡ Bridge k → (p : List ℕ) → p ≡ partAt s k → (rs : List Range) → rs ≡ windowsIn (entryOf p)
@@ -42,9 +43,13 @@ module _ (h : Host) (s : List ℕ) (root bus : ℕ) (q : Parent) (above : IsPare
   unfolding rangesAbove
   above-bridge k e p is rs f = rw (above .same, e, ← is) f
 
-  pub above-none : q ≡ Nowhere → (xs : List ℕ) → rangesIn 0 xs ≡ rangesAbove h (parentOf root (entriesOf s) bus)
+  pub above-none : q ≡ Nothing → (xs : List ℕ) → rangesIn 0 xs ≡ rangesAbove h (parentOf root (entriesOf s) bus)
   unfolding rangesAbove
   above-none e xs = rw (above .same, e) (ranges-nil xs)
+
+  pub above-several : q ≡ Several → (xs : List ℕ) → rangesIn 0 xs ≡ rangesAbove h (parentOf root (entriesOf s) bus)
+  unfolding rangesAbove
+  above-several e xs = rw (above .same, e) (ranges-nil xs)
 
 -- ## A function: p is its part, b its bus, rs its ranges and above those that they may lie in
 

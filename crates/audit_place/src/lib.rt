@@ -9,22 +9,22 @@ ghost use Rattle.sheet_record.specs.Entry.{entryOf};
 ghost use Rattle.sheet.specs.declared.Rule.the-variants.{ReadBacks};
 ghost use Rattle.sheet.specs.Sheet.{breaks, entriesOf};
 ghost use Rattle.sheet.specs.SheetLaws.{Checked};
-ghost use Rattle.audit_rule.specs.Parents.{parentOf};
-ghost use Rattle.audit_rule.specs.Ranges.{rangesAbove, poolNumber, inside};
-ghost use Rattle.audit_rule.specs.Audit.{outsideAll, misplaced as misplacedOf, placeWrong};
-ghost use Rattle.audit_leaders.specs.Table.{Leads};
-ghost use Rattle.audit_ranges.specs.Items.{rangeOf, rangesIn};
-use audit_leaders::Parent;
-use audit_ranges::Item;
+ghost use Rattle.sheet_above.specs.Parents.{parentOf};
+ghost use Rattle.sheet_above.specs.Table.{Leads};
+ghost use Rattle.sheet_ranges.specs.Ranges.{poolNumber, inside};
+ghost use Rattle.sheet_ranges.specs.Items.{rangeOf, rangesIn};
+ghost use Rattle.audit_rule.specs.Audit.{rangesAbove, outsideAll, misplaced as misplacedOf, placeWrong};
 use board_record::Host;
+use sheet_above::Parent;
+use sheet_ranges::Item;
 
 // Some range of a checked sheet lies in none of those above it.
 pub fn place_wrong(host: Host, sheet: &[u8], table: &[u16]) -> bool
     requires { ⌜ Checked (now sheet) × Leads (entriesOf (now sheet)) (now table) ⌝ }
     ensures { λ r. ⌜ r ≡ placeWrong host (entriesOf (now (sheet .entry))) ⌝ }
 {
-    let mut own = [0u64; audit_ranges::ROOM];
-    let mut above = [0u64; audit_ranges::ROOM];
+    let mut own = [0u64; sheet_ranges::ROOM];
+    let mut above = [0u64; sheet_ranges::ROOM];
     let records = sheet::count(sheet);
     let mut k: usize = 0;
     while k < records {
@@ -58,7 +58,7 @@ fn misplaced(
         ⌝ }
     ensures { λ r. ⌜ r ≡ misplacedOf host (entriesOf (now (sheet .entry))) (entryOf (now (part .entry))) ⌝ }
 {
-    let n = audit_ranges::ranges_of(part, own);
+    let n = sheet_ranges::ranges_of(part, own);
     let m = ranges_above(host, sheet, table, sheet_record::bus_of(part), above);
     any_outside(own, n, above, m)
 }
@@ -70,10 +70,11 @@ fn ranges_above(host: Host, sheet: &[u8], table: &[u16], bus: u8, room: &mut [u6
         (rangesIn r (now (room .exit)) ≡ rangesAbove host (parentOf (host .«first_bus») (entriesOf (now (sheet .entry))) bus)) × (r ≤ 6)
         ⌝ }
 {
-    match audit_leaders::parent_of(table, host.first_bus, bus) {
-        Parent::Host => audit_ranges::pools_of(host, room),
-        Parent::Bridge(k) => audit_ranges::windows_of(sheet::part(sheet, k), room),
-        Parent::Nowhere => 0,
+    match sheet_above::parent_in(table, host.first_bus, bus) {
+        Parent::Host => sheet_ranges::pools_of(host, room),
+        Parent::Bridge(k) => sheet_ranges::windows_of(sheet::part(sheet, k), room),
+        Parent::Nothing => 0,
+        Parent::Several => 0,
     }
 }
 
@@ -99,7 +100,7 @@ fn is_inside_any(a: Item, above: &[u64], m: usize) -> bool
 {
     let mut j: usize = 0;
     while j < m {
-        if is_inside(a, audit_ranges::item_at(above, j)) {
+        if is_inside(a, sheet_ranges::item_at(above, j)) {
             return true;
         }
         j += 1;
@@ -114,7 +115,7 @@ fn any_outside(own: &[u64], n: usize, above: &[u64], m: usize) -> bool
 {
     let mut i: usize = 0;
     while i < n {
-        if !is_inside_any(audit_ranges::item_at(own, i), above, m) {
+        if !is_inside_any(sheet_ranges::item_at(own, i), above, m) {
             return true;
         }
         i += 1;

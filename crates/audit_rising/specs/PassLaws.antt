@@ -11,12 +11,12 @@ use Rattle.sheet_record.specs.Entry.{Entry, entryOf, busOf, headerOf, isBridge,
 use Rattle.sheet.specs.Sheet.{Framed, entriesFrom, entriesOf, partAt, recordAt}
 use Rattle.sheet.specs.CheckLaws.{count-entries, entries-past}
 use Rattle.sheet.specs.IndexLaws.{entries-index}
-use Rattle.audit_rule.specs.Ranges.{rangesOf}
+use Rattle.sheet_ranges.specs.Ranges.{rangesOf}
+use Rattle.sheet_ranges.specs.declared.Item.{Item}
+use Rattle.sheet_ranges.specs.Items.{rangeOf, itemAt, rangesFrom, rangesIn}
+use Rattle.sheet_ranges.specs.ItemsLaws.{number-of-pool}
+use Rattle.sheet_ranges.specs.SearchLaws.{items-none, items-more, items-all, bus-of-entry}
 use Rattle.audit_rule.specs.Audit.{anyPair, busesShared, overlaps}
-use Rattle.audit_ranges.specs.declared.Item.{Item}
-use Rattle.audit_ranges.specs.Items.{rangeOf, itemAt, rangesFrom, rangesIn}
-use Rattle.audit_ranges.specs.ItemsLaws.{number-of-pool}
-use Rattle.audit_ranges.specs.SearchLaws.{items-none, items-more, items-all, bus-of-entry}
 use Rattle.audit_rising.specs.Rising.{Spot, spot, Rising, Takes}
 use Rattle.audit_rising.specs.RisingLaws.{rising-clear}
 use Rattle.audit_rising.specs.Spots.{sided, keyOf, spotOf, spotsOf, busesOf}

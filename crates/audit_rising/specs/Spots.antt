@@ -6,7 +6,7 @@ use lib.Dec.{eqb, leb}
 use Rattle.lists.specs.Lists.{oneIf}
 use Rattle.walk.specs.Ranges.{Range}
 use Rattle.sheet_record.specs.Entry.{Entry, bus, bridges}
-use Rattle.audit_rule.specs.Ranges.{rangesOf, poolNumber}
+use Rattle.sheet_ranges.specs.Ranges.{rangesOf, poolNumber}
 use Rattle.audit_rising.specs.Rising.{Spot, spot}
 
 -- low memory ends at 4 GiB at most, and high memory starts there or later

@@ -12,7 +12,7 @@ use Rattle.lists.specs.ListLaws.{all-imp, all-elim, all-intro, all-left, all-ri
 use Rattle.lists.specs.KeepLaws.{none-of-all}
 use Rattle.walk.specs.Ranges.{Range, Pool, buses, low, high, io}
 use Rattle.sheet_record.specs.Entry.{Entry, bus, bridges}
-use Rattle.audit_rule.specs.Ranges.{rangesOf, poolNumber, spaceNumber, overlap}
+use Rattle.sheet_ranges.specs.Ranges.{rangesOf, poolNumber, spaceNumber, overlap}
 use Rattle.audit_rule.specs.Audit.{anyPair, anyOverlap, overlapOnBus, busesShared, overlaps}
 use Rattle.audit_rule.specs.PairLaws.{none-of-pairwise}
 use Rattle.audit_rising.specs.Rising.{Spot, spot, Clear}

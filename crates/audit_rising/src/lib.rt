@@ -10,11 +10,11 @@ ghost use Rattle.sheet_record.specs.Entry.{entryOf};
 ghost use Rattle.sheet.specs.declared.Rule.the-variants.{ReadBacks};
 ghost use Rattle.sheet.specs.Sheet.{Framed, breaks, entriesOf};
 ghost use Rattle.sheet.specs.SheetLaws.{Checked};
+ghost use Rattle.sheet_ranges.specs.Items.{rangeOf, rangesIn};
 ghost use Rattle.audit_rule.specs.Audit.{anyPair, busesShared, overlaps};
-ghost use Rattle.audit_ranges.specs.Items.{rangeOf, rangesIn};
 ghost use Rattle.audit_rising.specs.Rising.{Takes, spot};
 ghost use Rattle.audit_rising.specs.Spots.{sided, keyOf, spotOf, spotsOf, busesOf};
-use audit_ranges::Item;
+use sheet_ranges::Item;
 
 // A table has at each key the first number that is not yet taken.
 const BUSES: usize = 256;
@@ -60,7 +60,7 @@ fn take_records(sheet: &[u8], table: &mut [u64]) -> bool
     requires { ⌜ Checked (now sheet) × (length (now table) ≡ 768) ⌝ }
     ensures { λ r. ⌜ (r ≡ true → overlaps (entriesOf (now (sheet .entry))) ≡ false) ⌝ }
 {
-    let mut room = [0u64; audit_ranges::ROOM];
+    let mut room = [0u64; sheet_ranges::ROOM];
     let records = sheet::count(sheet);
     let mut k: usize = 0;
     while k < records {
@@ -80,7 +80,7 @@ fn take_record(table: &mut [u64], part: &[u8], room: &mut [u64]) -> bool
         ⌝ }
     ensures { λ r. ⌜ (r ≡ true → Takes (now (table .entry)) (spotsOf (entryOf (now (part .entry)))) (now (table .exit))) ⌝ }
 {
-    let n = audit_ranges::ranges_of(part, room);
+    let n = sheet_ranges::ranges_of(part, room);
     take_ranges(table, sheet_record::bus_of(part), room, n)
 }
 
@@ -91,7 +91,7 @@ fn take_ranges(table: &mut [u64], bus: u8, own: &[u64], n: usize) -> bool
 {
     let mut i: usize = 0;
     while i < n {
-        if !take_range(table, bus, audit_ranges::item_at(own, i)) {
+        if !take_range(table, bus, sheet_ranges::item_at(own, i)) {
             return false;
         }
         i += 1;

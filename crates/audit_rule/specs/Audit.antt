@@ -11,8 +11,8 @@ use Rattle.board_record.specs.Host.{hostLength, hostOfPart, hostWrong}
 use Rattle.walk.specs.Ranges.{Range}
 use Rattle.sheet_record.specs.Entry.{Entry, bus, bridges}
 use Rattle.sheet.specs.Sheet.{entriesOf, sheetNumber}
-use Rattle.audit_rule.specs.Parents.{Parent, underHost, underBridge, underNone, parentOf}
-use Rattle.audit_rule.specs.Ranges.{rangesOf, rangesAbove, inside, overlap}
+use Rattle.sheet_above.specs.Parents.{Parent, underHost, underBridge, underNone, underSeveral, parentOf}
+use Rattle.sheet_ranges.specs.Ranges.{rangesOf, windowsIn, poolsIn, inside, overlap}
 
 module _ {A : Type 0} where
   -- Does some element pass the test with a later one?
@@ -36,6 +36,7 @@ abbrev pub parentWrong : Parent → Entry → Bool
 parentWrong underHost e = false
 parentWrong (underBridge b) e = bridges e && not (busesIn (b .secondary) (b .subordinate) e)
 parentWrong underNone e = true
+parentWrong underSeveral e = true
 
 -- "and in the host's"
 abbrev pub outOfHost : Host → Entry → Bool
@@ -57,6 +58,13 @@ unfoldable pub treeWrong : Host → List Entry → Bool
 treeWrong h es = firstElsewhere (h .«first_bus») es || (any (wayUpWrong h es) es || anyPair busesShared es)
 
 -- ## 51
+
+-- what a function's ranges may lie in: "the window above, or on the root bus the pool"
+unfoldable pub rangesAbove : Host → Parent → List Range
+rangesAbove h underHost = poolsIn h
+rangesAbove h (underBridge b) = windowsIn b
+rangesAbove h underNone = []
+rangesAbove h underSeveral = []
 
 -- "each BAR and open window lies in the window above, or on the root bus the pool, where document 01 puts its kind"
 abbrev pub outsideAll : List Range → Range → Bool

@@ -18,11 +18,11 @@ use Rattle.walk.specs.Good.{ApartOnBus, Disjoint}
 use Rattle.sheet_record.specs.Entry.{Entry, bus}
 use Rattle.sheet_record.specs.Spaces.{functionOf}
 use Rattle.sheet.specs.Spaces.{functionsFrom}
-use Rattle.audit_rule.specs.Ranges.{rangesOf, spaceNumber, overlap}
+use Rattle.sheet_ranges.specs.Ranges.{rangesOf, spaceNumber, overlap}
+use Rattle.sheet_ranges.specs.RangesLaws.{ofSpace, of-same-space, keep-ranges, some-ranges, apart-of-overlap, overlap-of-apart}
+use Rattle.sheet_ranges.specs.FunctionsLaws.{item-range, range-item}
 use Rattle.audit_rule.specs.Audit.{anyPair, anyOverlap, overlapOnBus, overlaps}
 use Rattle.audit_rule.specs.PairLaws.{pairwise-of-none, none-of-pairwise}
-use Rattle.audit_rule.specs.RangesLaws.{ofSpace, of-same-space, keep-ranges, some-ranges, apart-of-overlap, overlap-of-apart}
-use Rattle.audit_rule.specs.ItemsLaws.{item-range, range-item}
 
 -- ## Each two of two lists joined, and of a list's images
 

@@ -15,8 +15,9 @@ use Rattle.sheet_record.specs.Entry.{dwords, windowOf, entryOf}
 use Rattle.sheet.specs.Sheet.{allSized, isFramed, entriesFrom, allZero, readBacksWrong, breaks, anyBreaks, hasId, idTwice}
 use Rattle.sheet.specs.Sheet.{from29, from25, from28, from27, from24, from22, from20, from21, sheetNumber}
 use Rattle.sheet.specs.Examples.{p8, p10, p10-bridge, p10-end, nibbled}
-use Rattle.audit_rule.specs.Ranges.{barsFrom, rangesOf, rangesAbove}
-use Rattle.audit_rule.specs.Audit.{anyPair, treeWrong, placeWrong, overlaps, from52, from51, from50, fromSheet, from26, auditNumber}
+use Rattle.sheet_ranges.specs.Ranges.{barsFrom, rangesOf}
+use Rattle.audit_rule.specs.Audit.{anyPair, treeWrong, rangesAbove, placeWrong, overlaps, from52, from51, from50, fromSheet}
+use Rattle.audit_rule.specs.Audit.{from26, auditNumber}
 
 -- P10's host record
 abbrev pub host : List ℕ

@@ -1,18 +1,13 @@
 -- Another firmware's sheet (document 02, E6). First the definitions: what is accepted (Host, Accepted), then the number, test by test
--- (Parents, Ranges, Audit); then the laws by subject; then the theorems that others cite: TreeLaws (50), NestedLaws (51), DisjointLaws
--- (52), AuditLaws, AcceptedLaws.
+-- (Audit); then the laws by subject; then the theorems that others cite: TreeLaws (50), NestedLaws (51), DisjointLaws (52), AuditLaws,
+-- AcceptedLaws.
 pub mod Host
 pub mod Accepted
-pub mod Parents
-pub mod Ranges
 pub mod Audit
 pub mod Examples
-pub mod ParentsLaws
 pub mod LeadersLaws
 pub mod PairLaws
 pub mod PassLaws
-pub mod RangesLaws
-pub mod ItemsLaws
 pub mod TreeLaws
 pub mod NestedLaws
 pub mod DisjointLaws

@@ -21,14 +21,14 @@ use Rattle.sheet_record.specs.Entry.{Entry, bus, bridges}
 use Rattle.sheet_record.specs.Spaces.{nodeOf, windowsOf, functionOf}
 use Rattle.sheet.specs.Spaces.{functionsFrom, nodesFrom}
 use Rattle.sheet.specs.SheetLaws.{nodes-functions}
-use Rattle.audit_rule.specs.Host.{poolsOf, hostFor}
-use Rattle.audit_rule.specs.Parents.{leadsTo, leadersOf, Parent, underHost, underBridge}
-use Rattle.audit_rule.specs.Ranges.{rangesOf, rangesAbove, inside}
-use Rattle.audit_rule.specs.Audit.{parentIn, outsideAll, misplaced, placeWrong}
-use Rattle.audit_rule.specs.ParentsLaws.{Stands, at-root, below, nowhere, stands}
+use Rattle.sheet_above.specs.Parents.{leadsTo, leadersOf, Parent, underHost, underBridge}
+use Rattle.sheet_above.specs.ParentsLaws.{Stands, at-root, below, nowhere, stands}
+use Rattle.sheet_ranges.specs.Ranges.{rangesOf, poolsOf, inside}
+use Rattle.sheet_ranges.specs.RangesLaws.{ofSpace, keep-windows, keep-pools, some-ranges, inside-of-any, any-of-inside}
+use Rattle.sheet_ranges.specs.FunctionsLaws.{FunctionOf, function-elim, function-intro, ItemOf, item-range, Itemised, range-item}
+use Rattle.audit_rule.specs.Host.{hostFor}
+use Rattle.audit_rule.specs.Audit.{parentIn, rangesAbove, outsideAll, misplaced, placeWrong}
 use Rattle.audit_rule.specs.LeadersLaws.{no-leader-of-root, in-window-of-leader}
-use Rattle.audit_rule.specs.RangesLaws.{ofSpace, keep-windows, keep-pools, some-ranges, inside-of-any, any-of-inside}
-use Rattle.audit_rule.specs.ItemsLaws.{FunctionOf, function-elim, function-intro, ItemOf, item-range, Itemised, range-item}
 
 module _ (h : Host) (es : List Entry) (rise : BridgesRise (nodesFrom 1 es))
     (ways : All (OneWayUp (h .«first_bus») (nodesFrom 1 es)) (nodesFrom 1 es)) where
@@ -39,6 +39,10 @@ module _ (h : Host) (es : List Entry) (rise : BridgesRise (nodesFrom 1 es))
   keep-above : (sp : Space) (b : Entry) → keep (ofSpace sp) (rangesAbove h (underBridge b)) ≡ windowsOf sp b
   unfolding rangesAbove
   keep-above sp b = keep-windows sp b
+
+  keep-root : (sp : Space) → keep (ofSpace sp) (rangesAbove h underHost) ≡ poolsOf sp h
+  unfolding rangesAbove
+  keep-root sp = keep-pools sp h
 
   -- ## From the test
 
@@ -64,7 +68,7 @@ module _ (h : Host) (es : List Entry) (rise : BridgesRise (nodesFrom 1 es))
           let o = item-range sp 1 es m in
           let at : bus (o .owner .entry) ≡ root = sym (bus-of i (o .owner)) ∙ on in
           let p : parentIn h es (o .owner .entry) ≡ underHost = rw (eq-eqb (bus (o .owner .entry)) root at) in
-          subst (Some (Inside (i .range))) (keep-pools sp h)
+          subst (Some (Inside (i .range))) (keep-root sp)
           (inside-of-any sp (i .range) (o .of-space) (rangesAbove h underHost)
           (lies (o .owner .entry) (o .owner .in-sheet) (i .range) (o .in-ranges) underHost p))
 
@@ -139,7 +143,7 @@ module _ (h : Host) (es : List Entry) (rise : BridgesRise (nodesFrom 1 es))
         go (at-root on p) =
             ap (λ (q : Parent). any (inside r) (rangesAbove h q)) p
             ∙ any-of-inside sp r of (rangesAbove h underHost)
-            (subst (Some (Inside r)) (sym (keep-pools sp h))
+            (subst (Some (Inside r)) (sym (keep-root sp))
             (ranged (poolsOf sp h) (all-elim _ (items (functionsFrom sp 1 es)) (nested sp .in-pool) (x .is-item) (bus-is ∙ on))))
         go (below off b led p) =
             let is-leader : b ∈ leadersOf es (bus e) = rw (led .leader-is) (List·Memᴰ·head refl) in

@@ -21,11 +21,11 @@ use Rattle.walk.specs.Good.{BridgesRise, FirstOn, OneWayUp, SiblingsApart, busR
 use Rattle.sheet_record.specs.Entry.{Entry, bus, bridges}
 use Rattle.sheet_record.specs.Spaces.{nodeOf}
 use Rattle.sheet.specs.Spaces.{nodesFrom}
+use Rattle.sheet_above.specs.Parents.{Parent, underNone, underSeveral, underBridge}
+use Rattle.sheet_above.specs.ParentsLaws.{Stands, at-root, below, nowhere, stands}
 use Rattle.audit_rule.specs.Host.{hostFor}
-use Rattle.audit_rule.specs.Parents.{Parent, underNone, underBridge}
 use Rattle.audit_rule.specs.Audit.{anyPair, firstElsewhere, busesIn, parentWrong, outOfHost, parentIn, wayUpWrong, busesShared}
 use Rattle.audit_rule.specs.Audit.{treeWrong}
-use Rattle.audit_rule.specs.ParentsLaws.{Stands, at-root, below, nowhere, stands}
 use Rattle.audit_rule.specs.LeadersLaws.{no-leader-of-root, in-parent-of-leader}
 use Rattle.audit_rule.specs.PairLaws.{pairwise-of-none, none-of-pairwise, all-nodes, all-of-nodes, pairwise-nodes, pairwise-of-nodes}
 
@@ -123,7 +123,8 @@ module _ (h : Host) (es : List Entry) (rise : BridgesRise (nodesFrom 1 es)) (sp 
             → (bus e ≡ root) ⊎ ((b : Node) × (bridgesTo (bus e) ns ≡ b ∷ []))
         one-way e w (at-root on p) = inl on
         one-way e w (below off b led p) = inr (nodeOf (led .number) b, led .bridge-is)
-        one-way e w (nowhere off unled p) = absurd (true≢false (right e w underNone p))
+        one-way e w (nowhere off unled (inl p)) = absurd (true≢false (right e w underNone p))
+        one-way e w (nowhere off unled (inr p)) = absurd (true≢false (right e w underSeveral p))
 
     in-parent : (e : Entry) (j : ℕ) → wayUpWrong h es e ≡ false → bridges e ≡ true → (b : Node) → bridgesTo (bus e) ns ≡ b ∷ []
         → Inside (busRange (nodeOf j e)) (busRange b)

@@ -4,8 +4,8 @@ use mathlib.Core.Bool.{true}
 use mathlib.Core.List.{List}
 use Prim.Native.Nat.{ℕ, _<_}
 use Rattle.lists.specs.Lists.{All, Pairwise}
-use Rattle.audit_ranges.specs.declared.Item.{Item}
-use Rattle.audit_ranges.specs.Items.{itemAt}
+use Rattle.sheet_ranges.specs.declared.Item.{Item}
+use Rattle.sheet_ranges.specs.Items.{itemAt}
 use Rattle.audit_rising.specs.Rising.{Spot, spot, Beside, Clear}
 use Rattle.audit_rising.specs.PassLaws.{Leaves}
 

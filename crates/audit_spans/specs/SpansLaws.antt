@@ -11,10 +11,10 @@ use lib.Seq.{getD-set-other}
 use borrow.Author.Tests.{eqb-true, eqb-false, eq-eqb, leb-false}
 use Rattle.lists.specs.ListLaws.{all-imp}
 use Rattle.sheet.specs.Sheet.{entriesOf}
+use Rattle.sheet_ranges.specs.declared.Item.{Item}
+use Rattle.sheet_ranges.specs.Items.{itemAt}
+use Rattle.sheet_ranges.specs.ItemsLaws.{stored, stored-is}
 use Rattle.audit_rule.specs.Audit.{overlaps}
-use Rattle.audit_ranges.specs.declared.Item.{Item}
-use Rattle.audit_ranges.specs.Items.{itemAt}
-use Rattle.audit_ranges.specs.ItemsLaws.{stored, stored-is}
 use Rattle.audit_rising.specs.Rising.{Spot, spot, Beside, Clear}
 use Rattle.audit_rising.specs.Spots.{spotsOf}
 use Rattle.audit_rising.specs.SpotsLaws.{overlaps-none}

@@ -11,13 +11,13 @@ ghost use Rattle.sheet_record.specs.Entry.{entryOf};
 ghost use Rattle.sheet.specs.declared.Rule.the-variants.{ReadBacks};
 ghost use Rattle.sheet.specs.Sheet.{breaks, entriesOf};
 ghost use Rattle.sheet.specs.SheetLaws.{Checked};
+ghost use Rattle.sheet_ranges.specs.Items.{rangeOf, itemAt, rangesIn};
+ghost use Rattle.sheet_ranges.specs.ItemsLaws.{stored};
 ghost use Rattle.audit_rule.specs.Audit.{overlaps};
-ghost use Rattle.audit_ranges.specs.Items.{rangeOf, itemAt, rangesIn};
-ghost use Rattle.audit_ranges.specs.ItemsLaws.{stored};
 ghost use Rattle.audit_rising.specs.Rising.{spot, Beside};
 ghost use Rattle.audit_rising.specs.Spots.{spotOf, spotsOf};
 ghost use Rattle.audit_spans.specs.Spans.{spanOf, Free, Held, Grown};
-use audit_ranges::Item;
+use sheet_ranges::Item;
 
 // So many spans, and the number that says there is no room or no telling.
 const MOST: usize = 128;
@@ -40,7 +40,7 @@ fn hold_records(sheet: &[u8], spans: &mut [u64]) -> bool
     requires { ⌜ Checked (now sheet) × (length (now spans) ≡ 384) ⌝ }
     ensures { λ r. ⌜ (r ≡ true → overlaps (entriesOf (now (sheet .entry))) ≡ false) ⌝ }
 {
-    let mut room = [0u64; audit_ranges::ROOM];
+    let mut room = [0u64; sheet_ranges::ROOM];
     let records = sheet::count(sheet);
     let mut n: usize = 0;
     let mut k: usize = 0;
@@ -62,7 +62,7 @@ fn hold_record(spans: &mut [u64], n: usize, part: &[u8], room: &mut [u64]) -> us
         ⌝ }
     ensures { λ r. ⌜ (r ≤ 128 → Held (now (spans .entry)) n (spotsOf (entryOf (now (part .entry)))) (now (spans .exit)) r) ⌝ }
 {
-    let count = audit_ranges::ranges_of(part, room);
+    let count = sheet_ranges::ranges_of(part, room);
     hold_ranges(spans, n, sheet_record::bus_of(part), room, count)
 }
 
@@ -76,7 +76,7 @@ fn hold_ranges(spans: &mut [u64], n: usize, bus: u8, own: &[u64], count: usize) 
     let mut m = n;
     let mut i: usize = 0;
     while i < count {
-        m = hold_range(spans, m, bus, audit_ranges::item_at(own, i));
+        m = hold_range(spans, m, bus, sheet_ranges::item_at(own, i));
         if m > MOST {
             return NONE;
         }

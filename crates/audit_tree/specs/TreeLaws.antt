@@ -1,7 +1,7 @@
 -- 50, test by test, in the words of the code. Assumes nothing.
 use mathlib.Core.Path.{_≡_, refl, sym, ap, _∙_}
 use mathlib.Core.Bool.{Bool, true, false, not, _&&_, and-eq-true-iff, true≢false}
-use mathlib.Core.List.{List, [], _∷_}
+use mathlib.Core.List.{List}
 use Prim.Native.Nat.{ℕ}
 use native.Mathlib.Omega.{arith}
 use lib.ListN.{length}
@@ -14,11 +14,11 @@ use Rattle.sheet_record.specs.Entry.{Entry, entryOf, busOf, headerOf, isBridge,
 use Rattle.sheet.specs.Sheet.{Framed, entriesOf, partAt}
 use Rattle.sheet.specs.CheckLaws.{count-entries, entries-past}
 use Rattle.sheet.specs.IndexLaws.{entries-index}
-use Rattle.audit_rule.specs.Parents.{parentOf}
+use Rattle.sheet_above.specs.Parents.{parentOf}
+use Rattle.sheet_above.specs.declared.Parent.{Parent}
+use Rattle.sheet_above.specs.declared.Parent.the-variants.{Host, Bridge, Nothing, Several}
+use Rattle.sheet_above.specs.Table.{parentIn, IsParent}
 use Rattle.audit_rule.specs.Audit.{firstElsewhere, busesIn, parentWrong, busesShared}
-use Rattle.audit_leaders.specs.declared.Parent.{Parent}
-use Rattle.audit_leaders.specs.declared.Parent.the-variants.{Host, Bridge, Nowhere}
-use Rattle.audit_leaders.specs.Table.{parentIn, IsParent}
 
 -- ## The first record
 
@@ -60,8 +60,11 @@ module _ (s : List ℕ) (root : ℕ) (p : List ℕ) (b : ℕ) (own : b ≡ busOf
   pub parent-host : r ≡ Host → parentWrong (parentOf root (entriesOf s) (bus (entryOf p))) (entryOf p) ≡ false
   parent-host e = rw (above Host e)
 
-  pub parent-nowhere : r ≡ Nowhere → parentWrong (parentOf root (entriesOf s) (bus (entryOf p))) (entryOf p) ≡ true
-  parent-nowhere e = rw (above Nowhere e)
+  pub parent-none : r ≡ Nothing → parentWrong (parentOf root (entriesOf s) (bus (entryOf p))) (entryOf p) ≡ true
+  parent-none e = rw (above Nothing e)
+
+  pub parent-several : r ≡ Several → parentWrong (parentOf root (entriesOf s) (bus (entryOf p))) (entryOf p) ≡ true
+  parent-several e = rw (above Several e)
 
   pub parent-bridge : (k : ℕ) → r ≡ Bridge k → (q : List ℕ) → q ≡ partAt s k → (m n : ℕ) → m ≡ secondaryOf q → n ≡ subordinateOf q
       → parentWrong (parentOf root (entriesOf s) (bus (entryOf p))) (entryOf p)

@@ -8,11 +8,11 @@ ghost use Rattle.sheet_record.specs.Places.{recordSize};
 ghost use Rattle.sheet_record.specs.Entry.{bus, bridges, entryOf};
 ghost use Rattle.sheet.specs.Sheet.{Framed, entriesFrom, entriesOf, partAt, recordAt};
 ghost use Rattle.sheet.specs.SheetLaws.{Checked};
-ghost use Rattle.audit_rule.specs.Parents.{parentOf};
+ghost use Rattle.sheet_above.specs.Parents.{parentOf};
+ghost use Rattle.sheet_above.specs.Table.{Leads};
 ghost use Rattle.audit_rule.specs.Audit.{anyPair, firstElsewhere, busesIn, parentWrong, wayUpWrong, busesShared, treeWrong};
-ghost use Rattle.audit_leaders.specs.Table.{Leads};
-use audit_leaders::Parent;
 use board_record::Host;
+use sheet_above::Parent;
 
 // The first record's bus, then every function's way up, then the bridges of each bus.
 pub fn tree_wrong(host: Host, sheet: &[u8], table: &[u16]) -> bool
@@ -73,7 +73,7 @@ fn parent_wrong(root: u8, sheet: &[u8], table: &[u16], part: &[u8]) -> bool
         r ≡ parentWrong (parentOf root (entriesOf (now (sheet .entry))) (bus (entryOf (now (part .entry))))) (entryOf (now (part .entry)))
         ⌝ }
 {
-    match audit_leaders::parent_of(table, root, sheet_record::bus_of(part)) {
+    match sheet_above::parent_in(table, root, sheet_record::bus_of(part)) {
         Parent::Host => false,
         Parent::Bridge(k) => {
             let above = sheet::part(sheet, k);
@@ -83,7 +83,8 @@ fn parent_wrong(root: u8, sheet: &[u8], table: &[u16], part: &[u8]) -> bool
                 part,
             )
         }
-        Parent::Nowhere => true,
+        Parent::Nothing => true,
+        Parent::Several => true,
     }
 }
 

@@ -2,8 +2,8 @@
 ghost use mathlib.Core.Path.{_≡_};
 ghost use Rattle.sheet.specs.Sheet.{entriesOf};
 ghost use Rattle.sheet.specs.SheetLaws.{Checked};
+ghost use Rattle.sheet_above.specs.Table.{Leads};
 ghost use Rattle.audit_rule.specs.Audit.{from50, auditNumber};
-ghost use Rattle.audit_leaders.specs.Table.{Leads};
 ghost use Rattle.auditor.specs.Checks.{fails as failsOf};
 use board_record::Host;
 
@@ -37,8 +37,8 @@ fn audit_checked(host: Host, sheet: &[u8]) -> u8
     requires { ⌜ Checked (now sheet) ⌝ }
     ensures { λ r. ⌜ r ≡ from50 host (entriesOf (now (sheet .entry))) ⌝ }
 {
-    let mut table = [0u16; audit_leaders::BUSES];
-    audit_leaders::leaders(sheet, &mut table);
+    let mut table = [0u16; sheet_above::BUSES];
+    sheet_above::leaders(sheet, &mut table);
     if fails(Check::Buses, host, sheet, &table) {
         return 50;
     }

@@ -1,30 +1,32 @@
 -- The build in the words of the code: one law for each answer. Assumes nothing.
-use mathlib.Core.Path.{_≡_, sym, _∙_}
+use mathlib.Core.Path.{_≡_, refl, sym, _∙_}
 use mathlib.Core.List.{List}
 use Prim.Native.Nat.{ℕ, _≤_, _<_}
 use lib.ListN.{length}
 use borrow.Author.Tests.{eq-eqb, ne-eqb, lt-ltb, le-ltb}
 use Rattle.endian.specs.Endian.{Bytes}
 use Rattle.records.specs.Limits.{mostFunctions}
+use Rattle.pools.specs.declared.Space.the-variants.{Memory}
+use Rattle.board_record.specs.Host.{hostOfPart}
 use Rattle.sheet.specs.Sheet.{Framed, entriesOf}
-use Rattle.sheet.specs.SheetLaws.{Checked, checked-of-zero}
+use Rattle.sheet.specs.SheetLaws.{Checked, checked-of-zero, passes-of-zero}
+use Rattle.sheet_above.specs.Table.{Leads}
+use Rattle.sheet_above.specs.Bridges.{BusTree}
+use Rattle.audit_rule.specs.Host.{hostFor}
 use Rattle.audit_rule.specs.Audit.{auditNumber}
 use Rattle.audit_rule.specs.Accepted.{Accepted}
 use Rattle.audit_rule.specs.AuditLaws.{audit-iff}
-use Rattle.audit_leaders.specs.Table.{Leads}
 use Rattle.index_layout.specs.Places.{indexSize}
 use Rattle.index_slots.specs.Slots.{Slot, placed}
 use Rattle.index_slots.specs.Cleared.{cleared}
 use Rattle.index_table.specs.Table.{finished, built}
-use Rattle.index_above.specs.Bridges.{Climbs}
-use Rattle.index_above.specs.BridgesLaws.{climbs-of-accepted}
 use Rattle.index_pass.specs.Pass.{slotsBelow}
 use Rattle.index_build.specs.Build.{from11, buildNumber, rootOf, indexAfter}
 
--- a checked sheet that can be climbed to the root bus by the table of its leaders
+-- a checked sheet whose buses are a tree below the root bus
 pub record Rooted (s : List ℕ) (root : ℕ) : Type 0 where
   pub checked : Checked s
-  pub climbs : (table : List ℕ) → Leads (entriesOf s) table → Climbs s table root
+  pub tree : (table : List ℕ) → Leads (entriesOf s) table → BusTree s table root
 
 -- ## The index filled: what is cleared, then inserted, then finished
 
@@ -59,7 +61,15 @@ module _ (host s o : List ℕ) (a : ℕ) (audit : a ≡ auditNumber host s) wher
         rw e
         (record {
           checked = checked-of-zero s (accepted .passes);
-          climbs = λ table leads. climbs-of-accepted host s table bytes accepted leads;
+          tree = λ table leads.
+              record {
+                checked = checked-of-zero s (accepted .passes);
+                rise = passes-of-zero s bytes (accepted .passes) .bridges-rise;
+                leads = leads;
+                host = hostFor Memory (hostOfPart host);
+                root-is = refl;
+                tree = accepted .tree Memory;
+              };
         })
 
     past-audit : buildNumber host s (length o) ≡ from11 s (length o)

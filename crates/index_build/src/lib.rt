@@ -32,8 +32,8 @@ fn fill(index: &mut [u8], n: usize, sheet: &[u8], root: u8)
     requires { ⌜ Rooted (now sheet) root × (n ≡ length (entriesOf (now sheet))) × (indexSize n ≤ length (now index)) ⌝ }
     ensures { λ _. ⌜ now (index .exit) ≡ built n root (slotsBelow root (now (sheet .entry))) (now (index .entry)) ⌝ }
 {
-    let mut table = [0u16; audit_leaders::BUSES];
-    audit_leaders::leaders(sheet, &mut table);
+    let mut table = [0u16; sheet_above::BUSES];
+    sheet_above::leaders(sheet, &mut table);
     index_slots::clear(index, n);
     let count = index_pass::insert_owners(index, n, sheet, &table, root);
     index_table::finish(index, n, root, count);

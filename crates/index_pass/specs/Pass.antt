@@ -14,12 +14,12 @@ use Rattle.walk.specs.Ranges.{Range}
 use Rattle.sheet_record.specs.Entry as entries
 use Rattle.sheet_record.specs.Entry.{entryOf, commandOf}
 use Rattle.sheet_record.specs.Spaces.{barRange, barsOf, enables}
+use Rattle.sheet_above.specs.declared.Bridges.{Bridges}
 use Rattle.index_rule.specs.Owners as rule
 use Rattle.index_rule.specs.Owners.{Owner, ownedOf, idOwners, ownersBelow, exponentOf, wordOf}
 use Rattle.index_layout.specs.Keys.{idBase, noKey}
 use Rattle.index_layout.specs.Words.{wordEnd}
 use Rattle.index_slots.specs.Slots.{Slot}
-use Rattle.index_above.specs.declared.Bridges.{Bridges}
 use Rattle.index_pass.specs.declared.Segment.{Segment}
 use Rattle.index_pass.specs.declared.Pass.{Pass}
 use Rattle.index_pass.specs.declared.Pass.the-variants.{Bars, Ids}

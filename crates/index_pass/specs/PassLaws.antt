@@ -21,7 +21,10 @@ use Rattle.sheet.specs.Sheet.{Framed, entriesOf, partAt}
 use Rattle.sheet.specs.SheetLaws.{Checked, lawful-index}
 use Rattle.sheet.specs.IndexLaws.{enabled-index}
 use Rattle.sheet.specs.Spaces.{nodesOf, enabledOf}
-use Rattle.index_rule.specs.Owners.{Owner, allEnabled, isLive, barOwner, idOwner, moved, startsIn, ownedOf}
+use Rattle.index_rule.specs.Owners.{Owner, isLive, barOwner, idOwner, moved, startsIn, ownedOf}
+use Rattle.sheet_above.specs.declared.Bridges.{Bridges}
+use Rattle.sheet_above.specs.Bridges.{allEnabled, bridgesOver}
+use Rattle.sheet_above.specs.BridgesLaws.{bus-of-part}
 use Rattle.index_rule.specs.Owners.{idOwners, lowMemory, highMemory, ports, ownersBelow, exponentOver, exponentOf}
 use Rattle.index_rule.specs.CountLaws.{seven-each}
 use Rattle.index_rule.specs.PassLaws.{taken, ownedAfter, idsAfter, owned-start, ids-start, owned-end, ids-end, owned-step, ids-step}
@@ -29,9 +32,6 @@ use Rattle.index_layout.specs.Places.{mostSlots}
 use Rattle.index_layout.specs.Keys.{lowEnd, memoryEnd, ioSize, ioBase, idBase, noKey}
 use Rattle.index_layout.specs.Words.{wordFrom, wordEnd}
 use Rattle.index_slots.specs.Slots.{Slot, placed}
-use Rattle.index_above.specs.declared.Bridges.{Bridges}
-use Rattle.index_above.specs.Bridges.{bridgesOver}
-use Rattle.index_above.specs.BridgesLaws.{bus-of-part}
 use Rattle.index_pass.specs.declared.Segment.{Segment}
 use Rattle.index_pass.specs.declared.Pass.{Pass}
 use Rattle.index_pass.specs.declared.Pass.the-variants.{Bars, Ids}

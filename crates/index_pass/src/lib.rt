@@ -11,17 +11,17 @@ ghost use Rattle.sheet_record.specs.Places.{recordSize};
 ghost use Rattle.sheet_record.specs.Entry.{entryOf};
 ghost use Rattle.sheet_record.specs.Spaces.{slotsOf, barsOf};
 ghost use Rattle.sheet.specs.Sheet.{entriesOf};
+ghost use Rattle.sheet_above.specs.Bridges.{BusTree};
 ghost use Rattle.index_rule.specs.Owners.{exponentOf};
 ghost use Rattle.index_layout.specs.Places.{indexSize, mostSlots};
 ghost use Rattle.index_layout.specs.Keys.{noKey};
 ghost use Rattle.index_layout.specs.Words.{wordLimit};
 ghost use Rattle.index_slots.specs.Slots.{placed};
-ghost use Rattle.index_above.specs.Bridges.{Climbs};
 ghost use Rattle.index_pass.specs.Pass.{slotsBelow, passSlots, Fits, recordSlots, barSlots, barIn, allOn};
 use bar::Slot;
-use index_above::Bridges;
 use pools::Pool;
 use pools::Space;
+use sheet_above::Bridges;
 
 // Addresses of a space, from `first` on and before `end`, and the key of address 0.
 pub struct Segment {
@@ -61,7 +61,7 @@ const IO: Segment = Segment {
 // All owners, into an index of n functions with no slots: how many there are.
 pub fn insert_owners(index: &mut [u8], n: usize, sheet: &[u8], table: &[u16], root: u8) -> usize
     requires { ⌜
-        Climbs (now sheet) (now table) root × (n ≡ length (entriesOf (now sheet))) × (indexSize n ≤ length (now index))
+        BusTree (now sheet) (now table) root × (n ≡ length (entriesOf (now sheet))) × (indexSize n ≤ length (now index))
         ⌝ }
     ensures { λ r. ⌜
         (now (index .exit) ≡ placed 0 n (slotsBelow root (now (sheet .entry))) (now (index .entry)))
@@ -85,7 +85,7 @@ fn insert_pass(
     root: u8,
 ) -> usize
     requires { ⌜
-        Climbs (now sheet) (now table) root × Fits pass × (count + length (passSlots pass root (now sheet)) ≤ mostSlots n)
+        BusTree (now sheet) (now table) root × Fits pass × (count + length (passSlots pass root (now sheet)) ≤ mostSlots n)
         × (indexSize n ≤ length (now index))
         ⌝ }
     ensures { λ r. ⌜
@@ -99,7 +99,7 @@ fn insert_pass(
     while k < records {
         let part = sheet::part(sheet, k);
         k += 1;
-        let bridges = index_above::above(sheet, table, root, sheet_record::bus_of(part));
+        let bridges = sheet_above::bridges_above(sheet, table, root, sheet_record::bus_of(part));
         at = insert_record(index, n, at, pass, part, bridges, k);
     }
     at

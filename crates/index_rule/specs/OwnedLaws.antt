@@ -14,7 +14,8 @@ use Rattle.walk.specs.Above.{above}
 use Rattle.walk.specs.Walk.{delivered, refused, noOwner}
 use Rattle.walk.specs.Good.{Host, Sound, ApartOnBus}
 use Rattle.walk.specs.Delivery.{Owns, outcomeOf, delivered-of-owner, otherwise-nobody, holder-unique}
-use Rattle.index_rule.specs.Owners.{Owner, Over, allEnabled, isLive, barOwner, ownersOn, owned}
+use Rattle.sheet_above.specs.Bridges.{allEnabled}
+use Rattle.index_rule.specs.Owners.{Owner, Over, isLive, barOwner, ownersOn, owned}
 use Rattle.index_rule.specs.Answered.{Answered}
 
 all-enabled-elim : (enabled : ℕ → Bool) (bs : List Node) → allEnabled enabled bs ≡ true → All (λ b. enabled (b .number) ≡ true) bs

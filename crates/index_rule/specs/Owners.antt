@@ -1,7 +1,7 @@
 -- Document 02, E8: the owners of an accepted sheet: each BAR of a function that is enabled with all bridges above it, and each function's
 -- ID, with the function's number and the number of bridges above it; where each stands among the keys of an index. Assumes nothing.
-use mathlib.Core.Bool.{Bool, true, cond, _&&_}
-use mathlib.Core.List.{List, [], _∷_, _++_, map, flatMap}
+use mathlib.Core.Bool.{Bool, cond, _&&_}
+use mathlib.Core.List.{List, [], _++_, map, flatMap}
 use Prim.Native.Nat.{ℕ, zero, suc, _+_, _-_, _*_, _/_, _≤_, _<_}
 use lib.ListN.{length}
 use lib.Dec.{leb, ltb}
@@ -13,6 +13,7 @@ use Rattle.walk.specs.Ranges.{Range}
 use Rattle.walk.specs.Registers.{Node, Registers}
 use Rattle.walk.specs.Above.{above}
 use Rattle.sheet.specs.Spaces.{registersOf, nodesOf, enabledOf}
+use Rattle.sheet_above.specs.Bridges.{allEnabled}
 use Rattle.claims.specs.declared.Aim.{Aim}
 use Rattle.claims.specs.declared.Aim.the-variants.{Address, Id}
 use Rattle.index_layout.specs.Keys.{lowEnd, memoryEnd, ioSize, idSize, ioBase, idBase}
@@ -30,10 +31,6 @@ pub record Over (x : Owner) (a : ℕ) : Type 0 where
   pub before-stop : a < x .stop
 
 -- ## By address: the BARs of a function, if it and each bridge above it are enabled. `top` is the root bus, ns are the sheet's functions.
-
-unfoldable pub allEnabled : (ℕ → Bool) → List Node → Bool
-allEnabled enabled [] = true
-allEnabled enabled (b ∷ bs) = enabled (b .number) && allEnabled enabled bs
 
 abbrev pub isLive : ℕ → List Node → (ℕ → Bool) → Node → Bool
 isLive top ns enabled n = enabled (n .number) && allEnabled enabled (above top ns (n .bus))

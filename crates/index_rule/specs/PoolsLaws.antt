@@ -26,9 +26,9 @@ use Rattle.walk.specs.Above.{bridgesTo}
 use Rattle.walk.specs.AboveLaws.{only-bridge-elim}
 use Rattle.walk.specs.Good.{Host, OneWayUp, Good}
 use Rattle.sheet_record.specs.Spaces.{poolOf}
-use Rattle.audit_rule.specs.Host.{openPool, poolsOf}
 use Rattle.index_layout.specs.Keys.{lowEnd, memoryEnd, ioSize}
 use Rattle.index_rule.specs.Owners.{endOf}
+use Rattle.sheet_ranges.specs.Ranges.{openPool, poolsOf}
 
 -- ## In a pool
 

@@ -3,7 +3,7 @@
 use mathlib.Core.Path.{_≡_, refl, sym, ap, subst, _∙_}
 use mathlib.Core.Logic.{_⊎_, inl, inr}
 use mathlib.Core.Bool.{Bool, true, false, cond, not, false≢true}
-use mathlib.Core.List.{List, map, List·Memᴰ·head, List·Memᴰ·tail, List·Memᴰ·not-nil, List·Memᴰ·cases-cons}
+use mathlib.Core.List.{List, map, List·Memᴰ·not-nil, List·Memᴰ·cases-cons}
 use Prim.Native.Nat.{ℕ, zero, suc, _+_, _-_, _≤_, _<_}
 use native.Mathlib.Numerals.{add-one}
 use native.Mathlib.Omega.{arith}
@@ -28,6 +28,7 @@ use Rattle.sheet.specs.Spaces.{functionsFrom, registersOf}
 use Rattle.sheet.specs.IndexLaws.{length-part, record-fits, functions-index, functions-end, length-entries, length-commands}
 use Rattle.sheet.specs.IndexLaws.{command-index}
 use Rattle.sheet.specs.SheetLaws.{Checked, numbered-functions, lawful-index}
+use Rattle.sheet_above.specs.FunctionsLaws.{function-index}
 use Rattle.route_cards.specs.Sending.{masters, masterOf}
 use Rattle.route_cards.specs.Search.{partOf, functionAt, IsRecord, IsType0, Type0Told, startAnswer}
 
@@ -40,21 +41,14 @@ module _ (s : List ℕ) (c : Checked s) (space : Space) where
   index-back : (k : ℕ) → k + 1 - 1 ≡ k
   index-back k = omega arith
 
-  here : (k : ℕ) → functionAt space s (k + 1) ≡ functionOf space (k + 1) (entryOf (partAt s k))
+  pub here : (k : ℕ) → functionAt space s (k + 1) ≡ functionOf space (k + 1) (entryOf (partAt s k))
   here k = ap (λ (j : ℕ). functionOf space (k + 1) (entryOf (partAt s j))) (index-back k)
-
-  mem-from : (m k : ℕ) → k + m < length (entriesOf s) → functionAt space s (k + m + 1) ∈ left k
-  mem-from zero k h =
-      let e : k + 0 ≡ k = omega arith in
-      rw (e, functions-index s (c .framed) space k (omega arith)) (List·Memᴰ·head (here k))
-  mem-from (suc m) k h =
-      let e : k + suc m ≡ k + 1 + m = omega arith in
-      rw (e, functions-index s (c .framed) space k (omega arith)) (List·Memᴰ·tail (mem-from m (k + 1) (omega arith)))
 
   pub function-mem : (number : ℕ) → IsRecord s number → functionAt space s number ∈ registersOf space s
   function-mem number r =
-      let e : 0 + (number - 1) + 1 ≡ number = omega (arith, r .from-1) in
-      subst (λ (n : ℕ). functionAt space s n ∈ registersOf space s) e (mem-from (number - 1) 0 (omega (arith, r .from-1, r .in-sheet)))
+      let e : number - 1 + 1 ≡ number = omega (arith, r .from-1) in
+      subst (λ (n : ℕ). functionOf space n (entryOf (partOf s number)) ∈ registersOf space s) e
+      (function-index s (c .framed) space (number - 1) (omega (arith, r .from-1, r .in-sheet)))
 
   elim-from : (m k : ℕ) (f : Registers) → length (entriesOf s) ≡ k + m → f ∈ left k
       → IsRecord s (f .node .number) × (f ≡ functionAt space s (f .node .number))

@@ -2,7 +2,7 @@
 use Prim.Native.Nat.{ℕ, _-_, _≤_, _<_}
 use mathlib.Core.Path.{_≡_}
 use mathlib.Core.Bool.{Bool, true, false}
-use mathlib.Core.List.{List, [], _∷_}
+use mathlib.Core.List.{List}
 use lib.ListN.{length}
 use Rattle.lists.specs.Lists.{any}
 use Rattle.pools.specs.declared.Space.{Space}
@@ -18,8 +18,6 @@ use Rattle.route_cards.specs.declared.Climbed.{Climbed}
 use Rattle.route_cards.specs.declared.Climbed.the-variants.{Arrives, Leaves, Stops}
 use Rattle.route_cards.specs.declared.above.Up.{Up}
 use Rattle.route_cards.specs.declared.above.Up.the-variants.{Host, Across, Halts}
-use Rattle.route_cards.specs.declared.above.Leading.{Leading}
-use Rattle.route_cards.specs.declared.above.Leading.the-variants.{Nothing, One, Several}
 
 -- ## Records
 
@@ -54,21 +52,6 @@ startAnswer space s number = starts (functionAt space s number)
 
 unfoldable pub anyHolds : ℕ → List Range → Bool
 anyHolds address rs = any (λ r. holds r address) rs
-
--- ## The bridges that lead to a bus
-
-abbrev pub withBridge : Leading → ℕ → Leading
-withBridge Nothing number = One number
-withBridge (One n) number = Several
-withBridge Several number = Several
-
--- with those that are left
-unfoldable pub joinLead : Leading → List Registers → Leading
-joinLead l [] = l
-joinLead l (b ∷ bs) = joinLead (withBridge l (b .node .number)) bs
-
-abbrev pub leadOf : List Registers → Leading
-leadOf bs = joinLead Nothing bs
 
 -- ## Where a search ends
 

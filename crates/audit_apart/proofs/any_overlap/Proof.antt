@@ -8,10 +8,10 @@ use native.Mathlib.Omega.{arith}
 use borrow.Author.Needs.{needs}
 use Rattle.lists.specs.Lists.{any}
 use Rattle.walk.specs.Ranges.{Range}
-use Rattle.audit_rule.specs.Ranges.{overlap}
+use Rattle.sheet_ranges.specs.Ranges.{overlap}
+use Rattle.sheet_ranges.specs.Items.{rangeOf, rangesFrom, rangesIn}
+use Rattle.sheet_ranges.specs.SearchLaws.{items-all, items-past, items-hit, items-miss}
 use Rattle.audit_rule.specs.Audit.{anyOverlap}
-use Rattle.audit_ranges.specs.Items.{rangeOf, rangesFrom, rangesIn}
-use Rattle.audit_ranges.specs.SearchLaws.{items-all, items-past, items-hit, items-miss}
 use Rattle.audit_apart.proofs.any_overlap.Statement.{statement}
 use Rattle.audit_apart.proofs.any_overlap.Tie as tie
 

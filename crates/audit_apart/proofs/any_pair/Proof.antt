@@ -4,10 +4,10 @@ use mathlib.Core.Path.{_≡_, ap, sym, _∙_}
 use Prim.Native.Nat.{_-_}
 use native.Mathlib.Omega.{arith}
 use borrow.Author.Needs.{needs}
-use Rattle.audit_rule.specs.Ranges.{overlap}
+use Rattle.sheet_ranges.specs.Ranges.{overlap}
+use Rattle.sheet_ranges.specs.Items.{rangesFrom, rangesIn}
+use Rattle.sheet_ranges.specs.SearchLaws.{items-all}
 use Rattle.audit_rule.specs.Audit.{anyPair}
-use Rattle.audit_ranges.specs.Items.{rangesFrom, rangesIn}
-use Rattle.audit_ranges.specs.SearchLaws.{items-all}
 use Rattle.audit_apart.specs.ApartLaws.{pairs-past, pairs-hit, pairs-miss}
 use Rattle.audit_apart.proofs.any_pair.Statement.{statement}
 use Rattle.audit_apart.proofs.any_pair.Tie as tie

@@ -6,9 +6,9 @@ use native.Mathlib.Omega.{arith}
 use lib.ListN.{length}
 use Rattle.lists.specs.Lists.{any}
 use Rattle.sheet.specs.Sheet.{entriesFrom, entriesOf, recordAt}
+use Rattle.sheet_ranges.specs.Items.{rangesIn}
+use Rattle.sheet_ranges.specs.SearchLaws.{part-fits, part-sized, part-lawful}
 use Rattle.audit_rule.specs.PassLaws.{any-past, any-hit, any-miss}
-use Rattle.audit_ranges.specs.Items.{rangesIn}
-use Rattle.audit_ranges.specs.SearchLaws.{part-fits, part-sized, part-lawful}
 use Rattle.audit_apart.specs.Apart.{overlapsOn}
 use Rattle.audit_apart.proofs.meets_later.Statement.{statement}
 use Rattle.audit_apart.proofs.meets_later.Tie as tie

@@ -5,9 +5,9 @@ use Prim.Native.Nat.{_-_}
 use native.Mathlib.Omega.{arith}
 use borrow.Author.Needs.{needs}
 use Rattle.lists.specs.Lists.{any}
-use Rattle.audit_rule.specs.Ranges.{overlap}
-use Rattle.audit_ranges.specs.Items.{rangeOf, rangesFrom}
-use Rattle.audit_ranges.specs.SearchLaws.{items-past, items-hit, items-miss}
+use Rattle.sheet_ranges.specs.Ranges.{overlap}
+use Rattle.sheet_ranges.specs.Items.{rangeOf, rangesFrom}
+use Rattle.sheet_ranges.specs.SearchLaws.{items-past, items-hit, items-miss}
 use Rattle.audit_apart.proofs.overlaps_any.Statement.{statement}
 use Rattle.audit_apart.proofs.overlaps_any.Tie as tie
 

@@ -1,7 +1,7 @@
 -- `audit_apart::overlaps_at`: its own ranges, then those of later records. Assumes nothing.
 use native.Mathlib.Omega.{arith}
 use borrow.Author.Needs.{needs}
-use Rattle.audit_ranges.specs.SearchLaws.{part-fits, part-sized, part-lawful}
+use Rattle.sheet_ranges.specs.SearchLaws.{part-fits, part-sized, part-lawful}
 use Rattle.audit_apart.specs.ApartLaws.{at-own, at-later}
 use Rattle.audit_apart.proofs.overlaps_at.Statement.{statement}
 use Rattle.audit_apart.proofs.overlaps_at.Tie as tie

@@ -6,9 +6,9 @@ use Prim.Native.Nat.{_-_}
 use native.Mathlib.Omega.{arith}
 use borrow.Author.Needs.{needs}
 use Rattle.lists.specs.Lists.{any}
+use Rattle.sheet_ranges.specs.Items.{rangesFrom, rangesIn}
+use Rattle.sheet_ranges.specs.SearchLaws.{items-all, items-past, items-hit, items-miss}
 use Rattle.audit_rule.specs.Audit.{outsideAll}
-use Rattle.audit_ranges.specs.Items.{rangesFrom, rangesIn}
-use Rattle.audit_ranges.specs.SearchLaws.{items-all, items-past, items-hit, items-miss}
 use Rattle.audit_place.proofs.any_outside.Statement.{statement}
 use Rattle.audit_place.proofs.any_outside.Tie as tie
 

@@ -5,9 +5,9 @@ use Prim.Native.Nat.{_-_}
 use native.Mathlib.Omega.{arith}
 use borrow.Author.Needs.{needs}
 use Rattle.lists.specs.Lists.{any}
-use Rattle.audit_rule.specs.Ranges.{inside}
-use Rattle.audit_ranges.specs.Items.{rangeOf, rangesFrom, rangesIn}
-use Rattle.audit_ranges.specs.SearchLaws.{items-all, items-past, items-hit, items-miss}
+use Rattle.sheet_ranges.specs.Ranges.{inside}
+use Rattle.sheet_ranges.specs.Items.{rangeOf, rangesFrom, rangesIn}
+use Rattle.sheet_ranges.specs.SearchLaws.{items-all, items-past, items-hit, items-miss}
 use Rattle.audit_place.proofs.is_inside_any.Statement.{statement}
 use Rattle.audit_place.proofs.is_inside_any.Tie as tie
 

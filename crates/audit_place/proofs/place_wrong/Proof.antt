@@ -6,9 +6,9 @@ use native.Mathlib.Omega.{arith}
 use lib.ListN.{length}
 use Rattle.lists.specs.Lists.{any}
 use Rattle.sheet.specs.Sheet.{entriesFrom, entriesOf, recordAt}
+use Rattle.sheet_ranges.specs.SearchLaws.{part-fits, part-sized, part-lawful}
 use Rattle.audit_rule.specs.Audit.{misplaced, placeWrong}
 use Rattle.audit_rule.specs.PassLaws.{any-past, any-hit, any-miss}
-use Rattle.audit_ranges.specs.SearchLaws.{part-fits, part-sized, part-lawful}
 use Rattle.audit_place.proofs.place_wrong.Statement.{statement}
 use Rattle.audit_place.proofs.place_wrong.Tie as tie
 

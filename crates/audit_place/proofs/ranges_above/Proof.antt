@@ -4,24 +4,24 @@ use native.Mathlib.Omega.{arith}
 use lib.ListN.{length}
 use borrow.Author.Needs.{needs}
 use Rattle.sheet.specs.Sheet.{entriesOf}
-use Rattle.audit_leaders.specs.Table.{IsParent}
-use Rattle.audit_ranges.specs.SearchLaws.{part-fits, part-sized}
-use Rattle.audit_place.specs.PlaceLaws.{above-host, above-bridge, above-none}
+use Rattle.sheet_above.specs.Table.{IsParent}
+use Rattle.sheet_ranges.specs.SearchLaws.{part-fits, part-sized}
+use Rattle.audit_place.specs.PlaceLaws.{above-host, above-bridge, above-none, above-several}
 use Rattle.audit_place.proofs.ranges_above.Statement.{statement}
 use Rattle.audit_place.proofs.ranges_above.Tie as tie
 
-parent : (c : tie.After-parent-of)
+parent : (c : tie.After-parent-in)
     → IsParent (c .before .before .before .before .args .sheet .now) (c .before .before .before .before .args .host .«first_bus»)
-    (c .before .before .before .before .args .bus) (c .parent-of .result)
-parent c = let start = c .before .before .before .before in c .parent-of .ensures _ (start .pre .0) (start .pre .1)
+    (c .before .before .before .before .args .bus) (c .parent-in .result)
+parent c = let start = c .before .before .before .before in c .parent-in .ensures _ (start .pre .0) (start .pre .1)
 
 -- a bridge that does has its record in the sheet
 inside : (c : tie.After-known-told)
     → c .before .k .given .0 .0 < length (entriesOf (c .before .before .before .before .before .before .before .args .sheet .now))
 inside c = parent (c .before .before .before) .whole _ (c .before .k .given .1) .inside
 
-parent-of-requires : tie.Need-parent-of-requires
-parent-of-requires c κs = search needs
+parent-in-requires : tie.Need-parent-in-requires
+parent-in-requires c κs = search needs
 
 enum-told : tie.Need-enum-told
 enum-told c = search needs
@@ -43,6 +43,9 @@ windows-of-requires c κs =
 
 enum-told-2 : tie.Need-enum-told-2
 enum-told-2 c = search needs
+
+enum-told-3 : tie.Need-enum-told-3
+enum-told-3 c = search needs
 
 same-length : tie.Need-same-length
 same-length c = search needs
@@ -75,19 +78,27 @@ returns-3 c =
     let host = called .before .before .before .before .args .host in
     (above-none host _ _ _ _ (parent called) (c .enum-told2 .given .1) _, omega arith)
 
+returns-4 : tie.Need-returns-4
+returns-4 c =
+    let called = c .before .before in
+    let host = called .before .before .before .before .args .host in
+    (above-several host _ _ _ _ (parent called) (c .enum-told3 .given .1) _, omega arith)
+
 pub ranges-above-spec : {M : Type 1} → statement M
 ranges-above-spec =
     tie.close
     (tie.spec
-    parent-of-requires
+    parent-in-requires
     enum-told
     pools-of-requires
     enum-known-k
     part-requires
     windows-of-requires
     enum-told-2
+    enum-told-3
     same-length
     returns
     same-length-2
     returns-2
-    returns-3)
+    returns-3
+    returns-4)

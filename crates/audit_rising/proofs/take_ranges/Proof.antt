@@ -8,7 +8,7 @@ use native.Mathlib.Omega.{arith}
 use lib.ListN.{length}
 use borrow.Author.Needs.{needs}
 use borrow.Author.Tests.{not-false}
-use Rattle.audit_ranges.specs.Items.{rangesFrom, rangesIn}
+use Rattle.sheet_ranges.specs.Items.{rangesFrom, rangesIn}
 use Rattle.audit_rising.specs.Rising.{Rising, Takes}
 use Rattle.audit_rising.specs.Spots.{spotOf}
 use Rattle.audit_rising.specs.PassLaws.{ranges-all, ranges-past, ranges-turn}

@@ -9,7 +9,7 @@ use lib.ListN.{length}
 use borrow.Author.Needs.{needs}
 use borrow.Author.Tests.{not-false}
 use Rattle.sheet.specs.Sheet.{entriesFrom, entriesOf, recordAt}
-use Rattle.audit_ranges.specs.SearchLaws.{part-fits, part-sized, part-lawful}
+use Rattle.sheet_ranges.specs.SearchLaws.{part-fits, part-sized, part-lawful}
 use Rattle.audit_rising.specs.Rising.{Rising}
 use Rattle.audit_rising.specs.Spots.{spotsOf}
 use Rattle.audit_rising.specs.PassLaws.{records-past, records-turn, ranges-told}

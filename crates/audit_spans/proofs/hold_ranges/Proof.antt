@@ -6,7 +6,7 @@ use Prim.Native.Nat.{_-_, _≤_}
 use native.Mathlib.Omega.{arith}
 use lib.ListN.{length}
 use borrow.Author.Needs.{needs}
-use Rattle.audit_ranges.specs.Items.{rangesFrom, rangesIn}
+use Rattle.sheet_ranges.specs.Items.{rangesFrom, rangesIn}
 use Rattle.audit_rising.specs.Spots.{spotOf}
 use Rattle.audit_rising.specs.PassLaws.{Leaves, ranges-all, ranges-past, ranges-turn}
 use Rattle.audit_spans.specs.Spans.{Spans, Spread}

@@ -8,7 +8,7 @@ use native.Mathlib.Omega.{arith}
 use lib.ListN.{length}
 use borrow.Author.Needs.{needs}
 use Rattle.sheet.specs.Sheet.{entriesFrom, entriesOf, recordAt}
-use Rattle.audit_ranges.specs.SearchLaws.{part-fits, part-sized, part-lawful}
+use Rattle.sheet_ranges.specs.SearchLaws.{part-fits, part-sized, part-lawful}
 use Rattle.audit_rising.specs.Spots.{spotsOf}
 use Rattle.audit_rising.specs.PassLaws.{records-past, records-turn}
 use Rattle.audit_spans.specs.Spans.{Spread}

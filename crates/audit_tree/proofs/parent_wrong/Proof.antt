@@ -5,16 +5,16 @@ use Prim.Native.Nat.{_+_, _≤_}
 use lib.ListN.{length}
 use Rattle.sheet.specs.Sheet.{sheetLength}
 use Rattle.sheet.specs.IndexLaws.{record-fits, length-part}
-use Rattle.audit_leaders.specs.Table.{IsParent}
-use Rattle.audit_tree.specs.TreeLaws.{parent-host, parent-bridge, parent-nowhere}
+use Rattle.sheet_above.specs.Table.{IsParent}
+use Rattle.audit_tree.specs.TreeLaws.{parent-host, parent-bridge, parent-none, parent-several}
 use Rattle.audit_tree.proofs.parent_wrong.Statement.{statement}
 use Rattle.audit_tree.proofs.parent_wrong.Tie as tie
 
 -- who stands above
-parent : (c : tie.After-parent-of)
+parent : (c : tie.After-parent-in)
     → IsParent (c .before .before .before .before .before .args .sheet .now) (c .before .before .before .before .before .args .root)
-    (c .before .bus-of .result) (c .parent-of .result)
-parent c = let start = c .before .before .before .before .before in c .parent-of .ensures _ (start .pre .0) (start .pre .1)
+    (c .before .bus-of .result) (c .parent-in .result)
+parent c = let start = c .before .before .before .before .before in c .parent-in .ensures _ (start .pre .0) (start .pre .1)
 
 -- a bridge that does has its record in the sheet
 fits : (c : tie.After-known-told)
@@ -28,8 +28,8 @@ fits c =
 bus-of-requires : tie.Need-bus-of-requires
 bus-of-requires c κs = search needs
 
-parent-of-requires : tie.Need-parent-of-requires
-parent-of-requires c κs = c .before .before .before .before .pre .1 .size
+parent-in-requires : tie.Need-parent-in-requires
+parent-in-requires c κs = c .before .before .before .before .pre .1 .size
 
 enum-told : tie.Need-enum-told
 enum-told c = search needs
@@ -52,6 +52,9 @@ buses-outside-requires c κs = search needs
 enum-told-2 : tie.Need-enum-told-2
 enum-told-2 c = search needs
 
+enum-told-3 : tie.Need-enum-told-3
+enum-told-3 c = search needs
+
 returns : tie.Need-returns
 returns c =
     let called = c .before .before in
@@ -69,14 +72,19 @@ returns-2 c =
 returns-3 : tie.Need-returns-3
 returns-3 c =
     let called = c .before .before in
-    sym (parent-nowhere _ _ _ _ (called .before .bus-of .ensures) _ (parent called) (c .enum-told2 .given .1))
+    sym (parent-none _ _ _ _ (called .before .bus-of .ensures) _ (parent called) (c .enum-told2 .given .1))
+
+returns-4 : tie.Need-returns-4
+returns-4 c =
+    let called = c .before .before in
+    sym (parent-several _ _ _ _ (called .before .bus-of .ensures) _ (parent called) (c .enum-told3 .given .1))
 
 pub parent-wrong-spec : {M : Type 1} → statement M
 parent-wrong-spec =
     tie.close
     (tie.spec
     bus-of-requires
-    parent-of-requires
+    parent-in-requires
     enum-told
     enum-known-k
     part-requires
@@ -84,6 +92,8 @@ parent-wrong-spec =
     subordinate-of-requires
     buses-outside-requires
     enum-told-2
+    enum-told-3
     returns
     returns-2
-    returns-3)
+    returns-3
+    returns-4)

@@ -24,7 +24,7 @@ insert-owners-requires c κs =
     let cleared = c .before .before .before .before in
     let led = cleared .before .before .before in
     let start = led .before .before .before .before in
-    (start .pre .0 .climbs _ (led .leaders .ensures), start .pre .1, omega (arith, cleared .clear .kept .0, start .pre .2))
+    (start .pre .0 .tree _ (led .leaders .ensures), start .pre .1, omega (arith, cleared .clear .kept .0, start .pre .2))
 
 finish-requires : tie.Need-finish-requires
 finish-requires c κs =

@@ -5,7 +5,7 @@ use native.Mathlib.Omega.{arith}
 use lib.ListN.{length}
 use Rattle.sheet.specs.Sheet.{entriesOf}
 use Rattle.sheet.specs.IndexLaws.{record-fits}
-use Rattle.index_above.specs.BridgesLaws.{part-sized, on-bus-index}
+use Rattle.sheet_above.specs.BridgesLaws.{part-sized, on-bus-index}
 use Rattle.index_pass.specs.Pass.{passSlots, recordSlots}
 use Rattle.index_pass.specs.PlacingLaws.{Placing, placing-start, placing-end, placing-room, placing-next}
 use Rattle.index_pass.specs.PassLaws.{slotsAfter, pass-start, pass-step, pass-end, part-lawful}
@@ -43,8 +43,8 @@ bus-of-requires c κs =
     part-sized _ (c .before .before .before .before .before .before .before .pre .0 .checked .framed)
     _ (here (c .before)) _ (c .part .ensures)
 
-above-requires : tie.Need-above-requires Inv-loop μ-loop
-above-requires c κs =
+bridges-above-requires : tie.Need-bridges-above-requires Inv-loop μ-loop
+bridges-above-requires c κs =
     let parted = c .before in
     let start = parted .before .before .before .before .before .before .before in
     let framed = start .pre .0 .checked .framed in
@@ -64,9 +64,9 @@ insert-record-requires c κs =
       start .pre .1,
       omega (arith, here more, start .pre .0 .checked .count),
       placing-room _ _ _ _ _ _ _ (turn .loop .inv)
-          (recordSlots (start .args .pass) (over .above .result) (turn .loop .k + 1) (parted .part .result .now))
+          (recordSlots (start .args .pass) (over .bridges-above .result) (turn .loop .k + 1) (parted .part .result .now))
           (slotsAfter (start .args .pass) (start .args .root) (start .args .sheet .now) (turn .loop .k + 1))
-          (pass-step _ framed _ (here more) _ (parted .part .ensures) _ _ (based .bus-of .ensures) _ (over .above .ensures)
+          (pass-step _ framed _ (here more) _ (parted .part .ensures) _ _ (based .bus-of .ensures) _ (over .bridges-above .ensures)
           (start .args .pass))
           _ (start .pre .2),
       omega (arith, turn .loop .inv .same-length, start .pre .3),
@@ -86,7 +86,7 @@ loop-again c =
     let start = turn .before .before .before .before .before in
     placing-next _ _ _ _ _ _ _ (turn .loop .inv) _ _
     (pass-step _ (start .pre .0 .checked .framed) _ (here more) _ (parted .part .ensures) _ _ (based .bus-of .ensures) _
-    (over .above .ensures) (start .args .pass))
+    (over .bridges-above .ensures) (start .args .pass))
     _ _ (put .insert-record .kept .0) (put .insert-record .ensures .0) (put .insert-record .ensures .1)
 
 same-length : tie.Need-same-length Inv-loop μ-loop
@@ -111,7 +111,7 @@ insert-pass-spec =
     part-requires
     add-k
     bus-of-requires
-    above-requires
+    bridges-above-requires
     insert-record-requires
     loop-less
     loop-again
