@@ -14,9 +14,9 @@ use Rattle.sheet_record.specs.Entry.{dwords, windowOf, entryOf}
 use Rattle.sheet.specs.Sheet.{allSized, isFramed, entriesFrom, allZero, readBacksWrong, breaks, anyBreaks, hasId, idTwice}
 use Rattle.sheet.specs.Sheet.{from29, from25, from28, from27, from24, from22, from20, from21, sheetNumber}
 use Rattle.sheet.specs.Examples.{p10, p10-bridge, p10-end, typed, sunk, doubled, shifted, nibbled}
-use Rattle.audit_rule.specs.Ranges as rule
-use Rattle.audit_rule.specs.Ranges.{rangesOf, rangesAbove}
-use Rattle.audit_rule.specs.Audit.{anyPair, treeWrong, placeWrong, overlaps, from52, from51, from50, fromSheet, from26, auditNumber}
+use Rattle.sheet_ranges.specs.Ranges as rule
+use Rattle.sheet_ranges.specs.Ranges.{rangesOf}
+use Rattle.audit_rule.specs.Audit.{anyPair, treeWrong, rangesAbove, placeWrong, overlaps, from52, from51, from50, fromSheet, from26, auditNumber}
 use Rattle.audit_rule.specs.Examples.{host, hostBuses, moved, beyond, sibling, disabled}
 use Rattle.finding.specs.declared.Finding.{Finding}
 use Rattle.finding.specs.First.{first}

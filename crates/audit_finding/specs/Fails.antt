@@ -9,8 +9,8 @@ use Rattle.board_record.specs.declared.Host.{Host}
 use Rattle.sheet_record.specs.Entry.{Entry, bus}
 use Rattle.sheet.specs.declared.Rule as rules
 use Rattle.sheet.specs.Sheet.{breaks}
-use Rattle.audit_rule.specs.Parents.{leadsTo}
-use Rattle.audit_rule.specs.Ranges.{overlap}
+use Rattle.sheet_above.specs.Parents.{leadsTo}
+use Rattle.sheet_ranges.specs.Ranges.{overlap}
 use Rattle.audit_rule.specs.Audit.{wayUpWrong, busesShared, misplaced}
 use Rattle.finding.specs.First.{first}
 use Rattle.audit_finding.specs.declared.Check.{Check}

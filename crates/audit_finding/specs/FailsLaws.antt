@@ -15,7 +15,7 @@ use Rattle.walk.specs.Ranges.{Range}
 use Rattle.sheet_record.specs.Entry.{Entry, bus}
 use Rattle.sheet.specs.declared.Rule.{Rule}
 use Rattle.sheet.specs.Sheet.{breaks, anyBreaks, hasId, idTwice}
-use Rattle.audit_rule.specs.Ranges.{rangesOf, overlap}
+use Rattle.sheet_ranges.specs.Ranges.{rangesOf, overlap}
 use Rattle.audit_rule.specs.Audit.{anyPair, firstElsewhere, wayUpWrong, treeWrong, misplaced, placeWrong, anyOverlap}
 use Rattle.audit_rule.specs.Audit.{overlapOnBus, overlaps}
 use Rattle.audit_rule.specs.PairLaws.{none-of-pairwise}

@@ -9,7 +9,7 @@ use Rattle.bar.specs.declared.Slot.{Slot}
 use Rattle.walk.specs.Ranges.{Range}
 use Rattle.sheet_record.specs.Entry.{Entry, bridges}
 use Rattle.sheet_record.specs.Spaces.{openRange, slotsOf}
-use Rattle.audit_rule.specs.Ranges.{barHere}
+use Rattle.sheet_ranges.specs.Ranges.{barHere}
 use Rattle.finding.specs.Places.{windowPlace}
 
 -- "Functions, numbered from 1"

@@ -22,8 +22,8 @@ use Rattle.window.specs.Window.{start, stop, isOpen}
 use Rattle.walk.specs.Ranges.{Range}
 use Rattle.sheet_record.specs.Entry.{Entry, slotCount, bridges}
 use Rattle.sheet_record.specs.Spaces.{poolOf, openRange, slotsOf}
-use Rattle.audit_rule.specs.Ranges as rule
-use Rattle.audit_rule.specs.Ranges.{barHere, rangesOf, windowsIn}
+use Rattle.sheet_ranges.specs.Ranges as rule
+use Rattle.sheet_ranges.specs.Ranges.{barHere, rangesOf, windowsIn}
 use Rattle.audit_finding.specs.Placed.{Numbered, numberedFrom, Placed, placedAt, barsFrom, windowOf, windowsOf, placedOf}
 use Rattle.audit_finding.specs.Placed.{placedIn}
 

@@ -11,9 +11,8 @@ use Rattle.bar.specs.Values.{valueHere, isValue}
 use Rattle.window.specs.Window.{isNibbled}
 use Rattle.board_record.specs.declared.Host.{Host}
 use Rattle.sheet_record.specs.Entry.{Entry, slotCount}
-use Rattle.audit_rule.specs.Parents.{Parent, underHost, underBridge, underNone}
-use Rattle.audit_rule.specs.Ranges.{rangesAbove}
-use Rattle.audit_rule.specs.Audit.{outsideAll, parentIn, wayUpWrong}
+use Rattle.sheet_above.specs.Parents.{Parent, underHost, underBridge, underNone, underSeveral}
+use Rattle.audit_rule.specs.Audit.{rangesAbove, outsideAll, parentIn, wayUpWrong}
 use Rattle.finding.specs.declared.Party.{Party}
 use Rattle.finding.specs.Places.{windowPlace, busRegisters, functionId, nobody, partyAt}
 use Rattle.finding.specs.First.{first}
@@ -64,6 +63,7 @@ abbrev pub isNowhere : Parent → Bool
 isNowhere underHost = false
 isNowhere (underBridge b) = false
 isNowhere underNone = true
+isNowhere underSeveral = true
 
 -- "every function is on that bus or on the secondary bus of exactly one bridge"
 abbrev pub hasNoParent : Host → List Entry → Numbered → Bool

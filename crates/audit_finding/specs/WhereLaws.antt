@@ -20,8 +20,8 @@ use Rattle.walk.specs.Ranges.{Range, Holds}
 use Rattle.sheet_record.specs.Entry.{Entry, slotCount, bus, bridges}
 use Rattle.sheet.specs.declared.Rule as rules
 use Rattle.sheet.specs.Sheet.{breaks, allZero, readBacksWrong, busesWrong}
-use Rattle.audit_rule.specs.Ranges.{rangesAbove, overlap, spaceNumber}
-use Rattle.audit_rule.specs.Audit.{outsideAll, parentIn, wayUpWrong, misplaced}
+use Rattle.sheet_ranges.specs.Ranges.{overlap, spaceNumber}
+use Rattle.audit_rule.specs.Audit.{rangesAbove, outsideAll, parentIn, wayUpWrong, misplaced}
 use Rattle.finding.specs.declared.Party.{Party}
 use Rattle.finding.specs.Places.{busRegisters, functionId, nobody, partyAt}
 use Rattle.finding.specs.First.{first}
