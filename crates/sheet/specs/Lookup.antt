@@ -41,6 +41,12 @@ idOfRecord es (suc i) = idAt es i
 unfoldable pub recordId : List ℕ → ℕ → RecordId
 recordId s k = cond (eqb (sheetNumber s) 0) (idOfRecord (entriesOf s) k) (NoRecord (sheetNumber s))
 
+-- document 01's number of it
+abbrev pub recordIdNumber : RecordId → ℕ
+recordIdNumber (Id id) = 0
+recordIdNumber (NoRecord n) = n
+
+-- document 01's number of a lookup, and its part of the sheet
 abbrev pub lookupNumber : Lookup → ℕ
 lookupNumber (Registers at) = 0
 lookupNumber (Refused n) = n

@@ -1,5 +1,5 @@
--- From a record's number to its ID, in the words of the code: the sheet's number, no such record, the ID in the record's part.
--- Assumes nothing.
+-- From a record's number to its ID, in the words of the code: the sheet's number, no such record, the ID in the record's part; and the
+-- number that comes with it. Assumes nothing.
 use mathlib.Core.Path.{_≡_, refl, sym, ap, _∙_}
 use mathlib.Core.List.{List, [], _∷_}
 use Prim.Native.Nat.{ℕ, zero, suc, _-_, _≤_, _<_}
@@ -9,7 +9,7 @@ use borrow.Author.Tests.{eq-eqb, ne-eqb}
 use Rattle.sheet.specs.declared.RecordId.the-variants.{Id, Refused}
 use Rattle.sheet_record.specs.Entry.{Entry, entryOf, idOf}
 use Rattle.sheet.specs.Sheet.{Framed, entriesOf, partAt, sheetNumber}
-use Rattle.sheet.specs.Lookup.{idAt, idOfRecord, recordId}
+use Rattle.sheet.specs.Lookup.{idAt, idOfRecord, recordId, recordIdNumber}
 use Rattle.sheet.specs.IndexLaws.{entry-index}
 use Rattle.sheet.specs.LookupLaws.{id-of-entry}
 
@@ -55,3 +55,26 @@ module _ (s : List ℕ) {n : ℕ} (is-number : n ≡ sheetNumber s) where
       ∙ id-here (entriesOf s) i (entryOf []) inside
       ∙ ap (λ (e : Entry). Id (e .id)) (entry-index s i f inside)
       ∙ ap Id (sym in-part))
+
+-- ## The number
+
+-- the sheet's own first; then 40 exactly where the sheet has no such record
+pub record IdNumbered (s : List ℕ) (k : ℕ) : Type 0 where
+  pub bad-sheet : (sheetNumber s ≡ 0 → ⊥) → recordIdNumber (recordId s k) ≡ sheetNumber s
+  pub found : sheetNumber s ≡ 0 → 1 ≤ k → k ≤ length (entriesOf s) → recordIdNumber (recordId s k) ≡ 0
+  pub no-host : sheetNumber s ≡ 0 → k ≡ 0 → recordIdNumber (recordId s k) ≡ 40
+  pub no-record : sheetNumber s ≡ 0 → length (entriesOf s) < k → recordIdNumber (recordId s k) ≡ 40
+
+pub record-id-numbered : (s : List ℕ) (k : ℕ) → IdNumbered s k
+record-id-numbered s k =
+    record {
+      bad-sheet = λ z. ap recordIdNumber (sym (record-id-bad s refl k z));
+      found = λ z from-1 here. found k z from-1 here;
+      no-host = λ z host. ap recordIdNumber (sym (record-id-host s refl k z host));
+      no-record = λ z past. ap recordIdNumber (sym (record-id-past s refl k (length (entriesOf s)) z refl past));
+    }
+  where
+    found : (k : ℕ) → sheetNumber s ≡ 0 → 1 ≤ k → k ≤ length (entriesOf s) → recordIdNumber (recordId s k) ≡ 0
+    found zero z from-1 here = absurd (omega arith)
+    found (suc i) z from-1 here =
+        ap recordIdNumber (record-id-good s refl (suc i) z ∙ id-here (entriesOf s) i (entryOf []) (omega arith))
