@@ -17,9 +17,8 @@
  *     any other number   refused, and nothing that was lent has been changed
  *
  * The numbers are documents 01's and 02's (the enumeration below). What each call returns and what every lent slice holds afterwards is
- * proved, as an equation with a definition: crates/capi/src/lib.rt has the contracts. The definitions are specs/Answers.antt of
- * crates/capi_answers, for answers in a slice, and specs/Calls.antt of crates/capi, for cartsundial_find of capi_find, for
- * cartsundial_route_from of capi_cards, for traces of capi_trace, for cartsundial_script of capi_script, and for ledgers of capi_ledger.
+ * proved, as an equation with a definition: crates/capi/src/lib.rt has the contracts, and the definitions are specs/Answers.antt of
+ * crates/capi_answers, for answers in a slice, and specs/Calls.antt of the crate that each call is in (crates/capi_*).
  *
  * Slices. A pointer and the number of elements behind it, bytes or 64-bit numbers. The proofs stand on what C promises here and nothing
  * checks:

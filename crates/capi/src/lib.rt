@@ -2,30 +2,23 @@
 // pointer and then a length. An answer slice too short is 11, tried last; numbers past the answer's own are left as they were.
 ghost use mathlib.Core.Path.{_≡_};
 ghost use lib.ListN.{length};
-ghost use Rattle.tlp.specs.Writing.{writeOf, roomAfter};
 ghost use Rattle.sheet.specs.Sheet.{sheetNumber};
-ghost use Rattle.sheet.specs.Lookup.{lookupOf};
-ghost use Rattle.plan_answer.specs.Plan.{numberOf as planningNumber, planning};
 ghost use Rattle.audit_rule.specs.Audit.{auditNumber};
 ghost use Rattle.index_build.specs.Build.{buildNumber, indexAfter};
 ghost use Rattle.trace_line.specs.declared.Engine.the-variants.{Index};
 ghost use Rattle.trace_line.specs.Line.{lineOver};
 ghost use Rattle.trace_line.specs.Engine.{lineBy};
-ghost use Rattle.capi_answers.specs.Answers.{returned, filled, leftBeside};
+ghost use Rattle.capi_answers.specs.Answers.{returned, filled};
+ghost use Rattle.capi_packet.specs.Calls.{readAnswer, writeAnswer, roomLeft};
+ghost use Rattle.capi_sheet.specs.Calls.{lookupAnswer, idAnswer, commandNumber, commandLeft};
+ghost use Rattle.capi_plan.specs.Calls.{planAnswer, sheetLeft};
+ghost use Rattle.capi_route.specs.Calls.{routeAnswer};
 ghost use Rattle.capi_cards.specs.Calls.{sendAnswer};
 ghost use Rattle.capi_find.specs.Calls.{findAnswer};
 ghost use Rattle.capi_trace.specs.Calls.{pieceAnswer, stateLeft, linesLeft, endAnswer, endLeft};
 ghost use Rattle.capi_ledger.specs.Calls.{openAnswer, openLeft, completeAnswer, completeLeft, countAnswer};
 ghost use Rattle.capi_script.specs.Calls.{scriptAnswer, scriptLeft};
-ghost use Rattle.capi.specs.Calls.{versionNumber, readAnswer, onWriting, writeAnswer, roomLeft, lookupAnswer, idAnswer, unownedOf};
-ghost use Rattle.capi.specs.Calls.{commandNumber, commandLeft, routeAnswer, planAnswer, sheetLeft};
-use packet::Packet;
-use packet_numbers::Parsed;
-use plan_answer::Planning;
-use sheet::Lookup;
-use sheet::RecordId;
-use tlp::Reading;
-use tlp::Writing;
+ghost use Rattle.capi.specs.Calls.{versionNumber};
 
 // The version of these calls, which the C header and the Rust crate are held against: 0.24.0 is 2400.
 #[no_mangle]
@@ -41,10 +34,7 @@ pub extern "C" fn cartsundial_read(header: &[u8], packet: &mut [u64]) -> u32
     ensures { λ r. ⌜ r ≡ returned (readAnswer (now (header .entry))) (now (packet .entry)) ⌝ }
     ensures { λ _. ⌜ now (packet .exit) ≡ filled (readAnswer (now (header .entry))) (now (packet .entry)) ⌝ }
 {
-    match tlp::read(header) {
-        Reading::Accepted(p) => capi_answers::give_packet(p, packet),
-        Reading::Refused(n) => n as u32,
-    }
+    capi_packet::read(header, packet)
 }
 
 // Writes the packet that twenty numbers are, and its number of bytes. Numbers that are no packet are refused before the room is looked at:
@@ -57,10 +47,7 @@ pub extern "C" fn cartsundial_write(packet: &[u64], room: &mut [u8], written: &m
         now (written .exit) ≡ filled (writeAnswer (now (packet .entry)) (length (now (room .entry)))) (now (written .entry))
         ⌝ }
 {
-    match packet_numbers::fields_of(packet) {
-        Parsed::Accepted(p) => write_packet(p, room, written),
-        Parsed::Refused(n) => n as u32,
-    }
+    capi_packet::write(packet, room, written)
 }
 
 // Plans a board: its sheet, and the sheet's length.
@@ -70,13 +57,7 @@ pub extern "C" fn cartsundial_plan(board: &[u8], sheet: &mut [u8], written: &mut
     ensures { λ _. ⌜ now (sheet .exit) ≡ sheetLeft (now (board .entry)) (now (sheet .entry)) (now (written .entry)) ⌝ }
     ensures { λ _. ⌜ now (written .exit) ≡ filled (planAnswer (now (board .entry)) (length (now (sheet .entry)))) (now (written .entry)) ⌝ }
 {
-    if written.len() == 0 {
-        return plan_refusal(board);
-    }
-    match planner::plan(board, sheet) {
-        Planning::Planned(n) => capi_answers::give_one(n as u64, written),
-        Planning::Refused(n) => n as u32,
-    }
+    capi_plan::plan(board, sheet, written)
 }
 
 // Writes a board's script, the configuration writes that bring its functions to the planned sheet, and the script's length. A requester ID
@@ -125,10 +106,7 @@ pub extern "C" fn cartsundial_lookup(sheet: &[u8], id: u32, offset: &mut [u64]) 
     ensures { λ r. ⌜ r ≡ returned (lookupAnswer (now (sheet .entry)) id) (now (offset .entry)) ⌝ }
     ensures { λ _. ⌜ now (offset .exit) ≡ filled (lookupAnswer (now (sheet .entry)) id) (now (offset .entry)) ⌝ }
 {
-    match find(sheet, id) {
-        Lookup::Registers(at) => capi_answers::give_one(at as u64, offset),
-        Lookup::Refused(n) => n as u32,
-    }
+    capi_sheet::lookup(sheet, id, offset)
 }
 
 // The ID of the function with a record number, from 1 on: from the owner that a route answers to its bus, device and function.
@@ -137,10 +115,7 @@ pub extern "C" fn cartsundial_id(sheet: &[u8], number: u32, id: &mut [u64]) -> u
     ensures { λ r. ⌜ r ≡ returned (idAnswer (now (sheet .entry)) number) (now (id .entry)) ⌝ }
     ensures { λ _. ⌜ now (id .exit) ≡ filled (idAnswer (now (sheet .entry)) number) (now (id .entry)) ⌝ }
 {
-    match sheet::id_of(sheet, number as usize) {
-        RecordId::Id(n) => capi_answers::give_one(n as u64, id),
-        RecordId::Refused(n) => n as u32,
-    }
+    capi_sheet::id_of(sheet, number, id)
 }
 
 // Rewrites the command word of the function with an ID, and no other byte. A value above FFFFh is 10, tried before the sheet is read.
@@ -149,13 +124,7 @@ pub extern "C" fn cartsundial_command(sheet: &mut [u8], id: u32, command: u32) -
     ensures { λ r. ⌜ r ≡ commandNumber (now (sheet .entry)) id command ⌝ }
     ensures { λ _. ⌜ now (sheet .exit) ≡ commandLeft (now (sheet .entry)) id command ⌝ }
 {
-    if WORD < command {
-        return 10;
-    }
-    if WORD < id {
-        return unowned(sheet) as u32;
-    }
-    sheet::set_command(sheet, id as u16, command as u16) as u32
+    capi_sheet::set_command(sheet, id, command)
 }
 
 // Walks a header over a sheet: the record that gets the packet, the bridges crossed, and the packet as it arrives, 22 numbers. A broadcast
@@ -165,7 +134,7 @@ pub extern "C" fn cartsundial_route(header: &[u8], sheet: &[u8], answer: &mut [u
     ensures { λ r. ⌜ r ≡ returned (routeAnswer (now (header .entry)) (now (sheet .entry))) (now (answer .entry)) ⌝ }
     ensures { λ _. ⌜ now (answer .exit) ≡ filled (routeAnswer (now (header .entry)) (now (sheet .entry))) (now (answer .entry)) ⌝ }
 {
-    capi_routing::give_routing(route::route(header, sheet), answer)
+    capi_route::route(header, sheet, answer)
 }
 
 // Walks a request that starts at a function of the sheet, by its record number: the answer is that of a route, with the bridges crossed up
@@ -309,52 +278,4 @@ pub extern "C" fn cartsundial_ledger_count(ledger: &[u64], count: &mut [u64]) ->
     ensures { λ _. ⌜ now (count .exit) ≡ filled (countAnswer (now (ledger .entry))) (now (count .entry)) ⌝ }
 {
     capi_ledger::count(ledger, count)
-}
-
-// ---- what the calls are made of
-
-// The greatest ID and the greatest command word.
-const WORD: u32 = 65535;
-
-// With no room for its length the packet is written into an empty room, which is 11 after the packet's own number.
-fn write_packet(p: Packet, room: &mut [u8], written: &mut [u64]) -> u32
-    ensures { λ r. ⌜ r ≡ returned (onWriting (writeOf p (length (now (room .entry))))) (now (written .entry)) ⌝ }
-    ensures { λ _. ⌜ now (room .exit) ≡ leftBeside (now (written .entry)) (now (room .entry)) (roomAfter p (now (room .entry))) ⌝ }
-    ensures { λ _. ⌜ now (written .exit) ≡ filled (onWriting (writeOf p (length (now (room .entry))))) (now (written .entry)) ⌝ }
-{
-    let space = capi_answers::space_for(written.len(), room.len());
-    match tlp::write(p, &mut room[..space]) {
-        Writing::Written(n) => capi_answers::give_one(n as u64, written),
-        Writing::Refused(n) => n as u32,
-    }
-}
-
-// The board's own number, or else 11: every sheet has its version byte, so with an empty one the planner ends at its last check and writes
-// nothing.
-fn plan_refusal(board: &[u8]) -> u32
-    ensures { λ r. ⌜ r ≡ planningNumber (planning (now (board .entry)) 0) ⌝ }
-{
-    let mut sheet = [0u8; 1];
-    match planner::plan(board, &mut sheet[..0]) {
-        Planning::Planned(_) => 0,
-        Planning::Refused(n) => n as u32,
-    }
-}
-
-// The lookup by an ID of any size.
-fn find(sheet: &[u8], id: u32) -> Lookup
-    ensures { λ r. ⌜ r ≡ lookupOf (now (sheet .entry)) id ⌝ }
-{
-    if WORD < id {
-        return Lookup::Refused(unowned(sheet));
-    }
-    sheet::find(sheet, id as u16)
-}
-
-// The number for an ID that no function has: the sheet's own, or else 40.
-fn unowned(sheet: &[u8]) -> u8
-    ensures { λ r. ⌜ r ≡ unownedOf (now (sheet .entry)) ⌝ }
-{
-    let n = sheet::check(sheet);
-    if n == 0 { 40 } else { n }
 }

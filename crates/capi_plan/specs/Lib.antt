@@ -1,0 +1,3 @@
+-- The call that plans a board.
+pub mod Calls
+pub mod CallsLaws
