@@ -1,6 +1,5 @@
 -- The version of the calls. Assumes nothing.
 use Prim.Native.Nat.{ℕ}
-use Rattle.capi_routing.specs.Routing.{onRouting}
 
 -- 0.24.0: 10,000 times the major number, 100 times the minor one, the patch
 abbrev pub versionNumber : ℕ

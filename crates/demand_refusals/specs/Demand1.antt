@@ -28,7 +28,7 @@ use Rattle.scripter.specs.declared.Scripting.the-variants.{Refused as NotScript
 use Rattle.scripter.specs.Scripting as scripter
 use Rattle.script_feed.specs.declared.Input.{Input}
 use Rattle.script_feed.specs.Feed as fed
-use Rattle.capi.specs.Refused.{RefusedKeeps}
+use Rattle.capi_laws.specs.Refused.{RefusedKeeps}
 
 pub record Demand1 : Type 0 where
   -- `tlp::write`: the room

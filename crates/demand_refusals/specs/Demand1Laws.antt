@@ -32,7 +32,7 @@ use Rattle.scripter.specs.AnswerLaws.{refused-keeps-room}
 use Rattle.script_feed.specs.declared.Input.{Input}
 use Rattle.script_feed.specs.Program.{requesterIn, tagIn}
 use Rattle.script_feed.specs.Feed as fed
-use Rattle.capi.specs.Refused.{refused-keeps}
+use Rattle.capi_laws.specs.Refused.{refused-keeps}
 use Rattle.demand_refusals.specs.Demand1.{Demand1}
 
 keeps-room : (p : Packet) (room : List ℕ) (n : ℕ) → writeOf p (length room) ≡ NotWritten n → roomAfter p room ≡ room
