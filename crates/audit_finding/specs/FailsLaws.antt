@@ -16,8 +16,8 @@ use Rattle.sheet_record.specs.Entry.{Entry, bus}
 use Rattle.sheet.specs.declared.Rule.{Rule}
 use Rattle.sheet.specs.Sheet.{breaks, anyBreaks, hasId, idTwice}
 use Rattle.sheet_ranges.specs.Ranges.{rangesOf, overlap}
-use Rattle.audit_rule.specs.Audit.{anyPair, firstElsewhere, wayUpWrong, treeWrong, misplaced, placeWrong, anyOverlap}
-use Rattle.audit_rule.specs.Audit.{overlapOnBus, overlaps}
+use Rattle.audit_rule.specs.Audit.{anyPair, firstElsewhere, wayUpWrong, notTree, outsideAbove, notNested, anyOverlap}
+use Rattle.audit_rule.specs.Audit.{overlapOnBus, notDisjoint}
 use Rattle.audit_rule.specs.PairLaws.{none-of-pairwise}
 use Rattle.finding.specs.First.{first}
 use Rattle.finding.specs.FirstLaws.{first-of-any, first-is, first-none, member-of-first}
@@ -92,24 +92,24 @@ ids-paired (e ∷ es) = rw (id-among (e .id) es, ids-paired es)
 
 -- ## Ranges of two records, and those of all
 
-no-overlaps : (ps os : List Placed) → ((p o : Placed) → p ∈ ps → o ∈ os → overlap (p .range) (o .range) ≡ false)
+no-notDisjoint : (ps os : List Placed) → ((p o : Placed) → p ∈ ps → o ∈ os → overlap (p .range) (o .range) ≡ false)
     → anyOverlap (map rangeIn ps) (map rangeIn os) ≡ false
-no-overlaps ps os f =
+no-notDisjoint ps os f =
     none-of-all (λ x. any (overlap x) (map rangeIn os)) (map rangeIn ps)
     (all-map-intro _ rangeIn ps (λ p m.
     none-of-all (overlap (p .range)) (map rangeIn os) (all-map-intro _ rangeIn os (λ o n. f p o m n))))
 
-overlaps-none : (rs : List Numbered) → All (λ r. anyPair overlap (rangesOf (r .entry)) ≡ false) rs
-    → Pairwise (λ r q. overlapOnBus (r .entry) (q .entry) ≡ false) rs → overlaps (map entryIn rs) ≡ false
-unfolding overlaps
-overlaps-none [] own pairs = refl
-overlaps-none (r ∷ rs) own pairs =
+notDisjoint-none : (rs : List Numbered) → All (λ r. anyPair overlap (rangesOf (r .entry)) ≡ false) rs
+    → Pairwise (λ r q. overlapOnBus (r .entry) (q .entry) ≡ false) rs → notDisjoint (map entryIn rs) ≡ false
+unfolding notDisjoint
+notDisjoint-none [] own pairs = refl
+notDisjoint-none (r ∷ rs) own pairs =
     rw (
       own .0,
       none-of-all (overlapOnBus (r .entry)) (map entryIn rs)
           (all-map-intro _ entryIn rs (λ q m. all-elim _ rs (pairs .0) m)),
     )
-    (overlaps-none rs (own .1) (pairs .1))
+    (notDisjoint-none rs (own .1) (pairs .1))
 
 module _ (h : Host) (es : List Entry) where
   pub ids-some : idTwice es ≡ true → any (fails Ids h es) (numbered es) ≡ true
@@ -126,8 +126,8 @@ module _ (h : Host) (es : List Entry) where
   first-right (e ∷ es) none = none .0
 
   tree-none : All (λ r. (startsElsewhere h r || (wayUpWrong h es (r .entry) || meetsOne SharedBuses (numbered es) r)) ≡ false) (numbered es)
-      → treeWrong h es ≡ false
-  unfolding treeWrong
+      → notTree h es ≡ false
+  unfolding notTree
   tree-none none =
       let first = all-imp _ (λ r. startsElsewhere h r ≡ false) (numbered es) none (λ r e. each r e .0) in
       let up = all-imp _ (λ r. wayUpWrong h es (r .entry) ≡ false) (numbered es) none (λ r e. each r e .1) in
@@ -145,18 +145,18 @@ module _ (h : Host) (es : List Entry) where
           let b = false-of-or (wayUpWrong h es (r .entry)) (meetsOne SharedBuses (numbered es) r) (a .1) in
           (a .0, b .0, b .1)
 
-  pub tree-some : treeWrong h es ≡ true → any (fails Tree h es) (numbered es) ≡ true
+  pub tree-some : notTree h es ≡ true → any (fails Tree h es) (numbered es) ≡ true
   unfolding fails
   tree-some =
-      true-of-some (treeWrong h es)
+      true-of-some (notTree h es)
       (any (λ r. startsElsewhere h r || (wayUpWrong h es (r .entry) || meetsOne SharedBuses (numbered es) r)) (numbered es))
       (λ none. tree-none (all-of-none _ (numbered es) none))
 
   -- ## 51
 
-  pub places-some : placeWrong h es ≡ true → any (fails Places h es) (numbered es) ≡ true
-  unfolding fails placeWrong
-  places-some e = any-numbered (misplaced h es) 1 es ∙ e
+  pub places-some : notNested h es ≡ true → any (fails Places h es) (numbered es) ≡ true
+  unfolding fails notNested
+  places-some e = any-numbered (outsideAbove h es) 1 es ∙ e
 
   -- ## 52
 
@@ -207,20 +207,20 @@ module _ (h : Host) (es : List Entry) where
         none-meets e =
             ap (λ (xs : List Range). anyOverlap xs (rangesOf (q .entry))) (sym (ranges-placed r))
             ∙ ap (λ (ys : List Range). anyOverlap (map rangeIn (placedOf r)) ys) (sym (ranges-placed q))
-            ∙ no-overlaps (placedOf r) (placedOf q) (apart e)
+            ∙ no-notDisjoint (placedOf r) (placedOf q) (apart e)
 
         go : (b : Bool) → eqb (bus (r .entry)) (bus (q .entry)) ≡ b → (b && anyOverlap (rangesOf (r .entry)) (rangesOf (q .entry))) ≡ false
         go true e = none-meets e
         go false e = refl
 
-    all-apart : overlaps es ≡ false
+    all-apart : notDisjoint es ≡ false
     all-apart =
-        ap overlaps (sym (entries-numbered 1 es))
-        ∙ overlaps-none (numbered es) (all-intro _ (numbered es) own-apart)
+        ap notDisjoint (sym (entries-numbered 1 es))
+        ∙ notDisjoint-none (numbered es) (all-intro _ (numbered es) own-apart)
         (pairwise-imp-members Rising _ (numbered es) pair-apart (numbers-rise 1 es))
 
-  pub overlaps-some : overlaps es ≡ true → any (fails Overlaps h es) (numbered es) ≡ true
+  pub notDisjoint-some : notDisjoint es ≡ true → any (fails Overlaps h es) (numbered es) ≡ true
   unfolding fails
-  overlaps-some =
-      true-of-some (overlaps es) (any (λ r. any (meetsAny (numbered es)) (placedOf r)) (numbered es))
+  notDisjoint-some =
+      true-of-some (notDisjoint es) (any (λ r. any (meetsAny (numbered es)) (placedOf r)) (numbered es))
       (λ none. all-apart (all-of-none _ (numbered es) none))

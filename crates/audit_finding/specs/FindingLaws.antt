@@ -18,7 +18,7 @@ use Rattle.sheet_record.specs.Entry.{Entry}
 use Rattle.sheet.specs.declared.Rule as rules
 use Rattle.sheet.specs.Sheet.{isFramed, Framed, entriesOf, anyBreaks, idTwice, sheetNumber}
 use Rattle.sheet.specs.Sheet.{from20, from21, from22, from24, from25, from27, from28, from29}
-use Rattle.audit_rule.specs.Audit.{treeWrong, placeWrong, overlaps, from52, from51, from50, fromSheet, from26, auditNumber}
+use Rattle.audit_rule.specs.Audit.{notTree, notNested, notDisjoint, from52, from51, from50, fromSheet, from26, auditNumber}
 use Rattle.finding.specs.declared.Parties.{Parties}
 use Rattle.finding.specs.declared.Finding.{Finding}
 use Rattle.finding.specs.Places.{nobody, nobodies}
@@ -29,7 +29,7 @@ use Rattle.audit_finding.specs.Placed.{numbered}
 use Rattle.audit_finding.specs.Fails.{fails}
 use Rattle.audit_finding.specs.Where.{placeIn, otherOf}
 use Rattle.audit_finding.specs.Finding.{underHost, checkOf, named, firstFailing, found, findingOf}
-use Rattle.audit_finding.specs.FailsLaws.{breaks-some, ids-some, tree-some, places-some, overlaps-some}
+use Rattle.audit_finding.specs.FailsLaws.{breaks-some, ids-some, tree-some, places-some, notDisjoint-some}
 
 -- ## What a number says
 
@@ -87,9 +87,9 @@ module _ (host s : List ℕ) where
   under-told : length host ≡ hostLength → sheetNumber s ≡ 0 → Told (from50 h es)
   unfolding from50 from51 from52 checkOf underHost
   under-told size passes =
-      either (treeWrong h es) 50 (from51 h es) (λ w. of-tree {n = 50} size passes (tree-some h es w) (omega arith)) (λ _.
-      either (placeWrong h es) 51 (from52 es) (λ w. of-tree {n = 51} size passes (places-some h es w) (omega arith)) (λ _.
-      either (overlaps es) 52 0 (λ w. of-tree {n = 52} size passes (overlaps-some h es w) (omega arith)) (λ _. of-whole {n = 0} refl (omega arith))))
+      either (notTree h es) 50 (from51 h es) (λ w. of-tree {n = 50} size passes (tree-some h es w) (omega arith)) (λ _.
+      either (notNested h es) 51 (from52 es) (λ w. of-tree {n = 51} size passes (places-some h es w) (omega arith)) (λ _.
+      either (notDisjoint es) 52 0 (λ w. of-tree {n = 52} size passes (notDisjoint-some h es w) (omega arith)) (λ _. of-whole {n = 0} refl (omega arith))))
 
   pub number-told : Told (auditNumber host s)
   unfolding auditNumber from26 fromSheet checkOf underHost

@@ -21,7 +21,7 @@ use Rattle.sheet_record.specs.Entry.{Entry, slotCount, bus, bridges}
 use Rattle.sheet.specs.declared.Rule as rules
 use Rattle.sheet.specs.Sheet.{breaks, allZero, readBacksWrong, busesWrong}
 use Rattle.sheet_ranges.specs.Ranges.{overlap, spaceNumber}
-use Rattle.audit_rule.specs.Audit.{rangesAbove, outsideAll, parentIn, wayUpWrong, misplaced}
+use Rattle.audit_rule.specs.Audit.{rangesAbove, outsideAll, parentIn, wayUpWrong, outsideAbove}
 use Rattle.finding.specs.declared.Party.{Party}
 use Rattle.finding.specs.Places.{busRegisters, functionId, nobody, partyAt}
 use Rattle.finding.specs.First.{first}
@@ -241,7 +241,7 @@ any-map t f [] = refl
 any-map t f (x ∷ xs) = ap (λ (b : Bool). t (f x) || b) (any-map t f xs)
 
 module _ (h : Host) (es : List Entry) (r : Numbered) where
-  pub outside-placed : misplaced h es (r .entry) ≡ any (isOutside h es) (placedOf r)
+  pub outside-placed : outsideAbove h es (r .entry) ≡ any (isOutside h es) (placedOf r)
   outside-placed =
       let test = outsideAll (rangesAbove h (parentIn h es (r .entry))) in
       ap (any test) (sym (ranges-placed r))

@@ -16,11 +16,11 @@ use Rattle.sheet_ranges.specs.declared.Item.{Item}
 use Rattle.sheet_ranges.specs.Items.{rangeOf, itemAt, rangesFrom, rangesIn}
 use Rattle.sheet_ranges.specs.ItemsLaws.{number-of-pool}
 use Rattle.sheet_ranges.specs.SearchLaws.{items-none, items-more, items-all, bus-of-entry}
-use Rattle.audit_rule.specs.Audit.{anyPair, busesShared, overlaps}
+use Rattle.audit_rule.specs.Audit.{anyPair, busesShared, notDisjoint}
 use Rattle.audit_rising.specs.Rising.{Spot, spot, Rising, Takes}
 use Rattle.audit_rising.specs.RisingLaws.{rising-clear}
 use Rattle.audit_rising.specs.Spots.{sided, keyOf, spotOf, spotsOf, busesOf}
-use Rattle.audit_rising.specs.SpotsLaws.{overlaps-none, shared-none}
+use Rattle.audit_rising.specs.SpotsLaws.{disjoint-of-clear, shared-none}
 
 header-entry : (p : List ℕ) → bridges (entryOf p) ≡ isBridge (headerOf p)
 unfolding entryOf
@@ -84,8 +84,8 @@ module _ {S : Type 0} (P : S → List Spot → Type 0) where
 
 -- where the pass comes to its end, what there is rises
 module _ (s : List ℕ) (t : List ℕ) where
-  pub ranges-told : Rising t (flatMap spotsOf (entriesOf s)) → overlaps (entriesOf s) ≡ false
-  ranges-told r = overlaps-none (entriesOf s) (rising-clear t (flatMap spotsOf (entriesOf s)) r)
+  pub ranges-told : Rising t (flatMap spotsOf (entriesOf s)) → notDisjoint (entriesOf s) ≡ false
+  ranges-told r = disjoint-of-clear (entriesOf s) (rising-clear t (flatMap spotsOf (entriesOf s)) r)
 
   pub buses-told : Rising t (flatMap busesOf (entriesOf s)) → anyPair busesShared (entriesOf s) ≡ false
   buses-told r = shared-none (entriesOf s) (rising-clear t (flatMap busesOf (entriesOf s)) r)

@@ -13,7 +13,7 @@ use Rattle.lists.specs.KeepLaws.{none-of-all}
 use Rattle.walk.specs.Ranges.{Range, Pool, buses, low, high, io}
 use Rattle.sheet_record.specs.Entry.{Entry, bus, bridges}
 use Rattle.sheet_ranges.specs.Ranges.{rangesOf, poolNumber, spaceNumber, overlap}
-use Rattle.audit_rule.specs.Audit.{anyPair, anyOverlap, overlapOnBus, busesShared, overlaps}
+use Rattle.audit_rule.specs.Audit.{anyPair, anyOverlap, overlapOnBus, busesShared, notDisjoint}
 use Rattle.audit_rule.specs.PairLaws.{none-of-pairwise}
 use Rattle.audit_rising.specs.Rising.{Spot, spot, Clear}
 use Rattle.audit_rising.specs.Spots.{sided, spotOf, spotsOf, busesOf}
@@ -82,16 +82,16 @@ behind b (r ∷ rs) ys p =
     apart-from [] h = tt
     apart-from (s ∷ ss) h = (clear-apart b r s (h .0), apart-from ss (h .1))
 
-pub overlaps-none : (es : List Entry) → Pairwise Clear (flatMap spotsOf es) → overlaps es ≡ false
-unfolding overlaps flatMap
-overlaps-none [] p = refl
-overlaps-none (e ∷ es) p =
+pub disjoint-of-clear : (es : List Entry) → Pairwise Clear (flatMap spotsOf es) → notDisjoint es ≡ false
+unfolding notDisjoint flatMap
+disjoint-of-clear [] p = refl
+disjoint-of-clear (e ∷ es) p =
     let h = behind (bus e) (rangesOf e) (flatMap spotsOf es) p in
     rw (
       none-of-pairwise overlap (rangesOf e) (h .own),
       none-of-all (overlapOnBus e) es (all-intro _ es (λ c m. beside h c m (eqb (bus e) (bus c)) refl)),
     )
-    (overlaps-none es (h .rest))
+    (disjoint-of-clear es (h .rest))
   where
     beside : Behind (bus e) (rangesOf e) (flatMap spotsOf es) → (c : Entry) → c ∈ es → (b : Bool) → eqb (bus e) (bus c) ≡ b
         → (b && anyOverlap (rangesOf e) (rangesOf c)) ≡ false

@@ -11,7 +11,7 @@ ghost use Rattle.sheet.specs.declared.Rule.the-variants.{ReadBacks};
 ghost use Rattle.sheet.specs.Sheet.{Framed, breaks, entriesOf};
 ghost use Rattle.sheet.specs.SheetLaws.{Checked};
 ghost use Rattle.sheet_ranges.specs.Items.{rangeOf, rangesIn};
-ghost use Rattle.audit_rule.specs.Audit.{anyPair, busesShared, overlaps};
+ghost use Rattle.audit_rule.specs.Audit.{anyPair, busesShared, notDisjoint};
 ghost use Rattle.audit_rising.specs.Rising.{Takes, spot};
 ghost use Rattle.audit_rising.specs.Spots.{sided, keyOf, spotOf, spotsOf, busesOf};
 use sheet_ranges::Item;
@@ -33,7 +33,7 @@ const LIMIT: u64 = 4611686018427387904;
 // Whether the ranges of each bus and pool rise.
 pub fn ranges_rise(sheet: &[u8]) -> bool
     requires { ⌜ Checked (now sheet) ⌝ }
-    ensures { λ r. ⌜ (r ≡ true → overlaps (entriesOf (now (sheet .entry))) ≡ false) ⌝ }
+    ensures { λ r. ⌜ (r ≡ true → notDisjoint (entriesOf (now (sheet .entry))) ≡ false) ⌝ }
 {
     if sheet::count(sheet) < FEW {
         return false;
@@ -58,7 +58,7 @@ pub fn buses_rise(sheet: &[u8]) -> bool
 
 fn take_records(sheet: &[u8], table: &mut [u64]) -> bool
     requires { ⌜ Checked (now sheet) × (length (now table) ≡ 768) ⌝ }
-    ensures { λ r. ⌜ (r ≡ true → overlaps (entriesOf (now (sheet .entry))) ≡ false) ⌝ }
+    ensures { λ r. ⌜ (r ≡ true → notDisjoint (entriesOf (now (sheet .entry))) ≡ false) ⌝ }
 {
     let mut room = [0u64; sheet_ranges::ROOM];
     let records = sheet::count(sheet);

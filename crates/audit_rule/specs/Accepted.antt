@@ -44,7 +44,7 @@ pub record ByNumber (host s : List ℕ) (number : ℕ) : Type 0 where
   pub host-not-30 : ¬ (length host ≡ hostLength) → number ≡ 20
   pub off-edges : (number ≡ 26) ↔ ((length host ≡ hostLength) × ¬ (hostWrong (hostOfPart host) ≡ false))
   pub sheet-fails : length host ≡ hostLength → hostWrong (hostOfPart host) ≡ false → ¬ (sheetNumber s ≡ 0) → number ≡ sheetNumber s
-  pub no-tree : (number ≡ 50) ↔ (Lawful host s × ¬ IsTree host s)
+  pub not-tree : (number ≡ 50) ↔ (Lawful host s × ¬ IsTree host s)
   pub not-nested : (number ≡ 51) ↔ (Lawful host s × IsTree host s × ¬ IsNested host s)
   pub not-disjoint : (number ≡ 52) ↔ (Lawful host s × IsTree host s × IsNested host s × ¬ IsDisjoint s)
   pub accepted-else : (number ≡ 0) ↔ Accepted host s

@@ -54,8 +54,8 @@ abbrev pub busesShared : Entry → Entry → Bool
 busesShared e f =
     bridges e && (bridges f && (eqb (bus e) (bus f) && (leb (e .secondary) (f .subordinate) && leb (f .secondary) (e .subordinate))))
 
-unfoldable pub treeWrong : Host → List Entry → Bool
-treeWrong h es = firstElsewhere (h .«first_bus») es || (any (wayUpWrong h es) es || anyPair busesShared es)
+unfoldable pub notTree : Host → List Entry → Bool
+notTree h es = firstElsewhere (h .«first_bus») es || (any (wayUpWrong h es) es || anyPair busesShared es)
 
 -- ## 51
 
@@ -70,11 +70,11 @@ rangesAbove h underSeveral = []
 abbrev pub outsideAll : List Range → Range → Bool
 outsideAll above r = not (any (inside r) above)
 
-abbrev pub misplaced : Host → List Entry → Entry → Bool
-misplaced h es e = any (outsideAll (rangesAbove h (parentIn h es e))) (rangesOf e)
+abbrev pub outsideAbove : Host → List Entry → Entry → Bool
+outsideAbove h es e = any (outsideAll (rangesAbove h (parentIn h es e))) (rangesOf e)
 
-unfoldable pub placeWrong : Host → List Entry → Bool
-placeWrong h es = any (misplaced h es) es
+unfoldable pub notNested : Host → List Entry → Bool
+notNested h es = any (outsideAbove h es) es
 
 -- ## 52: "on each bus all BARs and open windows of one space are disjoint, enabled or not"
 
@@ -85,20 +85,20 @@ abbrev pub overlapOnBus : Entry → Entry → Bool
 overlapOnBus e f = eqb (bus e) (bus f) && anyOverlap (rangesOf e) (rangesOf f)
 
 -- those of a function among themselves, and with a later one's on its bus
-unfoldable pub overlaps : List Entry → Bool
-overlaps [] = false
-overlaps (e ∷ es) = anyPair overlap (rangesOf e) || (any (overlapOnBus e) es || overlaps es)
+unfoldable pub notDisjoint : List Entry → Bool
+notDisjoint [] = false
+notDisjoint (e ∷ es) = anyPair overlap (rangesOf e) || (any (overlapOnBus e) es || notDisjoint es)
 
 -- ## In order
 
 unfoldable pub from52 : List Entry → ℕ
-from52 es = cond (overlaps es) 52 0
+from52 es = cond (notDisjoint es) 52 0
 
 unfoldable pub from51 : Host → List Entry → ℕ
-from51 h es = cond (placeWrong h es) 51 (from52 es)
+from51 h es = cond (notNested h es) 51 (from52 es)
 
 unfoldable pub from50 : Host → List Entry → ℕ
-from50 h es = cond (treeWrong h es) 50 (from51 h es)
+from50 h es = cond (notTree h es) 50 (from51 h es)
 
 unfoldable pub fromSheet : Host → List ℕ → ℕ
 fromSheet h s = cond (eqb (sheetNumber s) 0) (from50 h (entriesOf s)) (sheetNumber s)

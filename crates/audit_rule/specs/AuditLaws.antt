@@ -21,7 +21,7 @@ use Rattle.sheet.specs.Sheet as sheets
 use Rattle.sheet.specs.Spaces.{nodesOf}
 use Rattle.sheet.specs.SheetLaws.{passes-of-zero}
 use Rattle.audit_rule.specs.Accepted.{IsTree, IsNested, IsDisjoint, Accepted, Lawful, ByNumber}
-use Rattle.audit_rule.specs.Audit.{treeWrong, placeWrong, overlaps, from52, from51, from50, fromSheet, from26, auditNumber}
+use Rattle.audit_rule.specs.Audit.{notTree, notNested, notDisjoint, from52, from51, from50, fromSheet, from26, auditNumber}
 use Rattle.audit_rule.specs.TreeLaws.{tree-iff}
 use Rattle.audit_rule.specs.NestedLaws.{nested-iff}
 use Rattle.audit_rule.specs.DisjointLaws.{disjoint-iff}
@@ -72,22 +72,22 @@ module _ (host s : List ℕ) (bytes : Bytes s) where
     rise : BridgesRise (nodesOf s)
     rise = passes-of-zero s bytes passes .bridges-rise
 
-    pub tree-of-test : treeWrong h es ≡ false → IsTree host s
+    pub tree-of-test : notTree h es ≡ false → IsTree host s
     tree-of-test t sp = tree-iff h es rise sp .0 t
 
-    pub test-of-tree : IsTree host s → treeWrong h es ≡ false
+    pub test-of-tree : IsTree host s → notTree h es ≡ false
     test-of-tree tree = tree-iff h es rise Memory .1 (tree Memory)
 
-    pub nested-of-test : IsTree host s → placeWrong h es ≡ false → IsNested host s
+    pub nested-of-test : IsTree host s → notNested h es ≡ false → IsNested host s
     nested-of-test tree = nested-iff h es rise (tree Memory .one-way-up) .0
 
-    pub test-of-nested : IsTree host s → IsNested host s → placeWrong h es ≡ false
+    pub test-of-nested : IsTree host s → IsNested host s → notNested h es ≡ false
     test-of-nested tree = nested-iff h es rise (tree Memory .one-way-up) .1
 
-  disjoint-of-test : overlaps es ≡ false → IsDisjoint s
+  disjoint-of-test : notDisjoint es ≡ false → IsDisjoint s
   disjoint-of-test = disjoint-iff es .0
 
-  test-of-disjoint : IsDisjoint s → overlaps es ≡ false
+  test-of-disjoint : IsDisjoint s → notDisjoint es ≡ false
   test-of-disjoint = disjoint-iff es .1
 
   -- ## Each number from its part
@@ -114,18 +114,18 @@ module _ (host s : List ℕ) (bytes : Bytes s) where
 
   at-50 : Lawful host s → ¬ IsTree host s → auditNumber host s ≡ 50
   unfolding from50
-  at-50 l n = from-lawful l ∙ rw (fails (treeWrong h es) (λ t. n (tree-of-test (l .2) t)))
+  at-50 l n = from-lawful l ∙ rw (fails (notTree h es) (λ t. n (tree-of-test (l .2) t)))
 
   at-51 : Lawful host s → IsTree host s → ¬ IsNested host s → auditNumber host s ≡ 51
   unfolding from50 from51
   at-51 l tree n =
-      from-lawful l ∙ rw (test-of-tree (l .2) tree, fails (placeWrong h es) (λ t. n (nested-of-test (l .2) tree t)))
+      from-lawful l ∙ rw (test-of-tree (l .2) tree, fails (notNested h es) (λ t. n (nested-of-test (l .2) tree t)))
 
   at-52 : Lawful host s → IsTree host s → IsNested host s → ¬ IsDisjoint s → auditNumber host s ≡ 52
   unfolding from50 from51 from52
   at-52 l tree nested n =
       from-lawful l
-      ∙ rw (test-of-tree (l .2) tree, test-of-nested (l .2) tree nested, fails (overlaps es) (λ t. n (disjoint-of-test t)))
+      ∙ rw (test-of-tree (l .2) tree, test-of-nested (l .2) tree nested, fails (notDisjoint es) (λ t. n (disjoint-of-test t)))
 
   at-0 : Accepted host s → auditNumber host s ≡ 0
   unfolding from50 from51 from52
@@ -167,9 +167,9 @@ module _ (host s : List ℕ) (bytes : Bytes s) where
       later : fromSheet h s ≡ 26 → ⊥
       later g =
           let l = passes-of (eqb (sheetNumber s) 0) 26 refl (λ z. absurd (sheet-numbers s .not-26 z)) g in
-          let b = past (treeWrong h es) 50 (from51 h es) 26 (λ z. omega arith) (l .1) in
-          let c = past (placeWrong h es) 51 (from52 es) 26 (λ z. omega arith) (b .1) in
-          let d = past (overlaps es) 52 0 26 (λ z. omega arith) (c .1) in
+          let b = past (notTree h es) 50 (from51 h es) 26 (λ z. omega arith) (l .1) in
+          let c = past (notNested h es) 51 (from52 es) 26 (λ z. omega arith) (b .1) in
+          let d = past (notDisjoint es) 52 0 26 (λ z. omega arith) (c .1) in
           omega (arith, d .1)
 
   lawful-of : (m : ℕ) → (20 ≡ m → ⊥) → (26 ≡ m → ⊥) → (sheetNumber s ≡ m → sheetNumber s ≡ 0) → auditNumber host s ≡ m
@@ -188,40 +188,40 @@ module _ (host s : List ℕ) (bytes : Bytes s) where
   unfolding from50 from51 from52
   of-50 e =
       let (l, f) = from-50-on 50 (omega arith) e in
-      (l, λ tree. true≢false (sym (from-test (treeWrong h es) 50 (from51 h es) later f) ∙ test-of-tree (l .2) tree))
+      (l, λ tree. true≢false (sym (from-test (notTree h es) 50 (from51 h es) later f) ∙ test-of-tree (l .2) tree))
     where
       later : from51 h es ≡ 50 → ⊥
       later g =
-          let c = past (placeWrong h es) 51 (from52 es) 50 (λ z. omega arith) g in
-          omega (arith, past (overlaps es) 52 0 50 (λ z. omega arith) (c .1) .1)
+          let c = past (notNested h es) 51 (from52 es) 50 (λ z. omega arith) g in
+          omega (arith, past (notDisjoint es) 52 0 50 (λ z. omega arith) (c .1) .1)
 
   of-51 : auditNumber host s ≡ 51 → Lawful host s × IsTree host s × ¬ IsNested host s
   unfolding from50 from51 from52
   of-51 e =
       let (l, f) = from-50-on 51 (omega arith) e in
-      let b = past (treeWrong h es) 50 (from51 h es) 51 (λ z. omega arith) f in
+      let b = past (notTree h es) 50 (from51 h es) 51 (λ z. omega arith) f in
       let tree = tree-of-test (l .2) (b .0) in
-      let wrong = from-test (placeWrong h es) 51 (from52 es)
-      (λ g. omega (arith, past (overlaps es) 52 0 51 (λ z. omega arith) g .1)) (b .1) in
+      let wrong = from-test (notNested h es) 51 (from52 es)
+      (λ g. omega (arith, past (notDisjoint es) 52 0 51 (λ z. omega arith) g .1)) (b .1) in
       (l, tree, λ nested. true≢false (sym wrong ∙ test-of-nested (l .2) tree nested))
 
   of-52 : auditNumber host s ≡ 52 → Lawful host s × IsTree host s × IsNested host s × ¬ IsDisjoint s
   unfolding from50 from51 from52
   of-52 e =
       let (l, f) = from-50-on 52 (omega arith) e in
-      let b = past (treeWrong h es) 50 (from51 h es) 52 (λ z. omega arith) f in
-      let c = past (placeWrong h es) 51 (from52 es) 52 (λ z. omega arith) (b .1) in
+      let b = past (notTree h es) 50 (from51 h es) 52 (λ z. omega arith) f in
+      let c = past (notNested h es) 51 (from52 es) 52 (λ z. omega arith) (b .1) in
       let tree = tree-of-test (l .2) (b .0) in
-      let wrong = from-test (overlaps es) 52 0 (λ z. omega arith) (c .1) in
+      let wrong = from-test (notDisjoint es) 52 0 (λ z. omega arith) (c .1) in
       (l, tree, nested-of-test (l .2) tree (c .0), λ disjoint. true≢false (sym wrong ∙ test-of-disjoint disjoint))
 
   of-0 : auditNumber host s ≡ 0 → Accepted host s
   unfolding from50 from51 from52
   of-0 e =
       let (l, f) = lawful-of 0 (λ z. omega arith) (λ z. omega arith) (λ z. z) e in
-      let b = past (treeWrong h es) 50 (from51 h es) 0 (λ z. omega arith) f in
-      let c = past (placeWrong h es) 51 (from52 es) 0 (λ z. omega arith) (b .1) in
-      let d = past (overlaps es) 52 0 0 (λ z. omega arith) (c .1) in
+      let b = past (notTree h es) 50 (from51 h es) 0 (λ z. omega arith) f in
+      let c = past (notNested h es) 51 (from52 es) 0 (λ z. omega arith) (b .1) in
+      let d = past (notDisjoint es) 52 0 0 (λ z. omega arith) (c .1) in
       let tree = tree-of-test (l .2) (b .0) in
       record {
         host-size = l .0;
@@ -241,7 +241,7 @@ module _ (host s : List ℕ) (bytes : Bytes s) where
         host-not-30 = at-20;
         off-edges = (of-26, λ p. at-26 (p .0) (p .1));
         sheet-fails = at-sheet;
-        no-tree = (of-50, λ p. at-50 (p .0) (p .1));
+        not-tree = (of-50, λ p. at-50 (p .0) (p .1));
         not-nested = (of-51, λ p. at-51 (p .0) (p .1) (p .2));
         not-disjoint = (of-52, λ p. at-52 (p .0) (p .1) (p .2) (p .3));
         accepted-else = audit-iff;

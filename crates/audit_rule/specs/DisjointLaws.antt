@@ -1,4 +1,4 @@
--- 52: the test of overlaps fails exactly where BARs and open windows of one bus are disjoint in both spaces. Assumes nothing.
+-- 52: the test of disjointness fails exactly where BARs and open windows of one bus are disjoint in both spaces. Assumes nothing.
 use mathlib.Core.Path.{_≡_, refl, sym, ap, ap₂, subst, _∙_}
 use mathlib.Core.Logic.{_↔_}
 use mathlib.Core.Bool.{Bool, true, false, _&&_, _||_}
@@ -21,7 +21,7 @@ use Rattle.sheet.specs.Spaces.{functionsFrom}
 use Rattle.sheet_ranges.specs.Ranges.{rangesOf, spaceNumber, overlap}
 use Rattle.sheet_ranges.specs.RangesLaws.{ofSpace, of-same-space, keep-ranges, some-ranges, apart-of-overlap, overlap-of-apart}
 use Rattle.sheet_ranges.specs.FunctionsLaws.{item-range, range-item}
-use Rattle.audit_rule.specs.Audit.{anyPair, anyOverlap, overlapOnBus, overlaps}
+use Rattle.audit_rule.specs.Audit.{anyPair, anyOverlap, overlapOnBus, notDisjoint}
 use Rattle.audit_rule.specs.PairLaws.{pairwise-of-none, none-of-pairwise}
 
 -- ## Each two of two lists joined, and of a list's images
@@ -139,12 +139,12 @@ no-overlaps rs ss h =
 
 -- ## All of them
 
-disjoint-of-test : (sp : Space) (k : ℕ) (es : List Entry) → overlaps es ≡ false → Pairwise ApartOnBus (items (functionsFrom sp k es))
-unfolding overlaps items flatMap functionsFrom
+disjoint-of-test : (sp : Space) (k : ℕ) (es : List Entry) → notDisjoint es ≡ false → Pairwise ApartOnBus (items (functionsFrom sp k es))
+unfolding notDisjoint items flatMap functionsFrom
 disjoint-of-test sp k [] t = tt
 disjoint-of-test sp k (e ∷ es) t =
-    let a = false-of-or (anyPair overlap (rangesOf e)) (any (overlapOnBus e) es || overlaps es) t in
-    let b = false-of-or (any (overlapOnBus e) es) (overlaps es) (a .1) in
+    let a = false-of-or (anyPair overlap (rangesOf e)) (any (overlapOnBus e) es || notDisjoint es) t in
+    let b = false-of-or (any (overlapOnBus e) es) (notDisjoint es) (a .1) in
     pairwise-append ApartOnBus (itemsOf (functionOf sp k e)) (items (functionsFrom sp (k + 1) es))
     (own-of-test sp k e (a .0))
     (disjoint-of-test sp (k + 1) es (b .1))
@@ -162,8 +162,8 @@ disjoint-of-test sp k (e ∷ es) t =
         apart-of-overlap sp (i .range) (j .range) (x .1) (y .of-space)
         (no-overlap (rangesOf e) (rangesOf c) (rw (eq-eqb (bus e) (bus c) one-bus) at apart) (i .range) (j .range) (x .0) (y .in-ranges))
 
-test-of-disjoint : (k : ℕ) (es : List Entry) → ((sp : Space) → Pairwise ApartOnBus (items (functionsFrom sp k es))) → overlaps es ≡ false
-unfolding overlaps items flatMap functionsFrom
+test-of-disjoint : (k : ℕ) (es : List Entry) → ((sp : Space) → Pairwise ApartOnBus (items (functionsFrom sp k es))) → notDisjoint es ≡ false
+unfolding notDisjoint items flatMap functionsFrom
 test-of-disjoint k [] p = refl
 test-of-disjoint k (e ∷ es) p =
     rw (
@@ -195,7 +195,7 @@ test-of-disjoint k (e ∷ es) p =
         let (sp, of) = all-elim _ (rangesOf e) (some-ranges e) mr in
         overlap-of-apart r s (apart c m (eqb-true (bus e) (bus c) e1) r s mr ms sp of))
 
-pub disjoint-iff : (es : List Entry) → (overlaps es ≡ false) ↔ ((sp : Space) → Disjoint (functionsFrom sp 1 es))
+pub disjoint-iff : (es : List Entry) → (notDisjoint es ≡ false) ↔ ((sp : Space) → Disjoint (functionsFrom sp 1 es))
 disjoint-iff es = (
   λ t sp. record { apart-on-bus = disjoint-of-test sp 1 es t },
   λ d. test-of-disjoint 1 es (λ sp. d sp .apart-on-bus),

@@ -16,7 +16,7 @@ use Rattle.sheet.specs.Sheet.{allSized, isFramed, entriesFrom, allZero, readBac
 use Rattle.sheet.specs.Sheet.{from29, from25, from28, from27, from24, from22, from20, from21, sheetNumber}
 use Rattle.sheet.specs.Examples.{p8, p10, p10-bridge, p10-end, nibbled}
 use Rattle.sheet_ranges.specs.Ranges.{barsFrom, rangesOf}
-use Rattle.audit_rule.specs.Audit.{anyPair, treeWrong, rangesAbove, placeWrong, overlaps, from52, from51, from50, fromSheet}
+use Rattle.audit_rule.specs.Audit.{anyPair, notTree, rangesAbove, notNested, notDisjoint, from52, from51, from50, fromSheet}
 use Rattle.audit_rule.specs.Audit.{from26, auditNumber}
 
 -- P10's host record
@@ -87,7 +87,7 @@ examples =
     ∷ []
 
 pub examples-hold : All Holds examples
-unfolding auditNumber from26 fromSheet from50 from51 from52 treeWrong placeWrong overlaps anyPair any keep rangesOf rangesAbove barsFrom
+unfolding auditNumber from26 fromSheet from50 from51 from52 notTree notNested notDisjoint anyPair any keep rangesOf rangesAbove barsFrom
     hostOfPart hostWrong poolWrong beBytes sheetNumber from21 from20 from22 from24 from27 from28 from25 from29 isFramed allSized
     entriesFrom breaks anyBreaks allZero readBacksWrong hasId idTwice entryOf dwords windowOf be le nextOf partsOver partsOf closed start
     stop isNibbled isBarValue valuesFit slots slotHere wideSlot narrowSlot ioSlot sized sizeFrom

@@ -1,4 +1,4 @@
--- 51: where the buses are a tree, the test of places fails exactly where BARs and open windows are nested in both spaces. Assumes nothing.
+-- 51: where the buses are a tree, the test of nesting fails exactly where BARs and open windows are nested in both spaces. Assumes nothing.
 use mathlib.Core.Path.{_≡_, refl, sym, ap, subst, _∙_}
 use mathlib.Core.Logic.{inl, inr, _↔_}
 use mathlib.Core.Bool.{true, false, and-eq-true-iff}
@@ -27,7 +27,7 @@ use Rattle.sheet_ranges.specs.Ranges.{rangesOf, poolsOf, inside}
 use Rattle.sheet_ranges.specs.RangesLaws.{ofSpace, keep-windows, keep-pools, some-ranges, inside-of-any, any-of-inside}
 use Rattle.sheet_ranges.specs.FunctionsLaws.{FunctionOf, function-elim, function-intro, ItemOf, item-range, Itemised, range-item}
 use Rattle.audit_rule.specs.Host.{hostFor}
-use Rattle.audit_rule.specs.Audit.{parentIn, rangesAbove, outsideAll, misplaced, placeWrong}
+use Rattle.audit_rule.specs.Audit.{parentIn, rangesAbove, outsideAll, outsideAbove, notNested}
 use Rattle.audit_rule.specs.LeadersLaws.{no-leader-of-root, in-window-of-leader}
 
 module _ (h : Host) (es : List Entry) (rise : BridgesRise (nodesFrom 1 es))
@@ -46,12 +46,12 @@ module _ (h : Host) (es : List Entry) (rise : BridgesRise (nodesFrom 1 es))
 
   -- ## From the test
 
-  module _ (t : placeWrong h es ≡ false) where
+  module _ (t : notNested h es ≡ false) where
     lies : (e : Entry) → e ∈ es → (r : Range) → r ∈ rangesOf e → (p : Parent) → parentIn h es e ≡ p
         → any (inside r) (rangesAbove h p) ≡ true
-    unfolding placeWrong
+    unfolding notNested
     lies e m r n p is =
-        let here = all-elim _ es (all-of-none (misplaced h es) es t) m in
+        let here = all-elim _ es (all-of-none (outsideAbove h es) es t) m in
         let not-out = all-elim _ (rangesOf e) (all-of-none (outsideAll (rangesAbove h (parentIn h es e))) (rangesOf e) here) n in
         sym (ap (λ (q : Parent). any (inside r) (rangesAbove h q)) is)
         ∙ not-false (any (inside r) (rangesAbove h (parentIn h es e))) not-out
@@ -160,15 +160,15 @@ module _ (h : Host) (es : List Entry) (rise : BridgesRise (nodesFrom 1 es))
             lost (inl on) = off on
             lost (inr (b, only)) = unled b only
 
-    test-of-nested : placeWrong h es ≡ false
-    unfolding placeWrong
+    test-of-nested : notNested h es ≡ false
+    unfolding notNested
     test-of-nested =
-        none-of-all (misplaced h es) es
+        none-of-all (outsideAbove h es) es
         (all-intro _ es (λ e m.
         none-of-all (outsideAll (rangesAbove h (parentIn h es e))) (rangesOf e)
         (all-intro _ (rangesOf e) (λ r n.
         let (sp, of) = all-elim _ (rangesOf e) (some-ranges e) n in
         rw (inside-above e m r n sp of)))))
 
-  pub nested-iff : (placeWrong h es ≡ false) ↔ ((sp : Space) → Nested (hostFor sp h) (functionsFrom sp 1 es))
+  pub nested-iff : (notNested h es ≡ false) ↔ ((sp : Space) → Nested (hostFor sp h) (functionsFrom sp 1 es))
   nested-iff = (nested-of-test, test-of-nested)

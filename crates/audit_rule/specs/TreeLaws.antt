@@ -25,7 +25,7 @@ use Rattle.sheet_above.specs.Parents.{Parent, underNone, underSeveral, underBri
 use Rattle.sheet_above.specs.ParentsLaws.{Stands, at-root, below, nowhere, stands}
 use Rattle.audit_rule.specs.Host.{hostFor}
 use Rattle.audit_rule.specs.Audit.{anyPair, firstElsewhere, busesIn, parentWrong, outOfHost, parentIn, wayUpWrong, busesShared}
-use Rattle.audit_rule.specs.Audit.{treeWrong}
+use Rattle.audit_rule.specs.Audit.{notTree}
 use Rattle.audit_rule.specs.LeadersLaws.{no-leader-of-root, in-parent-of-leader}
 use Rattle.audit_rule.specs.PairLaws.{pairwise-of-none, none-of-pairwise, all-nodes, all-of-nodes, pairwise-nodes, pairwise-of-nodes}
 
@@ -101,9 +101,9 @@ module _ (h : Host) (es : List Entry) (rise : BridgesRise (nodesFrom 1 es)) (sp 
 
   -- ## From the test
 
-  module _ (t : treeWrong h es ≡ false) where
+  module _ (t : notTree h es ≡ false) where
     parts : (firstElsewhere root es ≡ false) × (any (wayUpWrong h es) es ≡ false) × (anyPair busesShared es ≡ false)
-    unfolding treeWrong
+    unfolding notTree
     parts =
         let a = false-of-or (firstElsewhere root es) (any (wayUpWrong h es) es || anyPair busesShared es) t in
         let b = false-of-or (any (wayUpWrong h es) es) (anyPair busesShared es) (a .1) in
@@ -182,8 +182,8 @@ module _ (h : Host) (es : List Entry) (rise : BridgesRise (nodesFrom 1 es)) (sp 
         rw (parent-right e j m (stands root 1 es (bus e)))
         (unasked (bridges e) _ (λ is. buses-of-inside root (h .«last_bus») j e (all-elim _ ns (tree .in-host) m is)))
 
-    test-of-tree : treeWrong h es ≡ false
-    unfolding treeWrong
+    test-of-tree : notTree h es ≡ false
+    unfolding notTree
     test-of-tree =
         rw (
           test-of-first root 1 es (tree .first-on-root),
@@ -192,5 +192,5 @@ module _ (h : Host) (es : List Entry) (rise : BridgesRise (nodesFrom 1 es)) (sp 
               (pairwise-imp _ _ (λ e f r. buses-of-apart e f (r .0) (r .1) (r .2)) es (pairwise-of-nodes _ 1 es (tree .siblings-apart))),
         )
 
-  pub tree-iff : (treeWrong h es ≡ false) ↔ Tree (hostFor sp h) ns
+  pub tree-iff : (notTree h es ≡ false) ↔ Tree (hostFor sp h) ns
   tree-iff = (tree-of-test, test-of-tree)

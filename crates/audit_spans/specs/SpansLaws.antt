@@ -14,10 +14,10 @@ use Rattle.sheet.specs.Sheet.{entriesOf}
 use Rattle.sheet_ranges.specs.declared.Item.{Item}
 use Rattle.sheet_ranges.specs.Items.{itemAt}
 use Rattle.sheet_ranges.specs.ItemsLaws.{stored, stored-is}
-use Rattle.audit_rule.specs.Audit.{overlaps}
+use Rattle.audit_rule.specs.Audit.{notDisjoint}
 use Rattle.audit_rising.specs.Rising.{Spot, spot, Beside, Clear}
 use Rattle.audit_rising.specs.Spots.{spotsOf}
-use Rattle.audit_rising.specs.SpotsLaws.{overlaps-none}
+use Rattle.audit_rising.specs.SpotsLaws.{disjoint-of-clear}
 use Rattle.audit_spans.specs.Spans.{spanOf, Free, Spread, Held, Grown}
 
 -- ## Which spans it meets
@@ -143,6 +143,6 @@ pub spread-none : (xs : List ℕ) (n : ℕ) → Spread (xs, n) []
 unfolding Spread
 spread-none xs n = (tt, tt)
 
-pub ranges-told : (s xs : List ℕ) (n : ℕ) → Spread (xs, n) (flatMap spotsOf (entriesOf s)) → overlaps (entriesOf s) ≡ false
+pub ranges-told : (s xs : List ℕ) (n : ℕ) → Spread (xs, n) (flatMap spotsOf (entriesOf s)) → notDisjoint (entriesOf s) ≡ false
 unfolding Spread
-ranges-told s xs n r = overlaps-none (entriesOf s) (r .0)
+ranges-told s xs n r = disjoint-of-clear (entriesOf s) (r .0)

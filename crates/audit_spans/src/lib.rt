@@ -13,7 +13,7 @@ ghost use Rattle.sheet.specs.Sheet.{breaks, entriesOf};
 ghost use Rattle.sheet.specs.SheetLaws.{Checked};
 ghost use Rattle.sheet_ranges.specs.Items.{rangeOf, itemAt, rangesIn};
 ghost use Rattle.sheet_ranges.specs.ItemsLaws.{stored};
-ghost use Rattle.audit_rule.specs.Audit.{overlaps};
+ghost use Rattle.audit_rule.specs.Audit.{notDisjoint};
 ghost use Rattle.audit_rising.specs.Rising.{spot, Beside};
 ghost use Rattle.audit_rising.specs.Spots.{spotOf, spotsOf};
 ghost use Rattle.audit_spans.specs.Spans.{spanOf, Free, Held, Grown};
@@ -27,10 +27,10 @@ const NONE: usize = 129;
 // Three numbers a span: its key, its first and its last address.
 const NUMBERS: usize = 384;
 
-// Whether the ranges of each bus are told to be apart.
-pub fn ranges_apart(sheet: &[u8]) -> bool
+// Whether the ranges of each bus are told to be disjoint.
+pub fn ranges_disjoint(sheet: &[u8]) -> bool
     requires { ⌜ Checked (now sheet) ⌝ }
-    ensures { λ r. ⌜ (r ≡ true → overlaps (entriesOf (now (sheet .entry))) ≡ false) ⌝ }
+    ensures { λ r. ⌜ (r ≡ true → notDisjoint (entriesOf (now (sheet .entry))) ≡ false) ⌝ }
 {
     let mut spans = [0u64; NUMBERS];
     hold_records(sheet, &mut spans)
@@ -38,7 +38,7 @@ pub fn ranges_apart(sheet: &[u8]) -> bool
 
 fn hold_records(sheet: &[u8], spans: &mut [u64]) -> bool
     requires { ⌜ Checked (now sheet) × (length (now spans) ≡ 384) ⌝ }
-    ensures { λ r. ⌜ (r ≡ true → overlaps (entriesOf (now (sheet .entry))) ≡ false) ⌝ }
+    ensures { λ r. ⌜ (r ≡ true → notDisjoint (entriesOf (now (sheet .entry))) ≡ false) ⌝ }
 {
     let mut room = [0u64; sheet_ranges::ROOM];
     let records = sheet::count(sheet);

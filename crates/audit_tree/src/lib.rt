@@ -10,14 +10,14 @@ ghost use Rattle.sheet.specs.Sheet.{Framed, entriesFrom, entriesOf, partAt, rec
 ghost use Rattle.sheet.specs.SheetLaws.{Checked};
 ghost use Rattle.sheet_above.specs.Parents.{parentOf};
 ghost use Rattle.sheet_above.specs.Table.{Leads};
-ghost use Rattle.audit_rule.specs.Audit.{anyPair, firstElsewhere, busesIn, parentWrong, wayUpWrong, busesShared, treeWrong};
+ghost use Rattle.audit_rule.specs.Audit.{anyPair, firstElsewhere, busesIn, parentWrong, wayUpWrong, busesShared, notTree};
 use board_record::Host;
 use sheet_above::Parent;
 
 // The first record's bus, then every function's way up, then the bridges of each bus.
-pub fn tree_wrong(host: Host, sheet: &[u8], table: &[u16]) -> bool
+pub fn not_tree(host: Host, sheet: &[u8], table: &[u16]) -> bool
     requires { ⌜ Checked (now sheet) × Leads (entriesOf (now sheet)) (now table) ⌝ }
-    ensures { λ r. ⌜ r ≡ treeWrong host (entriesOf (now (sheet .entry))) ⌝ }
+    ensures { λ r. ⌜ r ≡ notTree host (entriesOf (now (sheet .entry))) ⌝ }
 {
     if first_elsewhere(host.first_bus, sheet) {
         return true;

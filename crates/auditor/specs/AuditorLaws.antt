@@ -10,7 +10,7 @@ use Rattle.board_record.specs.Host.{hostLength, hostOfPart, hostWrong}
 use Rattle.sheet.specs.Sheet.{entriesOf, sheetNumber}
 use Rattle.sheet_record.specs.Entry.{Entry}
 use Rattle.audit_rule.specs.Audit.{from52, from51, from50, fromSheet, from26, auditNumber}
-use Rattle.auditor.specs.declared.Check.the-variants.{Buses, Places, Overlaps}
+use Rattle.auditor.specs.declared.Check.the-variants.{Tree, Nested, Disjoint}
 use Rattle.auditor.specs.Checks.{fails}
 
 -- ## The host record, then the sheet by itself
@@ -42,23 +42,23 @@ module _ (host s : List ℕ) where
       unfolding fromSheet
       sheet-passed z = past-edges ∙ rw (← number, eq-eqb n 0 z)
 
--- ## The sheet under the host
+-- ## The sheet under the host: what each check says
 
-module _ (h : Host) (es : List Entry) (tree : Bool) (is-tree : tree ≡ fails Buses h es) where
-  pub tree-refused : tree ≡ true → from50 h es ≡ 50
+module _ (h : Host) (es : List Entry) (tree : Bool) (is-tree : tree ≡ fails Tree h es) where
+  pub not-tree : tree ≡ true → from50 h es ≡ 50
   unfolding from50
-  tree-refused e = rw (sym is-tree ∙ e)
+  not-tree e = rw (sym is-tree ∙ e)
 
-  module _ (tree-right : tree ≡ false) (place : Bool) (is-place : place ≡ fails Places h es) where
-    pub place-refused : place ≡ true → from50 h es ≡ 51
+  module _ (tree-right : tree ≡ false) (nested : Bool) (is-nested : nested ≡ fails Nested h es) where
+    pub not-nested : nested ≡ true → from50 h es ≡ 51
     unfolding from50 from51
-    place-refused e = rw (sym is-tree ∙ tree-right, sym is-place ∙ e)
+    not-nested e = rw (sym is-tree ∙ tree-right, sym is-nested ∙ e)
 
-    module _ (place-right : place ≡ false) (apart : Bool) (is-apart : apart ≡ fails Overlaps h es) where
-      pub overlap-refused : apart ≡ true → from50 h es ≡ 52
+    module _ (nested-right : nested ≡ false) (disjoint : Bool) (is-disjoint : disjoint ≡ fails Disjoint h es) where
+      pub not-disjoint : disjoint ≡ true → from50 h es ≡ 52
       unfolding from50 from51 from52
-      overlap-refused e = rw (sym is-tree ∙ tree-right, sym is-place ∙ place-right, sym is-apart ∙ e)
+      not-disjoint e = rw (sym is-tree ∙ tree-right, sym is-nested ∙ nested-right, sym is-disjoint ∙ e)
 
-      pub all-passed : apart ≡ false → from50 h es ≡ 0
+      pub all-passed : disjoint ≡ false → from50 h es ≡ 0
       unfolding from50 from51 from52
-      all-passed e = rw (sym is-tree ∙ tree-right, sym is-place ∙ place-right, sym is-apart ∙ e)
+      all-passed e = rw (sym is-tree ∙ tree-right, sym is-nested ∙ nested-right, sym is-disjoint ∙ e)

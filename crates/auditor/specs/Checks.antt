@@ -3,11 +3,11 @@ use mathlib.Core.Bool.{Bool}
 use mathlib.Core.List.{List}
 use Rattle.board_record.specs.declared.Host.{Host}
 use Rattle.sheet_record.specs.Entry.{Entry}
-use Rattle.audit_rule.specs.Audit.{treeWrong, placeWrong, overlaps}
+use Rattle.audit_rule.specs.Audit.{notTree, notNested, notDisjoint}
 use Rattle.auditor.specs.declared.Check.{Check}
-use Rattle.auditor.specs.declared.Check.the-variants.{Buses, Places, Overlaps}
+use Rattle.auditor.specs.declared.Check.the-variants.{Tree, Nested, Disjoint}
 
 abbrev pub fails : Check → Host → List Entry → Bool
-fails Buses h es = treeWrong h es
-fails Places h es = placeWrong h es
-fails Overlaps h es = overlaps es
+fails Tree h es = notTree h es
+fails Nested h es = notNested h es
+fails Disjoint h es = notDisjoint es

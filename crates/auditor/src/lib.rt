@@ -7,11 +7,11 @@ ghost use Rattle.audit_rule.specs.Audit.{from50, auditNumber};
 ghost use Rattle.auditor.specs.Checks.{fails as failsOf};
 use board_record::Host;
 
-// The checks of a sheet under a host: its buses (50), where BARs and windows lie (51), and that they do not overlap (52).
+// The checks of a sheet under a host: its buses are a tree (50), BARs and open windows are nested (51), and disjoint on each bus (52).
 pub enum Check {
-    Buses,
-    Places,
-    Overlaps,
+    Tree,
+    Nested,
+    Disjoint,
 }
 
 // Any bytes: the host record first, then the sheet by itself, then the sheet under the host.
@@ -39,13 +39,13 @@ fn audit_checked(host: Host, sheet: &[u8]) -> u8
 {
     let mut table = [0u16; sheet_above::BUSES];
     sheet_above::leaders(sheet, &mut table);
-    if fails(Check::Buses, host, sheet, &table) {
+    if fails(Check::Tree, host, sheet, &table) {
         return 50;
     }
-    if fails(Check::Places, host, sheet, &table) {
+    if fails(Check::Nested, host, sheet, &table) {
         return 51;
     }
-    if fails(Check::Overlaps, host, sheet, &table) {
+    if fails(Check::Disjoint, host, sheet, &table) {
         return 52;
     }
     0
@@ -57,8 +57,8 @@ fn fails(check: Check, host: Host, sheet: &[u8], table: &[u16]) -> bool
     ensures { λ r. ⌜ r ≡ failsOf check host (entriesOf (now (sheet .entry))) ⌝ }
 {
     match check {
-        Check::Buses => audit_tree::tree_wrong(host, sheet, table),
-        Check::Places => audit_place::place_wrong(host, sheet, table),
-        Check::Overlaps => audit_apart::overlaps(sheet),
+        Check::Tree => audit_tree::not_tree(host, sheet, table),
+        Check::Nested => audit_nested::not_nested(host, sheet, table),
+        Check::Disjoint => audit_disjoint::not_disjoint(sheet),
     }
 }

@@ -1,7 +1,7 @@
 -- `auditor::audit_checked` meets its contract: the first check that fails. Assumes nothing.
 use borrow.Author.Needs.{needs}
 use mathlib.Core.Path.{sym}
-use Rattle.auditor.specs.AuditorLaws.{tree-refused, place-refused, overlap-refused, all-passed}
+use Rattle.auditor.specs.AuditorLaws.{not-tree, not-nested, not-disjoint, all-passed}
 use Rattle.auditor.proofs.audit_checked.Statement.{statement}
 use Rattle.auditor.proofs.audit_checked.Tie as tie
 
@@ -18,7 +18,7 @@ fails-requires : tie.Need-fails-requires
 fails-requires c κs = search needs
 
 returns : tie.Need-returns
-returns c = sym (tree-refused _ _ _ (c .before .fails .ensures) (c .if1 .taken))
+returns c = sym (not-tree _ _ _ (c .before .fails .ensures) (c .if1 .taken))
 
 slice-aggregate-fails-2 : tie.Need-slice-aggregate-fails-2
 slice-aggregate-fails-2 c = search needs
@@ -29,7 +29,7 @@ fails-requires-2 c κs = search needs
 returns-2 : tie.Need-returns-2
 returns-2 c =
     let buses = c .before .before .before in
-    sym (place-refused _ _ _ (buses .before .fails .ensures) (buses .if1 .left) _ (c .before .fails2 .ensures) (c .if2 .taken))
+    sym (not-nested _ _ _ (buses .before .fails .ensures) (buses .if1 .left) _ (c .before .fails2 .ensures) (c .if2 .taken))
 
 slice-aggregate-fails-3 : tie.Need-slice-aggregate-fails-3
 slice-aggregate-fails-3 c = search needs
@@ -41,7 +41,7 @@ returns-3 : tie.Need-returns-3
 returns-3 c =
     let places = c .before .before .before in
     let buses = places .before .before .before in
-    sym (overlap-refused _ _ _ (buses .before .fails .ensures) (buses .if1 .left) _ (places .before .fails2 .ensures) (places .if2 .left) _
+    sym (not-disjoint _ _ _ (buses .before .fails .ensures) (buses .if1 .left) _ (places .before .fails2 .ensures) (places .if2 .left) _
     (c .before .fails3 .ensures) (c .if3 .taken))
 
 returns-4 : tie.Need-returns-4

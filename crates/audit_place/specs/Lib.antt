@@ -1,2 +1,0 @@
--- The laws of 51 in the words of the code.
-pub mod PlaceLaws
