@@ -171,7 +171,6 @@ pub fn version() -> u32 {
 }
 
 /// Reads the header at the start of `header` into the first [`PACKET`] numbers of `packet`.
-#[must_use]
 pub fn read(header: &[u8], packet: &mut [u64]) -> u32 {
     unsafe { c::cartsundial_read(header.as_ptr(), header.len(), packet.as_mut_ptr(), packet.len()) }
 }
@@ -181,7 +180,6 @@ pub fn read(header: &[u8], packet: &mut [u64]) -> u32 {
 ///
 /// Fewer numbers are 11, before anything else; a number that its field cannot hold, and one in a field that the kind
 /// does not have, are 10.
-#[must_use]
 pub fn write(packet: &[u64], room: &mut [u8], written: &mut [u64]) -> u32 {
     unsafe {
         c::cartsundial_write(
@@ -196,7 +194,6 @@ pub fn write(packet: &[u64], room: &mut [u8], written: &mut [u64]) -> u32 {
 }
 
 /// Plans a board to the start of `sheet`, and writes the sheet's length to `written`.
-#[must_use]
 pub fn plan(board: &[u8], sheet: &mut [u8], written: &mut [u64]) -> u32 {
     unsafe {
         c::cartsundial_plan(
@@ -214,7 +211,6 @@ pub fn plan(board: &[u8], sheet: &mut [u8], written: &mut [u64]) -> u32 {
 /// `written`.
 ///
 /// A requester above FFFFh or a tag above FFh is 10, before the board is read.
-#[must_use]
 pub fn script(board: &[u8], requester: u32, first_tag: u32, script: &mut [u8], written: &mut [u64]) -> u32 {
     unsafe {
         c::cartsundial_script(
@@ -231,32 +227,27 @@ pub fn script(board: &[u8], requester: u32, first_tag: u32, script: &mut [u8], w
 }
 
 /// Checks a sheet.
-#[must_use]
 pub fn check(sheet: &[u8]) -> u32 {
     unsafe { c::cartsundial_check(sheet.as_ptr(), sheet.len()) }
 }
 
 /// Audits a sheet for the bytes of a host record. Other than 30 bytes are 20, before the sheet is read.
-#[must_use]
 pub fn audit(host: &[u8], sheet: &[u8]) -> u32 {
     unsafe { c::cartsundial_audit(host.as_ptr(), host.len(), sheet.as_ptr(), sheet.len()) }
 }
 
 /// Writes to `offset` where in the sheet the 64 register bytes of the function with this ID start. No function has an
 /// ID above FFFFh.
-#[must_use]
 pub fn lookup(sheet: &[u8], id: u32, offset: &mut [u64]) -> u32 {
     unsafe { c::cartsundial_lookup(sheet.as_ptr(), sheet.len(), id, offset.as_mut_ptr(), offset.len()) }
 }
 
 /// Writes to `id` the ID of the function with this record number, from 1.
-#[must_use]
 pub fn id(sheet: &[u8], record: u32, id: &mut [u64]) -> u32 {
     unsafe { c::cartsundial_id(sheet.as_ptr(), sheet.len(), record, id.as_mut_ptr(), id.len()) }
 }
 
 /// Rewrites the command word of the function with this ID. A word above FFFFh is 10, before the sheet is read.
-#[must_use]
 pub fn command(sheet: &mut [u8], id: u32, command: u32) -> u32 {
     unsafe { c::cartsundial_command(sheet.as_mut_ptr(), sheet.len(), id, command) }
 }
@@ -268,7 +259,6 @@ pub fn command(sheet: &mut [u8], id: u32, command: u32) -> u32 {
 /// | one function | its record, from 1 | crossed | |
 /// | every function | 0 | how many functions | their records, in order |
 /// | the port | 0 | 0 | |
-#[must_use]
 pub fn route(header: &[u8], sheet: &[u8], answer: &mut [u64]) -> u32 {
     unsafe {
         c::cartsundial_route(
@@ -288,7 +278,6 @@ pub fn route(header: &[u8], sheet: &[u8], answer: &mut [u64]) -> u32 {
 /// |---|---|---|
 /// | another function | its record, from 1 | crossed, up and down |
 /// | the host | 0 | crossed, up |
-#[must_use]
 pub fn route_from(record: u32, header: &[u8], sheet: &[u8], answer: &mut [u64]) -> u32 {
     unsafe {
         c::cartsundial_route_from(
@@ -306,7 +295,6 @@ pub fn route_from(record: u32, header: &[u8], sheet: &[u8], answer: &mut [u64]) 
 /// Builds the index of a sheet for the bytes of a host record at the start of `index`: 1,024 bytes, and 256 a function.
 ///
 /// The audit's number comes first, then 11 for a shorter slice.
-#[must_use]
 pub fn index(host: &[u8], sheet: &[u8], index: &mut [u8]) -> u32 {
     unsafe {
         c::cartsundial_index(host.as_ptr(), host.len(), sheet.as_ptr(), sheet.len(), index.as_mut_ptr(), index.len())
@@ -315,7 +303,6 @@ pub fn index(host: &[u8], sheet: &[u8], index: &mut [u8]) -> u32 {
 
 /// Routes a header by an index: what [`route`] answers over the sheet that it was built from. On other bytes the call ends
 /// too, with an answer or a number; a broadcast can then be for up to 65,535 functions.
-#[must_use]
 pub fn find(header: &[u8], index: &[u8], answer: &mut [u64]) -> u32 {
     unsafe {
         c::cartsundial_find(
@@ -334,7 +321,6 @@ pub fn find(header: &[u8], index: &[u8], answer: &mut [u64]) -> u32 {
 ///
 /// Fewer numbers of state are 11, and numbers that are no state 10, both before anything else. Lines that do not fit are
 /// 11: the piece is not taken.
-#[must_use]
 pub fn annotate(state: &mut [u64], sheet: &[u8], piece: &[u8], lines: &mut [u8], written: &mut [u64]) -> u32 {
     unsafe {
         c::cartsundial_annotate(
@@ -354,7 +340,6 @@ pub fn annotate(state: &mut [u64], sheet: &[u8], piece: &[u8], lines: &mut [u8],
 
 /// Takes the next piece of a trace as [`annotate`] does, by an index: over one that was built, the lines are those over its
 /// sheet. On other bytes each header gets what [`find`] answers by them.
-#[must_use]
 pub fn label(state: &mut [u64], index: &[u8], piece: &[u8], lines: &mut [u8], written: &mut [u64]) -> u32 {
     unsafe {
         c::cartsundial_label(
@@ -374,7 +359,6 @@ pub fn label(state: &mut [u64], index: &[u8], piece: &[u8], lines: &mut [u8], wr
 
 /// Writes the line that a trace gets if it ends here, if any, to the start of `lines`, and how many bytes it is to
 /// `written`. The numbers are those of [`annotate`]; ending needs no sheet and no index.
-#[must_use]
 pub fn annotate_end(state: &[u64], lines: &mut [u8], written: &mut [u64]) -> u32 {
     unsafe {
         c::cartsundial_annotate_end(
@@ -390,20 +374,17 @@ pub fn annotate_end(state: &[u64], lines: &mut [u8], written: &mut [u64]) -> u32
 
 /// Opens the request of a header in the first [`LEDGER`] numbers of `ledger`. Fewer are 11, before anything else; then the
 /// header's number, 60, 61 or 62.
-#[must_use]
 pub fn ledger_open(ledger: &mut [u64], header: &[u8]) -> u32 {
     unsafe { c::cartsundial_ledger_open(ledger.as_mut_ptr(), ledger.len(), header.as_ptr(), header.len()) }
 }
 
 /// Completes a request by a header, in the first [`LEDGER`] numbers of `ledger`. Fewer are 11, before anything else; then the
 /// header's number, 60, 63, 64 or 65.
-#[must_use]
 pub fn ledger_complete(ledger: &mut [u64], header: &[u8]) -> u32 {
     unsafe { c::cartsundial_ledger_complete(ledger.as_mut_ptr(), ledger.len(), header.as_ptr(), header.len()) }
 }
 
 /// Writes to `count` how many requests are open in the first [`LEDGER`] numbers of `ledger`. Fewer are 11.
-#[must_use]
 pub fn ledger_count(ledger: &[u64], count: &mut [u64]) -> u32 {
     unsafe { c::cartsundial_ledger_count(ledger.as_ptr(), ledger.len(), count.as_mut_ptr(), count.len()) }
 }
