@@ -1,5 +1,5 @@
 -- On a good sheet every BAR and open window lies in a pool of the host, and check 26 bounds those pools. Assumes nothing.
-use mathlib.Core.Path.{_≡_, sym, ap, _∙_}
+use mathlib.Core.Path.{_≡_, ap}
 use mathlib.Core.Logic.{_⊎_, inl, inr}
 use mathlib.Core.Bool.{true, false, _||_}
 use mathlib.Core.List.{List, [], _∷_, List·Memᴰ·append-cases, List·Memᴰ·eq-of-singleton}
@@ -20,10 +20,9 @@ use Rattle.pools.specs.Pools.{granule}
 use Rattle.board_record.specs.declared.Span.{Span}
 use Rattle.board_record.specs.Host.{hostOfPart, isOpen, outside, offEdges, poolWrong, hostWrong}
 use Rattle.walk.specs.Ranges.{Range, Inside, inside-trans}
-use Rattle.walk.specs.Registers.{Node, Registers, nodes, Item, windowItem, items}
-use Rattle.walk.specs.RegistersLaws.{BarOf, WindowOf, item-elim, item-of-window, node-mem, nodes-elim}
-use Rattle.walk.specs.Above.{bridgesTo}
-use Rattle.walk.specs.AboveLaws.{only-bridge-elim}
+use Rattle.walk.specs.Registers.{Node, Registers, nodes, Item, items}
+use Rattle.walk.specs.RegistersLaws.{BarOf, WindowOf, item-elim, node-mem}
+use Rattle.walk.specs.AboveLaws.{only-bridge-elim, window-above}
 use Rattle.walk.specs.Good.{Host, OneWayUp, Good}
 use Rattle.sheet_record.specs.Spaces.{poolOf}
 use Rattle.index_layout.specs.Keys.{lowEnd, memoryEnd, ioSize}
@@ -42,23 +41,6 @@ module _ {host : Host} {fs : List Registers} (good : Good host fs) where
       let (pool, in-pools, k) = member-of-some _ (host .pools) some in
       some-of-member _ (host .pools) in-pools (inside-trans inside k)
 
-  -- the window just above, an item of a smaller bus number
-  window-above : (i : Item) → i ∈ items fs → (b : Node) → bridgesTo (i .owner .node .bus) (nodes fs) ≡ b ∷ []
-      → (w : Item) × (w ∈ items fs) × Inside (i .range) (w .range) × (w .owner .node .bus < i .owner .node .bus)
-  window-above i m b only =
-      let l = only-bridge-elim (i .owner .node .bus) (nodes fs) only in
-      let r = all-elim _ (nodes fs) (good .bridges-rise) (l .in-sheet) (l .is-bridge) in
-      let (g, in-fs, is-b) = nodes-elim fs (l .in-sheet) in
-      let bridge : g .node .bridge ≡ true = ap (λ (x : Node). x .bridge) is-b ∙ l .is-bridge in
-      let at : i .owner .node .bus ≡ g .node .secondary = sym (ap (λ (x : Node). x .secondary) is-b ∙ l .leads) in
-      let (w, in-windows, inside) =
-      member-of-some _ (g .windows) (all-elim _ (items fs) (all-elim _ fs (good .nested .in-window-above) in-fs bridge) m at) in (
-        windowItem g w,
-        item-of-window fs in-fs bridge in-windows,
-        inside,
-        omega (arith, r .own-below, l .leads, ap (λ (x : Node). x .bus) is-b),
-      )
-
   in-pool-over : (n : ℕ) (i : Item) → i ∈ items fs → i .owner .node .bus < n → Some (Inside (i .range)) (host .pools)
   in-pool-over zero i m h = absurd (omega arith)
   in-pool-over (suc n) i m h =
@@ -69,8 +51,10 @@ module _ {host : Host} {fs : List Registers} (good : Good host fs) where
           → Some (Inside (i .range)) (host .pools)
       step (inl e) up = all-elim _ (items fs) (good .nested .in-pool) m e
       step (inr (b, only)) up =
-          let (w, in-items, inside, below) = window-above i m b only in
-          widen i (w .range) inside (up w in-items (omega (arith, h, below)))
+          let l = only-bridge-elim (i .owner .node .bus) (nodes fs) only in
+          let r = all-elim _ (nodes fs) (good .bridges-rise) (l .in-sheet) (l .is-bridge) in
+          let (w, in-items, inside, is-b, claim-is) = window-above fs (good .nested .in-window-above) i m b l in
+          widen i (w .range) inside (up w in-items (omega (arith, h, r .own-below, l .leads, ap (λ (x : Node). x .bus) is-b)))
 
   pub in-host-pool : (i : Item) → i ∈ items fs → Some (Inside (i .range)) (host .pools)
   in-host-pool i m = in-pool-over (suc (i .owner .node .bus)) i m (omega arith)

@@ -1,7 +1,7 @@
 -- The buses of a planned board: bridges rise, and their ranges are a tree as a good sheet's are. Assumes nothing.
 use mathlib.Core.Path.{_≡_, refl, sym, ap, _∙_}
 use mathlib.Core.Logic.{inl, inr, ⊎-elim}
-use mathlib.Core.Bool.{Bool, true, _&&_, and-eq-true-iff}
+use mathlib.Core.Bool.{true, and-eq-true-iff}
 use mathlib.Core.List.{List, [], _∷_, map, Memᴰ·map}
 use Prim.Native.Nat.{ℕ, suc, _<_}
 use native.Mathlib.Omega.{arith}
@@ -17,7 +17,7 @@ use Rattle.lists.specs.ListLaws.{all-map-intro, pairwise-map, pairwise-imp-memb
 use Rattle.lists.specs.KeepLaws.{keep-only}
 use Rattle.walk.specs.Ranges.{buses, Inside}
 use Rattle.walk.specs.Registers.{Node}
-use Rattle.walk.specs.Above.{bridgesTo}
+use Rattle.walk.specs.Above.{isAbove, bridgesTo}
 use Rattle.walk.specs.Good.{BridgesRise, OneWayUp, FirstOn, SiblingsApart, busRange, Tree}
 use Rattle.walk.specs.Good.{Rises as NodeRises}
 use Rattle.plan_good.specs.Boards.{HostEdges}
@@ -44,7 +44,7 @@ module _ (h : Host) (fs : List Function) (lawful : Lawful fs) (devfn : ℕ → �
   only-bridge-to : (bus : ℕ) {b : Numbered} → b ∈ planRows h fs → b .bridge ≡ true → b .secondary ≡ bus
       → bridgesTo bus (planNodes h fs devfn) ≡ planNode devfn b ∷ []
   only-bridge-to bus {b} m is leads =
-      keep-only test clash (planNodes h fs devfn) later (Memᴰ·map (planNode devfn) m)
+      keep-only (isAbove bus) clash (planNodes h fs devfn) later (Memᴰ·map (planNode devfn) m)
       (and-eq-true-iff _ _ .1 (is, eq-eqb _ bus (rw is leads)))
     where
       later : Pairwise Later (planNodes h fs devfn)
@@ -53,10 +53,7 @@ module _ (h : Host) (fs : List Function) (lawful : Lawful fs) (devfn : ℕ → �
           (pairwise-imp-members _ _ (planRows h fs) (λ x y _ _ rises a c. rw (a, c) (rises c))
           (well-numbered (h .firstBus) fs lawful .rising))
 
-      test : Node → Bool
-      test n = n .bridge && eqb (n .secondary) bus
-
-      clash : (n o : Node) → Later n o → test n ≡ true → test o ≡ true → ⊥
+      clash : (n o : Node) → Later n o → isAbove bus n ≡ true → isAbove bus o ≡ true → ⊥
       clash n o l p q =
           let a = and-eq-true-iff (n .bridge) (eqb (n .secondary) bus) .0 p in
           let c = and-eq-true-iff (o .bridge) (eqb (o .secondary) bus) .0 q in

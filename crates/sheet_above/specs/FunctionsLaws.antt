@@ -1,6 +1,6 @@
 -- The bridge above a bus among the functions that the walk has of a sheet: the function of the record that was told. Assumes nothing.
 use mathlib.Core.Path.{_≡_, refl, sym, ap, _∙_}
-use mathlib.Core.Bool.{Bool, true, false, cond, _&&_}
+use mathlib.Core.Bool.{Bool, true, false, cond}
 use mathlib.Core.List.{List, [], _∷_, List·Memᴰ·head, List·Memᴰ·tail, List·Memᴰ·eq-of-singleton}
 use Prim.Native.Nat.{ℕ, zero, suc, _+_, _≤_, _<_}
 use native.Mathlib.Omega.{arith}
@@ -14,6 +14,7 @@ use Rattle.pools.specs.declared.Space.{Space}
 use Rattle.pools.specs.declared.Space.the-variants.{Memory}
 use Rattle.walk.specs.Registers.{Registers}
 use Rattle.walk.specs.RegistersLaws.{node-mem}
+use Rattle.walk.specs.Above.{isAbove}
 use Rattle.walk.specs.Climb.{leadingTo}
 use Rattle.sheet_record.specs.Entry.{Entry, entryOf}
 use Rattle.sheet_record.specs.Spaces.{nodeOf, functionOf}
@@ -116,7 +117,7 @@ module _ (space : Space) (s : List ℕ) (root bus : ℕ) where
     leads-here : (k : ℕ) → k < length (entriesOf s) → parentOf root (entriesOf s) bus ≡ rule.underBridge (entryOf (partAt s k))
         → functionIn space s k ∈ leadingTo bus (registersOf space s)
     leads-here k inside is =
-        keep-intro (λ x. x .node .bridge && eqb (x .node .secondary) bus) (registersOf space s) (function-index s f space k inside)
+        keep-intro (λ x. isAbove bus (x .node)) (registersOf space s) (function-index s f space k inside)
         (leads-of-parent root (entriesOf s) bus (entryOf (partAt s k)) is)
 
     pub functions-above : (r : Parent) → IsParent s root bus r → FunctionsAbove r

@@ -1,15 +1,17 @@
 -- Who stands above the functions of a bus: the host on the root bus; else the bridge whose secondary bus it is (document 02, E11's "bridge
 -- above"), if there is exactly one (E6's parent). Assumes nothing.
-use mathlib.Core.Bool.{Bool, cond, _&&_}
+use mathlib.Core.Bool.{Bool, cond}
 use mathlib.Core.List.{List, [], _∷_}
 use Prim.Native.Nat.{ℕ, _+_}
 use lib.Dec.{eqb}
 use Rattle.lists.specs.Lists.{keep}
-use Rattle.sheet_record.specs.Entry.{Entry, bridges}
+use Rattle.walk.specs.Above.{isAbove}
+use Rattle.sheet_record.specs.Entry.{Entry}
+use Rattle.sheet_record.specs.Spaces.{nodeOf}
 
--- a bridge whose secondary bus it is
+-- a bridge whose secondary bus it is, whatever its number
 abbrev pub leadsTo : ℕ → Entry → Bool
-leadsTo bus e = bridges e && eqb (e .secondary) bus
+leadsTo bus e = isAbove bus (nodeOf 0 e)
 
 -- all of these, in record order
 abbrev pub leadersOf : List Entry → ℕ → List Entry

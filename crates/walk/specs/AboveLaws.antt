@@ -1,8 +1,8 @@
 -- Laws of the bridges above a bus: in a tree every function has one way up to the root, `above` finds it, and each bridge on it lowers the
--- bus number. Assumes nothing.
-use mathlib.Core.Path.{_≡_, refl, sym, ap₂, _∙_}
+-- bus number; and a window of the bridge above has what lies below. Assumes nothing.
+use mathlib.Core.Path.{_≡_, refl, sym, ap, ap₂, _∙_}
 use mathlib.Core.Logic.{inl, inr}
-use mathlib.Core.Bool.{Bool, true, false, _&&_, and-eq-true-iff}
+use mathlib.Core.Bool.{Bool, true, false, and-eq-true-iff}
 use mathlib.Core.List.{List, [], _∷_, _++_, List·Memᴰ·head, List·Memᴰ·eq-of-singleton}
 use Prim.Native.Nat.{ℕ, zero, suc, _+_, _≤_}
 use native.Mathlib.Omega.{arith}
@@ -10,16 +10,18 @@ use lib.ListN.{length}
 use lib.Dec.{eqb}
 use borrow.Author.Tests.{eqb-true, eqb-false, eq-eqb}
 use Rattle.lists.specs.Lists.{_∈_}
-use Rattle.lists.specs.ListLaws.{all-elim}
+use Rattle.lists.specs.ListLaws.{all-elim, member-of-some}
 use Rattle.lists.specs.KeepLaws.{keep-elim, keep-intro}
-use Rattle.walk.specs.Registers.{Node}
-use Rattle.walk.specs.Above.{bridgesTo, LeadsTo, Above, climb, aboveOver, above}
-use Rattle.walk.specs.Good.{Host, BridgesRise, OneWayUp, Tree}
+use Rattle.walk.specs.Ranges.{Inside}
+use Rattle.walk.specs.Registers.{Node, Registers, nodes, Item, items, window, windowItem}
+use Rattle.walk.specs.RegistersLaws.{item-of-window, nodes-elim}
+use Rattle.walk.specs.Above.{isAbove, bridgesTo, LeadsTo, Above, upstream, aboveOver, above}
+use Rattle.walk.specs.Good.{Host, BridgesRise, OneWayUp, Tree, InWindowAbove}
 
 module _ (bus : ℕ) (ns : List Node) where
   pub bridges-to-elim : {b : Node} → b ∈ bridgesTo bus ns → LeadsTo bus ns b
   bridges-to-elim m =
-      let passed = keep-elim (λ n. n .bridge && eqb (n .secondary) bus) ns m in
+      let passed = keep-elim (isAbove bus) ns m in
       let both = and-eq-true-iff _ _ .0 (passed .1) in
       record { in-sheet = passed .0; is-bridge = both .0; leads = eqb-true _ _ (both .1) }
 
@@ -69,7 +71,7 @@ module _ {host : Host} {ns : List Node} (rise : BridgesRise ns) (tree : Tree hos
     where
       go : (t : Bool) → eqb (x .bus) (host .first) ≡ t → OneWayUp (host .first) ns x
           → ((b : Node) → b ∈ ns → b .bus ≤ n → Above (host .first) ns (b .bus) (aboveOver n (host .first) ns (b .bus)))
-          → Above (host .first) ns (x .bus) (climb t (bridgesTo (x .bus) ns) (λ b. aboveOver n (host .first) ns b))
+          → Above (host .first) ns (x .bus) (upstream t (bridgesTo (x .bus) ns) (λ b. aboveOver n (host .first) ns b))
       go true e one up = eqb-true _ _ e
       go false e (inl root) up = absurd (eqb-false _ _ e root)
       go false e (inr (b, only)) up =
@@ -124,3 +126,19 @@ module _ {host : Host} {ns : List Node} (rise : BridgesRise ns) (tree : Tree hos
       ≡ b ∷ above (host .first) ns (b .bus)
   unfolding Above
   above-bridge x m b l = above-of-way-up x m (b ∷ above (host .first) ns (b .bus)) (l, above-is b (l .in-sheet))
+
+-- what is on the bus below a bridge lies in one of the bridge's windows
+pub window-above : (fs : List Registers) → InWindowAbove fs → (i : Item) → i ∈ items fs → (b : Node)
+    → LeadsTo (i .owner .node .bus) (nodes fs) b
+    → (w : Item) × (w ∈ items fs) × Inside (i .range) (w .range) × (w .owner .node ≡ b) × (w .claim ≡ window (b .number) (b .secondary))
+window-above fs in-windows i m b l =
+    let (g, in-fs, is-b) = nodes-elim fs (l .in-sheet) in
+    let bridge : g .node .bridge ≡ true = ap (λ (n : Node). n .bridge) is-b ∙ l .is-bridge in
+    let below : i .owner .node .bus ≡ g .node .secondary = sym (ap (λ (n : Node). n .secondary) is-b ∙ l .leads) in
+    let (r, in-window, inside) = member-of-some _ (g .windows) (all-elim _ (items fs) (all-elim _ fs in-windows in-fs bridge) m below) in (
+      windowItem g r,
+      item-of-window fs in-fs bridge in-window,
+      inside,
+      is-b,
+      ap (λ (n : Node). window (n .number) (n .secondary)) is-b,
+    )

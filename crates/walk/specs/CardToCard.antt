@@ -9,20 +9,20 @@ use native.Mathlib.Nat.{suc-ne-zero}
 use native.Mathlib.Omega.{arith}
 use lib.ListN.{length, length-map}
 use Rattle.lists.specs.Lists.{_∈_, All, Some, keep}
-use Rattle.lists.specs.ListLaws.{all-elim, all-intro, some-imp}
-use Rattle.lists.specs.KeepLaws.{keep-none, none-of-keep, any-of-some, some-of-any}
-use Rattle.walk.specs.Ranges.{holds, Holds, holds-iff}
+use Rattle.lists.specs.ListLaws.{all-elim, all-intro}
+use Rattle.lists.specs.KeepLaws.{none-of-keep}
+use Rattle.walk.specs.Ranges.{Holds, any-holds-iff}
 use Rattle.walk.specs.Registers.{Node, Registers, nodes, Item, items, NumberedFrom}
 use Rattle.walk.specs.RegistersLaws.{node-mem, number-unique}
 use Rattle.walk.specs.Tally.{none, join, claims, claimsIn, tallyOn}
-use Rattle.walk.specs.TallyLaws.{claims-iff, claims-of-none}
+use Rattle.walk.specs.TallyLaws.{claims-iff, claims-of-none, tally-quiet}
 use Rattle.walk.specs.Walk.{noOwner}
 use Rattle.walk.specs.Above.{Above, above}
 use Rattle.walk.specs.AboveLaws.{above-is, above-of-way-up}
 use Rattle.walk.specs.WayLaws.{above-append, above-cons, above-cut, top-is-bus, way-leads}
 use Rattle.walk.specs.Good.{Host, Sound}
 use Rattle.walk.specs.Reach.{Reaches, numbersOf}
-use Rattle.walk.specs.Delivery.{bridgesAbove, holder-unique}
+use Rattle.walk.specs.Delivery.{bridgesAbove, way-of, holder-unique}
 use Rattle.walk.specs.Holders.{under-of-bar, over-of-window, window-of-over, held-above, holder-above}
 use Rattle.walk.specs.Climb.{Sent, arrives, leaves, stops, notMaster, barHolds, windowHolds, upFrom, climbFrom, CardTrail}
 use Rattle.walk.specs.Climb.{sendFrom}
@@ -31,7 +31,7 @@ use Rattle.walk.specs.Cards.{without, HasWindow, Quiet, Board, crossedUp
 use Rattle.walk.specs.Cards.{Answers}
 use Rattle.walk.specs.CardWays.{Blind, Way, Comes, to-owner, to-host, unmastered, nobody, climb-comes, arrives-of-way, leaves-of-way}
 use Rattle.walk.specs.CardWays.{stops-of-way, trail-of-way}
-use Rattle.walk.specs.MeetingLaws.{node-same, way-of, Meeting, meeting, up-is, down-is, without-le}
+use Rattle.walk.specs.MeetingLaws.{node-same, Meeting, meeting, up-is, down-is, without-le}
 
 -- ## Lists of bridges, by number
 
@@ -95,14 +95,8 @@ quiet-iff enabled fs address bus = (to, from)
         let all = none-of-keep (claims enabled address bus) (items fs) (nil-of-map kept (claims-of-none (claimsIn kept) e)) in
         true≢false (sym (claims-iff enabled address bus i .1 c) ∙ all-elim _ (items fs) all m)
 
-    off : Quiet enabled fs address bus → (i : Item) → i ∈ items fs → (t : Bool) → claims enabled address bus i ≡ t → t ≡ false
-    off q i m false e = refl
-    off q i m true e = absurd (q i m (claims-iff enabled address bus i .0 e))
-
     from : Quiet enabled fs address bus → tallyOn enabled fs address bus ≡ none
-    from q =
-        rw (keep-none (claims enabled address bus) (items fs) (all-intro _ (items fs)
-        (λ i m. off q i m (claims enabled address bus i) refl)))
+    from q = tally-quiet enabled fs address bus q
 
 -- ## The board that a sheet tells of
 
@@ -131,10 +125,10 @@ module _ {host : Host} {fs : List Registers} (sound : Sound host fs) (numbered :
   -- ## Windows and BARs
 
   window-true : (f : Registers) → Some (λ r. Holds r address) (f .windows) → windowHolds address f ≡ true
-  window-true f h = any-of-some (λ r. holds r address) (f .windows) (some-imp _ _ (λ r k. holds-iff r address .1 k) (f .windows) h)
+  window-true f h = any-holds-iff address (f .windows) .1 h
 
   bar-true : (f : Registers) → Some (λ r. Holds r address) (f .bars) → barHolds address f ≡ true
-  bar-true f h = any-of-some (λ r. holds r address) (f .bars) (some-imp _ _ (λ r k. holds-iff r address .1 k) (f .bars) h)
+  bar-true f h = any-holds-iff address (f .bars) .1 h
 
   blind-of-no-window : (u : Node) → u .bridge ≡ true → ¬ HasWindow fs address (u .number) → Blind fs address u
   blind-of-no-window u bridge none-over f mf same = go (windowHolds address f) refl
@@ -147,8 +141,7 @@ module _ {host : Host} {fs : List Registers} (sound : Sound host fs) (numbered :
             in-sheet = mf;
             number-is = ap (λ (n : Node). n .number) same;
             is-bridge = ap (λ (n : Node). n .bridge) same ∙ bridge;
-            window-holds =
-                some-imp _ _ (λ r h. holds-iff r address .0 h) (f .windows) (some-of-any (λ r. holds r address) (f .windows) e);
+            window-holds = any-holds-iff address (f .windows) .0 e;
           }))
 
   no-window-of-blind : (u : Node) → u ∈ nodes fs → Blind fs address u → ¬ HasWindow fs address (u .number)
@@ -201,8 +194,7 @@ module _ {host : Host} {fs : List Registers} (sound : Sound host fs) (numbered :
         go : (t : Bool) → barHolds address s ≡ t → t ≡ false
         go false e = refl
         go true e =
-            absurd (none-over (tells .bar-of s ms
-            (some-imp _ _ (λ r h. holds-iff r address .0 h) (s .bars) (some-of-any (λ r. holds r address) (s .bars) e))))
+            absurd (none-over (tells .bar-of s ms (any-holds-iff address (s .bars) .0 e)))
 
     sent-climb : master k ≡ true → barHolds address s ≡ false
         → sent ≡ climbFrom (tallyOn enabled fs address) (upFrom master fs address (host .first)) (s .node .bus) 0
@@ -337,7 +329,7 @@ module _ {host : Host} {fs : List Registers} (sound : Sound host fs) (numbered :
     leaves-of : Leaves board k → sent ≡ leaves (length (aboveOf k))
     leaves-of v =
         let bs = bridgesAbove host fs s in
-        let way = way-of-pass (host .first) (s .node .bus) bs (way-of sound numbered s ms) (rw above-s (v .all-pass)) in
+        let way = way-of-pass (host .first) (s .node .bus) bs (way-of sound s ms) (rw above-s (v .all-pass)) in
         sent-climb (v .start-master) (own-not (v .not-own))
         ∙ leaves-of-way sound numbered enabled master address (s .node) (node-mem ms) 0 (host .first) bs way refl
         (quiet-iff enabled fs address (host .first) .1 (v .root-quiet))
@@ -348,7 +340,7 @@ module _ {host : Host} {fs : List Registers} (sound : Sound host fs) (numbered :
         let bs = bridgesAbove host fs s in
         let sp = split-numbers bs (h .before) (h .here) (h .rest) (above-s ∙ h .above-is) in
         let whole : Above (host .first) (nodes fs) (s .node .bus) (sp .us ++ (sp .u ∷ sp .others)) =
-        rw (← (sp .is)) (way-of sound numbered s ms) in
+        rw (← (sp .is)) (way-of sound s ms) in
         let (top, a, l) = above-cut (nodes fs) (host .first) (s .node .bus) (sp .us) (sp .u) (sp .others) whole in
         let way = way-of-pass top (s .node .bus) (sp .us) a (rw (sp .before-is) (h .pass-before)) in
         sent-climb (h .start-master) (own-not (h .not-own))
@@ -421,7 +413,7 @@ module _ {host : Host} {fs : List Registers} (sound : Sound host fs) (numbered :
         let (rest, rest-way, bs-is) = rest-of us top (w .goes-up) in
         let way-g : Above (host .first) (nodes fs) (y .owner .node .bus) (bridgesAbove host fs g) =
         subst (λ (z : Registers). Above (host .first) (nodes fs) (z .node .bus) (bridgesAbove host fs g)) (sym (under .is-own))
-        (way-of sound numbered g mg) in
+        (way-of sound g mg) in
         let other : All (λ u. ¬ (u ∈ bridgesAbove host fs g)) us =
         all-intro _ us (λ u m n.
         let (x, over, is-u) = held-above sound address (host .first) (bridgesAbove host fs g) y (under .in-items) (under .over) way-g u n in

@@ -1,24 +1,23 @@
 -- The climb on a sound sheet: up through bus masters whose windows do not hold the address, and then document 01's walk. Assumes nothing.
 use mathlib.Core.Path.{_≡_, refl, sym, ap, ap₂, subst, _∙_}
 use mathlib.Core.Logic.{_⊎_, inl, inr}
-use mathlib.Core.Bool.{Bool, true, false, cond, _&&_, true≢false}
+use mathlib.Core.Bool.{Bool, true, false, cond, true≢false}
 use mathlib.Core.List.{List, [], _∷_, map, cons≢nil, tail-eq-of-cons-eq, List·Memᴰ·head}
 use Prim.Native.Nat.{ℕ, zero, suc, _+_, _<_}
 use native.Mathlib.Omega.{arith}
-use lib.Dec.{eqb}
 use lib.ListN.{length}
 use borrow.Author.Tests.{eq-eqb, ne-eqb}
 use Rattle.lists.specs.Lists.{_∈_, All}
-use Rattle.lists.specs.ListLaws.{all-elim, all-intro, some-imp}
-use Rattle.lists.specs.KeepLaws.{keep-elim, keep-none, any-of-some, map-keep}
-use Rattle.walk.specs.Ranges.{holds, Holds, holds-iff, holds-of-inside}
+use Rattle.lists.specs.ListLaws.{all-elim, some-imp}
+use Rattle.lists.specs.KeepLaws.{keep-elim, map-keep}
+use Rattle.walk.specs.Ranges.{Holds, any-holds-iff, holds-of-inside}
 use Rattle.walk.specs.Registers.{Node, Registers, nodes, Item, items, bar, window, NumberedFrom}
 use Rattle.walk.specs.RegistersLaws.{number-unique}
-use Rattle.walk.specs.Tally.{Tally, none, one, several, join, claims, tallyOn}
-use Rattle.walk.specs.TallyLaws.{claims-iff, tally-not-several, rising-of-bridges}
+use Rattle.walk.specs.Tally.{Tally, none, one, several, tallyOn}
+use Rattle.walk.specs.TallyLaws.{tally-quiet, tally-not-several, rising-of-bridges}
 use Rattle.walk.specs.Walk.{Outcome, delivered, refused, noOwner, walkFrom, Trail}
 use Rattle.walk.specs.WalkLaws.{trail-of-delivered, walk-of-trail, refused-elim}
-use Rattle.walk.specs.Above.{bridgesTo, LeadsTo, Above}
+use Rattle.walk.specs.Above.{isAbove, bridgesTo, LeadsTo, Above}
 use Rattle.walk.specs.AboveLaws.{only-bridge-elim, root-le, leads-unique}
 use Rattle.walk.specs.WayLaws.{top-is-bus}
 use Rattle.walk.specs.Good.{Host, OneWayUp, Sound}
@@ -75,10 +74,10 @@ module _ {host : Host} {fs : List Registers} (sound : Sound host fs) (numbered :
           let r = all-elim _ (nodes fs) (sound .bridges-rise) (l .in-sheet) (l .is-bridge) in
           let above-root = root-le (sound .bridges-rise) (sound .tree) p (l .in-sheet) in
           let same : map (λ (f : Registers). f .node) (leadingTo (x .bus) fs) ≡ bridgesTo (x .bus) (nodes fs) =
-          map-keep (λ n. n .bridge && eqb (n .secondary) (x .bus)) (λ (f : Registers). f .node) fs in
+          map-keep (isAbove (x .bus)) (λ (f : Registers). f .node) fs in
           let (b, only-b, is-p) = one-of-map (λ (f : Registers). f .node) (leadingTo (x .bus) fs) p (same ∙ only) in
           let there : b ∈ leadingTo (x .bus) fs = mem-of-single only-b in
-          by-bridge b (keep-elim (λ f. f .node .bridge && eqb (f .node .secondary) (x .bus)) fs there .0) (rw is-p l)
+          by-bridge b (keep-elim (λ f. isAbove (x .bus) (f .node)) fs there .0) (rw is-p l)
           (λ e. omega (arith, r .own-below, l .leads, above-root, e)) only-b
 
   up-root : up (host .first) ≡ toHost
@@ -95,21 +94,14 @@ module _ {host : Host} {fs : List Registers} (sound : Sound host fs) (numbered :
   held-below : (b : Registers) → b ∈ fs → b .node .bridge ≡ true → (i : Item) → i ∈ items fs → i .owner .node .bus ≡ b .node .secondary
       → Holds (i .range) address → windowHolds address b ≡ true
   held-below b m is-bridge i mi at h =
-      any-of-some (λ r. holds r address) (b .windows)
-      (some-imp _ _ (λ r inside. holds-iff r address .1 (holds-of-inside inside h)) (b .windows)
+      any-holds-iff address (b .windows) .1
+      (some-imp _ _ (λ r inside. holds-of-inside inside h) (b .windows)
       (all-elim _ (items fs) (all-elim _ fs (sound .in-window-above) m is-bridge) mi at))
 
   nothing-below : (b : Registers) → b ∈ fs → (bus : ℕ) → LeadsTo bus (nodes fs) (b .node) → windowHolds address b ≡ false → tally bus ≡ none
-  unfolding tallyOn join
   nothing-below b m bus l e =
-      rw (keep-none (claims enabled address bus) (items fs)
-      (all-intro _ (items fs) (λ i mi. silent i mi (claims enabled address bus i) refl)))
-    where
-      silent : (i : Item) → i ∈ items fs → (t : Bool) → claims enabled address bus i ≡ t → t ≡ false
-      silent i mi true e₂ =
-          let c = claims-iff enabled address bus i .0 e₂ in
-          absurd (true≢false (sym (held-below b m (l .is-bridge) i mi (c .on-bus ∙ sym (l .leads)) (c .in-range)) ∙ e))
-      silent i mi false e₂ = refl
+      tally-quiet enabled fs address bus
+      (λ i mi c. true≢false (sym (held-below b m (l .is-bridge) i mi (c .on-bus ∙ sym (l .leads)) (c .in-range)) ∙ e))
 
   -- ## Up a way: the same climb from its top
 

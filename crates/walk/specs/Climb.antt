@@ -9,6 +9,7 @@ use lib.Dec.{eqb}
 use Rattle.lists.specs.Lists.{keep, any}
 use Rattle.walk.specs.Ranges.{holds}
 use Rattle.walk.specs.Registers.{Registers, Item, items, Claim, bar, window}
+use Rattle.walk.specs.Above.{isAbove}
 use Rattle.walk.specs.Tally.{Tally, none, one, several, join, claims, claimsIn, tallyOn}
 use Rattle.walk.specs.Walk.{Outcome, delivered, refused, noOwner, contested, walkFrom, Trail}
 
@@ -26,7 +27,7 @@ pub data Up : Type 0 where
 
 -- the bridges that lead to a bus, with their registers
 abbrev pub leadingTo : ℕ → List Registers → List Registers
-leadingTo bus fs = keep (λ f. f .node .bridge && eqb (f .node .secondary) bus) fs
+leadingTo bus fs = keep (λ f. isAbove bus (f .node)) fs
 
 -- does one of its BARs, or one of its windows, hold the address, enabled or not?
 abbrev pub barHolds : ℕ → Registers → Bool

@@ -11,10 +11,11 @@ use lib.Dec.{eqb}
 use borrow.Author.Tests.{eqb-true, eq-eqb}
 use Rattle.lists.specs.Lists.{_∈_, keep, any}
 use Rattle.lists.specs.ListLaws.{all-elim, all-intro, some-of-member}
-use Rattle.lists.specs.KeepLaws.{keep-elim, keep-intro, keep-all, any-of-some}
-use Rattle.walk.specs.Ranges.{Range, holds, Holds, holds-iff}
+use Rattle.lists.specs.KeepLaws.{keep-elim, keep-intro, keep-all}
+use Rattle.walk.specs.Ranges.{Range, holds, Holds, any-holds-iff}
 use Rattle.walk.specs.Registers.{Registers, nodes, Item, items, bar, window, NumberedFrom}
 use Rattle.walk.specs.RegistersLaws.{BarOf, WindowOf, item-elim, node-mem, number-ge, number-unique}
+use Rattle.walk.specs.Above.{isAbove}
 use Rattle.walk.specs.Tally.{Tally, none, one, several, join, claims, claimsIn, tallyOn}
 use Rattle.walk.specs.TallyLaws.{claims-iff}
 use Rattle.walk.specs.Walk.{Outcome, delivered, refused, noOwner, settle, walkOver, walkFrom, Trail}
@@ -40,7 +41,7 @@ pub record Through (master : ℕ → Bool) (fs : List Registers) (address bus nu
 module _ (master : ℕ → Bool) (fs : List Registers) (address root bus : ℕ) where
   pub leading-elim : {b : Registers} → b ∈ leadingTo bus fs → (b ∈ fs) × (b .node .bridge ≡ true) × (b .node .secondary ≡ bus)
   leading-elim {b} m =
-      let (inside, passes) = keep-elim (λ f. f .node .bridge && eqb (f .node .secondary) bus) fs m in
+      let (inside, passes) = keep-elim (λ f. isAbove bus (f .node)) fs m in
       let both = and-eq-true-iff (b .node .bridge) (eqb (b .node .secondary) bus) .0 passes in
       (inside, both .0, eqb-true _ _ (both .1))
 
@@ -154,7 +155,7 @@ card-trail-unique tally up bus (n ∷ ups) (m ∷ ups′) downs downs′ x y (ow
 
 module _ (address : ℕ) where
   any-of-held : (rs : List Range) {r : Range} → r ∈ rs → Holds r address → any (λ s. holds s address) rs ≡ true
-  any-of-held rs m h = any-of-some (λ s. holds s address) rs (some-of-member _ rs m (holds-iff _ _ .1 h))
+  any-of-held rs m h = any-holds-iff address rs .1 (some-of-member _ rs m h)
 
   pub record Silent (start came : ℕ) (fs : List Registers) : Type 0 where
     pub start-silent : (f : Registers) → f ∈ fs → f .node .number ≡ start → (f .node .bridge ≡ false) × (barHolds address f ≡ false)

@@ -24,6 +24,11 @@ use Rattle.walk.specs.Reach.{downward, length-downward, ends-of-trail, t
 abbrev pub bridgesAbove : Host → List Registers → Registers → List Node
 bridgesAbove host fs f = above (host .first) (nodes fs) (f .node .bus)
 
+-- the way up from a function
+pub way-of : {host : Host} {fs : List Registers} → Sound host fs → (f : Registers) → f ∈ fs
+    → Above (host .first) (nodes fs) (f .node .bus) (bridgesAbove host fs f)
+way-of sound f m = above-is (sound .bridges-rise) (sound .tree) (f .node) (node-mem m)
+
 -- what the host's request with this start address comes to
 abbrev pub outcomeOf : Host → (ℕ → Bool) → List Registers → ℕ → Outcome
 outcomeOf host enabled fs address = walkFrom (tallyOn enabled fs address) (host .first) 0
@@ -43,7 +48,7 @@ module _ {host : Host} {fs : List Registers} (sound : Sound host fs) (enabled : 
         in-sheet = o .in-sheet;
         bar-holds = o .bar-holds;
         is-enabled = o .is-enabled;
-        way-up = above-is (sound .bridges-rise) (sound .tree) (f .node) (node-mem (o .in-sheet));
+        way-up = way-of sound f (o .in-sheet);
         bridges-enabled = o .bridges-enabled;
       })
 
@@ -61,10 +66,9 @@ module _ {host : Host} {fs : List Registers} (sound : Sound host fs) (enabled : 
       let ends = ends-of-trail enabled fs address (host .first) trail number walked in
       let r = ends .reaches in
       let f = ends .owner in
-      let in-nodes = node-mem (r .in-sheet) in
-      let found = above-is (sound .bridges-rise) (sound .tree) (f .node) in-nodes in
       let same : ends .crossed ≡ bridgesAbove host fs f =
-      above-unique (sound .bridges-rise) (sound .tree) (f .node) in-nodes _ _ (r .way-up) found in (
+      above-unique (sound .bridges-rise) (sound .tree) (f .node) (node-mem (r .in-sheet)) _ _ (r .way-up)
+      (way-of sound f (r .in-sheet)) in (
         f,
         record {
           in-sheet = r .in-sheet;
@@ -166,11 +170,8 @@ sound-delivers {host} {fs} sound numbered enabled address =
       else-no-owner = otherwise-nobody sound enabled address;
       one-owner = owner-unique sound enabled address numbered;
       not-contested = never-contested sound enabled address;
-      at-most-255 = λ f m. above-at-most-255 (nodes fs) (sound .bridges-rise) _ _ _ (way-up f m);
+      at-most-255 = λ f m. above-at-most-255 (nodes fs) (sound .bridges-rise) _ _ _ (way-of sound f m);
     }
-  where
-    way-up : (f : Registers) → f ∈ fs → Above (host .first) (nodes fs) (f .node .bus) (bridgesAbove host fs f)
-    way-up f m = above-is (sound .bridges-rise) (sound .tree) (f .node) (node-mem m)
 
 pub good-delivers : {host : Host} {fs : List Registers} → Good host fs → NumberedFrom 1 fs
     → (enabled : ℕ → Bool) (address : ℕ) → Delivers host enabled fs address

@@ -8,15 +8,14 @@ use Prim.Native.Nat.{ℕ}
 use native.Mathlib.Nat.{suc-ne-zero}
 use Rattle.lists.specs.Lists.{_∈_, Some}
 use Rattle.lists.specs.ListLaws.{some-of-member, member-of-some, pairwise-members}
-use Rattle.walk.specs.Ranges.{Holds, apart-never-both}
+use Rattle.walk.specs.Ranges.{Holds, holds-of-inside, apart-never-both}
 use Rattle.walk.specs.Registers.{Node, Registers, nodes, Item, items, bar, window, barItem, windowItem}
-use Rattle.walk.specs.RegistersLaws.{BarOf, WindowOf, item-elim, item-of-bar, item-of-window, node-mem}
+use Rattle.walk.specs.RegistersLaws.{BarOf, WindowOf, item-elim, item-of-bar, item-of-window}
 use Rattle.walk.specs.Above.{LeadsTo, Above}
-use Rattle.walk.specs.AboveLaws.{above-is}
+use Rattle.walk.specs.AboveLaws.{window-above}
 use Rattle.walk.specs.WayLaws.{above-split}
 use Rattle.walk.specs.Good.{Host, ApartOnBus, Sound}
-use Rattle.walk.specs.Reach.{window-above}
-use Rattle.walk.specs.Delivery.{bridgesAbove}
+use Rattle.walk.specs.Delivery.{bridgesAbove, way-of}
 
 -- a window over the address
 pub record Over (fs : List Registers) (address : ℕ) (x : Item) : Type 0 where
@@ -69,9 +68,13 @@ module _ {host : Host} {fs : List Registers} (sound : Sound host fs) (address : 
   up-one : (i : Item) → i ∈ items fs → Holds (i .range) address → (b : Node) → LeadsTo (i .owner .node .bus) (nodes fs) b
       → (w : Item) × Over fs address w × (w .owner .node ≡ b)
   up-one i m h b l =
-      let (w, mw, hw, is-b, claim-is) = window-above sound (λ n. true) address i m h b l in (
+      let (w, mw, inside, is-b, claim-is) = window-above fs (sound .in-window-above) i m b l in (
         w,
-        record { in-items = mw; is-window = claim-is ∙ sym (ap (λ (n : Node). window (n .number) (n .secondary)) is-b); over = hw },
+        record {
+          in-items = mw;
+          is-window = claim-is ∙ sym (ap (λ (n : Node). window (n .number) (n .secondary)) is-b);
+          over = holds-of-inside inside h;
+        },
         is-b,
       )
 
@@ -113,9 +116,6 @@ module _ {host : Host} {fs : List Registers} (sound : Sound host fs) (address : 
       item-on-top top ds w (o .in-items) (o .over) (subst (λ (n : Node). Above top (nodes fs) (n .bus) ds) (sym is-d) a)
 
   module _ (g : Registers) (mg : g ∈ fs) (y : Item) (under : Under fs address g y) where
-    pub way-of : Above (host .first) (nodes fs) (g .node .bus) (bridgesAbove host fs g)
-    way-of = above-is (sound .bridges-rise) (sound .tree) (g .node) (node-mem mg)
-
     at-top : (x : Item) → Over fs address x → (top : ℕ) (ys : List Node) → x .owner .node .bus ≡ top
         → Above top (nodes fs) (g .node .bus) ys → x .owner .node ∈ ys
     at-top x o top ys at way =
@@ -132,7 +132,7 @@ module _ {host : Host} {fs : List Registers} (sound : Sound host fs) (address : 
     below : (x : Item) → Over fs address x → (u : Node) → LeadsTo (x .owner .node .bus) (nodes fs) u → u ∈ bridgesAbove host fs g
         → x .owner .node ∈ bridgesAbove host fs g
     below x o u l m =
-        let s = above-split (nodes fs) (host .first) (g .node .bus) (bridgesAbove host fs g) u way-of m in
+        let s = above-split (nodes fs) (host .first) (g .node .bus) (bridgesAbove host fs g) u (way-of sound g mg) m in
         subst (λ (l : List Node). x .owner .node ∈ l) (sym (s .is))
         (Memᴰ·append-left (u ∷ s .rest) (at-top x o (u .secondary) (s .below) (sym (l .leads)) (s .way-below)))
 
@@ -140,7 +140,7 @@ module _ {host : Host} {fs : List Registers} (sound : Sound host fs) (address : 
     holder-from : (us : List Node) (x : Item) → Over fs address x → Above (host .first) (nodes fs) (x .owner .node .bus) us
         → x .owner .node ∈ bridgesAbove host fs g
     unfolding Above
-    holder-from [] x o a = at-top x o (host .first) (bridgesAbove host fs g) a way-of
+    holder-from [] x o a = at-top x o (host .first) (bridgesAbove host fs g) a (way-of sound g mg)
     holder-from (u ∷ us) x o (l, a) =
         let (w, over, is-u) = up-one x (o .in-items) (o .over) u l in
         below x o u l
@@ -149,7 +149,7 @@ module _ {host : Host} {fs : List Registers} (sound : Sound host fs) (address : 
 
     pub holder-above : (x : Item) → Over fs address x → x .owner .node ∈ bridgesAbove host fs g
     holder-above x o =
-        holder-from _ x o (above-is (sound .bridges-rise) (sound .tree) (x .owner .node) (node-mem (window-of-over fs address x o .0)))
+        holder-from _ x o (way-of sound (x .owner) (window-of-over fs address x o .0))
 
   -- document 02, E10: what a window holds and no item of the bus below it does, nobody has
   pub nobody-in-spare-room : (b : Registers) → b ∈ fs → b .node .bridge ≡ true → Some (λ r. Holds r address) (b .windows)
@@ -160,7 +160,7 @@ module _ {host : Host} {fs : List Registers} (sound : Sound host fs) (address : 
       let (x, o, is-b) = over-of-window fs address b mb is-bridge over in
       let in-g : b .node ∈ bridgesAbove host fs g =
       subst (λ (f : Registers). f .node ∈ bridgesAbove host fs g) is-b (holder-above g mg y under x o) in
-      let s = above-split (nodes fs) (host .first) (g .node .bus) (bridgesAbove host fs g) (b .node) (way-of g mg y under) in-g in
+      let s = above-split (nodes fs) (host .first) (g .node .bus) (bridgesAbove host fs g) (b .node) (way-of sound g mg) in-g in
       let (z, mz, at, hz) = item-on-top (b .node .secondary) (s .below) y (under .in-items) (under .over)
       (subst (λ (f : Registers). Above (b .node .secondary) (nodes fs) (f .node .bus) (s .below)) (sym (under .is-own)) (s .way-below)) in
       spare z mz at hz

@@ -12,7 +12,7 @@ use borrow.Author.Tests.{eqb-true, eqb-false, eq-eqb}
 use Rattle.lists.specs.Lists.{_∈_, All, AtMostOne, oneIf, keep}
 use Rattle.lists.specs.ListLaws.{all-elim, all-intro}
 use Rattle.lists.specs.KeepLaws.{keep-few}
-use Rattle.walk.specs.Ranges.{Range, holds, holds-iff}
+use Rattle.walk.specs.Ranges.{Range, holds, Holds, holds-iff}
 use Rattle.walk.specs.Registers.{Node, nodes, Claim, window, openWindows}
 use Rattle.walk.specs.Tally.{none, one, join, claimsOf, claimsOn, hitsOf, tallyOn}
 use Rattle.walk.specs.TallyLaws.{rising-of-bridges}
@@ -24,6 +24,29 @@ use Rattle.walk.specs.Ids.{hasId, leadsToward, functionClaim, bridgeClai
 pub by-id-nodes : (devfn : ℕ) (ns : List Node) → nodes (map (byId devfn) ns) ≡ ns
 by-id-nodes devfn [] = refl
 by-id-nodes devfn (n ∷ ns) = ap (n ∷_) (by-id-nodes devfn ns)
+
+-- ## The two tests as facts
+
+pub has-id-elim : (target devfn : ℕ) (n : Node) → hasId target devfn n ≡ true → (n .bus ≡ target) × (n .devfn ≡ devfn)
+has-id-elim target devfn n e =
+    let both = and-eq-true-iff (eqb (n .bus) target) (eqb (n .devfn) devfn) .0 e in (eqb-true _ _ (both .0), eqb-true _ _ (both .1))
+
+pub leads-toward-elim : (target bus : ℕ) (n : Node) → leadsToward target bus n ≡ true
+    → (n .bus ≡ bus) × (n .bridge ≡ true) × Holds (busRange n) target
+leads-toward-elim target bus n e =
+    let (here, rest) = and-eq-true-iff (eqb (n .bus) bus) (n .bridge && holds (busRange n) target) .0 e in
+    let (is-bridge, held) = and-eq-true-iff (n .bridge) (holds (busRange n) target) .0 rest in
+    (eqb-true _ _ here, is-bridge, holds-iff (busRange n) target .0 held)
+
+-- no two functions have one ID
+pub never-both-ids : (target devfn : ℕ) (n m : Node) → (n .bus ≡ m .bus → n .devfn ≡ m .devfn → ⊥) → hasId target devfn n ≡ true
+    → hasId target devfn m ≡ true → ⊥
+never-both-ids target devfn n m differ p q =
+    let (bus-n, devfn-n) = has-id-elim target devfn n p in
+    let (bus-m, devfn-m) = has-id-elim target devfn m q in
+    differ (bus-n ∙ sym bus-m) (devfn-n ∙ sym devfn-m)
+
+-- ## Node by node
 
 -- a function on this bus whose own bus counts as its BAR, which holds the target's bus
 abbrev ownBusClaims : ℕ → ℕ → ℕ → Node → Bool
@@ -101,11 +124,9 @@ module _ (ns : List Node) (rise : BridgesRise ns) (target devfn bus : ℕ) where
 
       no-range : leadsToward target bus n ≡ true → ⊥
       no-range h =
-          let (here, rest) = and-eq-true-iff _ _ .0 h in
-          let (is-bridge, held) = and-eq-true-iff _ _ .0 rest in
-          let at : n .bus ≡ bus = eqb-true _ _ here in
+          let (at, is-bridge, held) = leads-toward-elim target bus n h in
           let r = all-elim _ ns rise m is-bridge in
-          omega (arith, r .own-below, holds-iff (busRange n) target .0 held .from-start)
+          omega (arith, r .own-below, held .from-start)
 
   -- Off it no function's own bus is the target's.
   claims-off-target : (bus ≡ target → ⊥) → (n : Node) → claimsOf always target bus (byId devfn n)
@@ -127,12 +148,6 @@ module _ (ns : List Node) (rise : BridgesRise ns) (target devfn bus : ℕ) where
   unfolding tallyById tallyOn join
   tally-by-id-agree distinct = go (eqb bus target) refl
     where
-      clash : (n m : Node) → (n .bus ≡ m .bus → n .devfn ≡ m .devfn → ⊥) → hasId target devfn n ≡ true → hasId target devfn m ≡ true → ⊥
-      clash n m differ p q =
-          let (bus-n, devfn-n) = and-eq-true-iff _ _ .0 p in
-          let (bus-m, devfn-m) = and-eq-true-iff _ _ .0 q in
-          differ (eqb-true _ _ bus-n ∙ sym (eqb-true _ _ bus-m)) (eqb-true _ _ devfn-n ∙ sym (eqb-true _ _ devfn-m))
-
       first-is-only : (found : List Node) → AtMostOne found → firstOf found ≡ join none (map functionClaim found)
       first-is-only found (inl e) = rw e
       first-is-only found (inr (n, e)) = rw e
@@ -142,7 +157,7 @@ module _ (ns : List Node) (rise : BridgesRise ns) (target devfn bus : ℕ) where
           ≡ join none (claimsOn always (map (byId devfn) ns) target bus)
       go true e =
           let each = all-intro _ ns (claims-on-target (eqb-true _ _ e)) in
-          first-is-only _ (keep-few (hasId target devfn) clash ns distinct)
+          first-is-only _ (keep-few (hasId target devfn) (never-both-ids target devfn) ns distinct)
           ∙ ap (join none) (sym (claims-by-node devfn target bus (hasId target devfn) functionClaim ns each))
       go false e =
           let each = all-intro _ ns (λ n _. claims-off-target (eqb-false _ _ e) n) in

@@ -15,11 +15,11 @@ use Rattle.lists.specs.KeepLaws.{any-of-some, some-of-any}
 use Rattle.walk.specs.Registers.{Node, Registers, nodes, NumberedFrom}
 use Rattle.walk.specs.RegistersLaws.{node-mem, nodes-elim, number-unique}
 use Rattle.walk.specs.Above.{Above}
-use Rattle.walk.specs.AboveLaws.{above-is, above-of-way-up}
+use Rattle.walk.specs.AboveLaws.{above-of-way-up}
 use Rattle.walk.specs.WayLaws.{above-append, above-split, above-between, way-leads}
 use Rattle.walk.specs.Good.{Host, Sound}
 use Rattle.walk.specs.Reach.{numbersOf}
-use Rattle.walk.specs.Delivery.{bridgesAbove}
+use Rattle.walk.specs.Delivery.{bridgesAbove, way-of}
 use Rattle.walk.specs.Cards.{without}
 
 -- ## Among numbers
@@ -72,9 +72,6 @@ module _ {host : Host} {fs : List Registers} (sound : Sound host fs) (numbered :
       go true e = absurd (h e)
       go false e = refl
 
-  pub way-of : (f : Registers) → f ∈ fs → Above (host .first) (nodes fs) (f .node .bus) (bridgesAbove host fs f)
-  way-of f m = above-is (sound .bridges-rise) (sound .tree) (f .node) (node-mem m)
-
   -- ## Where the two ways meet
 
   -- up from a bus across `us`, none of them above g, to a bus from which g is reached across `down`
@@ -97,7 +94,7 @@ module _ {host : Host} {fs : List Registers} (sound : Sound host fs) (numbered :
         down = bridgesAbove host fs g;
         top = host .first;
         up-way = a;
-        down-way = way-of g mg;
+        down-way = way-of sound g mg;
         rest-way = refl;
         us-other = tt;
       }
@@ -106,8 +103,8 @@ module _ {host : Host} {fs : List Registers} (sound : Sound host fs) (numbered :
     where
       go : (t : Bool) → any (eqb (u .number)) (numbersOf (bridgesAbove host fs g)) ≡ t → Meeting (u .bus) g → Meeting bus g
       go true e later =
-          let there = in-way (host .first) (g .node .bus) (bridgesAbove host fs g) (way-of g mg) u (l .in-sheet) e in
-          let s = above-split (nodes fs) (host .first) (g .node .bus) (bridgesAbove host fs g) u (way-of g mg) there in
+          let there = in-way (host .first) (g .node .bus) (bridgesAbove host fs g) (way-of sound g mg) u (l .in-sheet) e in
+          let s = above-split (nodes fs) (host .first) (g .node .bus) (bridgesAbove host fs g) u (way-of sound g mg) there in
           record {
             us = [];
             rest = u ∷ ups;
@@ -134,7 +131,7 @@ module _ {host : Host} {fs : List Registers} (sound : Sound host fs) (numbered :
           }
 
   pub meeting : (s g : Registers) → s ∈ fs → g ∈ fs → Meeting (s .node .bus) g
-  meeting s g ms mg = meeting-from g mg (bridgesAbove host fs s) (s .node .bus) (way-of s ms)
+  meeting s g ms mg = meeting-from g mg (bridgesAbove host fs s) (s .node .bus) (way-of sound s ms)
 
   -- ## What the lists without each other come to
 
@@ -175,7 +172,7 @@ module _ {host : Host} {fs : List Registers} (sound : Sound host fs) (numbered :
           off : (u : Node) → u ∈ us → any (eqb (u .number)) (numbersOf (bridgesAbove host fs y)) ≡ false
           off u n =
               not-in-way (bridgesAbove host fs y) u (λ e. apart u n
-              (in-way (host .first) (y .node .bus) (bridgesAbove host fs y) (way-of y my) u
+              (in-way (host .first) (y .node .bus) (bridgesAbove host fs y) (way-of sound y my) u
               (way-leads (nodes fs) (m .top) (x .node .bus) us u way n .0) e))
 
     pub up-is : without (numbersOf (bridgesAbove host fs g)) (numbersOf (bridgesAbove host fs s)) ≡ numbersOf (m .us)

@@ -3,10 +3,14 @@
 use mathlib.Core.Path.{_≡_, ap, _∙_}
 use mathlib.Core.Logic.{_⊎_, inl, inr, _↔_}
 use mathlib.Core.Bool.{Bool, true, _&&_, and-eq-true-iff}
+use mathlib.Core.List.{List}
 use Prim.Native.Nat.{ℕ, suc, _≤_, _<_}
 use native.Mathlib.Omega.{arith}
 use lib.Dec.{leb, ltb, leb·suc-suc}
 use borrow.Author.Tests.{leb-true, le-leb, ltb-true, lt-ltb}
+use Rattle.lists.specs.Lists.{Some, any}
+use Rattle.lists.specs.ListLaws.{some-imp}
+use Rattle.lists.specs.KeepLaws.{any-of-some, some-of-any}
 
 -- The host's pools: of bus numbers, of low and high memory and of I/O. A window carries the pool that it hands on a part of.
 pub data Pool : Type 0 where
@@ -42,6 +46,15 @@ holds-iff r a = (to, from)
 
     from : Holds r a → holds r a ≡ true
     from h = and-eq-true-iff _ _ .1 (le-leb _ _ (h .from-start), lt-ltb _ _ (h .before-stop))
+
+pub any-holds-iff : (address : ℕ) (rs : List Range) → (any (λ r. holds r address) rs ≡ true) ↔ Some (λ r. Holds r address) rs
+any-holds-iff address rs = (to, from)
+  where
+    to : any (λ r. holds r address) rs ≡ true → Some (λ r. Holds r address) rs
+    to e = some-imp _ _ (λ r h. holds-iff r address .0 h) rs (some-of-any (λ r. holds r address) rs e)
+
+    from : Some (λ r. Holds r address) rs → any (λ r. holds r address) rs ≡ true
+    from h = any-of-some (λ r. holds r address) rs (some-imp _ _ (λ r k. holds-iff r address .1 k) rs h)
 
 -- by the last address, as registers give it: no sum past 2^64
 pub holds-last : (p : Pool) (first last a : ℕ) → holds (record { pool = p; start = first; stop = suc last }) a ≡ (leb first a && leb a last)

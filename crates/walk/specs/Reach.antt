@@ -1,20 +1,20 @@
 -- A function is reached from a bus where one of its BARs holds the address and it and each bridge between are enabled. On a sound sheet the
 -- walk from that bus comes to the functions that are reached, across just those bridges, and to no other. Assumes nothing.
-use mathlib.Core.Path.{_≡_, refl, sym, ap, ap₂, _∙_}
+use mathlib.Core.Path.{_≡_, refl, ap, ap₂, _∙_}
 use mathlib.Core.Bool.{Bool, true}
 use mathlib.Core.List.{List, [], _∷_, _++_, map, map-append, reverse, reverseAux, reverse-append}
 use Prim.Native.Nat.{ℕ}
 use lib.ListN.{length, length-reverse, length-map}
 use Rattle.lists.specs.Lists.{_∈_, All, Some}
-use Rattle.lists.specs.ListLaws.{all-elim, all-append, member-of-some}
+use Rattle.lists.specs.ListLaws.{all-append, member-of-some}
 use Rattle.walk.specs.Ranges.{Holds, holds-of-inside}
-use Rattle.walk.specs.Registers.{Node, Registers, nodes, Item, items, window, barItem, windowItem}
-use Rattle.walk.specs.RegistersLaws.{item-of-bar, item-of-window, node-mem, nodes-elim}
+use Rattle.walk.specs.Registers.{Node, Registers, nodes, Item, items, barItem}
+use Rattle.walk.specs.RegistersLaws.{item-of-bar, node-mem}
 use Rattle.walk.specs.Tally.{one, tallyOn}
 use Rattle.walk.specs.TallyLaws.{Claims, BarClaim, WindowClaim, bar-of-tally, window-of-tally, tally-of-claim}
 use Rattle.walk.specs.Walk.{Trail}
 use Rattle.walk.specs.Above.{LeadsTo, Above}
-use Rattle.walk.specs.AboveLaws.{above-snoc}
+use Rattle.walk.specs.AboveLaws.{above-snoc, window-above}
 use Rattle.walk.specs.Good.{Host, Sound}
 
 -- The function is reached from the bus `top` across these bridges, the nearest to the function first.
@@ -94,22 +94,6 @@ module _ (enabled : ℕ → Bool) (fs : List Registers) (address : ℕ) where
       ends-past-window bus n b ns number (window-of-tally enabled fs address bus n b e) (ends-of-trail b ns number t)
 
 module _ {host : Host} {fs : List Registers} (sound : Sound host fs) (enabled : ℕ → Bool) (address : ℕ) where
-  -- A window of the bridge above holds what an item below it holds.
-  pub window-above : (i : Item) → i ∈ items fs → Holds (i .range) address → (b : Node) → LeadsTo (i .owner .node .bus) (nodes fs) b
-      → (w : Item) × (w ∈ items fs) × Holds (w .range) address × (w .owner .node ≡ b) × (w .claim ≡ window (b .number) (b .secondary))
-  window-above i m h b l =
-      let (g, in-fs, is-b) = nodes-elim fs (l .in-sheet) in
-      let bridge : g .node .bridge ≡ true = ap (λ (n : Node). n .bridge) is-b ∙ l .is-bridge in
-      let below : i .owner .node .bus ≡ g .node .secondary = sym (ap (λ (n : Node). n .secondary) is-b ∙ l .leads) in
-      let (r, in-windows, inside) = member-of-some _ (g .windows)
-      (all-elim _ (items fs) (all-elim _ fs (sound .in-window-above) in-fs bridge) m below) in (
-        windowItem g r,
-        item-of-window fs in-fs bridge in-windows,
-        holds-of-inside inside h,
-        is-b,
-        ap (λ (n : Node). window (n .number) (n .secondary)) is-b,
-      )
-
   -- From above an item that holds the address the trail comes down to its bus.
   trail-down : (i : Item) → i ∈ items fs → Holds (i .range) address → (top : ℕ) (bs : List Node)
       → Above top (nodes fs) (i .owner .node .bus) bs
@@ -119,7 +103,8 @@ module _ {host : Host} {fs : List Registers} (sound : Sound host fs) (enabled : 
   unfolding Above Trail
   trail-down i m h top [] a on ns number t = rw a at t
   trail-down i m h top (b ∷ bs) (l, a) on ns number t =
-      let (w, in-items, holds-it, is-b, claim-is) = window-above i m h b l in
+      let (w, in-items, inside, is-b, claim-is) = window-above fs (sound .in-window-above) i m b l in
+      let holds-it = holds-of-inside inside h in
       let same-bus : w .owner .node .bus ≡ b .bus = ap (λ (n : Node). n .bus) is-b in
       let claims-it : Claims enabled address (w .owner .node .bus) w =
       record { on-bus = refl; is-enabled = ap (λ (n : Node). enabled (n .number)) is-b ∙ on .0; in-range = holds-it } in

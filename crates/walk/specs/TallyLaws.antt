@@ -9,8 +9,8 @@ use native.Mathlib.Omega.{arith}
 use lib.Dec.{eqb}
 use borrow.Author.Tests.{eqb-true, eq-eqb}
 use Rattle.lists.specs.Lists.{_∈_, Some, AtMostOne, keep}
-use Rattle.lists.specs.ListLaws.{all-elim, some-of-member}
-use Rattle.lists.specs.KeepLaws.{keep-elim, keep-few, keep-only, keep-agree}
+use Rattle.lists.specs.ListLaws.{all-elim, all-intro, some-of-member}
+use Rattle.lists.specs.KeepLaws.{keep-elim, keep-none, keep-few, keep-only, keep-agree}
 use Rattle.walk.specs.Ranges.{holds, Holds, holds-iff, apart-never-both}
 use Rattle.walk.specs.Registers.{Registers, nodes, Item, Claim, bar, window, items}
 use Rattle.walk.specs.RegistersLaws.{BarOf, WindowOf, item-elim, node-mem}
@@ -144,6 +144,18 @@ module _ (enabled : ℕ → Bool) (fs : List Registers) (address bus : ℕ) wher
     pub tally-not-several : tallyOn enabled fs address bus ≡ several → ⊥
     unfolding tallyOn
     tally-not-several e = few-not-several _ (keep-few (claims enabled address bus) never-both (items fs) (disjoint .apart-on-bus)) e
+
+-- where nothing claims
+pub tally-quiet : (enabled : ℕ → Bool) (fs : List Registers) (address bus : ℕ)
+    → ((i : Item) → i ∈ items fs → ¬ Claims enabled address bus i) → tallyOn enabled fs address bus ≡ none
+unfolding tallyOn join
+tally-quiet enabled fs address bus quiet =
+    rw (keep-none (claims enabled address bus) (items fs)
+    (all-intro _ (items fs) (λ i m. off i m (claims enabled address bus i) refl)))
+  where
+    off : (i : Item) → i ∈ items fs → (t : Bool) → claims enabled address bus i ≡ t → t ≡ false
+    off i m false e = refl
+    off i m true e = absurd (quiet i m (claims-iff enabled address bus i .0 e))
 
 pub tally-nil : (enabled : ℕ → Bool) (address bus : ℕ) → tallyOn enabled [] address bus ≡ none
 unfolding tallyOn join items flatMap keep

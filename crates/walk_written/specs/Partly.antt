@@ -1,7 +1,7 @@
 -- E14: bus registers written one after another, and command words at the end. Assumes nothing.
 use mathlib.Core.Path.{_≡_, refl, sym, ap, ap₂, subst, _∙_}
 use mathlib.Core.Logic.{_⊎_, inl, inr}
-use mathlib.Core.Bool.{Bool, true, false, cond, _&&_, true≢false, and-eq-true-iff}
+use mathlib.Core.Bool.{Bool, true, false, cond, true≢false, false≢true, and-eq-true-iff}
 use mathlib.Core.List.{List, [], _∷_, map, List·Memᴰ·head, Memᴰ·map}
 use Prim.Native.Nat.{ℕ, _<_}
 use native.Mathlib.Nat.{suc-ne-zero}
@@ -11,11 +11,12 @@ use lib.ListN.{length}
 use borrow.Author.Tests.{eqb-true, eqb-false, eq-eqb}
 use Rattle.lists.specs.Lists.{_∈_, All, keep}
 use Rattle.lists.specs.ListLaws.{all-elim, all-intro, all-imp}
-use Rattle.lists.specs.KeepLaws.{keep-none, keep-only}
-use Rattle.walk.specs.Ranges.{holds, Holds, holds-iff}
-use Rattle.walk.specs.Registers.{Node, Registers, nodes, Item, items, bar, barItem, windowItem}
+use Rattle.lists.specs.KeepLaws.{keep-only}
+use Rattle.walk.specs.Ranges.{Holds}
+use Rattle.walk.specs.Registers.{Node, Registers, nodes, bar, barItem, windowItem}
 use Rattle.walk.specs.RegistersLaws.{item-of-window, item-of-bar}
-use Rattle.walk.specs.Tally.{none, one, join, claims, tallyOn}
+use Rattle.walk.specs.Tally.{none, one, join, tallyOn}
+use Rattle.walk.specs.TallyLaws.{tally-quiet}
 use Rattle.walk.specs.Walk.{Outcome, delivered, refused, noOwner, walkFrom}
 use Rattle.walk.specs.WalkLaws.{walk-agree, walk-bar, walk-none}
 use Rattle.walk.specs.Above.{above}
@@ -24,7 +25,7 @@ use Rattle.walk.specs.Good.{Host, BridgesRise, Tree, busRange, Sound}
 use Rattle.walk.specs.Delivery.{Owns, outcomeOf, bridgesAbove, delivered-of-owner, owner-of-delivered, otherwise-nobody}
 use Rattle.walk.specs.Ids.{hasId, leadsToward, bridgeClaim, firstOf, tallyById, ownBus, byId, DistinctIds}
 use Rattle.walk.specs.Ids.{HasId}
-use Rattle.walk.specs.IdsLaws.{by-id-nodes}
+use Rattle.walk.specs.IdsLaws.{leads-toward-elim, never-both-ids, by-id-nodes}
 use Rattle.walk.specs.IdsDelivery.{by-id-sound, delivered-by-id}
 use Rattle.walk.specs.Holders.{Over, Under, holder-above}
 
@@ -54,24 +55,12 @@ module _ {host : Host} {fs : List Registers} (sound : Sound host fs) (enabled fi
           never : {x n k : ℕ} → refused x ≡ delivered n k → ⊥
           never q = suc-ne-zero 0 (cc)
 
-tally-quiet : (enabled : ℕ → Bool) (fs : List Registers) (address bus : ℕ) → ((i : Item) → claims enabled address bus i ≡ false)
-    → tallyOn enabled fs address bus ≡ none
-unfolding tallyOn join
-tally-quiet enabled fs address bus h = rw (keep-none (claims enabled address bus) (items fs) (all-intro _ (items fs) (λ i m. h i)))
-
 -- Nothing enabled: nobody, whatever else the registers hold
 pub nothing-enabled : (fs : List Registers) (address bus : ℕ) → walkFrom (tallyOn (λ n. false) fs address) bus 0 ≡ refused noOwner
 nothing-enabled fs address bus = walk-none _ bus 0 (quiet bus)
   where
-    silent : (b : ℕ) (i : Item) → claims (λ n. false) address b i ≡ false
-    silent b i = go (eqb (i .owner .node .bus) b)
-      where
-        go : (t : Bool) → (t && false && holds (i .range) address) ≡ false
-        go true = refl
-        go false = refl
-
     quiet : (b : ℕ) → tallyOn (λ n. false) fs address b ≡ none
-    quiet b = tally-quiet (λ n. false) fs address b (silent b)
+    quiet b = tally-quiet (λ n. false) fs address b (λ i m c. false≢true (c .is-enabled))
 
 -- ## Bus registers: some written, some still zero
 
@@ -80,16 +69,6 @@ blank n = record { number = n .number; bus = n .bus; devfn = n .devfn; bridge = 
 
 abbrev pub masked : (ℕ → Bool) → Node → Node
 masked written n = cond (written (n .number)) n (blank n)
-
-id-elim : (target devfn : ℕ) (n : Node) → hasId target devfn n ≡ true → (n .bus ≡ target) × (n .devfn ≡ devfn)
-id-elim target devfn n e =
-    let both = and-eq-true-iff (eqb (n .bus) target) (eqb (n .devfn) devfn) .0 e in (eqb-true _ _ (both .0), eqb-true _ _ (both .1))
-
-leads-elim : (target bus : ℕ) (n : Node) → leadsToward target bus n ≡ true → (n .bridge ≡ true) × Holds (busRange n) target
-leads-elim target bus n e =
-    let both = and-eq-true-iff (eqb (n .bus) bus) (n .bridge && holds (busRange n) target) .0 e in
-    let more = and-eq-true-iff (n .bridge) (holds (busRange n) target) .0 (both .1) in
-    (more .0, holds-iff (busRange n) target .0 (more .1))
 
 module _ (written : ℕ → Bool) (target devfn : ℕ) where
   -- by ID nothing changes for the functions themselves
@@ -126,8 +105,7 @@ module _ (written : ℕ → Bool) (target devfn : ℕ) where
         where
           go : (t : Bool) → leadsToward target bus (blank n) ≡ t → t ≡ false
           go true e =
-              let held = leads-elim target bus (blank n) e .1 in
-              absurd (omega (arith, held .before-stop, positive))
+              absurd (omega (arith, leads-toward-elim target bus (blank n) e .2 .before-stop, positive))
           go false e = refl
 
       go : (w : Bool) → written (n .number) ≡ w → (l : Bool) → leadsToward target bus n ≡ l
@@ -185,8 +163,8 @@ module _ {host : Host} {ns : List Node} (rise : BridgesRise ns) (tree : Tree hos
       leads : (bus : ℕ) → All (λ n. leadsToward (x .bus) bus n ≡ true → written (n .number) ≡ true) ns
       leads bus =
           all-intro _ ns (λ n mn e.
-          let both = leads-elim (x .bus) bus n e in
-          all-elim _ (above (host .first) ns (x .bus)) on (toward-is-above x n mx mn (both .0) (both .1)))
+          let (at, is-bridge, held) = leads-toward-elim (x .bus) bus n e in
+          all-elim _ (above (host .first) ns (x .bus)) on (toward-is-above x n mx mn is-bridge held))
 
       agree : 0 < x .bus → (bus : ℕ) → tallyById (map (masked written) ns) (x .bus) (x .devfn) bus ≡ tallyById ns (x .bus) (x .devfn) bus
       agree positive bus = by-test (eqb bus (x .bus))
@@ -209,8 +187,7 @@ module _ {host : Host} {ns : List Node} (rise : BridgesRise ns) (tree : Tree hos
       go true e =
           let at : x .bus ≡ host .first = eqb-true (x .bus) (host .first) e in
           let only : keep (hasId (x .bus) (x .devfn)) ns ≡ x ∷ [] =
-          keep-only (hasId (x .bus) (x .devfn)) (λ a b differ p q. let c = id-elim (x .bus) (x .devfn) a p in let d = id-elim (x .bus)
-          (x .devfn) b q in differ (c .0 ∙ sym (d .0)) (c .1 ∙ sym (d .1))) ns distinct mx
+          keep-only (hasId (x .bus) (x .devfn)) (never-both-ids (x .bus) (x .devfn)) ns distinct mx
           (and-eq-true-iff (eqb (x .bus) (x .bus)) (eqb (x .devfn) (x .devfn)) .1
           (eq-eqb (x .bus) (x .bus) refl, eq-eqb (x .devfn) (x .devfn) refl)) in
           let found : tallyById (map (masked written) ns) (x .bus) (x .devfn) (host .first) ≡ one (bar (x .number)) =
