@@ -4,7 +4,7 @@ ghost use mathlib.Core.Path.{_≡_};
 ghost use mathlib.Core.Bool.{true};
 ghost use Prim.Native.Nat.{_+_, _≤_};
 ghost use lib.ListN.{length, drop, getD};
-ghost use Rattle.tlp_kinds.specs.Kinds.{isMemory};
+ghost use Rattle.tlp_kinds.specs.Kinds.{isMemory, isIo, isConfig as isConfigRequest};
 ghost use Rattle.ledger.specs.Words.{keyOf, keyIn, leftIn, isRead, isConfig, isLocked, placeOf, inUse, usedBy, empty};
 ghost use Rattle.ledger.specs.WordsLaws.{isAmongFour};
 ghost use Rattle.ledger.specs.Ledger.{classOf, hasData, inLockedForm, differ, disagrees, onSuccess, settled, onCompletion, onRequest};
@@ -238,7 +238,7 @@ fn differ(a: bool, b: bool) -> bool
 
 // ---- what a header asks for
 
-// By the bytes of a memory request that nothing refuses, or by a packet. What tells it calls nothing that is lent the header.
+// By the bytes of a request that nothing refuses, or by a packet. What tells it calls nothing that is lent the header.
 fn asked_of(header: &[u8]) -> Asked
     ensures { λ r. ⌜ Asks r (now (header .entry)) ⌝ }
 {
@@ -255,8 +255,15 @@ fn asked_by_bytes(header: &[u8]) -> Asked
     if header.len() < 12 {
         return untold();
     }
-    if tlp_kinds::is_memory(header[0]) {
+    let b = header[0];
+    if tlp_kinds::is_memory(b) {
         return asked_by_memory(header);
+    }
+    if tlp_kinds::is_io(b) {
+        return asked_by_io(header);
+    }
+    if tlp_kinds::is_config(b) {
+        return asked_by_config(header);
     }
     untold()
 }
@@ -287,6 +294,39 @@ fn asked_by_memory(header: &[u8]) -> Asked
         return untold();
     }
     asked_by_kind(Kind::Memory(k), h.requester, h.tag, h.length)
+}
+
+fn asked_by_io(header: &[u8]) -> Asked
+    requires { ⌜ (12 ≤ length (now header)) × (isIo (getD (now header) 0 0) ≡ true) ⌝ }
+    ensures { λ r. ⌜ Told r (now (header .entry)) ⌝ }
+{
+    let k = tlp_kinds::io_kind(header[0]);
+    let h = tlp_fields::request_head_at(3, header);
+    let e = tlp_fields::enables_at(header);
+    let a = tlp_fields::address_at(3, header);
+    if tlp_fields::unnamed(false, header) {
+        return untold();
+    }
+    if packet::io_rules(h, e, a) != 0 {
+        return untold();
+    }
+    asked_by_kind(Kind::Io(k), h.requester, h.tag, h.length)
+}
+
+fn asked_by_config(header: &[u8]) -> Asked
+    requires { ⌜ (12 ≤ length (now header)) × (isConfigRequest (getD (now header) 0 0) ≡ true) ⌝ }
+    ensures { λ r. ⌜ Told r (now (header .entry)) ⌝ }
+{
+    let k = tlp_kinds::config_kind(header[0]);
+    let h = tlp_fields::request_head_at(3, header);
+    let e = tlp_fields::enables_at(header);
+    if tlp_fields::unnamed(false, header) | tlp_fields::unnamed_target(header) {
+        return untold();
+    }
+    if packet::config_rules(h, e) != 0 {
+        return untold();
+    }
+    asked_by_kind(Kind::Config(k), h.requester, h.tag, h.length)
 }
 
 fn asked_by_packet(header: &[u8]) -> Asked
