@@ -53,7 +53,7 @@ module _ {host : Host} {fs : List Registers} (good : Good host fs) where
       step (inr (b, only)) up =
           let l = only-bridge-elim (i .owner .node .bus) (nodes fs) only in
           let r = all-elim _ (nodes fs) (good .bridges-rise) (l .in-sheet) (l .is-bridge) in
-          let (w, in-items, inside, is-b, claim-is) = window-above fs (good .nested .in-window-above) i m b l in
+          let (w, in-items, inside, is-b, claim-is) = window-above Inside fs (good .nested .in-window-above) i m b l in
           widen i (w .range) inside (up w in-items (omega (arith, h, r .own-below, l .leads, ap (λ (x : Node). x .bus) is-b)))
 
   pub in-host-pool : (i : Item) → i ∈ items fs → Some (Inside (i .range)) (host .pools)

@@ -12,7 +12,7 @@ use borrow.Author.Tests.{eqb-true, eqb-false, eq-eqb}
 use Rattle.lists.specs.Lists.{_∈_}
 use Rattle.lists.specs.ListLaws.{all-elim, member-of-some}
 use Rattle.lists.specs.KeepLaws.{keep-elim, keep-intro}
-use Rattle.walk.specs.Ranges.{Inside}
+use Rattle.walk.specs.Ranges.{Range}
 use Rattle.walk.specs.Registers.{Node, Registers, nodes, Item, items, window, windowItem}
 use Rattle.walk.specs.RegistersLaws.{item-of-window, nodes-elim}
 use Rattle.walk.specs.Above.{isAbove, bridgesTo, LeadsTo, Above, upstream, aboveOver, above}
@@ -128,10 +128,10 @@ module _ {host : Host} {ns : List Node} (rise : BridgesRise ns) (tree : Tree hos
   above-bridge x m b l = above-of-way-up x m (b ∷ above (host .first) ns (b .bus)) (l, above-is b (l .in-sheet))
 
 -- what is on the bus below a bridge lies in one of the bridge's windows
-pub window-above : (fs : List Registers) → InWindowAbove fs → (i : Item) → i ∈ items fs → (b : Node)
+pub window-above : (Lies : Range → Range → Type 0) (fs : List Registers) → InWindowAbove Lies fs → (i : Item) → i ∈ items fs → (b : Node)
     → LeadsTo (i .owner .node .bus) (nodes fs) b
-    → (w : Item) × (w ∈ items fs) × Inside (i .range) (w .range) × (w .owner .node ≡ b) × (w .claim ≡ window (b .number) (b .secondary))
-window-above fs in-windows i m b l =
+    → (w : Item) × (w ∈ items fs) × Lies (i .range) (w .range) × (w .owner .node ≡ b) × (w .claim ≡ window (b .number) (b .secondary))
+window-above Lies fs in-windows i m b l =
     let (g, in-fs, is-b) = nodes-elim fs (l .in-sheet) in
     let bridge : g .node .bridge ≡ true = ap (λ (n : Node). n .bridge) is-b ∙ l .is-bridge in
     let below : i .owner .node .bus ≡ g .node .secondary = sym (ap (λ (n : Node). n .secondary) is-b ∙ l .leads) in

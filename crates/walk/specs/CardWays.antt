@@ -10,7 +10,7 @@ use borrow.Author.Tests.{eq-eqb, ne-eqb}
 use Rattle.lists.specs.Lists.{_∈_, All}
 use Rattle.lists.specs.ListLaws.{all-elim, some-imp}
 use Rattle.lists.specs.KeepLaws.{keep-elim, map-keep}
-use Rattle.walk.specs.Ranges.{Holds, any-holds-iff, holds-of-inside}
+use Rattle.walk.specs.Ranges.{Holds, any-holds-iff, holds-of-within}
 use Rattle.walk.specs.Registers.{Node, Registers, nodes, Item, items, bar, window, NumberedFrom}
 use Rattle.walk.specs.RegistersLaws.{number-unique}
 use Rattle.walk.specs.Tally.{Tally, none, one, several, tallyOn}
@@ -95,7 +95,7 @@ module _ {host : Host} {fs : List Registers} (sound : Sound host fs) (numbered :
       → Holds (i .range) address → windowHolds address b ≡ true
   held-below b m is-bridge i mi at h =
       any-holds-iff address (b .windows) .1
-      (some-imp _ _ (λ r inside. holds-of-inside inside h) (b .windows)
+      (some-imp _ _ (λ r inside. holds-of-within inside h) (b .windows)
       (all-elim _ (items fs) (all-elim _ fs (sound .in-window-above) m is-bridge) mi at))
 
   nothing-below : (b : Registers) → b ∈ fs → (bus : ℕ) → LeadsTo bus (nodes fs) (b .node) → windowHolds address b ≡ false → tally bus ≡ none

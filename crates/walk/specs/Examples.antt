@@ -214,7 +214,7 @@ p10-nested =
       in-window-above = (λ _. below, (λ e. absurd (false≢true e), tt));
     }
   where
-    below : All (InWindowOf (record { node = bridgeAt 1 0 0 1 1; bars = []; windows = p10-windows })) (items p10-memory)
+    below : All (InWindowOf Inside (record { node = bridgeAt 1 0 0 1 1; bars = []; windows = p10-windows })) (items p10-memory)
     below = (
       λ other. absurd (omega arith),
       (

@@ -7,7 +7,8 @@ use mathlib.Core.Bool.{true}
 use mathlib.Core.List.{List, [], _∷_}
 use Prim.Native.Nat.{ℕ, suc, _≤_, _<_}
 use Rattle.lists.specs.Lists.{All, Some, Pairwise}
-use Rattle.walk.specs.Ranges.{Range, buses, Inside, Apart}
+use Rattle.lists.specs.ListLaws.{all-imp, some-imp}
+use Rattle.walk.specs.Ranges.{Range, buses, Inside, Within, Apart, within-of-inside}
 use Rattle.walk.specs.Registers.{Node, Registers, nodes, Item, items}
 use Rattle.walk.specs.Above.{bridgesTo}
 
@@ -51,17 +52,20 @@ pub record Tree (host : Host) (ns : List Node) : Type 0 where
   pub in-parent : All (λ b. b .bridge ≡ true → All (λ n. n .bridge ≡ true → n .bus ≡ b .secondary → Inside (busRange n) (busRange b)) ns) ns
   pub siblings-apart : Pairwise SiblingsApart ns
 
--- What is on the bus below a bridge lies in the bridge's window of its pool.
-abbrev pub InWindowOf : Registers → Item → Type 0
-InWindowOf b i = i .owner .node .bus ≡ b .node .secondary → Some (Inside (i .range)) (b .windows)
+-- What is on the bus below a bridge lies in one of the bridge's windows: of its own pool where Lies is Inside, of any where it is Within.
+abbrev pub InWindowOf : (Range → Range → Type 0) → Registers → Item → Type 0
+InWindowOf Lies b i = i .owner .node .bus ≡ b .node .secondary → Some (Lies (i .range)) (b .windows)
 
-abbrev pub InWindowAbove : List Registers → Type 0
-InWindowAbove fs = All (λ b. b .node .bridge ≡ true → All (InWindowOf b) (items fs)) fs
+abbrev pub InWindowAbove : (Range → Range → Type 0) → List Registers → Type 0
+InWindowAbove Lies fs = All (λ b. b .node .bridge ≡ true → All (InWindowOf Lies b) (items fs)) fs
+
+pub record NestedBy (Lies : Range → Range → Type 0) (host : Host) (fs : List Registers) : Type 0 where
+  pub in-pool : All (λ i. i .owner .node .bus ≡ host .first → Some (Lies (i .range)) (host .pools)) (items fs)
+  pub in-window-above : InWindowAbove Lies fs
 
 -- Refusal 51.
-pub record Nested (host : Host) (fs : List Registers) : Type 0 where
-  pub in-pool : All (λ i. i .owner .node .bus ≡ host .first → Some (Inside (i .range)) (host .pools)) (items fs)
-  pub in-window-above : InWindowAbove fs
+abbrev pub Nested : Host → List Registers → Type 0
+Nested = NestedBy Inside
 
 abbrev pub ApartOnBus : Item → Item → Type 0
 ApartOnBus i j = i .owner .node .bus ≡ j .owner .node .bus → Apart (i .range) (j .range)
@@ -76,19 +80,26 @@ pub record Good (host : Host) (fs : List Registers) : Type 0 where
   pub nested : Nested host fs
   pub disjoint : Disjoint fs
 
--- What delivery needs of it: all but the pools, so that it also covers the walk by ID, whose ranges are of bus numbers.
+-- What delivery needs of it: all but the pools. So it also covers the walk by ID, whose ranges are of bus numbers, and sheets whose
+-- memory BARs lie in a memory window of another kind.
 pub record Sound (host : Host) (fs : List Registers) : Type 0 where
   pub bridges-rise : BridgesRise (nodes fs)
   pub tree : Tree host (nodes fs)
-  pub in-window-above : InWindowAbove fs
+  pub in-window-above : InWindowAbove Within fs
   pub disjoint : Disjoint fs
 
+pub window-above-within : (fs : List Registers) → InWindowAbove Inside fs → InWindowAbove Within fs
+window-above-within fs above =
+    all-imp _ _ fs above (λ b held is.
+    all-imp _ _ (items fs) (held is) (λ i lies at.
+    some-imp _ _ (λ w inside. within-of-inside inside) (b .windows) (lies at)))
+
 pub sound-of-good : {host : Host} {fs : List Registers} → Good host fs → Sound host fs
-sound-of-good good =
+sound-of-good {host} {fs} good =
     record {
       bridges-rise = good .bridges-rise;
       tree = good .tree;
-      in-window-above = good .nested .in-window-above;
+      in-window-above = window-above-within fs (good .nested .in-window-above);
       disjoint
           = good .disjoint;
     }

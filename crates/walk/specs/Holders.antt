@@ -8,7 +8,7 @@ use Prim.Native.Nat.{ℕ}
 use native.Mathlib.Nat.{suc-ne-zero}
 use Rattle.lists.specs.Lists.{_∈_, Some}
 use Rattle.lists.specs.ListLaws.{some-of-member, member-of-some, pairwise-members}
-use Rattle.walk.specs.Ranges.{Holds, holds-of-inside, apart-never-both}
+use Rattle.walk.specs.Ranges.{Holds, Within, holds-of-within, apart-never-both}
 use Rattle.walk.specs.Registers.{Node, Registers, nodes, Item, items, bar, window, barItem, windowItem}
 use Rattle.walk.specs.RegistersLaws.{BarOf, WindowOf, item-elim, item-of-bar, item-of-window}
 use Rattle.walk.specs.Above.{LeadsTo, Above}
@@ -68,12 +68,12 @@ module _ {host : Host} {fs : List Registers} (sound : Sound host fs) (address : 
   up-one : (i : Item) → i ∈ items fs → Holds (i .range) address → (b : Node) → LeadsTo (i .owner .node .bus) (nodes fs) b
       → (w : Item) × Over fs address w × (w .owner .node ≡ b)
   up-one i m h b l =
-      let (w, mw, inside, is-b, claim-is) = window-above fs (sound .in-window-above) i m b l in (
+      let (w, mw, inside, is-b, claim-is) = window-above Within fs (sound .in-window-above) i m b l in (
         w,
         record {
           in-items = mw;
           is-window = claim-is ∙ sym (ap (λ (n : Node). window (n .number) (n .secondary)) is-b);
-          over = holds-of-inside inside h;
+          over = holds-of-within inside h;
         },
         is-b,
       )

@@ -12,7 +12,7 @@ use borrow.Author.Tests.{eqb-true, eq-eqb}
 use Rattle.lists.specs.Lists.{_∈_, Some, Pairwise}
 use Rattle.lists.specs.ListLaws.{all-of, all-elim, all-intro, all-map-intro, member-of-some, mem-cond-elim, flat-elim, pairwise-flat}
 use Rattle.lists.specs.ListLaws.{pairwise-map, pairwise-imp-members, pairwise-both}
-use Rattle.walk.specs.Ranges.{Holds, Inside, Apart}
+use Rattle.walk.specs.Ranges.{Holds, Within, Apart, within-of-inside}
 use Rattle.walk.specs.Registers.{Node, Registers, Item, barItem, windowItem, openWindows, itemsOf, items}
 use Rattle.walk.specs.Tally.{tallyOn}
 use Rattle.walk.specs.Walk.{delivered, refused, noOwner, walkFrom, Trail}
@@ -81,14 +81,14 @@ module _ {host : Host} {ns : List Node} (rise : BridgesRise ns) (tree : Tree hos
       go false false e = tt
 
   below-range : (n m : Node) → n ∈ ns → m ∈ ns → n .bridge ≡ true → m .bus ≡ n .secondary → (i : Item) → IdItem devfn m i
-      → Inside (i .range) (busRange n)
+      → Within (i .range) (busRange n)
   below-range n m in-n in-m is-bridge at i (own-bus p d r) =
       let up = all-elim _ ns rise in-n is-bridge in
-      rw r (record { same-pool = refl; start-inside = omega arith; stop-inside = omega (arith, up .range-open) })
+      rw r (record { start-inside = omega arith; stop-inside = omega (arith, up .range-open) })
   below-range n m in-n in-m is-bridge at i (bus-range p d r) = rw r
-      (all-elim _ ns (all-elim _ ns (tree .in-parent) in-n is-bridge) in-m d at)
+      (within-of-inside (all-elim _ ns (all-elim _ ns (tree .in-parent) in-n is-bridge) in-m d at))
 
-  below-node : (n : Node) → n ∈ ns → n .bridge ≡ true → (i : Item) → i ∈ items (map (byId devfn) ns) → InWindowOf (byId devfn n) i
+  below-node : (n : Node) → n ∈ ns → n .bridge ≡ true → (i : Item) → i ∈ items (map (byId devfn) ns) → InWindowOf Within (byId devfn n) i
   unfolding items
   below-node n in-n is-bridge i in-items at =
       let (f, in-fs, in-part) = flat-elim itemsOf (map (byId devfn) ns) in-items in

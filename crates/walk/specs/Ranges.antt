@@ -34,6 +34,11 @@ pub record Inside (r outer : Range) : Type 0 where
   pub start-inside : outer .start ≤ r .start
   pub stop-inside : r .stop ≤ outer .stop
 
+-- no address of it is outside, whatever their pools
+pub record Within (r outer : Range) : Type 0 where
+  pub start-inside : outer .start ≤ r .start
+  pub stop-inside : r .stop ≤ outer .stop
+
 -- one ends before the other starts, whatever their pools
 abbrev pub Apart : Range → Range → Type 0
 Apart r s = (r .stop ≤ s .start) ⊎ (s .stop ≤ r .start)
@@ -60,8 +65,11 @@ any-holds-iff address rs = (to, from)
 pub holds-last : (p : Pool) (first last a : ℕ) → holds (record { pool = p; start = first; stop = suc last }) a ≡ (leb first a && leb a last)
 holds-last p first last a = ap (λ (b : Bool). leb first a && b) (leb·suc-suc a last)
 
-pub holds-of-inside : {r outer : Range} {a : ℕ} → Inside r outer → Holds r a → Holds outer a
-holds-of-inside i h = omega arith
+pub within-of-inside : {r outer : Range} → Inside r outer → Within r outer
+within-of-inside i = record { start-inside = i .start-inside; stop-inside = i .stop-inside }
+
+pub holds-of-within : {r outer : Range} {a : ℕ} → Within r outer → Holds r a → Holds outer a
+holds-of-within i h = omega arith
 
 pub inside-trans : {r s t : Range} → Inside r s → Inside s t → Inside r t
 inside-trans i j = record { same-pool = i .same-pool ∙ j .same-pool; start-inside = omega arith; stop-inside = omega arith }

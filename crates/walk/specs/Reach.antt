@@ -7,7 +7,7 @@ use Prim.Native.Nat.{ℕ}
 use lib.ListN.{length, length-reverse, length-map}
 use Rattle.lists.specs.Lists.{_∈_, All, Some}
 use Rattle.lists.specs.ListLaws.{all-append, member-of-some}
-use Rattle.walk.specs.Ranges.{Holds, holds-of-inside}
+use Rattle.walk.specs.Ranges.{Holds, Within, holds-of-within}
 use Rattle.walk.specs.Registers.{Node, Registers, nodes, Item, items, barItem}
 use Rattle.walk.specs.RegistersLaws.{item-of-bar, node-mem}
 use Rattle.walk.specs.Tally.{one, tallyOn}
@@ -103,8 +103,8 @@ module _ {host : Host} {fs : List Registers} (sound : Sound host fs) (enabled : 
   unfolding Above Trail
   trail-down i m h top [] a on ns number t = rw a at t
   trail-down i m h top (b ∷ bs) (l, a) on ns number t =
-      let (w, in-items, inside, is-b, claim-is) = window-above fs (sound .in-window-above) i m b l in
-      let holds-it = holds-of-inside inside h in
+      let (w, in-items, inside, is-b, claim-is) = window-above Within fs (sound .in-window-above) i m b l in
+      let holds-it = holds-of-within inside h in
       let same-bus : w .owner .node .bus ≡ b .bus = ap (λ (n : Node). n .bus) is-b in
       let claims-it : Claims enabled address (w .owner .node .bus) w =
       record { on-bus = refl; is-enabled = ap (λ (n : Node). enabled (n .number)) is-b ∙ on .0; in-range = holds-it } in
