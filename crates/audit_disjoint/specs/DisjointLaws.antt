@@ -2,7 +2,7 @@
 use mathlib.Core.Path.{_≡_, sym, ap, ap₂, _∙_}
 use mathlib.Core.Bool.{Bool, true, false, _&&_, _||_, or-assoc}
 use mathlib.Core.List.{List, _∷_}
-use Prim.Native.Nat.{ℕ, _+_, _-_, _/_, _%_, _≤_, _<_}
+use Prim.Native.Nat.{ℕ, _+_, _-_, _≤_, _<_}
 use native.Mathlib.Omega.{arith}
 use lib.Dec.{eqb, leb, leb·suc-suc}
 use lib.ListN.{length, getD}
@@ -17,15 +17,11 @@ use Rattle.sheet.specs.IndexLaws.{entries-index}
 use Rattle.sheet_ranges.specs.Ranges.{rangesOf, overlap, spaceNumber}
 use Rattle.sheet_ranges.specs.declared.Item.{Item}
 use Rattle.sheet_ranges.specs.Items.{poolWith, rangeOf, itemAt, rangesFrom}
-use Rattle.sheet_ranges.specs.ItemsLaws.{number-of-pool, space-of-number}
 use Rattle.sheet_ranges.specs.SearchLaws.{items-none, items-more, bus-of-entry}
 use Rattle.audit_rule.specs.Audit.{anyPair, anyOverlap, overlapOnBus, notDisjoint}
 use Rattle.audit_disjoint.specs.Disjoint.{overlapsOn, overlapsAt}
 
 -- ## Two ranges
-
-pub space-of-item : (n : ℕ) → (n % 4 + 1) / 2 ≡ spaceNumber (poolWith n)
-space-of-item n = sym (space-of-number (poolWith n) ∙ ap (λ (k : ℕ). (k + 1) / 2) (number-of-pool n))
 
 -- by last addresses; s and u are their spaces
 pub overlap-items : (a b : Item) (s u : ℕ) → s ≡ spaceNumber (rangeOf a .pool) → u ≡ spaceNumber (rangeOf b .pool)

@@ -11,6 +11,7 @@ use Rattle.sheet.specs.declared.Rule as rules
 use Rattle.sheet.specs.Sheet.{breaks}
 use Rattle.sheet_above.specs.Parents.{leadsTo}
 use Rattle.sheet_ranges.specs.Ranges.{overlap}
+use Rattle.audit_rule.specs.declared.Nesting.the-variants.{OfKind}
 use Rattle.audit_rule.specs.Audit.{wayUpWrong, busesShared, outsideAbove}
 use Rattle.finding.specs.First.{first}
 use Rattle.audit_finding.specs.declared.Check.{Check}
@@ -71,6 +72,6 @@ fails Ids h es r = meetsOne SameId (numbered es) r
 -- the host's; or another bridge of its bus leads to a bus that it leads to
 fails Tree h es r = startsElsewhere h r || (wayUpWrong h es (r .entry) || meetsOne SharedBuses (numbered es) r)
 -- 51: one of its BARs and open windows lies in none above
-fails Places h es r = outsideAbove h es (r .entry)
+fails Places h es r = outsideAbove OfKind h es (r .entry)
 -- 52: one of its BARs and open windows meets another one
 fails Overlaps h es r = any (meetsAny (numbered es)) (placedOf r)

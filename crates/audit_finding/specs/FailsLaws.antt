@@ -16,6 +16,7 @@ use Rattle.sheet_record.specs.Entry.{Entry, bus}
 use Rattle.sheet.specs.declared.Rule.{Rule}
 use Rattle.sheet.specs.Sheet.{breaks, anyBreaks, hasId, idTwice}
 use Rattle.sheet_ranges.specs.Ranges.{rangesOf, overlap}
+use Rattle.audit_rule.specs.declared.Nesting.the-variants.{OfKind}
 use Rattle.audit_rule.specs.Audit.{anyPair, firstElsewhere, wayUpWrong, notTree, outsideAbove, notNested, anyOverlap}
 use Rattle.audit_rule.specs.Audit.{overlapOnBus, notDisjoint}
 use Rattle.audit_rule.specs.PairLaws.{none-of-pairwise}
@@ -154,9 +155,9 @@ module _ (h : Host) (es : List Entry) where
 
   -- ## 51
 
-  pub places-some : notNested h es ≡ true → any (fails Places h es) (numbered es) ≡ true
+  pub places-some : notNested OfKind h es ≡ true → any (fails Places h es) (numbered es) ≡ true
   unfolding fails notNested
-  places-some e = any-numbered (outsideAbove h es) 1 es ∙ e
+  places-some e = any-numbered (outsideAbove OfKind h es) 1 es ∙ e
 
   -- ## 52
 

@@ -18,7 +18,8 @@ use Rattle.sheet_record.specs.Entry.{Entry}
 use Rattle.sheet.specs.declared.Rule as rules
 use Rattle.sheet.specs.Sheet.{isFramed, Framed, entriesOf, anyBreaks, idTwice, sheetNumber}
 use Rattle.sheet.specs.Sheet.{from20, from21, from22, from24, from25, from27, from28, from29}
-use Rattle.audit_rule.specs.Audit.{notTree, notNested, notDisjoint, from52, from51, from50, fromSheet, from26, auditNumber}
+use Rattle.audit_rule.specs.declared.Nesting.the-variants.{OfKind}
+use Rattle.audit_rule.specs.Audit.{notTree, notNested, notDisjoint, from52, from51, from50, fromSheet, from26, numberBy, auditNumber}
 use Rattle.finding.specs.declared.Parties.{Parties}
 use Rattle.finding.specs.declared.Finding.{Finding}
 use Rattle.finding.specs.Places.{nobody, nobodies}
@@ -84,20 +85,20 @@ module _ (host s : List ℕ) where
       (λ _. whole-20))
       (λ _. of-whole {n = 21} refl (omega arith)))
 
-  under-told : length host ≡ hostLength → sheetNumber s ≡ 0 → Told (from50 h es)
+  under-told : length host ≡ hostLength → sheetNumber s ≡ 0 → Told (from50 OfKind h es)
   unfolding from50 from51 from52 checkOf underHost
   under-told size passes =
-      either (notTree h es) 50 (from51 h es) (λ w. of-tree {n = 50} size passes (tree-some h es w) (omega arith)) (λ _.
-      either (notNested h es) 51 (from52 es) (λ w. of-tree {n = 51} size passes (places-some h es w) (omega arith)) (λ _.
+      either (notTree h es) 50 (from51 OfKind h es) (λ w. of-tree {n = 50} size passes (tree-some h es w) (omega arith)) (λ _.
+      either (notNested OfKind h es) 51 (from52 es) (λ w. of-tree {n = 51} size passes (places-some h es w) (omega arith)) (λ _.
       either (notDisjoint es) 52 0 (λ w. of-tree {n = 52} size passes (notDisjoint-some h es w) (omega arith)) (λ _. of-whole {n = 0} refl (omega arith))))
 
   pub number-told : Told (auditNumber host s)
-  unfolding auditNumber from26 fromSheet checkOf underHost
+  unfolding auditNumber numberBy from26 fromSheet checkOf underHost
   number-told =
-      either (eqb (length host) hostLength) (from26 h s) 20
+      either (eqb (length host) hostLength) (from26 OfKind h s) 20
       (λ size.
-      either (hostWrong h) 26 (fromSheet h s) (λ _. of-whole {n = 26} refl (omega arith)) (λ _.
-      either (eqb (sheetNumber s) 0) (from50 h es) (sheetNumber s)
+      either (hostWrong h) 26 (fromSheet OfKind h s) (λ _. of-whole {n = 26} refl (omega arith)) (λ _.
+      either (eqb (sheetNumber s) 0) (from50 OfKind h es) (sheetNumber s)
       (λ passes. under-told (eqb-true (length host) hostLength size) (eqb-true (sheetNumber s) 0 passes)) (λ _. sheet-told)))
       (λ _. whole-20)
 

@@ -12,6 +12,7 @@ use Rattle.window.specs.Window.{isNibbled}
 use Rattle.board_record.specs.declared.Host.{Host}
 use Rattle.sheet_record.specs.Entry.{Entry, slotCount}
 use Rattle.sheet_above.specs.Parents.{Parent, underHost, underBridge, underNone, underSeveral}
+use Rattle.audit_rule.specs.declared.Nesting.the-variants.{OfKind}
 use Rattle.audit_rule.specs.Audit.{rangesAbove, outsideAll, parentIn, wayUpWrong}
 use Rattle.finding.specs.declared.Party.{Party}
 use Rattle.finding.specs.Places.{windowPlace, busRegisters, functionId, nobody, partyAt}
@@ -82,7 +83,7 @@ treeOther h es r =
 -- ## 51 and 52: by BARs and open windows
 
 abbrev pub isOutside : Host → List Entry → Placed → Bool
-isOutside h es p = outsideAll (rangesAbove h (parentIn h es (p .owner .entry))) (p .range)
+isOutside h es p = outsideAll OfKind (rangesAbove h (parentIn h es (p .owner .entry))) (p .range)
 
 abbrev pub partyOf : Placed → Party
 partyOf p = record { number = p .owner .number; place = p .place }

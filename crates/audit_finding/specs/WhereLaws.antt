@@ -21,6 +21,7 @@ use Rattle.sheet_record.specs.Entry.{Entry, slotCount, bus, bridges}
 use Rattle.sheet.specs.declared.Rule as rules
 use Rattle.sheet.specs.Sheet.{breaks, allZero, readBacksWrong, busesWrong}
 use Rattle.sheet_ranges.specs.Ranges.{overlap, spaceNumber}
+use Rattle.audit_rule.specs.declared.Nesting.the-variants.{OfKind}
 use Rattle.audit_rule.specs.Audit.{rangesAbove, outsideAll, parentIn, wayUpWrong, outsideAbove}
 use Rattle.finding.specs.declared.Party.{Party}
 use Rattle.finding.specs.Places.{busRegisters, functionId, nobody, partyAt}
@@ -241,14 +242,14 @@ any-map t f [] = refl
 any-map t f (x ∷ xs) = ap (λ (b : Bool). t (f x) || b) (any-map t f xs)
 
 module _ (h : Host) (es : List Entry) (r : Numbered) where
-  pub outside-placed : outsideAbove h es (r .entry) ≡ any (isOutside h es) (placedOf r)
+  pub outside-placed : outsideAbove OfKind h es (r .entry) ≡ any (isOutside h es) (placedOf r)
   outside-placed =
-      let test = outsideAll (rangesAbove h (parentIn h es (r .entry))) in
+      let test = outsideAll OfKind (rangesAbove h (parentIn h es (r .entry))) in
       ap (any test) (sym (ranges-placed r))
       ∙ any-map test rangeIn (placedOf r)
       ∙ any-agree (λ p. test (p .range)) (isOutside h es) (placedOf r)
       (all-imp _ _ (placedOf r) (owners-placed r)
-      (λ p own. ap (λ (q : Numbered). outsideAll (rangesAbove h (parentIn h es (q .entry))) (p .range)) (sym own)))
+      (λ p own. ap (λ (q : Numbered). outsideAll OfKind (rangesAbove h (parentIn h es (q .entry))) (p .range)) (sym own)))
 
   pub record Outside (place : ℕ) : Type 0 where
     pub outside : FirstOf (isOutside h es) (placedOf r)

@@ -1,4 +1,5 @@
-// 51: each BAR and open window lies in the window above of its own pool, or on the root bus in that pool of the host.
+// 51: each BAR and open window lies in the window above of its own pool, or on the root bus in that pool of the host; or, where it is asked of
+// the address space, in any window above or pool of its space.
 ghost use mathlib.Core.Path.{_≡_};
 ghost use mathlib.Core.Bool.{false};
 ghost use Prim.Native.Nat.{_*_, _≤_};
@@ -11,17 +12,17 @@ ghost use Rattle.sheet.specs.Sheet.{breaks, entriesOf};
 ghost use Rattle.sheet.specs.SheetLaws.{Checked};
 ghost use Rattle.sheet_above.specs.Parents.{parentOf};
 ghost use Rattle.sheet_above.specs.Table.{Leads};
-ghost use Rattle.sheet_ranges.specs.Ranges.{poolNumber, inside};
 ghost use Rattle.sheet_ranges.specs.Items.{rangeOf, rangesIn};
-ghost use Rattle.audit_rule.specs.Audit.{rangesAbove, outsideAll, outsideAbove as outsideAboveOf, notNested};
+ghost use Rattle.audit_rule.specs.Audit.{rangesAbove, groupOf, inside, outsideAll, outsideAbove as outsideAboveOf, notNested};
+use audit_rule::Nesting;
 use board_record::Host;
 use sheet_above::Parent;
 use sheet_ranges::Item;
 
 // Some range of a checked sheet lies in none of those above it.
-pub fn not_nested(host: Host, sheet: &[u8], table: &[u16]) -> bool
+pub fn not_nested(nesting: Nesting, host: Host, sheet: &[u8], table: &[u16]) -> bool
     requires { ⌜ Checked (now sheet) × Leads (entriesOf (now sheet)) (now table) ⌝ }
-    ensures { λ r. ⌜ r ≡ notNested host (entriesOf (now (sheet .entry))) ⌝ }
+    ensures { λ r. ⌜ r ≡ notNested nesting host (entriesOf (now (sheet .entry))) ⌝ }
 {
     let mut own = [0u64; sheet_ranges::ROOM];
     let mut above = [0u64; sheet_ranges::ROOM];
@@ -29,6 +30,7 @@ pub fn not_nested(host: Host, sheet: &[u8], table: &[u16]) -> bool
     let mut k: usize = 0;
     while k < records {
         if outside_above(
+            nesting,
             host,
             sheet,
             table,
@@ -45,6 +47,7 @@ pub fn not_nested(host: Host, sheet: &[u8], table: &[u16]) -> bool
 
 // Of the function with this part. Its ranges and those above are decoded into the two rooms.
 fn outside_above(
+    nesting: Nesting,
     host: Host,
     sheet: &[u8],
     table: &[u16],
@@ -56,11 +59,11 @@ fn outside_above(
         Checked (now sheet) × Leads (entriesOf (now sheet)) (now table) × (length (now part) ≡ recordSize)
         × (breaks ReadBacks (entryOf (now part)) ≡ false) × (18 ≤ length (now own)) × (18 ≤ length (now above))
         ⌝ }
-    ensures { λ r. ⌜ r ≡ outsideAboveOf host (entriesOf (now (sheet .entry))) (entryOf (now (part .entry))) ⌝ }
+    ensures { λ r. ⌜ r ≡ outsideAboveOf nesting host (entriesOf (now (sheet .entry))) (entryOf (now (part .entry))) ⌝ }
 {
     let n = sheet_ranges::ranges_of(part, own);
     let m = ranges_above(host, sheet, table, sheet_record::bus_of(part), above);
-    any_outside(own, n, above, m)
+    any_outside(nesting, own, n, above, m)
 }
 
 // What the ranges of a bus's functions may lie in. Under no one bridge that is nothing.
@@ -80,27 +83,32 @@ fn ranges_above(host: Host, sheet: &[u8], table: &[u16], bus: u8, room: &mut [u6
 
 // ---- ranges
 
-fn pool(a: Item) -> u64
-    ensures { λ r. ⌜ r ≡ poolNumber (rangeOf a .pool) ⌝ }
+// What its pool is compared by: low and high memory are one space.
+fn group(nesting: Nesting, a: Item) -> u64
+    ensures { λ r. ⌜ r ≡ groupOf nesting (rangeOf a .pool) ⌝ }
 {
-    a.pool % 4
+    match nesting {
+        Nesting::OfKind => a.pool % 4,
+        Nesting::OfSpace => (a.pool % 4 + 1) / 2,
+    }
 }
 
-// Of the same pool, and no address of it is outside.
-fn is_inside(a: Item, outer: Item) -> bool
-    ensures { λ r. ⌜ r ≡ inside (rangeOf a) (rangeOf outer) ⌝ }
+// Of the same pool or space, and no address of it is outside.
+fn is_inside(nesting: Nesting, a: Item, outer: Item) -> bool
+    ensures { λ r. ⌜ r ≡ inside nesting (rangeOf a) (rangeOf outer) ⌝ }
 {
-    (pool(a) == pool(outer)) & ((outer.first <= a.first) & (a.last <= outer.last))
+    (group(nesting, a) == group(nesting, outer))
+        & ((outer.first <= a.first) & (a.last <= outer.last))
 }
 
 // It lies in one of m ranges.
-fn is_inside_any(a: Item, above: &[u64], m: usize) -> bool
+fn is_inside_any(nesting: Nesting, a: Item, above: &[u64], m: usize) -> bool
     requires { ⌜ 3 * m ≤ length (now above) ⌝ }
-    ensures { λ r. ⌜ r ≡ any (inside (rangeOf a)) (rangesIn m (now (above .entry))) ⌝ }
+    ensures { λ r. ⌜ r ≡ any (inside nesting (rangeOf a)) (rangesIn m (now (above .entry))) ⌝ }
 {
     let mut j: usize = 0;
     while j < m {
-        if is_inside(a, sheet_ranges::item_at(above, j)) {
+        if is_inside(nesting, a, sheet_ranges::item_at(above, j)) {
             return true;
         }
         j += 1;
@@ -109,13 +117,13 @@ fn is_inside_any(a: Item, above: &[u64], m: usize) -> bool
 }
 
 // One of n ranges lies in none of m others.
-fn any_outside(own: &[u64], n: usize, above: &[u64], m: usize) -> bool
+fn any_outside(nesting: Nesting, own: &[u64], n: usize, above: &[u64], m: usize) -> bool
     requires { ⌜ (3 * n ≤ length (now own)) × (3 * m ≤ length (now above)) ⌝ }
-    ensures { λ r. ⌜ r ≡ any (outsideAll (rangesIn m (now (above .entry)))) (rangesIn n (now (own .entry))) ⌝ }
+    ensures { λ r. ⌜ r ≡ any (outsideAll nesting (rangesIn m (now (above .entry)))) (rangesIn n (now (own .entry))) ⌝ }
 {
     let mut i: usize = 0;
     while i < n {
-        if !is_inside_any(sheet_ranges::item_at(own, i), above, m) {
+        if !is_inside_any(nesting, sheet_ranges::item_at(own, i), above, m) {
             return true;
         }
         i += 1;

@@ -1,5 +1,5 @@
 -- Document 02, E6: the number of the first check that a host record and a sheet fail, and 0 where the sheet is accepted: 20 and 26 of the
--- host record, the sheet's 20 to 29, then 50, 51 and 52. Assumes nothing.
+-- host record, the sheet's 20 to 29, then 50, 51 and 52. And the same with 51 asked of the address space. Assumes nothing.
 use mathlib.Core.Bool.{Bool, true, false, cond, not, _&&_, _||_}
 use mathlib.Core.List.{List, [], _∷_}
 use Prim.Native.Nat.{ℕ}
@@ -8,11 +8,13 @@ use lib.Dec.{eqb, leb}
 use Rattle.lists.specs.Lists.{any}
 use Rattle.board_record.specs.declared.Host.{Host}
 use Rattle.board_record.specs.Host.{hostLength, hostOfPart, hostWrong}
-use Rattle.walk.specs.Ranges.{Range}
+use Rattle.walk.specs.Ranges.{Range, Pool}
 use Rattle.sheet_record.specs.Entry.{Entry, bus, bridges}
 use Rattle.sheet.specs.Sheet.{entriesOf, sheetNumber}
 use Rattle.sheet_above.specs.Parents.{Parent, underHost, underBridge, underNone, underSeveral, parentOf}
-use Rattle.sheet_ranges.specs.Ranges.{rangesOf, windowsIn, poolsIn, inside, overlap}
+use Rattle.sheet_ranges.specs.Ranges.{rangesOf, windowsIn, poolsIn, poolNumber, spaceNumber, overlap}
+use Rattle.audit_rule.specs.declared.Nesting.{Nesting}
+use Rattle.audit_rule.specs.declared.Nesting.the-variants.{OfKind, OfSpace}
 
 module _ {A : Type 0} where
   -- Does some element pass the test with a later one?
@@ -66,15 +68,25 @@ rangesAbove h (underBridge b) = windowsIn b
 rangesAbove h underNone = []
 rangesAbove h underSeveral = []
 
+-- what pools are compared by
+abbrev pub groupOf : Nesting → Pool → ℕ
+groupOf OfKind q = poolNumber q
+groupOf OfSpace q = spaceNumber q
+
+-- of the same pool, or of the same space, and no address of it is outside
+abbrev pub inside : Nesting → Range → Range → Bool
+inside n r outer =
+    eqb (groupOf n (r .pool)) (groupOf n (outer .pool)) && (leb (outer .start) (r .start) && leb (r .stop) (outer .stop))
+
 -- "each BAR and open window lies in the window above, or on the root bus the pool, where document 01 puts its kind"
-abbrev pub outsideAll : List Range → Range → Bool
-outsideAll above r = not (any (inside r) above)
+abbrev pub outsideAll : Nesting → List Range → Range → Bool
+outsideAll n above r = not (any (inside n r) above)
 
-abbrev pub outsideAbove : Host → List Entry → Entry → Bool
-outsideAbove h es e = any (outsideAll (rangesAbove h (parentIn h es e))) (rangesOf e)
+abbrev pub outsideAbove : Nesting → Host → List Entry → Entry → Bool
+outsideAbove n h es e = any (outsideAll n (rangesAbove h (parentIn h es e))) (rangesOf e)
 
-unfoldable pub notNested : Host → List Entry → Bool
-notNested h es = any (outsideAbove h es) es
+unfoldable pub notNested : Nesting → Host → List Entry → Bool
+notNested n h es = any (outsideAbove n h es) es
 
 -- ## 52: "on each bus all BARs and open windows of one space are disjoint, enabled or not"
 
@@ -94,18 +106,27 @@ notDisjoint (e ∷ es) = anyPair overlap (rangesOf e) || (any (overlapOnBus e) e
 unfoldable pub from52 : List Entry → ℕ
 from52 es = cond (notDisjoint es) 52 0
 
-unfoldable pub from51 : Host → List Entry → ℕ
-from51 h es = cond (notNested h es) 51 (from52 es)
+unfoldable pub from51 : Nesting → Host → List Entry → ℕ
+from51 n h es = cond (notNested n h es) 51 (from52 es)
 
-unfoldable pub from50 : Host → List Entry → ℕ
-from50 h es = cond (notTree h es) 50 (from51 h es)
+unfoldable pub from50 : Nesting → Host → List Entry → ℕ
+from50 n h es = cond (notTree h es) 50 (from51 n h es)
 
-unfoldable pub fromSheet : Host → List ℕ → ℕ
-fromSheet h s = cond (eqb (sheetNumber s) 0) (from50 h (entriesOf s)) (sheetNumber s)
+unfoldable pub fromSheet : Nesting → Host → List ℕ → ℕ
+fromSheet n h s = cond (eqb (sheetNumber s) 0) (from50 n h (entriesOf s)) (sheetNumber s)
 
-unfoldable pub from26 : Host → List ℕ → ℕ
-from26 h s = cond (hostWrong h) 26 (fromSheet h s)
+unfoldable pub from26 : Nesting → Host → List ℕ → ℕ
+from26 n h s = cond (hostWrong h) 26 (fromSheet n h s)
 
 -- "50 to 52 are tried in turn"
+unfoldable pub numberBy : Nesting → List ℕ → List ℕ → ℕ
+numberBy n host s = cond (eqb (length host) hostLength) (from26 n (hostOfPart host) s) 20
+
+-- the request's
 unfoldable pub auditNumber : List ℕ → List ℕ → ℕ
-auditNumber host s = cond (eqb (length host) hostLength) (from26 (hostOfPart host) s) 20
+auditNumber host s = numberBy OfKind host s
+
+-- 0 where every address has one owner: a memory BAR or window may lie in any memory window of the bridge above, and on the root bus in the
+-- low or the high pool
+unfoldable pub soundNumber : List ℕ → List ℕ → ℕ
+soundNumber host s = numberBy OfSpace host s

@@ -20,8 +20,11 @@ use Rattle.sheet.specs.Sheet.{isFramed, entriesOf, anyBreaks, idTwice, sheetNum
 use Rattle.sheet.specs.Sheet as sheets
 use Rattle.sheet.specs.Spaces.{nodesOf}
 use Rattle.sheet.specs.SheetLaws.{passes-of-zero}
-use Rattle.audit_rule.specs.Accepted.{IsTree, IsNested, IsDisjoint, Accepted, Lawful, ByNumber}
-use Rattle.audit_rule.specs.Audit.{notTree, notNested, notDisjoint, from52, from51, from50, fromSheet, from26, auditNumber}
+use Rattle.audit_rule.specs.Accepted.{IsTree, IsNested, IsDisjoint, Accepted, OneOwner, AcceptedBy, Lawful, ByNumber}
+use Rattle.audit_rule.specs.Audit.{notTree, notNested, notDisjoint, from52, from51, from50, fromSheet, from26}
+use Rattle.audit_rule.specs.Audit.{numberBy, auditNumber, soundNumber}
+use Rattle.audit_rule.specs.declared.Nesting.{Nesting}
+use Rattle.audit_rule.specs.declared.Nesting.the-variants.{OfKind, OfSpace}
 use Rattle.audit_rule.specs.TreeLaws.{tree-iff}
 use Rattle.audit_rule.specs.NestedLaws.{nested-iff}
 use Rattle.audit_rule.specs.DisjointLaws.{disjoint-iff}
@@ -61,7 +64,7 @@ sheet-numbers s =
 
 -- ## What each test says
 
-module _ (host s : List ℕ) (bytes : Bytes s) where
+module _ (t : Nesting) (host s : List ℕ) (bytes : Bytes s) where
   abbrev h : Host
   h = hostOfPart host
 
@@ -73,16 +76,16 @@ module _ (host s : List ℕ) (bytes : Bytes s) where
     rise = passes-of-zero s bytes passes .bridges-rise
 
     pub tree-of-test : notTree h es ≡ false → IsTree host s
-    tree-of-test t sp = tree-iff h es rise sp .0 t
+    tree-of-test right sp = tree-iff h es rise sp .0 right
 
     pub test-of-tree : IsTree host s → notTree h es ≡ false
     test-of-tree tree = tree-iff h es rise Memory .1 (tree Memory)
 
-    pub nested-of-test : IsTree host s → notNested h es ≡ false → IsNested host s
-    nested-of-test tree = nested-iff h es rise (tree Memory .one-way-up) .0
+    pub nested-of-test : IsTree host s → notNested t h es ≡ false → IsNested t host s
+    nested-of-test tree = nested-iff t h es rise (tree Memory .one-way-up) .0
 
-    pub test-of-nested : IsTree host s → IsNested host s → notNested h es ≡ false
-    test-of-nested tree = nested-iff h es rise (tree Memory .one-way-up) .1
+    pub test-of-nested : IsTree host s → IsNested t host s → notNested t h es ≡ false
+    test-of-nested tree = nested-iff t h es rise (tree Memory .one-way-up) .1
 
   disjoint-of-test : notDisjoint es ≡ false → IsDisjoint s
   disjoint-of-test = disjoint-iff es .0
@@ -96,38 +99,38 @@ module _ (host s : List ℕ) (bytes : Bytes s) where
   fails true n = refl
   fails false n = absurd (n refl)
 
-  at-20 : ¬ (length host ≡ hostLength) → auditNumber host s ≡ 20
-  unfolding auditNumber
+  at-20 : ¬ (length host ≡ hostLength) → numberBy t host s ≡ 20
+  unfolding numberBy
   at-20 n = rw (ne-eqb (length host) hostLength n)
 
-  at-26 : length host ≡ hostLength → ¬ (hostWrong h ≡ false) → auditNumber host s ≡ 26
-  unfolding auditNumber from26
+  at-26 : length host ≡ hostLength → ¬ (hostWrong h ≡ false) → numberBy t host s ≡ 26
+  unfolding numberBy from26
   at-26 size wrong = rw (eq-eqb (length host) hostLength size, fails (hostWrong h) wrong)
 
-  at-sheet : length host ≡ hostLength → hostWrong h ≡ false → ¬ (sheetNumber s ≡ 0) → auditNumber host s ≡ sheetNumber s
-  unfolding auditNumber from26 fromSheet
+  at-sheet : length host ≡ hostLength → hostWrong h ≡ false → ¬ (sheetNumber s ≡ 0) → numberBy t host s ≡ sheetNumber s
+  unfolding numberBy from26 fromSheet
   at-sheet size edges n = rw (eq-eqb (length host) hostLength size, edges, ne-eqb (sheetNumber s) 0 n)
 
-  from-lawful : Lawful host s → auditNumber host s ≡ from50 h es
-  unfolding auditNumber from26 fromSheet
+  from-lawful : Lawful host s → numberBy t host s ≡ from50 t h es
+  unfolding numberBy from26 fromSheet
   from-lawful (size, edges, passes) = rw (eq-eqb (length host) hostLength size, edges, eq-eqb (sheetNumber s) 0 passes)
 
-  at-50 : Lawful host s → ¬ IsTree host s → auditNumber host s ≡ 50
+  at-50 : Lawful host s → ¬ IsTree host s → numberBy t host s ≡ 50
   unfolding from50
-  at-50 l n = from-lawful l ∙ rw (fails (notTree h es) (λ t. n (tree-of-test (l .2) t)))
+  at-50 l n = from-lawful l ∙ rw (fails (notTree h es) (λ right. n (tree-of-test (l .2) right)))
 
-  at-51 : Lawful host s → IsTree host s → ¬ IsNested host s → auditNumber host s ≡ 51
+  at-51 : Lawful host s → IsTree host s → ¬ IsNested t host s → numberBy t host s ≡ 51
   unfolding from50 from51
   at-51 l tree n =
-      from-lawful l ∙ rw (test-of-tree (l .2) tree, fails (notNested h es) (λ t. n (nested-of-test (l .2) tree t)))
+      from-lawful l ∙ rw (test-of-tree (l .2) tree, fails (notNested t h es) (λ right. n (nested-of-test (l .2) tree right)))
 
-  at-52 : Lawful host s → IsTree host s → IsNested host s → ¬ IsDisjoint s → auditNumber host s ≡ 52
+  at-52 : Lawful host s → IsTree host s → IsNested t host s → ¬ IsDisjoint s → numberBy t host s ≡ 52
   unfolding from50 from51 from52
   at-52 l tree nested n =
       from-lawful l
-      ∙ rw (test-of-tree (l .2) tree, test-of-nested (l .2) tree nested, fails (notDisjoint es) (λ t. n (disjoint-of-test t)))
+      ∙ rw (test-of-tree (l .2) tree, test-of-nested (l .2) tree nested, fails (notDisjoint es) (λ right. n (disjoint-of-test right)))
 
-  at-0 : Accepted host s → auditNumber host s ≡ 0
+  at-0 : AcceptedBy t host s → numberBy t host s ≡ 0
   unfolding from50 from51 from52
   at-0 a =
       from-lawful (a .host-size, a .host-edges, a .passes)
@@ -145,82 +148,82 @@ module _ (host s : List ℕ) (bytes : Bytes s) where
   from-test true n rest other e = refl
   from-test false n rest other e = absurd (other e)
 
-  size-of : (b : Bool) (m : ℕ) → eqb (length host) hostLength ≡ b → (20 ≡ m → ⊥) → cond b (from26 h s) 20 ≡ m
-      → (length host ≡ hostLength) × (from26 h s ≡ m)
-  size-of true m t other e = (eqb-true (length host) hostLength t, e)
-  size-of false m t other e = absurd (other e)
+  size-of : (b : Bool) (m : ℕ) → eqb (length host) hostLength ≡ b → (20 ≡ m → ⊥) → cond b (from26 t h s) 20 ≡ m
+      → (length host ≡ hostLength) × (from26 t h s ≡ m)
+  size-of true m is other e = (eqb-true (length host) hostLength is, e)
+  size-of false m is other e = absurd (other e)
 
   passes-of : (b : Bool) (m : ℕ) → eqb (sheetNumber s) 0 ≡ b → (sheetNumber s ≡ m → sheetNumber s ≡ 0)
-      → cond b (from50 h es) (sheetNumber s) ≡ m → (sheetNumber s ≡ 0) × (from50 h es ≡ m)
-  passes-of true m t other e = (eqb-true (sheetNumber s) 0 t, e)
-  passes-of false m t other e = absurd (eqb-false (sheetNumber s) 0 t (other e))
+      → cond b (from50 t h es) (sheetNumber s) ≡ m → (sheetNumber s ≡ 0) × (from50 t h es ≡ m)
+  passes-of true m is other e = (eqb-true (sheetNumber s) 0 is, e)
+  passes-of false m is other e = absurd (eqb-false (sheetNumber s) 0 is (other e))
 
-  of-26 : auditNumber host s ≡ 26 → (length host ≡ hostLength) × ¬ (hostWrong h ≡ false)
-  unfolding auditNumber from26 fromSheet from50 from51 from52
+  of-26 : numberBy t host s ≡ 26 → (length host ≡ hostLength) × ¬ (hostWrong h ≡ false)
+  unfolding numberBy from26 fromSheet from50 from51 from52
   of-26 e =
       let a = size-of (eqb (length host) hostLength) 26 refl (λ z. omega arith) e in (
         a .0,
         λ right.
-            true≢false (sym (from-test (hostWrong h) 26 (fromSheet h s) later (a .1)) ∙ right),
+            true≢false (sym (from-test (hostWrong h) 26 (fromSheet t h s) later (a .1)) ∙ right),
       )
     where
-      later : fromSheet h s ≡ 26 → ⊥
+      later : fromSheet t h s ≡ 26 → ⊥
       later g =
           let l = passes-of (eqb (sheetNumber s) 0) 26 refl (λ z. absurd (sheet-numbers s .not-26 z)) g in
-          let b = past (notTree h es) 50 (from51 h es) 26 (λ z. omega arith) (l .1) in
-          let c = past (notNested h es) 51 (from52 es) 26 (λ z. omega arith) (b .1) in
+          let b = past (notTree h es) 50 (from51 t h es) 26 (λ z. omega arith) (l .1) in
+          let c = past (notNested t h es) 51 (from52 es) 26 (λ z. omega arith) (b .1) in
           let d = past (notDisjoint es) 52 0 26 (λ z. omega arith) (c .1) in
           omega (arith, d .1)
 
-  lawful-of : (m : ℕ) → (20 ≡ m → ⊥) → (26 ≡ m → ⊥) → (sheetNumber s ≡ m → sheetNumber s ≡ 0) → auditNumber host s ≡ m
-      → Lawful host s × (from50 h es ≡ m)
-  unfolding auditNumber from26 fromSheet
+  lawful-of : (m : ℕ) → (20 ≡ m → ⊥) → (26 ≡ m → ⊥) → (sheetNumber s ≡ m → sheetNumber s ≡ 0) → numberBy t host s ≡ m
+      → Lawful host s × (from50 t h es ≡ m)
+  unfolding numberBy from26 fromSheet
   lawful-of m not-20 not-26 not-sheet e =
       let a = size-of (eqb (length host) hostLength) m refl not-20 e in
-      let b = past (hostWrong h) 26 (fromSheet h s) m not-26 (a .1) in
+      let b = past (hostWrong h) 26 (fromSheet t h s) m not-26 (a .1) in
       let c = passes-of (eqb (sheetNumber s) 0) m refl not-sheet (b .1) in
       ((a .0, b .0, c .0), c .1)
 
-  from-50-on : (m : ℕ) → 50 ≤ m → auditNumber host s ≡ m → Lawful host s × (from50 h es ≡ m)
+  from-50-on : (m : ℕ) → 50 ≤ m → numberBy t host s ≡ m → Lawful host s × (from50 t h es ≡ m)
   from-50-on m l = lawful-of m (λ z. omega arith) (λ z. omega arith) (λ z. absurd (omega (arith, z, sheet-numbers s .small)))
 
-  of-50 : auditNumber host s ≡ 50 → Lawful host s × ¬ IsTree host s
+  of-50 : numberBy t host s ≡ 50 → Lawful host s × ¬ IsTree host s
   unfolding from50 from51 from52
   of-50 e =
       let (l, f) = from-50-on 50 (omega arith) e in
-      (l, λ tree. true≢false (sym (from-test (notTree h es) 50 (from51 h es) later f) ∙ test-of-tree (l .2) tree))
+      (l, λ tree. true≢false (sym (from-test (notTree h es) 50 (from51 t h es) later f) ∙ test-of-tree (l .2) tree))
     where
-      later : from51 h es ≡ 50 → ⊥
+      later : from51 t h es ≡ 50 → ⊥
       later g =
-          let c = past (notNested h es) 51 (from52 es) 50 (λ z. omega arith) g in
+          let c = past (notNested t h es) 51 (from52 es) 50 (λ z. omega arith) g in
           omega (arith, past (notDisjoint es) 52 0 50 (λ z. omega arith) (c .1) .1)
 
-  of-51 : auditNumber host s ≡ 51 → Lawful host s × IsTree host s × ¬ IsNested host s
+  of-51 : numberBy t host s ≡ 51 → Lawful host s × IsTree host s × ¬ IsNested t host s
   unfolding from50 from51 from52
   of-51 e =
       let (l, f) = from-50-on 51 (omega arith) e in
-      let b = past (notTree h es) 50 (from51 h es) 51 (λ z. omega arith) f in
+      let b = past (notTree h es) 50 (from51 t h es) 51 (λ z. omega arith) f in
       let tree = tree-of-test (l .2) (b .0) in
-      let wrong = from-test (notNested h es) 51 (from52 es)
+      let wrong = from-test (notNested t h es) 51 (from52 es)
       (λ g. omega (arith, past (notDisjoint es) 52 0 51 (λ z. omega arith) g .1)) (b .1) in
       (l, tree, λ nested. true≢false (sym wrong ∙ test-of-nested (l .2) tree nested))
 
-  of-52 : auditNumber host s ≡ 52 → Lawful host s × IsTree host s × IsNested host s × ¬ IsDisjoint s
+  of-52 : numberBy t host s ≡ 52 → Lawful host s × IsTree host s × IsNested t host s × ¬ IsDisjoint s
   unfolding from50 from51 from52
   of-52 e =
       let (l, f) = from-50-on 52 (omega arith) e in
-      let b = past (notTree h es) 50 (from51 h es) 52 (λ z. omega arith) f in
-      let c = past (notNested h es) 51 (from52 es) 52 (λ z. omega arith) (b .1) in
+      let b = past (notTree h es) 50 (from51 t h es) 52 (λ z. omega arith) f in
+      let c = past (notNested t h es) 51 (from52 es) 52 (λ z. omega arith) (b .1) in
       let tree = tree-of-test (l .2) (b .0) in
       let wrong = from-test (notDisjoint es) 52 0 (λ z. omega arith) (c .1) in
       (l, tree, nested-of-test (l .2) tree (c .0), λ disjoint. true≢false (sym wrong ∙ test-of-disjoint disjoint))
 
-  of-0 : auditNumber host s ≡ 0 → Accepted host s
+  of-0 : numberBy t host s ≡ 0 → AcceptedBy t host s
   unfolding from50 from51 from52
   of-0 e =
       let (l, f) = lawful-of 0 (λ z. omega arith) (λ z. omega arith) (λ z. z) e in
-      let b = past (notTree h es) 50 (from51 h es) 0 (λ z. omega arith) f in
-      let c = past (notNested h es) 51 (from52 es) 0 (λ z. omega arith) (b .1) in
+      let b = past (notTree h es) 50 (from51 t h es) 0 (λ z. omega arith) f in
+      let c = past (notNested t h es) 51 (from52 es) 0 (λ z. omega arith) (b .1) in
       let d = past (notDisjoint es) 52 0 0 (λ z. omega arith) (c .1) in
       let tree = tree-of-test (l .2) (b .0) in
       record {
@@ -232,11 +235,8 @@ module _ (host s : List ℕ) (bytes : Bytes s) where
         disjoint = disjoint-of-test (d .0);
       }
 
-  pub audit-iff : (auditNumber host s ≡ 0) ↔ Accepted host s
-  audit-iff = (of-0, at-0)
-
-  pub audited-by-number : ByNumber host s (auditNumber host s)
-  audited-by-number =
+  judged-by-number : ByNumber t host s (numberBy t host s)
+  judged-by-number =
       record {
         host-not-30 = at-20;
         off-edges = (of-26, λ p. at-26 (p .0) (p .1));
@@ -244,5 +244,20 @@ module _ (host s : List ℕ) (bytes : Bytes s) where
         not-tree = (of-50, λ p. at-50 (p .0) (p .1));
         not-nested = (of-51, λ p. at-51 (p .0) (p .1) (p .2));
         not-disjoint = (of-52, λ p. at-52 (p .0) (p .1) (p .2) (p .3));
-        accepted-else = audit-iff;
+        accepted-else = (of-0, at-0);
       }
+
+module _ (host s : List ℕ) (bytes : Bytes s) where
+  pub audited-by-number : ByNumber OfKind host s (auditNumber host s)
+  unfolding auditNumber
+  audited-by-number = judged-by-number OfKind host s bytes
+
+  pub audit-iff : (auditNumber host s ≡ 0) ↔ Accepted host s
+  audit-iff = audited-by-number .accepted-else
+
+  pub sound-by-number : ByNumber OfSpace host s (soundNumber host s)
+  unfolding soundNumber
+  sound-by-number = judged-by-number OfSpace host s bytes
+
+  pub sound-iff : (soundNumber host s ≡ 0) ↔ OneOwner host s
+  sound-iff = sound-by-number .accepted-else

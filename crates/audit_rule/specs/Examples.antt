@@ -17,7 +17,7 @@ use Rattle.sheet.specs.Sheet.{from29, from25, from28, from27, from24, from22, f
 use Rattle.sheet.specs.Examples.{p8, p10, p10-bridge, p10-end, nibbled}
 use Rattle.sheet_ranges.specs.Ranges.{barsFrom, rangesOf}
 use Rattle.audit_rule.specs.Audit.{anyPair, notTree, rangesAbove, notNested, notDisjoint, from52, from51, from50, fromSheet}
-use Rattle.audit_rule.specs.Audit.{from26, auditNumber}
+use Rattle.audit_rule.specs.Audit.{from26, numberBy, auditNumber, soundNumber}
 
 -- P10's host record
 abbrev pub host : List ℕ
@@ -50,6 +50,14 @@ sibling secondary subordinate = set (set (set p10-bridge 3 8) 29 secondary) 30 s
 abbrev pub disabled : List ℕ
 disabled = set (set p10-end 3 8) 8 0
 
+-- its wide BAR 1 MiB at F9100000h, and the bridge's high window over that, as firmware that keeps below 4 GiB leaves them
+abbrev pub prefetchableBelow4GiB : List ℕ → List ℕ
+prefetchableBelow4GiB s =
+    let base = set (set (set (set s 41 0x11) 42 0xF9) 43 0x11) 44 0xF9 in
+    let window = set (set base 45 0) 49 0 in
+    let value = set (set (set window 119 0x10) 120 0xF9) 121 0 in
+    set (set value 165 0xFF) 166 0xF0
+
 pub record Row : Type 0 where
   pub for : List ℕ
   pub sheet : List ℕ
@@ -81,17 +89,39 @@ examples =
     -- 51: a BAR past the window above; a low BAR below a closed low window and an open high one, though another lies over it
     ∷ row host (beyond p10) 51
     ∷ row host (shut (p10 ++ disabled)) 51
+    -- a high window in the low pool
+    ∷ row host (prefetchableBelow4GiB p10) 51
     -- 52: a disabled function's BARs over another's; windows of siblings
     ∷ row host (p10 ++ disabled) 52
     ∷ row host (1 ∷ p10-bridge ++ sibling 2 2) 52
     ∷ []
 
+-- the same with 51 asked of the address space
+abbrev pub HoldsBySpace : Row → Type 0
+HoldsBySpace r = soundNumber (r .for) (r .sheet) ≡ r .number
+
+abbrev pub space-examples : List Row
+space-examples =
+    row host p10 0
+    -- a high window in the low pool, and a high BAR in it
+    ∷ row host (prefetchableBelow4GiB p10) 0
+    ∷ row host (beyond p10) 51
+    ∷ row host (p10 ++ disabled) 52
+    ∷ []
+
 pub examples-hold : All Holds examples
-unfolding auditNumber from26 fromSheet from50 from51 from52 notTree notNested notDisjoint anyPair any keep rangesOf rangesAbove barsFrom
+unfolding auditNumber numberBy from26 fromSheet from50 from51 from52 notTree notNested notDisjoint anyPair any keep rangesOf rangesAbove barsFrom
     hostOfPart hostWrong poolWrong beBytes sheetNumber from21 from20 from22 from24 from27 from28 from25 from29 isFramed allSized
     entriesFrom breaks anyBreaks allZero readBacksWrong hasId idTwice entryOf dwords windowOf be le nextOf partsOver partsOf closed start
     stop isNibbled isBarValue valuesFit slots slotHere wideSlot narrowSlot ioSlot sized sizeFrom
 examples-hold = (
   refl,
-  (refl, (refl, (refl, (refl, (refl, (refl, (refl, (refl, (refl, (refl, (refl, (refl, (refl, (refl, (refl, tt))))))))))))))),
+  (refl, (refl, (refl, (refl, (refl, (refl, (refl, (refl, (refl, (refl, (refl, (refl, (refl, (refl, (refl, (refl, tt)))))))))))))))),
 )
+
+pub space-examples-hold : All HoldsBySpace space-examples
+unfolding soundNumber numberBy from26 fromSheet from50 from51 from52 notTree notNested notDisjoint anyPair any keep rangesOf rangesAbove barsFrom
+    hostOfPart hostWrong poolWrong beBytes sheetNumber from21 from20 from22 from24 from27 from28 from25 from29 isFramed allSized
+    entriesFrom breaks anyBreaks allZero readBacksWrong hasId idTwice entryOf dwords windowOf be le nextOf partsOver partsOf closed start
+    stop isNibbled isBarValue valuesFit slots slotHere wideSlot narrowSlot ioSlot sized sizeFrom
+space-examples-hold = (refl, (refl, (refl, (refl, tt))))

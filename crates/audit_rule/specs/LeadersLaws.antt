@@ -8,7 +8,7 @@ use Prim.Native.Nat.{ℕ, zero, suc, _≤_}
 use native.Mathlib.Omega.{arith}
 use Rattle.lists.specs.Lists.{_∈_, All, Some}
 use Rattle.lists.specs.ListLaws.{all-elim, all-intro}
-use Rattle.walk.specs.Ranges.{Inside}
+use Rattle.walk.specs.Ranges.{Range, Inside}
 use Rattle.walk.specs.Registers.{Node, Registers, nodes, Item, items}
 use Rattle.walk.specs.RegistersLaws.{item-elim, node-mem}
 use Rattle.walk.specs.Above.{bridgesTo, LeadsTo}
@@ -56,9 +56,10 @@ module _ (root : ℕ) (ns : List Node) (rise : BridgesRise ns) (ways : All (OneW
       all-elim _ ns h mn is b (only-leader n mn b (record { in-sheet = mb; is-bridge = bridge; leads = sym at }))))
 
 module _ (root : ℕ) (fs : List Registers) (rise : BridgesRise (nodes fs)) (ways : All (OneWayUp root (nodes fs)) (nodes fs)) where
-  pub in-window-of-leader : All (λ i. (g : Registers) → g ∈ fs → bridgesTo (i .owner .node .bus) (nodes fs) ≡ g .node ∷ []
-      → Some (Inside (i .range)) (g .windows)) (items fs) → InWindowAbove fs
-  in-window-of-leader h =
+  pub in-window-of-leader : (Lies : Range → Range → Type 0)
+      → All (λ i. (g : Registers) → g ∈ fs → bridgesTo (i .owner .node .bus) (nodes fs) ≡ g .node ∷ []
+      → Some (Lies (i .range)) (g .windows)) (items fs) → InWindowAbove Lies fs
+  in-window-of-leader Lies h =
       all-intro _ fs (λ b mb bridge. all-intro _ (items fs) (λ i mi at.
       all-elim _ (items fs) h mi b mb
       (only-leader root (nodes fs) rise ways (i .owner .node) (node-mem (owner-in i mi)) (b .node)

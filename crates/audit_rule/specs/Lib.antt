@@ -8,6 +8,7 @@ pub mod Examples
 pub mod LeadersLaws
 pub mod PairLaws
 pub mod PassLaws
+pub mod InsideLaws
 pub mod TreeLaws
 pub mod NestedLaws
 pub mod DisjointLaws

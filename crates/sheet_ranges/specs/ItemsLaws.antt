@@ -44,11 +44,15 @@ number-of-pool n = one (eqb (n % 4) 1) refl
     one false e = two (eqb (n % 4) 2) refl (eqb-false (n % 4) 1 e)
 
 -- low and high memory are one space
-pub space-of-number : (q : Pool) → spaceNumber q ≡ (poolNumber q + 1) / 2
+space-of-number : (q : Pool) → spaceNumber q ≡ (poolNumber q + 1) / 2
 space-of-number buses = refl
 space-of-number low = refl
 space-of-number high = refl
 space-of-number io = refl
+
+-- of an item
+pub space-of-item : (n : ℕ) → (n % 4 + 1) / 2 ≡ spaceNumber (poolWith n)
+space-of-item n = sym (space-of-number (poolWith n) ∙ ap (λ (k : ℕ). (k + 1) / 2) (number-of-pool n))
 
 pub pool-with-number : (q : pools.Pool) → poolWith (poolNumber (poolOf q)) ≡ poolOf q
 unfolding poolWith

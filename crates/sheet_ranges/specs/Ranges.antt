@@ -69,10 +69,6 @@ spaceNumber low = 1
 spaceNumber high = 1
 spaceNumber io = 2
 
--- of the same pool, and no address of it is outside
-abbrev pub inside : Range → Range → Bool
-inside r outer = eqb (poolNumber (r .pool)) (poolNumber (outer .pool)) && (leb (outer .start) (r .start) && leb (r .stop) (outer .stop))
-
 -- of one space, and each starts before the other ends
 abbrev pub overlap : Range → Range → Bool
 overlap r s = eqb (spaceNumber (r .pool)) (spaceNumber (s .pool)) && (ltb (r .start) (s .stop) && ltb (s .start) (r .stop))

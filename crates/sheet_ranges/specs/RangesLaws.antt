@@ -24,13 +24,13 @@ use Rattle.window.specs.Window as windows
 use Rattle.board_record.specs.declared.Host.{Host}
 use Rattle.board_record.specs.Host as hosts
 use Rattle.walk.specs.Ranges as ranges
-use Rattle.walk.specs.Ranges.{Range, Inside, Apart}
+use Rattle.walk.specs.Ranges.{Range, Apart}
 use Rattle.walk.specs.Registers.{openWindows}
 use Rattle.sheet_record.specs.Entry.{Entry, bridges}
 use Rattle.sheet_record.specs.Spaces as spaces
 use Rattle.sheet_record.specs.Spaces.{poolOf, slotsOf, openRange, windowsOf, functionOf}
 use Rattle.sheet_ranges.specs.Ranges.{barHere, barsFrom, windowsIn, rangesOf, openPool, poolsOf, poolsIn, poolNumber, spaceNumber}
-use Rattle.sheet_ranges.specs.Ranges.{inside, overlap}
+use Rattle.sheet_ranges.specs.Ranges.{overlap}
 
 -- ## The ranges of a space
 
@@ -174,7 +174,7 @@ some-ranges e =
 
 -- ## The tests
 
-pool-of-number : (p q : ranges.Pool) → poolNumber p ≡ poolNumber q → p ≡ q
+pub pool-of-number : (p q : ranges.Pool) → poolNumber p ≡ poolNumber q → p ≡ q
 pool-of-number ranges.buses ranges.buses e = refl
 pool-of-number ranges.buses ranges.low e = absurd (omega arith)
 pool-of-number ranges.buses ranges.high e = absurd (omega arith)
@@ -192,44 +192,9 @@ pool-of-number ranges.io ranges.low e = absurd (omega arith)
 pool-of-number ranges.io ranges.high e = absurd (omega arith)
 pool-of-number ranges.io ranges.io e = refl
 
-pub inside-iff : (r outer : Range) → (inside r outer ≡ true) ↔ Inside r outer
-inside-iff r outer = (to, from)
-  where
-    to : inside r outer ≡ true → Inside r outer
-    to e =
-        let a = and-eq-true-iff (eqb (poolNumber (r .pool)) (poolNumber (outer .pool))) _ .0 e in
-        let b = and-eq-true-iff (leb (outer .start) (r .start)) (leb (r .stop) (outer .stop)) .0 (a .1) in
-        record {
-          same-pool = pool-of-number (r .pool) (outer .pool) (eqb-true _ _ (a .0));
-          start-inside = leb-true _ _ (b .0);
-          stop-inside = leb-true _ _ (b .1);
-        }
-
-    from : Inside r outer → inside r outer ≡ true
-    from i =
-        and-eq-true-iff _ _ .1
-        (eq-eqb _ _ (ap poolNumber (i .same-pool)), and-eq-true-iff _ _ .1 (le-leb _ _ (i .start-inside), le-leb _ _ (i .stop-inside)))
-
--- what lies inside is of the same space
-space-of-inside : (sp : Space) (r outer : Range) → Inside r outer → ofSpace sp r ≡ true → ofSpace sp outer ≡ true
-space-of-inside sp r outer i e = of-same-space sp r outer e (ap spaceNumber (i .same-pool))
-
--- among all ranges above, or those of its space
-module _ (sp : Space) (r : Range) (of : ofSpace sp r ≡ true) where
-  pub inside-of-any : (above : List Range) → any (inside r) above ≡ true → Some (Inside r) (keep (ofSpace sp) above)
-  inside-of-any above e =
-      let (o, m, i) = member-of-some _ above (some-of-any (inside r) above e) in
-      let k = inside-iff r o .0 i in
-      some-of-member _ (keep (ofSpace sp) above) (keep-intro (ofSpace sp) above m (space-of-inside sp r o k of)) k
-
-  pub any-of-inside : (above : List Range) → Some (Inside r) (keep (ofSpace sp) above) → any (inside r) above ≡ true
-  any-of-inside above s =
-      let (o, m, i) = member-of-some _ (keep (ofSpace sp) above) s in
-      any-of-some (inside r) above (some-of-member _ above (keep-elim (ofSpace sp) above m .0) (inside-iff r o .1 i))
-
 -- ranges of one space that do not overlap are apart
 module _ (sp : Space) (r s : Range) (of-r : ofSpace sp r ≡ true) (of-s : ofSpace sp s ≡ true) where
-  same-space : spaceNumber (r .pool) ≡ spaceNumber (s .pool)
+  pub same-space : spaceNumber (r .pool) ≡ spaceNumber (s .pool)
   same-space = eqb-true (spaceNumber (r .pool)) (numberOf sp) of-r ∙ sym (eqb-true (spaceNumber (s .pool)) (numberOf sp) of-s)
 
   pub apart-of-overlap : overlap r s ≡ false → Apart r s

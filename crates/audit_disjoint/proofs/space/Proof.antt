@@ -1,6 +1,6 @@
 -- `audit_disjoint::space`: by the pool's number. Assumes nothing.
 use borrow.Author.Needs.{needs}
-use Rattle.audit_disjoint.specs.DisjointLaws.{space-of-item}
+use Rattle.sheet_ranges.specs.ItemsLaws.{space-of-item}
 use Rattle.audit_disjoint.proofs.space.Statement.{statement}
 use Rattle.audit_disjoint.proofs.space.Tie as tie
 

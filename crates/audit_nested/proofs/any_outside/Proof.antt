@@ -13,14 +13,14 @@ use Rattle.audit_nested.proofs.any_outside.Statement.{statement}
 use Rattle.audit_nested.proofs.any_outside.Tie as tie
 
 abbrev Inv-loop : tie.InvT-loop
-Inv-loop own n above m i₀ i =
-    any (outsideAll (rangesIn m above)) (rangesFrom own i (n - i)) ≡ any (outsideAll (rangesIn m above)) (rangesIn n own)
+Inv-loop nesting own n above m i₀ i =
+    any (outsideAll nesting (rangesIn m above)) (rangesFrom own i (n - i)) ≡ any (outsideAll nesting (rangesIn m above)) (rangesIn n own)
 
 abbrev μ-loop : tie.MeasureT-loop
-μ-loop own n above m i₀ i = n - i
+μ-loop nesting own n above m i₀ i = n - i
 
 loop-holds : tie.Need-loop-holds Inv-loop μ-loop
-loop-holds c = let a = c .before .before .args in ap (any (outsideAll (rangesIn (a .m) (a .above .now)))) (items-all _ _)
+loop-holds c = let a = c .before .before .args in ap (any (outsideAll (a .nesting) (rangesIn (a .m) (a .above .now)))) (items-all _ _)
 
 item-at-requires : tie.Need-item-at-requires Inv-loop μ-loop
 item-at-requires c κs = omega arith
@@ -33,7 +33,7 @@ returns c =
     let found = c .before .before in
     let turn = found .before .before in
     let a = turn .before .before .before .args in
-    sym (items-hit (outsideAll (rangesIn (a .m) (a .above .now))) _ _ _ (found .before .loop-test .taken) _ (found .item-at .ensures) _
+    sym (items-hit (outsideAll (a .nesting) (rangesIn (a .m) (a .above .now))) _ _ _ (found .before .loop-test .taken) _ (found .item-at .ensures) _
     (ap not (c .before .is-inside-any .ensures)) (c .if1 .taken))
     ∙ turn .loop .inv
 
@@ -48,7 +48,7 @@ loop-again c =
     let found = c .before .before in
     let turn = found .before .before in
     let a = turn .before .before .before .args in
-    items-miss (outsideAll (rangesIn (a .m) (a .above .now))) _ _ _ (found .before .loop-test .taken) _ (found .item-at .ensures) _
+    items-miss (outsideAll (a .nesting) (rangesIn (a .m) (a .above .now))) _ _ _ (found .before .loop-test .taken) _ (found .item-at .ensures) _
     (ap not (c .before .is-inside-any .ensures)) (c .if1 .left)
     ∙ turn .loop .inv
 
@@ -56,7 +56,7 @@ returns-2 : tie.Need-returns-2 Inv-loop μ-loop
 returns-2 c =
     let turn = c .before in
     let a = turn .before .before .before .args in
-    sym (items-past (outsideAll (rangesIn (a .m) (a .above .now))) _ _ _ (c .loop-test .left)) ∙ turn .loop .inv
+    sym (items-past (outsideAll (a .nesting) (rangesIn (a .m) (a .above .now))) _ _ _ (c .loop-test .left)) ∙ turn .loop .inv
 
 pub any-outside-spec : {M : Type 1} → statement M
 any-outside-spec =

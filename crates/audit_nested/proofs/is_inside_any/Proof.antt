@@ -5,20 +5,21 @@ use Prim.Native.Nat.{_-_}
 use native.Mathlib.Omega.{arith}
 use borrow.Author.Needs.{needs}
 use Rattle.lists.specs.Lists.{any}
-use Rattle.sheet_ranges.specs.Ranges.{inside}
+use Rattle.audit_rule.specs.Audit.{inside}
 use Rattle.sheet_ranges.specs.Items.{rangeOf, rangesFrom, rangesIn}
 use Rattle.sheet_ranges.specs.SearchLaws.{items-all, items-past, items-hit, items-miss}
 use Rattle.audit_nested.proofs.is_inside_any.Statement.{statement}
 use Rattle.audit_nested.proofs.is_inside_any.Tie as tie
 
 abbrev Inv-loop : tie.InvT-loop
-Inv-loop a above m j₀ j = any (inside (rangeOf a)) (rangesFrom above j (m - j)) ≡ any (inside (rangeOf a)) (rangesIn m above)
+Inv-loop nesting a above m j₀ j =
+    any (inside nesting (rangeOf a)) (rangesFrom above j (m - j)) ≡ any (inside nesting (rangeOf a)) (rangesIn m above)
 
 abbrev μ-loop : tie.MeasureT-loop
-μ-loop a above m j₀ j = m - j
+μ-loop nesting a above m j₀ j = m - j
 
 loop-holds : tie.Need-loop-holds Inv-loop μ-loop
-loop-holds c = ap (any (inside (rangeOf (c .before .args .a)))) (items-all _ _)
+loop-holds c = let a = c .before .args in ap (any (inside (a .nesting) (rangeOf (a .a)))) (items-all _ _)
 
 item-at-requires : tie.Need-item-at-requires Inv-loop μ-loop
 item-at-requires c κs = omega arith
@@ -30,8 +31,8 @@ returns : tie.Need-returns Inv-loop μ-loop
 returns c =
     let found = c .before .before in
     let turn = found .before .before in
-    let a = turn .before .before .args .a in
-    sym (items-hit (inside (rangeOf a)) _ _ _ (found .before .loop-test .taken) _ (found .item-at .ensures) _
+    let a = turn .before .before .args in
+    sym (items-hit (inside (a .nesting) (rangeOf (a .a))) _ _ _ (found .before .loop-test .taken) _ (found .item-at .ensures) _
     (c .before .is-inside .ensures) (c .if1 .taken))
     ∙ turn .loop .inv
 
@@ -45,15 +46,16 @@ loop-again : tie.Need-loop-again Inv-loop μ-loop
 loop-again c =
     let found = c .before .before in
     let turn = found .before .before in
-    let a = turn .before .before .args .a in
-    items-miss (inside (rangeOf a)) _ _ _ (found .before .loop-test .taken) _ (found .item-at .ensures) _ (c .before .is-inside .ensures)
+    let a = turn .before .before .args in
+    items-miss (inside (a .nesting) (rangeOf (a .a))) _ _ _ (found .before .loop-test .taken) _ (found .item-at .ensures) _ (c .before .is-inside .ensures)
     (c .if1 .left)
     ∙ turn .loop .inv
 
 returns-2 : tie.Need-returns-2 Inv-loop μ-loop
 returns-2 c =
     let turn = c .before in
-    sym (items-past (inside (rangeOf (turn .before .before .args .a))) _ _ _ (c .loop-test .left)) ∙ turn .loop .inv
+    let a = turn .before .before .args in
+    sym (items-past (inside (a .nesting) (rangeOf (a .a))) _ _ _ (c .loop-test .left)) ∙ turn .loop .inv
 
 pub is-inside-any-spec : {M : Type 1} → statement M
 is-inside-any-spec =

@@ -13,14 +13,14 @@ use Rattle.audit_nested.proofs.not_nested.Statement.{statement}
 use Rattle.audit_nested.proofs.not_nested.Tie as tie
 
 abbrev Inv-loop : tie.InvT-loop
-Inv-loop host sheet table own₀ above₀ records k₀ own above k =
+Inv-loop nesting host sheet table own₀ above₀ records k₀ own above k =
     (length own ≡ 18)
     × (length above ≡ 18)
-    × (any (outsideAbove host (entriesOf sheet)) (entriesFrom sheet (recordAt k))
-    ≡ any (outsideAbove host (entriesOf sheet)) (entriesOf sheet))
+    × (any (outsideAbove nesting host (entriesOf sheet)) (entriesFrom sheet (recordAt k))
+    ≡ any (outsideAbove nesting host (entriesOf sheet)) (entriesOf sheet))
 
 abbrev μ-loop : tie.MeasureT-loop
-μ-loop host sheet table own₀ above₀ records k₀ own above k = records - k
+μ-loop nesting host sheet table own₀ above₀ records k₀ own above k = records - k
 
 -- the record of a turn is one of the sheet's
 inside : (c : tie.In-loop Inv-loop μ-loop)
@@ -65,7 +65,7 @@ returns c =
     let counted = turn .before in
     let start = counted .before .before .before in
     sym (any-hit _ (start .pre .0 .framed) _ _ (counted .count .ensures) (parted .before .loop-test .taken)
-    (outsideAbove (start .args .host) (entriesOf (start .args .sheet .now))) _ (parted .part .ensures)
+    (outsideAbove (start .args .nesting) (start .args .host) (entriesOf (start .args .sheet .now))) _ (parted .part .ensures)
     (sym (judged .outside-above .ensures) ∙ c .if1 .taken))
     ∙ turn .loop .inv .2
 
@@ -85,7 +85,7 @@ loop-again c =
       omega arith,
       omega arith,
       sym (any-miss _ (start .pre .0 .framed) _ _ (counted .count .ensures) (parted .before .loop-test .taken)
-          (outsideAbove (start .args .host) (entriesOf (start .args .sheet .now))) _ (parted .part .ensures)
+          (outsideAbove (start .args .nesting) (start .args .host) (entriesOf (start .args .sheet .now))) _ (parted .part .ensures)
           (sym (judged .outside-above .ensures) ∙ c .if1 .left))
           ∙ turn .loop .inv .2,
     )
@@ -97,7 +97,7 @@ returns-2 c =
     let counted = turn .before in
     let start = counted .before .before .before in
     sym (any-past _ (start .pre .0 .framed) _ _ (counted .count .ensures) (c .loop-test .left)
-    (outsideAbove (start .args .host) (entriesOf (start .args .sheet .now))))
+    (outsideAbove (start .args .nesting) (start .args .host) (entriesOf (start .args .sheet .now))))
     ∙ turn .loop .inv .2
 
 pub not-nested-spec : {M : Type 1} → statement M

@@ -27,8 +27,8 @@ returns c =
     let put = c .before .before .before .before .before in
     let based = put .before .before in
     let decoded = based .before .before .before in
-    let host = decoded .before .before .before .before .before .before .before .args .host in
-    outside-above-part host _ _ _ _ _ _ (based .bus-of .ensures) (decoded .ranges-of .ensures .0) (put .ranges-above .ensures .0)
+    let start = decoded .before .before .before .before .before .before .before .args in
+    outside-above-part (start .nesting) (start .host) _ _ _ _ _ _ (based .bus-of .ensures) (decoded .ranges-of .ensures .0) (put .ranges-above .ensures .0)
     (c .any-outside .ensures)
 
 pub outside-above-spec : {M : Type 1} → statement M
