@@ -3,7 +3,7 @@
 ghost use mathlib.Core.Path.{_≡_};
 ghost use lib.ListN.{length};
 ghost use Rattle.sheet.specs.Sheet.{sheetNumber};
-ghost use Rattle.audit_rule.specs.Audit.{auditNumber};
+ghost use Rattle.audit_rule.specs.Audit.{auditNumber, soundNumber};
 ghost use Rattle.index_build.specs.Build.{buildNumber, indexAfter};
 ghost use Rattle.trace_line.specs.declared.Engine.the-variants.{Index};
 ghost use Rattle.trace_line.specs.Line.{lineOver};
@@ -98,6 +98,14 @@ pub extern "C" fn cartsundial_audit(host: &[u8], sheet: &[u8]) -> u32
     ensures { λ r. ⌜ r ≡ auditNumber (now (host .entry)) (now (sheet .entry)) ⌝ }
 {
     auditor::audit(host, sheet) as u32
+}
+
+// The same with 51 asked of the address space and not of the kind: 0 for a sheet on which every address has one owner.
+#[no_mangle]
+pub extern "C" fn cartsundial_sound(host: &[u8], sheet: &[u8]) -> u32
+    ensures { λ r. ⌜ r ≡ soundNumber (now (host .entry)) (now (sheet .entry)) ⌝ }
+{
+    auditor::sound(host, sheet) as u32
 }
 
 // Where the 64 register bytes of the function with an ID start in the sheet.

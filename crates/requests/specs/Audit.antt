@@ -23,6 +23,7 @@ use Rattle.sheet.specs.Commands.{SameButCommands}
 use Rattle.plan_answer.specs.declared.Planning.the-variants.{Planned}
 use Rattle.plan_answer.specs.Plan.{planning, sheetAfter}
 use Rattle.audit_rule.specs.Accepted.{Accepted, ByNumber}
+use Rattle.audit_rule.specs.declared.Nesting.the-variants.{OfKind}
 use Rattle.audit_rule.specs.Audit.{auditNumber}
 use Rattle.demands.specs.Demand3.{IsRequest, routeNumber, Routed}
 use Rattle.demands.specs.ById.{GoesById, RoutedById}
@@ -71,7 +72,7 @@ pub record Audits : Type 0 where
   -- "Given a host record .. and a sheet, say yes exactly when .."
   pub yes-exactly : (host s : List ℕ) → Bytes s → (auditNumber host s ≡ 0) ↔ Accepted host s
   -- and else the number of the first part that fails
-  pub by-number : (host s : List ℕ) → Bytes s → ByNumber host s (auditNumber host s)
+  pub by-number : (host s : List ℕ) → Bytes s → ByNumber OfKind host s (auditNumber host s)
   -- what was accepted stays so when command words are rewritten
   pub stays-accepted : (host s : List ℕ) → Accepted host s → (t : List ℕ) → SameButCommands s t → Accepted host t
   -- "An accepted sheet has demand 3's delivery, ..": "whatever the sheet's command words say", as accepted "or rewritten since"

@@ -33,7 +33,7 @@ use Rattle.walk.specs.Tally.{tallyOn}
 use Rattle.walk.specs.Walk.{Outcome, delivered, refused, walkFrom, Trail}
 use Rattle.walk.specs.Above.{above}
 use Rattle.walk.specs.AboveLaws.{above-is, above-at-most-255}
-use Rattle.walk.specs.Good.{Host as WalkHost, BridgesRise, Tree, Nested, Disjoint, Good, Sound, sound-of-good}
+use Rattle.walk.specs.Good.{Host as WalkHost, BridgesRise, Tree, NestedBy, Disjoint, Good, Sound}
 use Rattle.walk.specs.Reach.{numbersOf}
 use Rattle.walk.specs.Delivery as walking
 use Rattle.walk.specs.Delivery.{outcomeOf, Delivers, sound-delivers, owner-of-delivered, delivered-of-owner, outcome-from-first}
@@ -55,10 +55,12 @@ use Rattle.claims.specs.declared.Aim.the-variants.{Address, Id}
 use Rattle.claims.specs.Claims.{tallyFor}
 use Rattle.route.specs.Route.{root}
 use Rattle.audit_rule.specs.Host.{hostFor}
-use Rattle.audit_rule.specs.Accepted.{Accepted}
-use Rattle.audit_rule.specs.AcceptedLaws.{good-of-accepted}
+use Rattle.audit_rule.specs.declared.Nesting.{Nesting}
+use Rattle.audit_rule.specs.declared.Nesting.the-variants.{OfKind}
+use Rattle.audit_rule.specs.Accepted.{Lies, AcceptedBy, Accepted, OneOwner}
+use Rattle.audit_rule.specs.AcceptedLaws.{one-owner-of-accepted, sound-of-one-owner}
 use Rattle.audit_rule.specs.AuditLaws.{audit-iff, audited-by-number}
-use Rattle.demands.specs.Demand3.{IsRequest, Routed}
+use Rattle.demands.specs.Demand3.{IsRequest, routeNumber, Routed}
 use Rattle.demands.specs.ById.{GoesById, RoutedById}
 use Rattle.demands.specs.ByIdLaws.{ComesById, routed-by-id, not-41}
 use Rattle.requests.specs.Audit.{busOf, bridgesAbove, HasBarOver, Owns, HasIdOver, mostInRow, hostRecord, Audits}
@@ -66,15 +68,15 @@ use Rattle.demands.specs.RoutedLaws.{trail-from-root, Comes, routed}
 
 -- ## Command words rewritten
 
-stays-accepted : (host s : List ℕ) → Accepted host s → (t : List ℕ) → SameButCommands s t → Accepted host t
-stays-accepted host s a t same =
+pub stays-accepted : (n : Nesting) (host s : List ℕ) → AcceptedBy n host s → (t : List ℕ) → SameButCommands s t → AcceptedBy n host t
+stays-accepted n host s a t same =
     let framed = checked-of-zero s (a .passes) .framed in
     record {
       host-size = a .host-size;
       host-edges = a .host-edges;
       passes = number-same same ∙ a .passes;
       tree = λ sp. subst (Tree (hostFor sp (hostOfPart host))) (sym (nodes-same same framed)) (a .tree sp);
-      nested = λ sp. subst (Nested (hostFor sp (hostOfPart host))) (sym (registers-same same framed sp)) (a .nested sp);
+      nested = λ sp. subst (NestedBy (Lies n) (hostFor sp (hostOfPart host))) (sym (registers-same same framed sp)) (a .nested sp);
       disjoint = λ sp. subst Disjoint (sym (registers-same same framed sp)) (a .disjoint sp);
     }
 
@@ -105,7 +107,7 @@ bus-of-node s n m =
     let i : pred (n .number) ≡ n .number - 1 = omega (arith, le) in
     rw i at
 
-module _ (host s : List ℕ) (bytes : Bytes s) (a : Accepted host s) (sp : Space) where
+module _ (host s : List ℕ) (bytes : Bytes s) (a : OneOwner host s) (sp : Space) where
   abbrev walkHost : WalkHost
   walkHost = hostFor sp (hostOfPart host)
 
@@ -113,7 +115,7 @@ module _ (host s : List ℕ) (bytes : Bytes s) (a : Accepted host s) (sp : Space
   fs = registersOf sp s
 
   sound : Sound walkHost fs
-  sound = sound-of-good (good-of-accepted host s bytes a sp)
+  sound = sound-of-one-owner host s bytes a sp
 
   nodes-are : nodes fs ≡ nodesOf s
   nodes-are = nodes-functions sp 1 (entriesOf s)
@@ -237,7 +239,7 @@ module _ (host s : List ℕ) (bytes : Bytes s) (a : Accepted host s) (sp : Space
 
 -- ## By ID
 
-module _ (host s : List ℕ) (bytes : Bytes s) (a : Accepted host s) (t : List ℕ) (same : SameButCommands s t) (id : ℕ) where
+module _ (host s : List ℕ) (bytes : Bytes s) (a : OneOwner host s) (t : List ℕ) (same : SameButCommands s t) (id : ℕ) where
   abbrev first : ℕ
   first = hostOfPart host .«first_bus»
 
@@ -380,35 +382,41 @@ module _ (b room : List ℕ) (n : ℕ) (bytes : Bytes b) (planned : planning b (
         disjoint = λ sp. good sp .disjoint;
       }
 
--- ## The request
+-- ## A sheet with one owner for every address, which every accepted one is
 
-module _ (host s : List ℕ) (bytes : Bytes s) (a : Accepted host s) (t : List ℕ) (same : SameButCommands s t) (header : List ℕ) (p : Packet)
+module _ (host s : List ℕ) (bytes : Bytes s) (a : OneOwner host s) (t : List ℕ) (same : SameButCommands s t) (header : List ℕ) (p : Packet)
     (read : readOf header ≡ Read p) where
-  accepted-routed : (sp : Space) (address : ℕ) → IsRequest p sp address
+  pub owner-routed : (sp : Space) (address : ℕ) → IsRequest p sp address
       → Routed (Owns host s t sp address) (bridgesAbove host s) mostInRow t header p sp address
-  accepted-routed sp address is =
+  owner-routed sp address is =
       routed (Owns host s t sp address) (bridgesAbove host s) mostInRow t sp address (number-same same ∙ a .passes)
       (comes host s bytes a sp t same address) header p read is
 
-  accepted-by-id : (id : ℕ) → GoesById p id
+  pub owner-by-id : (id : ℕ) → GoesById p id
       → RoutedById (length (nodesOf s)) (hostOfPart host .«first_bus») (HasIdOver s id) (bridgesAbove host s) mostInRow t header p id
-  accepted-by-id id by =
+  owner-by-id id by =
       routed-by-id (length (nodesOf s)) (hostOfPart host .«first_bus») (HasIdOver s id) (bridgesAbove host s) mostInRow t id
       (comes-by-id host s bytes a t same id) header p read by
+
+pub never-contested : (host s : List ℕ) → Bytes s → OneOwner host s → (t : List ℕ) → SameButCommands s t
+    → (header : List ℕ) (p : Packet) → readOf header ≡ Read p → ¬ (routeNumber header t ≡ 41)
+never-contested host s bytes a t same header =
+    not-41 header t (number-same same ∙ a .passes)
+    (λ q r sp address is. owner-routed host s bytes a t same header q r sp address is .delivered-or-40)
+    (λ q r id by. owner-by-id host s bytes a t same header q r id by .delivered-40-or-42)
+
+-- ## The request
 
 pub audits : Audits
 audits =
     record {
       yes-exactly = audit-iff;
       by-number = audited-by-number;
-      stays-accepted = stays-accepted;
-      accepted-routed = accepted-routed;
-      accepted-by-id = accepted-by-id;
-      never-contested = λ host s bytes a t same header.
-          not-41 header t (number-same same ∙ a .passes)
-          (λ q r sp address is. accepted-routed host s bytes a t same header q r sp address is .delivered-or-40)
-          (λ q r id by. accepted-by-id host s bytes a t same header q r id by .delivered-40-or-42);
-      one-holder = holder-is;
+      stays-accepted = stays-accepted OfKind;
+      accepted-routed = λ host s bytes a. owner-routed host s bytes (one-owner-of-accepted host s a);
+      accepted-by-id = λ host s bytes a. owner-by-id host s bytes (one-owner-of-accepted host s a);
+      never-contested = λ host s bytes a. never-contested host s bytes (one-owner-of-accepted host s a);
+      one-holder = λ host s bytes a. holder-is host s bytes (one-owner-of-accepted host s a);
       planned-accepted = planned-accepted;
       planned-yes = λ b room n bytes planned t same small.
           audit-iff (hostRecord b) t small .1 (planned-accepted b room n bytes planned t same);

@@ -47,7 +47,7 @@ use Rattle.plan_sheet.specs.Delivery.{PlannedSheet}
 use Rattle.plan_sheet.specs.Answer.{AnswersPlanned, planned-of-answer, planned-sheet-of-answer}
 use Rattle.audit_rule.specs.Host.{hostFor}
 use Rattle.audit_rule.specs.Accepted.{Accepted}
-use Rattle.audit_rule.specs.AcceptedLaws.{good-of-accepted, accepted-delivers}
+use Rattle.audit_rule.specs.AcceptedLaws.{good-of-accepted, one-owner-of-accepted, accepted-delivers}
 use Rattle.claims.specs.declared.Aim.the-variants.{Address}
 use Rattle.claims.specs.Claims.{tallyFor}
 use Rattle.route.specs.Route.{root}
@@ -314,7 +314,7 @@ module _ (host s : List ℕ) (bytes : Bytes s) (a : Accepted host s) (sp : Space
       record {
         bar-of = λ f m held. record { function = f; in-sheet = m; number-is = refl; bar-holds = held };
         of-bar = λ j h. (h .function, h .in-sheet, h .number-is, h .bar-holds);
-        above-agree = audited-above host s bytes a sp;
+        above-agree = audited-above host s bytes (one-owner-of-accepted host s a) sp;
       }
 
   few-accepted : (f : Registers) → f ∈ registersOf sp s → length (audited.bridgesAbove host s (f .node .number)) ≤ 255
@@ -323,7 +323,7 @@ module _ (host s : List ℕ) (bytes : Bytes s) (a : Accepted host s) (sp : Space
         arith,
         accepted-delivers host s bytes a sp address .at-most-255 f m,
         length-map (walking.bridgesAbove walkHost (registersOf sp s) f) (λ (b : Node). b .number),
-        ap (λ (l : List ℕ). length l) (audited-above host s bytes a sp f m),
+        ap (λ (l : List ℕ). length l) (audited-above host s bytes (one-owner-of-accepted host s a) sp f m),
       )
 
   -- over the sheet with these command words
