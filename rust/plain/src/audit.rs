@@ -8,11 +8,17 @@ use crate::sheet::{Record, Sheet};
 
 /// The number of the first check that the host record or the sheet fails, 0 when the sheet is accepted.
 pub fn audit(host: &[u8], sheet: &[u8]) -> u8 {
-    judge(host, sheet).err().unwrap_or(0)
+    judge(host, sheet, Nesting::Kind).err().unwrap_or(0)
+}
+
+/// The same with 51 asked of the address space and not of the kind: a memory BAR or window lies in some memory window of
+/// the bridge above, on the root bus in the low or the high pool. 0 when every address has one owner.
+pub fn sound(host: &[u8], sheet: &[u8]) -> u8 {
+    judge(host, sheet, Nesting::Space).err().unwrap_or(0)
 }
 
 /// The host record's 20 and 26, the sheet's own checks, then 50, 51 and 52.
-fn judge(host: &[u8], sheet: &[u8]) -> Result<(), u8> {
+fn judge(host: &[u8], sheet: &[u8], nesting: Nesting) -> Result<(), u8> {
     let host: &[u8; HOST] = host.try_into().map_err(|_| 20)?;
     let host = Host::parse(host);
     if !host.is_lawful() {
@@ -27,7 +33,7 @@ fn judge(host: &[u8], sheet: &[u8]) -> Result<(), u8> {
     for record in sheet.records() {
         add_items(record, &mut items);
     }
-    if !items.iter().all(|item| tree.holds(item)) {
+    if !items.iter().all(|item| tree.holds(item, nesting)) {
         return Err(51);
     }
     // One space on one bus.
@@ -36,6 +42,22 @@ fn judge(host: &[u8], sheet: &[u8]) -> Result<(), u8> {
         return Err(52);
     }
     Ok(())
+}
+
+/// Which windows, or pools, check 51 lets a BAR or window lie in: those of its kind, or of its address space.
+#[derive(Clone, Copy)]
+enum Nesting {
+    Kind,
+    Space,
+}
+
+impl Nesting {
+    fn admits(self, item: Pool, outer: Pool) -> bool {
+        match self {
+            Nesting::Kind => item == outer,
+            Nesting::Space => (item == Pool::Io) == (outer == Pool::Io),
+        }
+    }
 }
 
 /// A BAR, or an open window.
@@ -137,10 +159,10 @@ impl<'a> Tree<'a> {
     }
 
     /// Check 51 of one item. Nothing lies in a closed window or pool.
-    fn holds(&self, item: &Item) -> bool {
+    fn holds(&self, item: &Item, nesting: Nesting) -> bool {
         self.parent(item.bus).is_some_and(|parent| {
-            let outer = parent.range(item.pool);
-            outer.base <= item.range.base && item.range.last <= outer.last
+            let admitted = Pool::ALL.into_iter().filter(|&pool| nesting.admits(item.pool, pool));
+            admitted.map(|pool| parent.range(pool)).any(|outer| outer.base <= item.range.base && item.range.last <= outer.last)
         })
     }
 }
