@@ -35,8 +35,8 @@ pub enum Class {
     Other,
 }
 
-// What a header asks for: the two halves of the word that opens it, or with the key 0 the number that refuses it. 0 and 0 is not told by the
-// header's bytes alone: it takes a packet.
+// What a header asks for: the two halves of the word that opens it, or with the key 0 the number that refuses it. 0 and 0 is not told by
+// the header's bytes alone: it takes a packet.
 struct Asked {
     key: u32,
     low: u32,
