@@ -3,6 +3,7 @@ pub mod Board
 pub mod Pass
 pub mod PassLaws
 pub mod BoardLaws
+pub mod NumberLaws
 pub mod ToPlacing
 pub mod ToPlacingLaws
 pub mod Depth

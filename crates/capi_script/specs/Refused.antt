@@ -1,19 +1,17 @@
 -- A refused call on a write script keeps the room, and no refusal has the number 0; its answer slice is that of every call
 -- (`refused-keeps-slice` of capi_answers). Assumes nothing.
-use Prim.Native.Nat.{ℕ, _<_}
+use Prim.Native.Nat.{ℕ}
 use native.Mathlib.Omega.{arith}
 use mathlib.Core.Path.{_≡_, refl}
 use mathlib.Core.Bool.{Bool, true, false, cond}
 use mathlib.Core.List.{List}
 use lib.ListN.{length}
-use lib.Dec.{ltb, eqb}
-use Rattle.sheet.specs.Sheet.{fullSheet}
-use Rattle.plan_answer.specs.declared.Planning.{Planning}
-use Rattle.plan_answer.specs.declared.Planning.the-variants.{Planned, Refused as NotPlanned}
-use Rattle.plan_answer.specs.Plan.{planning}
+use lib.Dec.{eqb}
+use Rattle.refusals.specs.RefusalsLaws.{either}
 use Rattle.scripter.specs.declared.Scripting.{Scripting}
 use Rattle.scripter.specs.declared.Scripting.the-variants.{Written, Refused}
-use Rattle.scripter.specs.Scripting.{scriptLength, scriptingAs, scripting, roomAs, roomAfter}
+use Rattle.scripter.specs.Scripting.{scripting, roomAs, roomAfter}
+use Rattle.scripter.specs.NumberLaws.{Numbered as NumberedScripting, numbered-scripting}
 use Rattle.capi_answers.specs.Answers.{refuses, returned, leftBeside}
 use Rattle.capi_answers.specs.AnswersLaws.{one-given, Numbered}
 use Rattle.capi_script.specs.Calls.{tooWide, onScripting, scriptAnswer, scriptLeft}
@@ -38,20 +36,11 @@ refused-keeps-script board requester tag room written = by-width (tooWide reques
     by-width true h = refl
     by-width false h = by-slice (eqb (length written) 0) refl h
 
--- the planner's own refusals are not 0
-pub script-numbered : (board : List ℕ) (requester tag room : ℕ) → ((n : ℕ) → planning board fullSheet ≡ NotPlanned n → 0 < n)
-    → Numbered (scriptAnswer board requester tag room)
-unfolding scripting
-script-numbered board requester tag room numbered = by-width (tooWide requester tag)
+pub numbered-script : (board : List ℕ) (requester tag room : ℕ) → Numbered (scriptAnswer board requester tag room)
+numbered-script board requester tag room =
+    let answer = onScripting (scripting board room) in
+    either Numbered (tooWide requester tag) (refuses 10) answer (omega arith) (go (scripting board room) (numbered-scripting board room))
   where
-    by-room : (t : Bool) → Numbered (onScripting (cond t (Refused 11) (Written (scriptLength board))))
-    by-room true = omega arith
-    by-room false = tt
-
-    by-plan : (p : Planning) → planning board fullSheet ≡ p → Numbered (onScripting (scriptingAs p (scriptLength board) room))
-    by-plan (NotPlanned n) e = numbered n e
-    by-plan (Planned n) e = by-room (ltb room (scriptLength board))
-
-    by-width : (t : Bool) → Numbered (cond t (refuses 10) (onScripting (scripting board room)))
-    by-width true = omega arith
-    by-width false = by-plan (planning board fullSheet) refl
+    go : (w : Scripting) → NumberedScripting w → Numbered (onScripting w)
+    go (Written n) h = tt
+    go (Refused n) h = h .0

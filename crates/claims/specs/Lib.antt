@@ -4,3 +4,4 @@ pub mod Search
 pub mod HitsLaws
 pub mod TurnLaws
 pub mod IdsLaws
+pub mod RecordLaws

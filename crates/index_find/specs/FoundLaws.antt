@@ -7,17 +7,14 @@ use mathlib.Core.List.{List}
 use lib.Dec.{eqb}
 use borrow.Author.Tests.{eq-eqb, ne-eqb}
 use Rattle.packet.specs.declared.Packet.{Packet}
-use Rattle.tlp.specs.declared.Reading.{Reading}
 use Rattle.tlp.specs.declared.Reading.the-variants.{Accepted}
 use Rattle.tlp.specs.Reading.{readOf}
 use Rattle.walk.specs.Walk.{Outcome, delivered, refused, noOwner}
 use Rattle.claims.specs.declared.Aim.{Aim}
-use Rattle.route_arrival.specs.declared.Heading.{Heading}
 use Rattle.route_arrival.specs.declared.Heading.the-variants.{Aimed}
 use Rattle.route_arrival.specs.Arrival.{headingOf, typeWrong}
-use Rattle.route_answer.specs.declared.Routing.{Routing}
 use Rattle.route_answer.specs.declared.Routing.the-variants.{Refused}
-use Rattle.route_answer.specs.Routing.{answer, headedOver, typedOver, routeOver, wrongType}
+use Rattle.route_answer.specs.Routing.{answer}
 use Rattle.index_rule.specs.Owners.{keyOf, inReach}
 use Rattle.index_layout.specs.Words.{recordIn, bridgesIn}
 use Rattle.index_search.specs.Search.{functionsIn, rootIn, answerOver, outcomeBy, outcomeOver, outcomeIn, searchPacket, searchOf}

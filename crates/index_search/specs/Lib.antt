@@ -3,3 +3,4 @@
 pub mod Search
 pub mod AnswerLaws
 pub mod SearchLaws
+pub mod NumberLaws

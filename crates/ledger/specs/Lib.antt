@@ -4,6 +4,7 @@ pub mod WordsLaws
 pub mod PlacesLaws
 pub mod Ledger
 pub mod LedgerLaws
+pub mod NumberLaws
 pub mod AskedLaws
 pub mod History
 pub mod Kinds

@@ -7,3 +7,4 @@ pub mod RulesLaws
 pub mod Patterns
 pub mod Verdict
 pub mod VerdictLaws
+pub mod NumberLaws

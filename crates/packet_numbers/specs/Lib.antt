@@ -4,3 +4,4 @@ pub mod Parsing
 pub mod Fields
 pub mod NumbersLaws
 pub mod RoundTrip
+pub mod RefusedLaws

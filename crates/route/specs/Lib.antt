@@ -4,6 +4,7 @@ pub mod Route
 pub mod Listed
 pub mod Examples
 pub mod RouteLaws
+pub mod NumberLaws
 pub mod OrderLaws
 pub mod RequestLaws
 pub mod ListedLaws

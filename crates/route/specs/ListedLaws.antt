@@ -4,25 +4,21 @@ use mathlib.Core.Bool.{Bool, true, false, cond}
 use mathlib.Core.List.{List, [], _∷_, map, _++_}
 use Prim.Native.Nat.{ℕ, _+_}
 use lib.ListN.{length, drop}
-use lib.Dec.{eqb, ltb}
+use lib.Dec.{ltb}
 use Rattle.packet.specs.declared.Packet.{Packet}
-use Rattle.tlp.specs.declared.Reading.{Reading}
-use Rattle.tlp.specs.declared.Reading.the-variants.{Accepted, Refused as NotRead}
-use Rattle.tlp.specs.Reading.{readOf}
 use Rattle.walk.specs.Registers.{Node}
-use Rattle.walk.specs.Walk.{Outcome, delivered, refused, noOwner}
+use Rattle.walk.specs.Walk.{Outcome, delivered, refused}
 use Rattle.sheet_record.specs.Entry.{Entry}
-use Rattle.sheet.specs.Sheet.{entriesOf, sheetNumber}
+use Rattle.sheet.specs.Sheet.{entriesOf}
 use Rattle.sheet.specs.Spaces.{nodesFrom, nodesOf}
 use Rattle.route_list.specs.Counted.{counted}
-use Rattle.route_arrival.specs.declared.Heading.{Heading}
-use Rattle.route_arrival.specs.declared.Heading.the-variants.{Aimed, Up, Every, Port as ToPort}
-use Rattle.route_arrival.specs.Arrival.{headingOf, typeWrong}
 use Rattle.route_answer.specs.declared.Routing.{Routing}
 use Rattle.route_answer.specs.declared.Routing.the-variants.{Delivered, Broadcast, Port, Refused}
-use Rattle.route_answer.specs.Routing.{wrongType, answer}
+use Rattle.route_answer.specs.Routing.{answer}
 use Rattle.route_answer.specs.Listed.{onRoom, listedAfter}
-use Rattle.route.specs.Route.{walked, root, onHeading, from42, routePacket, fromSheet, fromReading, routeOf}
+use Rattle.route_answer.specs.NumberLaws.{over-elim}
+use Rattle.route.specs.Route.{walked, root, from42, routePacket, routeOf}
+use Rattle.route.specs.NumberLaws.{route-elim}
 use Rattle.route.specs.Listed.{listOf, listAfter}
 
 -- ## The list
@@ -44,39 +40,20 @@ CountsAll s (Broadcast functions p) = functions ≡ length (nodesOf s)
 CountsAll s (Port p) = Unit
 CountsAll s (Refused n) = Unit
 
-module _ (s : List ℕ) where
-  counts-answer : (p : Packet) (o : Outcome) → CountsAll s (answer p o)
-  counts-answer p (delivered number crossed) = tt
-  counts-answer p (refused n) = tt
+counts-answer : (s : List ℕ) (p : Packet) (o : Outcome) → CountsAll s (answer p o)
+counts-answer s p (delivered number crossed) = tt
+counts-answer s p (refused n) = tt
 
-  counts-headed : (p : Packet) (h : Heading) → CountsAll s (onHeading h p s)
-  counts-headed p (Aimed aim) = counts-answer p (walked aim s (root s) 0)
-  counts-headed p Up = tt
-  counts-headed p Every = refl
-  counts-headed p ToPort = tt
-
-  -- a check before the answer
-  counts-past : (b : Bool) (n : ℕ) (r : Routing) → CountsAll s r → CountsAll s (cond b (Refused n) r)
-  counts-past true n r all = tt
-  counts-past false n r all = all
-
-  counts-else : (b : Bool) (n : ℕ) (r : Routing) → CountsAll s r → CountsAll s (cond b r (Refused n))
-  counts-else true n r all = all
-  counts-else false n r all = tt
-
-  counts-read : (r : Reading) → CountsAll s (fromReading r s)
-  unfolding fromSheet routePacket from42
-  counts-read (Accepted p) =
-      let headed = onHeading (headingOf p) p s in
-      let typed = counts-past (typeWrong (root s) p) wrongType headed (counts-headed p (headingOf p)) in
-      counts-else (eqb (sheetNumber s) 0) (sheetNumber s) (routePacket p s)
-      (counts-past (eqb (length (nodesOf s)) 0) noOwner (from42 p s) typed)
-  counts-read (NotRead n) = tt
+counts-packet : (s : List ℕ) (p : Packet) → CountsAll s (routePacket p s)
+unfolding routePacket from42
+counts-packet s p =
+    over-elim (CountsAll s) (length (nodesOf s)) (root s) (λ aim. walked aim s (root s) 0) p (λ n h. tt) refl tt
+    (λ aim. counts-answer s p (walked aim s (root s) 0))
 
 pub broadcast-counts : (header s : List ℕ) (functions : ℕ) (p : Packet) → routeOf header s ≡ Broadcast functions p
     → functions ≡ length (nodesOf s)
-unfolding routeOf
-broadcast-counts header s functions p e = subst (CountsAll s) e (counts-read s (readOf header))
+broadcast-counts header s functions p e =
+    subst (CountsAll s) e (route-elim (CountsAll s) header s (λ n h. tt) (λ q c. counts-packet s q))
 
 pub list-of-broadcast : (header s : List ℕ) (functions : ℕ) (p : Packet) → routeOf header s ≡ Broadcast functions p
     → listOf s ≡ counted 1 functions

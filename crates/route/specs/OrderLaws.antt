@@ -4,16 +4,15 @@ use mathlib.Core.Path.{_≡_, refl, sym, ap, _∙_}
 use mathlib.Core.Logic.{_↔_}
 use mathlib.Core.Bool.{Bool, true, false}
 use mathlib.Core.List.{List}
-use Prim.Native.Nat.{ℕ, zero, suc, _+_, _≤_}
+use Prim.Native.Nat.{ℕ, _≤_}
 use native.Mathlib.Omega.{arith}
 use lib.ListN.{length}
 use borrow.Author.Tests.{eq-eqb, ne-eqb}
 use Rattle.packet.specs.declared.Packet.{Packet}
 use Rattle.tlp.specs.declared.Reading.the-variants.{Accepted}
 use Rattle.tlp.specs.Reading.{readOf}
-use Rattle.walk.specs.Registers.{bar, window}
-use Rattle.walk.specs.Tally.{Tally, none, one, several}
-use Rattle.walk.specs.Walk.{noOwner, contested, settle, walkOver, walkFrom}
+use Rattle.walk.specs.Walk.{Outcome, noOwner, contested}
+use Rattle.walk.specs.NumberLaws.{walk-elim}
 use Rattle.sheet.specs.Sheet.{sheetNumber}
 use Rattle.sheet.specs.Spaces.{nodesOf}
 use Rattle.claims.specs.declared.Aim.{Aim}
@@ -29,21 +28,10 @@ use Rattle.route.specs.Route.{walked, root, onHeading, from42, routePack
 -- ## The walk's numbers
 
 -- a walk is refused with 40 or 41
-number-over : (n : ℕ) (p : Packet) (tally : ℕ → Tally) (bus crossed : ℕ) → numberOf (answer p (walkOver n tally bus crossed)) ≤ contested
-unfolding walkOver
-number-over zero p tally bus crossed = omega arith
-number-over (suc n) p tally bus crossed = go (tally bus) (λ b. number-over n p tally b (crossed + 1))
-  where
-    go : (t : Tally) → ((b : ℕ) → numberOf (answer p (walkOver n tally b (crossed + 1))) ≤ contested)
-        → numberOf (answer p (settle t crossed (λ b. walkOver n tally b (crossed + 1)))) ≤ contested
-    go none next = omega arith
-    go several next = omega arith
-    go (one (bar x)) next = omega arith
-    go (one (window x b)) next = next b
-
 number-walked : (p : Packet) (aim : Aim) (s : List ℕ) (bus : ℕ) → numberOf (answer p (walked aim s bus 0)) ≤ contested
-unfolding walkFrom
-number-walked p aim s bus = number-over 256 p (tallyFor aim s) bus 0
+number-walked p aim s bus =
+    walk-elim (λ (o : Outcome). numberOf (answer p o) ≤ contested) (tallyFor aim s) (omega arith) (omega arith)
+    (λ bus number crossed e. omega arith) bus 0
 
 -- ## The order
 

@@ -3,3 +3,4 @@ pub mod Routing
 pub mod Listed
 pub mod OnwardLaws
 pub mod ListedLaws
+pub mod NumberLaws

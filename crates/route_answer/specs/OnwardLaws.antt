@@ -13,7 +13,7 @@ use Rattle.route_arrival.specs.declared.Heading.{Heading}
 use Rattle.route_arrival.specs.declared.Heading.the-variants.{Aimed, Up, Every, Port as ToPort}
 use Rattle.route_arrival.specs.Arrival.{headingOf, typeWrong, arrived}
 use Rattle.route_answer.specs.declared.Routing.{Routing}
-use Rattle.route_answer.specs.declared.Routing.the-variants.{Delivered, Broadcast, Port, Refused}
+use Rattle.route_answer.specs.declared.Routing.the-variants.{Delivered, Refused}
 use Rattle.route_answer.specs.declared.Next.{Next}
 use Rattle.route_answer.specs.declared.Next.the-variants.{Aimed as LookedFor, Answered}
 use Rattle.route_answer.specs.Routing.{numberOf, wrongType, arrives, answer, headedOver, typedOver, routeOver, answerBy, Goes}

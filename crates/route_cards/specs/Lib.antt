@@ -7,3 +7,4 @@ pub mod HoldsLaws
 pub mod AboveLaws
 pub mod StepLaws
 pub mod RequestLaws
+pub mod NumberLaws

@@ -13,4 +13,5 @@ pub mod RulesLaws
 pub mod SheetLaws
 pub mod LookupLaws
 pub mod RecordIdLaws
+pub mod NumberLaws
 pub mod CommandsLaws

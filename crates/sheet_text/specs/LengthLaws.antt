@@ -1,26 +1,25 @@
 -- How long an answer is: a count or a number has three digits at the most, and each line 83 bytes. In that room it is put whole.
 -- Assumes nothing.
 use mathlib.Core.Path.{_≡_, refl, sym, ap, _∙_}
-use mathlib.Core.Bool.{Bool, true, false, cond}
+use mathlib.Core.Bool.{Bool, true, false}
 use mathlib.Core.List.{List, [], _∷_, _++_, map, flatMap}
 use Prim.Native.Nat.{ℕ, zero, suc, _*_, _/_, _%_, _≤_, _<_}
 use native.Mathlib.Nat.{zero-mul, suc-mul}
 use native.Mathlib.Omega.{arith}
-use lib.ListN.{length, getD, drop, length-append}
-use lib.Dec.{eqb, ltb}
+use lib.ListN.{length, length-append}
+use lib.Dec.{eqb}
 use borrow.Author.Tests.{eqb-true, eqb-false}
 use Rattle.endian.specs.Endian.{le}
 use Rattle.text.specs.Text.{ascii, digit, hexadecimal, decimal, refusalText}
 use Rattle.text.specs.TextLaws.{three-digits, refusal-short}
 use Rattle.records.specs.Limits.{mostFunctions}
-use Rattle.sheet.specs.declared.Rule.the-variants.{HeaderType, Buses, ReadBacks, Nibbles}
 use Rattle.sheet_record.specs.Places.{valuesAt}
 use Rattle.sheet_record.specs.Entry.{Entry, idOf, headerOf, isBridge, slotCount, entryOf}
 use Rattle.sheet_record.specs.EntryLaws.{length-dwords}
-use Rattle.sheet.specs.Sheet.{isFramed, partsIn, entriesFrom, entriesOf, anyBreaks, idTwice, from29, from25, from28, from27, from24, from22}
-use Rattle.sheet.specs.Sheet.{from20, from21, sheetNumber}
+use Rattle.sheet.specs.Sheet.{partsIn, entriesFrom, entriesOf, sheetNumber}
 use Rattle.sheet.specs.IndexLaws.{length-entries}
 use Rattle.sheet.specs.SheetLaws.{checked-of-zero}
+use Rattle.sheet.specs.NumberLaws.{sheet-number}
 use Rattle.sheet_text.specs.Listing.{newline, words, buses, edges, uppers, windowText, bridgeText, endText, lineOf, countText}
 use Rattle.sheet_text.specs.Listing.{planText, sheetText, longest}
 use Rattle.sheet_text.specs.ListingLaws.{lineOf-bridge, lineOf-end, sheetText-good, sheetText-bad}
@@ -148,28 +147,6 @@ plan-le s few =
       length-entries s,
     )
 
-chosen-lt : (b : Bool) (x y : ℕ) → x < 1000 → y < 1000 → cond b x y < 1000
-chosen-lt true x y h k = h
-chosen-lt false x y h k = k
-
-from24-lt : (es : List Entry) → from24 es < 1000
-unfolding from24 from27 from28 from25 from29
-from24-lt es =
-    chosen-lt (anyBreaks HeaderType es) 24 (from27 es) (omega arith)
-    (chosen-lt (anyBreaks Buses es) 27 (from28 es) (omega arith)
-    (chosen-lt (idTwice es) 28 (from25 es) (omega arith)
-    (chosen-lt (anyBreaks ReadBacks es) 25 (from29 es) (omega arith) (chosen-lt (anyBreaks Nibbles es) 29 0 (omega arith) (omega arith)))))
-
-number-lt : (s : List ℕ) → sheetNumber s < 1000
-unfolding sheetNumber from21 from20 from22
-number-lt s =
-    let es = entriesOf s in
-    chosen-lt (eqb (length s) 0) 20 (from21 s) (omega arith)
-    (chosen-lt (eqb (getD s 0 0) 1) (from20 s) 21
-    (chosen-lt (isFramed (drop 1 s)) (from22 es) 20
-    (chosen-lt (ltb mostFunctions (length es)) 22 (from24 es) (omega arith) (from24-lt es)) (omega arith))
-    (omega arith))
-
 pub sheet-le : (s : List ℕ) → length (sheetText s) ≤ longest
 sheet-le s = go (eqb (sheetNumber s) 0) refl
   where
@@ -181,6 +158,5 @@ sheet-le s = go (eqb (sheetNumber s) 0) refl
         omega (
           arith,
           ap length (sheetText-bad s (sheetNumber s) refl (eqb-false (sheetNumber s) 0 e)),
-          refusal-le (sheetNumber s)
-              (number-lt s),
+          refusal-le (sheetNumber s) (omega (arith, sheet-number s)),
         )

@@ -5,3 +5,4 @@ pub mod WritingLaws
 pub mod ReadingLaws
 pub mod RoundTrip
 pub mod FrontLaws
+pub mod NumberLaws

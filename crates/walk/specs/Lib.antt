@@ -19,6 +19,7 @@ pub mod IdsLaws
 pub mod IdsDelivery
 pub mod Climb
 pub mod ClimbLaws
+pub mod NumberLaws
 pub mod Cards
 pub mod CardWays
 pub mod MeetingLaws

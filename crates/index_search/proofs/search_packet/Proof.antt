@@ -1,7 +1,6 @@
 -- `index_search::search_packet`: by the checks before the search, or what the index has for its key. Assumes nothing.
 use borrow.Author.Needs.{needs}
 use mathlib.Core.Path.{subst}
-use Rattle.route_answer.specs.declared.Next.{Next}
 use Rattle.route_answer.specs.Routing.{Goes}
 use Rattle.route_answer.specs.OnwardLaws.{some-functions, answered, looked-for}
 use Rattle.index_search.specs.Search.{outcomeOver}

@@ -1,5 +1,4 @@
 -- `route::root_of`: no record, or the first one's bus. Assumes nothing.
-use borrow.Author.Needs.{needs}
 use Rattle.route.specs.RouteLaws.{root-of-none, first-fits, first-sized, root-of-first}
 use Rattle.route.proofs.root_of.Statement.{statement}
 use Rattle.route.proofs.root_of.Tie as tie
