@@ -17,7 +17,7 @@ use Rattle.walk.specs.Climb.{upFrom, CardTrail}
 use Rattle.walk.specs.Cards.{Board, crossedUp, crossedDown, Sends, Leaves, Unmastered}
 use Rattle.walk.specs.CardToCard.{boardOver}
 use Rattle.sheet.specs.Sheet.{sheetNumber}
-use Rattle.sheet.specs.Spaces.{registersOf, enabledOf}
+use Rattle.sheet.specs.Spaces.{registersOf, enabledOf, masterOf}
 use Rattle.sheet.specs.Commands.{SameButCommands}
 use Rattle.plan_good.specs.Registers.{planHost}
 use Rattle.plan_answer.specs.declared.Planning.the-variants.{Planned}
@@ -29,7 +29,7 @@ use Rattle.claims.specs.Claims.{tallyFor}
 use Rattle.route.specs.Route.{root}
 use Rattle.route_cards.specs.declared.Arrival.{Arrival}
 use Rattle.route_cards.specs.declared.Sending.the-variants.{Delivered, Host, Refused}
-use Rattle.route_cards.specs.Sending.{numberOf as sendingNumber, masterOf, sendingOf}
+use Rattle.route_cards.specs.Sending.{numberOf as sendingNumber, sendingOf}
 use Rattle.route_cards.specs.Search.{functionAt, IsType0}
 use Rattle.demands.specs.Demand3 as planned
 use Rattle.requests.specs.Audit as audited

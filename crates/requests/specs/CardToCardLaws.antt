@@ -30,7 +30,7 @@ use Rattle.walk.specs.Climb.{Sent, arrives, leaves, stops, notMaster, upFrom, C
 use Rattle.walk.specs.Cards.{Board, crossedUp, crossedDown, Sends, Leaves, Unmastered, Answers}
 use Rattle.walk.specs.CardToCard.{boardOver, Tells, answers, crosses-iff, both-ways-le}
 use Rattle.sheet.specs.Sheet.{entriesOf, sheetNumber}
-use Rattle.sheet.specs.Spaces.{registersOf, enabledOf}
+use Rattle.sheet.specs.Spaces.{registersOf, enabledOf, masterOf}
 use Rattle.sheet.specs.SheetLaws.{checked-of-zero, numbered-functions, nodes-functions}
 use Rattle.sheet.specs.Commands.{SameButCommands}
 use Rattle.sheet.specs.CommandsLaws.{registers-same, number-same}
@@ -54,7 +54,7 @@ use Rattle.route.specs.Route.{root}
 use Rattle.route_cards.specs.declared.Arrival.{Arrival}
 use Rattle.route_cards.specs.declared.Sending.the-variants.{Delivered, Host, Refused}
 use Rattle.route_cards.specs.declared.start.Request.the-variants.{At, Other}
-use Rattle.route_cards.specs.Sending.{numberOf as sendingNumber, requestOf, masterOf, answer, sendingOf}
+use Rattle.route_cards.specs.Sending.{numberOf as sendingNumber, requestOf, answer, sendingOf}
 use Rattle.route_cards.specs.Search.{functionAt, IsType0}
 use Rattle.route_cards.specs.RecordLaws.{function-mem, type-0-no-bridge}
 use Rattle.route_cards.specs.RequestLaws.{header-first, sheet-next, other-45, no-start-45, request-sent}

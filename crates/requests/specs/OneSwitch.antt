@@ -17,10 +17,10 @@ use Rattle.walk.specs.Ranges.{Holds}
 use Rattle.walk.specs.Registers.{Registers}
 use Rattle.walk.specs.Switch.{goneUp}
 use Rattle.sheet.specs.Sheet.{commandsOf, sheetNumber}
-use Rattle.sheet.specs.Spaces.{registersOf, enabledOf}
+use Rattle.sheet.specs.Spaces.{registersOf, enabledOf, masterOf}
 use Rattle.sheet.specs.Commands.{SameButCommands}
 use Rattle.route.specs.Route.{root, routeOf}
-use Rattle.route_cards.specs.Sending.{masterOf, sendingOf}
+use Rattle.route_cards.specs.Sending.{sendingOf}
 use Rattle.route_cards.specs.Search.{functionAt}
 use Rattle.index_search.specs.Search.{searchOf}
 use Rattle.index_build.specs.Build.{indexAfter}

@@ -3,12 +3,12 @@
 use mathlib.Core.Path.{_≡_, refl, sym, ap, ap₂, subst, _∙_}
 use mathlib.Core.Logic.{_⊎_, inl, inr}
 use mathlib.Core.Bool.{Bool, true, false, cond}
-use mathlib.Core.List.{List, [], _∷_, _++_, map, flatten}
+use mathlib.Core.List.{List, [], _∷_, _++_, flatten}
 use Prim.Native.Nat.{ℕ, suc, _-_, _/_, _%_}
 use native.Mathlib.Nat.{suc-ne-zero}
 use native.Mathlib.Omega.{arith}
 use lib.Dec.{eqb}
-use lib.ListN.{length, getD, List·getD-map}
+use lib.ListN.{length}
 use borrow.Author.Tests.{eq-eqb, eqb-true, eqb-false}
 use Rattle.endian.specs.Endian.{Bytes}
 use Rattle.text.specs.Text.{ascii, decimal}
@@ -22,18 +22,18 @@ use Rattle.lists.specs.Lists.{_∈_, All}
 use Rattle.lists.specs.ListLaws.{some-of-member}
 use Rattle.records.specs.Records.{partsOf}
 use Rattle.pools.specs.declared.Space.{Space}
-use Rattle.pools.specs.declared.Space.the-variants.{Memory as memorySpace, Io as ioSpace}
-use Rattle.walk.specs.Registers.{Node, Registers, rootOf, enabledIn}
-use Rattle.walk.specs.RegistersLaws.{BarOf, WindowOf, item-elim, enabled-in-suc}
+use Rattle.walk.specs.Registers.{Node, Registers, rootOf}
+use Rattle.walk.specs.RegistersLaws.{BarOf, WindowOf, item-elim}
 use Rattle.walk.specs.Tally.{Tally, tallyOn}
 use Rattle.walk.specs.Walk.{noOwner, walkFrom}
 use Rattle.walk.specs.Ids.{tallyById}
 use Rattle.walk.specs.Climb.{starts, nowhere, startAt, sendFrom}
 use Rattle.walk.specs.Switch.{Clear, SameBut, goneUp, tallies-agree, send-agree}
-use Rattle.sheet_record.specs.Spaces.{enables}
-use Rattle.sheet.specs.Sheet.{entriesOf, commandsOf, sheetNumber}
-use Rattle.sheet.specs.Spaces.{registersOf, nodesOf, enabledOf}
+use Rattle.sheet_record.specs.Spaces.{commandBit, spaceBit, masterBit}
+use Rattle.sheet.specs.Sheet.{entriesOf, sheetNumber}
+use Rattle.sheet.specs.Spaces.{registersOf, nodesOf, bitOf, enabledOf, masterOf}
 use Rattle.sheet.specs.SheetLaws.{Checked, checked-of-zero, numbered-functions}
+use Rattle.sheet.specs.IndexLaws.{bit-of-command}
 use Rattle.sheet.specs.CommandsLaws.{number-same, registers-same, nodes-same}
 use Rattle.claims.specs.declared.Aim.{Aim}
 use Rattle.claims.specs.declared.Aim.the-variants.{Address, Id}
@@ -47,7 +47,7 @@ use Rattle.route.specs.Route.{walked, root, routePacket, fromSheet, fromReading
 use Rattle.route.specs.RouteLaws.{packet-over}
 use Rattle.route_cards.specs.declared.start.Request.{Request}
 use Rattle.route_cards.specs.declared.start.Request.the-variants.{At, Other}
-use Rattle.route_cards.specs.Sending.{requestOf, masters, masterOf, sendingOf}
+use Rattle.route_cards.specs.Sending.{requestOf, sendingOf}
 use Rattle.route_cards.specs.Sending as sending
 use Rattle.route_cards.specs.Search.{functionAt, IsType0}
 use Rattle.route_cards.specs.RecordLaws.{function-mem, function-elim, type-0-no-bridge, start-of-type-0}
@@ -114,9 +114,6 @@ card-request (Message k h routing code tail) sp address q = suc-ne-zero 0 (cc)
 
 -- ## Two sheets that differ in function k's command word
 
-bit-at : (g : ℕ → Bool) → g 0 ≡ false → (cs : List ℕ) (i : ℕ) → enabledIn (map g cs) (suc i) ≡ g (getD cs i 0)
-bit-at g off cs i = enabled-in-suc (map g cs) i ∙ ap (getD (map g cs) i) (sym off) ∙ List·getD-map g cs i 0
-
 module _ (k : ℕ) (s t : List ℕ) (d : DifferAt k s t) where
   checked : Checked s
   checked = checked-of-zero s (d .passes)
@@ -131,20 +128,18 @@ module _ (k : ℕ) (s t : List ℕ) (d : DifferAt k s t) where
   registers-are sp = registers-same (d .same-but-commands) (checked .framed) sp
 
   -- any bit of the command words
-  bits-agree : (g : ℕ → Bool) → g 0 ≡ false → (sp : Space)
-      → SameBut (registersOf sp s) k (enabledIn (map g (commandsOf t))) (enabledIn (map g (commandsOf s)))
-  bits-agree g off sp f m other =
+  bits-agree : (bit : ℕ) (sp : Space) → SameBut (registersOf sp s) k (bitOf bit t) (bitOf bit s)
+  bits-agree bit sp f m other =
       let n = f .node .number in
       let is : n ≡ suc (n - 1) = omega (arith, function-elim s checked sp f m .0 .from-1) in
-      ap (enabledIn (map g (commandsOf t))) is
-      ∙ bit-at g off (commandsOf t) (n - 1)
-      ∙ ap g (sym (d .same-elsewhere (n - 1) (λ e. other (is ∙ e))))
-      ∙ sym (bit-at g off (commandsOf s) (n - 1))
-      ∙ ap (enabledIn (map g (commandsOf s))) (sym is)
+      ap (bitOf bit t) is
+      ∙ bit-of-command bit t (suc (n - 1))
+      ∙ ap (commandBit bit) (sym (d .same-elsewhere (n - 1) (λ e. other (is ∙ e))))
+      ∙ sym (bit-of-command bit s (suc (n - 1)))
+      ∙ ap (bitOf bit s) (sym is)
 
   enabled-agree : (sp : Space) → SameBut (registersOf sp s) k (enabledOf sp t) (enabledOf sp s)
-  enabled-agree memorySpace = bits-agree (enables memorySpace) refl memorySpace
-  enabled-agree ioSpace = bits-agree (enables ioSpace) refl ioSpace
+  enabled-agree sp = bits-agree (spaceBit sp) sp
 
   clear-of : (sp : Space) (address : ℕ) → ¬ LiesIn s sp address k → Clear (registersOf sp s) address k
   clear-of sp address outside i m is held = go (item-elim (registersOf sp s) m)
@@ -319,7 +314,7 @@ module _ (k : ℕ) (s t : List ℕ) (d : DifferAt k s t) where
           nodes-are
           ∙ ap (sending.answer p)
           (send-agree (enabledOf sp t) (enabledOf sp s) (masterOf t) (masterOf s) (registersOf sp s) address (root s) k
-          (numbered-functions sp 1 (entriesOf s)) (enabled-agree sp) (bits-agree masters refl sp) (clear-of sp address (clear .lies-elsewhere)) f
+          (numbered-functions sp 1 (entriesOf s)) (enabled-agree sp) (bits-agree masterBit sp) (clear-of sp address (clear .lies-elsewhere)) f
           (function-mem s checked sp j (type-0 .is-record)) (type-0-no-bridge s sp j type-0) (clear .starts-elsewhere) up-t′ (clear .goes-beside))
           ∙ sym (ap (sending.sendRequest p s sp address) (start-of-type-0 s checked sp j type-0))
 

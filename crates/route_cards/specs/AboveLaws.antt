@@ -11,15 +11,14 @@ use Rattle.walk.specs.Registers.{Registers}
 use Rattle.walk.specs.Walk.{noOwner, contested}
 use Rattle.walk.specs.Climb.{Up, toHost, across, halts, notMaster, leadingTo, windowHolds, upThrough, upFrom}
 use Rattle.sheet_record.specs.Entry.{entryOf, headerOf, isBridge, busOf, commandOf}
-use Rattle.sheet_record.specs.Spaces.{windowsOf}
+use Rattle.sheet_record.specs.Spaces.{windowsOf, commandBit, masterBit}
 use Rattle.sheet.specs.Sheet.{partAt}
-use Rattle.sheet.specs.Spaces.{registersOf}
+use Rattle.sheet.specs.Spaces.{registersOf, masterOf}
 use Rattle.sheet.specs.SheetLaws.{Checked}
 use Rattle.sheet_above.specs.declared.Parent.{Parent}
 use Rattle.sheet_above.specs.declared.Parent.the-variants.{Host, Bridge, Nothing, Several}
 use Rattle.sheet_above.specs.Table.{IsParent}
 use Rattle.sheet_above.specs.FunctionsLaws.{FunctionsAbove, functions-above}
-use Rattle.route_cards.specs.Sending.{masters, masterOf}
 use Rattle.route_cards.specs.Search.{partOf, functionAt, IsBridgeAt, anyHolds}
 use Rattle.route_cards.specs.RecordLaws.{here, master-is, bus-is}
 
@@ -83,7 +82,7 @@ module _ (s : List ℕ) (c : Checked s) (number : ℕ) (r : IsBridgeAt s number)
   through-held y = rw (windows-are ∙ y)
 
   -- m the test of its bus master
-  module _ (clear : w ≡ false) (m : Bool) (t : m ≡ masters (commandOf p)) where
+  module _ (clear : w ≡ false) (m : Bool) (t : m ≡ commandBit masterBit (commandOf p)) where
     master-here : masterOf s number ≡ m
     master-here = master-is s c number (r .is-record) p e ∙ sym t
 

@@ -14,13 +14,13 @@ use Rattle.walk.specs.Climb.{Sent, arrives, leaves, stops, Start, starts, nowhe
 use Rattle.walk.specs.NumberLaws.{NumberedSent, numbered-send}
 use Rattle.sheet.specs.Sheet.{sheetNumber}
 use Rattle.sheet.specs.NumberLaws.{sheet-number}
-use Rattle.sheet.specs.Spaces.{registersOf, enabledOf}
+use Rattle.sheet.specs.Spaces.{registersOf, enabledOf, masterOf}
 use Rattle.route.specs.Route.{root}
 use Rattle.route_cards.specs.declared.start.Request.{Request}
 use Rattle.route_cards.specs.declared.start.Request.the-variants.{At, Other}
 use Rattle.route_cards.specs.declared.Sending.{Sending}
 use Rattle.route_cards.specs.declared.Sending.the-variants.{Delivered, Host, Refused}
-use Rattle.route_cards.specs.Sending.{masterOf, requestOf, answer, sendRequest, onRequest, sendPacket, fromSheet, fromReading}
+use Rattle.route_cards.specs.Sending.{requestOf, answer, sendRequest, onRequest, sendPacket, fromSheet, fromReading}
 use Rattle.route_cards.specs.Sending.{sendingOf}
 
 abbrev pub Numbered : Sending → Type 0

@@ -3,33 +3,28 @@
 use mathlib.Core.Path.{_≡_, refl, sym, ap, subst, _∙_}
 use mathlib.Core.Logic.{_⊎_, inl, inr}
 use mathlib.Core.Bool.{Bool, true, false, cond, not, false≢true}
-use mathlib.Core.List.{List, map, List·Memᴰ·not-nil, List·Memᴰ·cases-cons}
+use mathlib.Core.List.{List, List·Memᴰ·not-nil, List·Memᴰ·cases-cons}
 use Prim.Native.Nat.{ℕ, zero, suc, _+_, _-_, _≤_, _<_}
-use native.Mathlib.Numerals.{add-one}
 use native.Mathlib.Omega.{arith}
 use lib.Dec.{eqb}
-use lib.ListN.{length, getD, drop, List·getD-map}
+use lib.ListN.{length}
 use borrow.Author.Tests.{eqb-true, not-true, not-false}
-use Rattle.endian.specs.Endian.{le}
-use Rattle.endian.specs.EndianLaws.{le-take, le-drop}
 use Rattle.pools.specs.declared.Space.{Space}
 use Rattle.bar.specs.Bar.{anyBad}
 use Rattle.lists.specs.Lists.{_∈_}
 use Rattle.lists.specs.ListLaws.{all-intro}
 use Rattle.lists.specs.KeepLaws.{keep-none}
-use Rattle.walk.specs.Registers.{Registers, enabledIn}
+use Rattle.walk.specs.Registers.{Registers}
 use Rattle.walk.specs.Climb.{nowhere, startAt}
 use Rattle.walk.specs.ClimbLaws.{start-is}
-use Rattle.sheet_record.specs.Places.{commandAt, recordSize}
+use Rattle.sheet_record.specs.Places.{recordSize}
 use Rattle.sheet_record.specs.Entry.{entryOf, headerOf, isBridge, busOf, commandOf}
-use Rattle.sheet_record.specs.Spaces.{slotsOf, functionOf}
-use Rattle.sheet.specs.Sheet.{entriesFrom, entriesOf, commandsOf, partAt, sheetLength, recordAt, commandPlace}
-use Rattle.sheet.specs.Spaces.{functionsFrom, registersOf}
-use Rattle.sheet.specs.IndexLaws.{length-part, record-fits, functions-index, functions-end, length-entries, length-commands}
-use Rattle.sheet.specs.IndexLaws.{command-index}
+use Rattle.sheet_record.specs.Spaces.{slotsOf, functionOf, commandBit, masterBit}
+use Rattle.sheet.specs.Sheet.{entriesFrom, entriesOf, partAt, sheetLength, recordAt}
+use Rattle.sheet.specs.Spaces.{functionsFrom, registersOf, masterOf}
+use Rattle.sheet.specs.IndexLaws.{length-part, record-fits, functions-index, functions-end, bit-index}
 use Rattle.sheet.specs.SheetLaws.{Checked, numbered-functions, lawful-index}
 use Rattle.sheet_above.specs.FunctionsLaws.{function-index}
-use Rattle.route_cards.specs.Sending.{masters, masterOf}
 use Rattle.route_cards.specs.Search.{partOf, functionAt, IsRecord, IsType0, Type0Told, startAnswer}
 
 -- ## The walk's functions are those of the records
@@ -144,22 +139,13 @@ module _ (s : List ℕ) (c : Checked s) (number : ℕ) where
 
 -- ## Bus master
 
-master-map : (cs : List ℕ) (k : ℕ) → enabledIn (map masters cs) (k + 1) ≡ masters (getD cs k 0)
-unfolding enabledIn
-master-map cs k = rw (add-one k) (List·getD-map masters cs k 0)
-
-command-of-place : (s : List ℕ) (k : ℕ) → commandOf (partAt s k) ≡ le 2 s (commandPlace k)
-command-of-place s k =
-    let e : recordAt k + 2 + commandAt ≡ commandPlace k = omega arith in
-    le-take 2 recordSize (drop (recordAt k + 2) s) commandAt (omega arith) ∙ le-drop 2 (recordAt k + 2) s commandAt ∙ ap (le 2 s) e
-
 module _ (s : List ℕ) (c : Checked s) (number : ℕ) (r : IsRecord s number) (p : List ℕ) (e : p ≡ partOf s number) where
-  pub master-is : masterOf s number ≡ masters (commandOf p)
+  pub master-is : masterOf s number ≡ commandBit masterBit (commandOf p)
   master-is =
-      let k = number - 1 in
-      let back : k + 1 ≡ number = omega (arith, r .from-1) in
-      let word = command-index s k (c .framed) (omega (arith, r .from-1, r .in-sheet, length-commands s, length-entries s)) in
-      ap (masterOf s) (sym back) ∙ master-map (commandsOf s) k ∙ ap masters (word ∙ sym (command-of-place s k) ∙ ap commandOf (sym e))
+      let back : number - 1 + 1 ≡ number = omega (arith, r .from-1) in
+      ap (masterOf s) (sym back)
+      ∙ bit-index s (c .framed) masterBit (number - 1) (omega (arith, r .from-1, r .in-sheet))
+      ∙ ap (λ (q : List ℕ). commandBit masterBit (commandOf q)) (sym e)
 
   pub bus-is : (space : Space) → functionAt space s number .node .bus ≡ busOf p
   unfolding entryOf

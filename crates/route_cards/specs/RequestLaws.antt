@@ -16,13 +16,13 @@ use Rattle.pools.specs.declared.Space.{Space}
 use Rattle.walk.specs.Climb.{nowhere, startAt, sendFrom}
 use Rattle.sheet_record.specs.Entry.{headerOf, isBridge}
 use Rattle.sheet.specs.Sheet.{entriesOf, sheetNumber}
-use Rattle.sheet.specs.Spaces.{registersOf, enabledOf}
+use Rattle.sheet.specs.Spaces.{registersOf, enabledOf, masterOf}
 use Rattle.sheet.specs.SheetLaws.{Checked, checked-of-zero}
 use Rattle.route.specs.Route.{root}
 use Rattle.route_cards.specs.declared.start.Request.{Request}
 use Rattle.route_cards.specs.declared.start.Request.the-variants.{At, Other}
 use Rattle.route_cards.specs.declared.Sending.the-variants.{Refused}
-use Rattle.route_cards.specs.Sending.{requestOf, masterOf, answer, noStart, sendRequest, onRequest, sendPacket, fromSheet, sendingOf}
+use Rattle.route_cards.specs.Sending.{requestOf, answer, noStart, sendRequest, onRequest, sendPacket, fromSheet, sendingOf}
 use Rattle.route_cards.specs.Search.{partOf, functionAt, IsRecord, IsType0}
 use Rattle.route_cards.specs.RecordLaws.{start-of-type-0, told-0, told-past, told}
 

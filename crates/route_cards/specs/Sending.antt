@@ -1,8 +1,8 @@
 -- Document 02, E11, "Card to card", in its order: the header's number before the sheet is read, the sheet's number, 45 for any other record
 -- than a type 0 function of the sheet and any other packet than a memory or I/O request, and then the climb. Assumes nothing.
-use Prim.Native.Nat.{ℕ, _/_, _%_}
-use mathlib.Core.Bool.{Bool, cond}
-use mathlib.Core.List.{List, map}
+use Prim.Native.Nat.{ℕ}
+use mathlib.Core.Bool.{cond}
+use mathlib.Core.List.{List}
 use lib.Dec.{eqb}
 use Rattle.packet.specs.declared.Packet.{Packet}
 use Rattle.packet.specs.declared.Packet.the-variants.{Memory, Io, Config, Completion, Message}
@@ -11,10 +11,9 @@ use Rattle.tlp.specs.declared.Reading.the-variants.{Accepted, Refused as NotRea
 use Rattle.tlp.specs.Reading.{readOf}
 use Rattle.pools.specs.declared.Space.{Space}
 use Rattle.pools.specs.declared.Space.the-variants.{Memory as InMemory, Io as InPorts}
-use Rattle.walk.specs.Registers.{enabledIn}
 use Rattle.walk.specs.Climb.{Sent, arrives, leaves, stops, Start, starts, nowhere, startAt, upFrom, climbFrom, sendFrom}
-use Rattle.sheet.specs.Sheet.{commandsOf, sheetNumber}
-use Rattle.sheet.specs.Spaces.{registersOf, enabledOf}
+use Rattle.sheet.specs.Sheet.{sheetNumber}
+use Rattle.sheet.specs.Spaces.{registersOf, enabledOf, masterOf}
 use Rattle.claims.specs.declared.Aim.the-variants.{Address}
 use Rattle.claims.specs.Claims.{tallyFor}
 use Rattle.route.specs.Route.{root}
@@ -41,14 +40,6 @@ requestOf (Io k h e a) = At InPorts a
 requestOf (Config k h e t) = Other
 requestOf (Completion k h o) = Other
 requestOf (Message k h routing code tail) = Other
-
--- bus master, command bit 2
-abbrev pub masters : ℕ → Bool
-masters command = eqb (command / 4 % 2) 1
-
--- by the record's number
-abbrev pub masterOf : List ℕ → ℕ → Bool
-masterOf s = enabledIn (map masters (commandsOf s))
 
 -- ## A request over a sheet that passes its checks
 

@@ -16,9 +16,9 @@ use Rattle.walk.specs.Climb.{Sent, arrives, leaves, stops, notMaster, barHolds,
 use Rattle.walk.specs.Climb.{sentOf as outcomeSent}
 use Rattle.walk.specs.ClimbLaws.{Falling, falling-of-bridges, climb-step, from-bus, further, walk-shift}
 use Rattle.sheet_record.specs.Entry.{entryOf, busOf, commandOf}
-use Rattle.sheet_record.specs.Spaces.{barsOf}
+use Rattle.sheet_record.specs.Spaces.{barsOf, commandBit, masterBit}
 use Rattle.sheet.specs.Sheet.{entriesOf, sheetNumber}
-use Rattle.sheet.specs.Spaces.{registersOf, enabledOf}
+use Rattle.sheet.specs.Spaces.{registersOf, enabledOf, masterOf}
 use Rattle.sheet.specs.SheetLaws.{Checked, zero-of-checked, passes-of-zero, numbered-functions}
 use Rattle.claims.specs.declared.Aim.the-variants.{Address}
 use Rattle.claims.specs.declared.Claim.{Claim}
@@ -37,7 +37,7 @@ use Rattle.route_cards.specs.declared.Climbed.{Climbed}
 use Rattle.route_cards.specs.declared.Climbed.the-variants.{Arrives, Leaves, Stops}
 use Rattle.route_cards.specs.declared.Sending.{Sending}
 use Rattle.route_cards.specs.declared.Sending.the-variants.{Delivered, Host, Refused}
-use Rattle.route_cards.specs.Sending.{requestOf, masters, masterOf, answer, sendRequest, climbed, onRequest, sendPacket, fromSheet}
+use Rattle.route_cards.specs.Sending.{requestOf, answer, sendRequest, climbed, onRequest, sendPacket, fromSheet}
 use Rattle.route_cards.specs.Sending.{fromReading, sendingOf}
 use Rattle.route_cards.specs.Search.{partOf, functionAt, IsType0, Type0Told, startAnswer, anyHolds, upOf, sentOf}
 use Rattle.route_cards.specs.RecordLaws.{function-mem, start-of-type-0, type-0-no-bridge, master-is, bus-is}
@@ -116,7 +116,7 @@ module _ (packet : Packet) (s : List ℕ) (c : Checked s) (number : ℕ) (type-0
   sent = sendRequest packet s space address (startAnswer space s number)
 
   -- m the test of its bus master
-  module _ (m : Bool) (t : m ≡ masters (commandOf p)) where
+  module _ (m : Bool) (t : m ≡ commandBit masterBit (commandOf p)) where
     master-here : masterOf s number ≡ m
     master-here = master-is s c number (type-0 .is-record) p e ∙ sym t
 

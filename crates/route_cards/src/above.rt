@@ -3,11 +3,9 @@ ghost use mathlib.Core.Path.{_≡_};
 ghost use mathlib.Core.List.{[], _∷_};
 ghost use Rattle.walk.specs.Climb.{upThrough, upFrom};
 ghost use Rattle.sheet.specs.SheetLaws.{Checked};
-ghost use Rattle.sheet.specs.Spaces.{registersOf};
-ghost use Rattle.route_cards.specs.Sending.{masterOf};
+ghost use Rattle.sheet.specs.Spaces.{registersOf, masterOf};
 ghost use Rattle.route_cards.specs.Search.{functionAt, IsBridgeAt, upOf};
 use super::holds;
-use super::start;
 use pools::Space;
 use sheet_above::Parent;
 
@@ -42,7 +40,7 @@ fn through(sheet: &[u8], space: Space, address: u64, number: u16) -> Up
     if holds::windows_hold(part, space, address) {
         return Up::Halts(40);
     }
-    if !start::is_master(part) {
+    if !sheet_record::is_master(part) {
         return Up::Halts(44);
     }
     Up::Across(number, sheet_record::bus_of(part))

@@ -98,7 +98,7 @@ fn send_request(number: u16, p: Packet, sheet: &[u8], space: Space, address: u64
     ensures { λ r. ⌜ r ≡ sendRequest p (now (sheet .entry)) space address (startAnswer space (now (sheet .entry)) number) ⌝ }
 {
     let part = sheet::part(sheet, number as usize - 1);
-    if !start::is_master(part) {
+    if !sheet_record::is_master(part) {
         return Sending::Refused(44);
     }
     if holds::bars_hold(part, space, address) {

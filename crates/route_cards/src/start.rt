@@ -1,10 +1,7 @@
-// Where a request starts: which packets are requests, which records they may start at, and who is a bus master.
+// Where a request starts: which packets are requests, and which records they may start at.
 ghost use mathlib.Core.Path.{_≡_};
-ghost use lib.ListN.{length};
-ghost use Rattle.sheet_record.specs.Places.{recordSize};
-ghost use Rattle.sheet_record.specs.Entry.{commandOf};
 ghost use Rattle.sheet.specs.SheetLaws.{Checked};
-ghost use Rattle.route_cards.specs.Sending.{requestOf, masters};
+ghost use Rattle.route_cards.specs.Sending.{requestOf};
 ghost use Rattle.route_cards.specs.Search.{Type0Told};
 use packet::Packet;
 use pools::Space;
@@ -40,12 +37,4 @@ pub fn is_type_0(sheet: &[u8], number: u16) -> bool
         return false;
     }
     !sheet_record::is_bridge(sheet::part(sheet, record - 1))
-}
-
-// Command bit 2.
-pub fn is_master(part: &[u8]) -> bool
-    requires { ⌜ length (now part) ≡ recordSize ⌝ }
-    ensures { λ r. ⌜ r ≡ masters (commandOf (now (part .entry))) ⌝ }
-{
-    sheet_record::command_of(part) / 4 % 2 == 1
 }

@@ -7,26 +7,26 @@ use mathlib.Core.List.{List, [], _∷_, _++_, List·Memᴰ·append-cases, Memᴰ
 use Prim.Native.Nat.{ℕ, zero, suc, pred, _+_, _-_, _*_, _≤_, _<_}
 use native.Mathlib.Omega.{arith}
 use lib.Dec.{ltb}
-use lib.ListN.{length, getD, List·getD-map, List·getD-eq-default}
+use lib.ListN.{length, getD, List·getD-eq-default}
 use borrow.Author.Tests.{ltb-true, ltb-false}
 use Rattle.endian.specs.Endian.{le}
 use Rattle.endian.specs.EndianLaws.{le-agree}
 use Rattle.lists.specs.Lists.{_∈_, All}
 use Rattle.lists.specs.ListLaws.{all-elim, all-append, all-left}
 use Rattle.pools.specs.declared.Space.{Space}
-use Rattle.pools.specs.declared.Space.the-variants.{Memory, Io}
-use Rattle.walk.specs.Registers.{Registers, Node, rootOf, enabledIn}
+use Rattle.walk.specs.Registers.{Registers, Node, rootOf}
 use Rattle.walk.specs.Tally.{tallyOn}
 use Rattle.walk.specs.Walk.{refused, noOwner, walkFrom}
 use Rattle.walk.specs.Good.{Host, Good, sound-of-good}
 use Rattle.walk.specs.Delivery.{outcomeOf, outcome-from-first}
-use Rattle.sheet_record.specs.Spaces.{enables}
+use Rattle.sheet_record.specs.Spaces.{spaceBit, enables}
+use Rattle.sheet_record.specs.SpacesLaws.{no-bit-of-zero}
 use Rattle.sheet.specs.Sheet.{Framed, entriesOf, commandsOf, partsIn, commandPlace}
 use Rattle.sheet.specs.SheetLaws.{nodes-functions}
 use Rattle.sheet.specs.Spaces.{registersOf, nodesOf, enabledOf}
 use Rattle.sheet.specs.Commands.{placeIn, InCommand, SameButCommands}
 use Rattle.sheet.specs.CommandsLaws.{registers-same, nodes-same}
-use Rattle.sheet.specs.IndexLaws.{length-entries, length-commands, command-index}
+use Rattle.sheet.specs.IndexLaws.{length-entries, length-commands, command-index, bit-of-command}
 use Rattle.plan_sheet.specs.Delivery.{sheetOutcome}
 use Rattle.walk_written.specs.Partly.{final-owner-or-none, nothing-enabled}
 use Rattle.script_writes.specs.declared.Pass.the-variants.{Buses, Registers as Rest, Commands}
@@ -172,13 +172,10 @@ module _ (final : List ℕ) (en : Endable final) (done : List Write) (rest : Lis
           inl (List·getD-eq-default (commandsOf state) 0 l ∙ sym (List·getD-eq-default (commandsOf final) 0 l'))
 
   enabled-is : (s : List ℕ) (sp : Space) (n : ℕ) → enabledOf sp s n ≡ enables sp (getD (commandsOf s) (pred n) 0)
-  unfolding enabledIn
-  enabled-is s Memory n = List·getD-map (enables Memory) (commandsOf s) (pred n) 0
-  enabled-is s Io n = List·getD-map (enables Io) (commandsOf s) (pred n) 0
+  enabled-is s sp n = bit-of-command (spaceBit sp) s n
 
   enables-zero : (sp : Space) → enables sp 0 ≡ false
-  enables-zero Memory = refl
-  enables-zero Io = refl
+  enables-zero sp = no-bit-of-zero (spaceBit sp)
 
   -- no more is enabled than on the sheet
   fewer : (sp : Space) (n : ℕ) → enabledOf sp state n ≡ true → enabledOf sp final n ≡ true

@@ -1,7 +1,7 @@
 -- A framed sheet by record index, from 0: what a search that counts records goes by. Assumes nothing.
 use mathlib.Core.Path.{_≡_, sym, ap, _∙_}
 use mathlib.Core.List.{List, [], _∷_, map}
-use Prim.Native.Nat.{ℕ, zero, suc, _+_, _-_, _/_, _≤_, _<_}
+use Prim.Native.Nat.{ℕ, zero, suc, pred, _+_, _-_, _/_, _≤_, _<_}
 use native.Mathlib.Numerals.{add-one}
 use native.Mathlib.Omega.{arith}
 use lib.Seq.{length-take-le}
@@ -9,13 +9,13 @@ use lib.ListN.{length, getD, drop, length-drop, length-map, List·getD-map}
 use Rattle.endian.specs.Endian.{le}
 use Rattle.endian.specs.EndianLaws.{le-take, le-drop}
 use Rattle.pools.specs.declared.Space.{Space}
-use Rattle.pools.specs.declared.Space.the-variants.{Memory, Io}
 use Rattle.walk.specs.Registers.{enabledIn}
-use Rattle.sheet_record.specs.Spaces.{functionOf, enables}
+use Rattle.sheet_record.specs.Spaces.{functionOf, commandBit, spaceBit, enables}
+use Rattle.sheet_record.specs.SpacesLaws.{no-bit-of-zero}
 use Rattle.sheet_record.specs.Places.{commandAt, recordSize, stride}
 use Rattle.sheet_record.specs.Entry.{commandOf, entryOf}
 use Rattle.sheet.specs.Sheet.{Framed, entriesFrom, entriesOf, commandsOf, partsIn, partAt, sheetLength, recordAt, commandPlace}
-use Rattle.sheet.specs.Spaces.{functionsFrom, enabledOf}
+use Rattle.sheet.specs.Spaces.{functionsFrom, bitOf, enabledOf}
 use Rattle.sheet.specs.FrameLaws.{framed-at, part-index}
 use Rattle.sheet.specs.CheckLaws.{partFrom, entries-on, entries-past, count-entries}
 
@@ -26,12 +26,6 @@ part-from-index s k =
 
 pub length-part : (s : List ℕ) (k : ℕ) → sheetLength (k + 1) ≤ length s → length (partAt s k) ≡ recordSize
 length-part s k h = length-take-le recordSize (drop (recordAt k + 2) s) (omega (arith, length-drop (recordAt k + 2) s))
-
--- the bit of the record with number k + 1
-enabled-map : (space : Space) (cs : List ℕ) (k : ℕ) → enabledIn (map (enables space) cs) (k + 1) ≡ enables space (getD cs k 0)
-unfolding enabledIn
-enabled-map Memory cs k = rw (add-one k) (List·getD-map (enables Memory) cs k 0)
-enabled-map Io cs k = rw (add-one k) (List·getD-map (enables Io) cs k 0)
 
 -- ## Command words
 
@@ -55,6 +49,13 @@ command-index s k f h =
     List·getD-map commandOf (partsIn s) k []
     ∙ ap commandOf (part-index s k f (omega (arith, length-commands s)))
     ∙ command-of-place s k
+
+-- a bit of the record with number n
+pub bit-of-command : (bit : ℕ) (s : List ℕ) (n : ℕ) → bitOf bit s n ≡ commandBit bit (getD (commandsOf s) (pred n) 0)
+unfolding enabledIn
+bit-of-command bit s n =
+    ap (getD (map (commandBit bit) (commandsOf s)) (pred n)) (sym (no-bit-of-zero bit))
+    ∙ List·getD-map (commandBit bit) (commandsOf s) (pred n) 0
 
 -- ## Records and functions
 
@@ -98,10 +99,14 @@ module _ (s : List ℕ) (f : Framed 1 s) where
   pub count-index : (length s - 1) / stride ≡ length (entriesOf s)
   count-index = omega (arith, count-entries s f)
 
-  -- the command bit of record k
+  -- a command bit of record k
+  pub bit-index : (bit k : ℕ) → k < length (entriesOf s) → bitOf bit s (k + 1) ≡ commandBit bit (commandOf (partAt s k))
+  bit-index bit k h =
+      ap (bitOf bit s) (add-one k)
+      ∙ bit-of-command bit s (suc k)
+      ∙ ap (commandBit bit)
+      (command-index s k f (omega (arith, length-commands s, length-entries s)) ∙ sym (command-of-place s k))
+
   pub enabled-index : (space : Space) (k : ℕ) → k < length (entriesOf s) → enabledOf space s (k + 1)
       ≡ enables space (commandOf (partAt s k))
-  enabled-index space k h = enabled-map space (commandsOf s) k ∙ ap (enables space) (command-of-part k h)
-    where
-      command-of-part : (k : ℕ) → k < length (entriesOf s) → getD (commandsOf s) k 0 ≡ commandOf (partAt s k)
-      command-of-part k h = command-index s k f (omega (arith, length-commands s, length-entries s)) ∙ sym (command-of-place s k)
+  enabled-index space k h = bit-index (spaceBit space) k h

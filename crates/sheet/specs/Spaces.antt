@@ -1,12 +1,12 @@
 -- Document 01, "The walk": what the walk reads of a sheet in one address space: its functions, numbered from 1, and apart from these which
--- of them are enabled. Assumes nothing.
+-- of them are enabled, and which are bus masters. Assumes nothing.
 use Prim.Native.Nat.{ℕ, _+_}
 use mathlib.Core.Bool.{Bool}
 use mathlib.Core.List.{List, [], _∷_, map}
 use Rattle.pools.specs.declared.Space.{Space}
 use Rattle.walk.specs.Registers.{Node, Registers, enabledIn}
 use Rattle.sheet_record.specs.Entry.{Entry}
-use Rattle.sheet_record.specs.Spaces.{nodeOf, functionOf, enables}
+use Rattle.sheet_record.specs.Spaces.{nodeOf, functionOf, commandBit, spaceBit, masterBit}
 use Rattle.sheet.specs.Sheet.{entriesOf, commandsOf}
 
 unfoldable pub functionsFrom : Space → ℕ → List Entry → List Registers
@@ -24,6 +24,12 @@ registersOf space s = functionsFrom space 1 (entriesOf s)
 abbrev pub nodesOf : List ℕ → List Node
 nodesOf s = nodesFrom 1 (entriesOf s)
 
--- by the record's number
+-- a bit of the command words, by the record's number
+abbrev pub bitOf : ℕ → List ℕ → ℕ → Bool
+bitOf bit s = enabledIn (map (commandBit bit) (commandsOf s))
+
 abbrev pub enabledOf : Space → List ℕ → ℕ → Bool
-enabledOf space s = enabledIn (map (enables space) (commandsOf s))
+enabledOf space s = bitOf (spaceBit space) s
+
+abbrev pub masterOf : List ℕ → ℕ → Bool
+masterOf s = bitOf masterBit s

@@ -1,6 +1,6 @@
 -- Document 01, "The walk": what the walk reads of a record in one address space: the function's BARs and open windows as ranges, and apart
 -- from these the command bits that enable them. Assumes nothing.
-use Prim.Native.Nat.{ℕ, _+_, _/_, _%_}
+use Prim.Native.Nat.{ℕ, _+_, _/_, _%_, _^_}
 use mathlib.Core.Bool.{Bool, false, cond, _&&_}
 use mathlib.Core.List.{List, [], _∷_, _++_}
 use lib.ListN.{take, drop}
@@ -75,8 +75,17 @@ nodeOf k e =
 abbrev pub functionOf : Space → ℕ → Entry → Registers
 functionOf space k e = record { node = nodeOf k e; bars = barsOf space e; windows = windowsOf space e }
 
--- ## Command bit 0 enables I/O, bit 1 memory
+-- ## Bits of the command word: 0 enables I/O, 1 memory, and 2 is bus master
+
+abbrev pub commandBit : ℕ → ℕ → Bool
+commandBit bit command = eqb (command / 2 ^ bit % 2) 1
+
+abbrev pub spaceBit : Space → ℕ
+spaceBit Memory = 1
+spaceBit Ports = 0
+
+abbrev pub masterBit : ℕ
+masterBit = 2
 
 abbrev pub enables : Space → ℕ → Bool
-enables Memory command = eqb (command / 2 % 2) 1
-enables Ports command = eqb (command % 2) 1
+enables space command = commandBit (spaceBit space) command

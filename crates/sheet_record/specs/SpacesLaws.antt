@@ -1,8 +1,10 @@
--- BARs slot by slot and windows one by one, in the words of a search: which of them claims an address. Assumes nothing.
+-- BARs slot by slot and windows one by one, in the words of a search: which of them claims an address; and bits of the command word.
+-- Assumes nothing.
 use mathlib.Core.Path.{_≡_, refl, sym, ap, _∙_}
 use mathlib.Core.Bool.{Bool, true, false, cond, _&&_}
 use mathlib.Core.List.{List, [], _∷_, _++_, map}
-use Prim.Native.Nat.{ℕ, _+_, _-_, _≤_, _<_}
+use Prim.Native.Nat.{ℕ, _+_, _-_, _^_, _≤_, _<_}
+use native.Mathlib.Nat.{zero-div}
 use native.Mathlib.Omega.{arith}
 use lib.ListN.{length, drop, drop-of-length-le}
 use lib.Seq.{drop-drop}
@@ -10,6 +12,7 @@ use lib.Dec.{leb, ltb}
 use borrow.Author.Tests.{ltb-true, ltb-false, lt-ltb, le-ltb, leb-true, le-leb, lt-leb}
 use Rattle.pools.specs.declared.Pool.{Pool}
 use Rattle.pools.specs.declared.Space.{Space}
+use Rattle.pools.specs.declared.Space.the-variants.{Memory, Io as Ports}
 use Rattle.pools.specs.Pools.{inSpace}
 use Rattle.bar.specs.declared.Slot.{Slot}
 use Rattle.bar.specs.declared.Slot.the-variants.{Unused, Bar, Upper, Bad}
@@ -22,7 +25,7 @@ use Rattle.walk.specs.Ranges.{Range, holds}
 use Rattle.walk.specs.Registers.{Claim}
 use Rattle.lists.specs.Lists.{keep}
 use Rattle.walk.specs.Tally.{hitsOf}
-use Rattle.sheet_record.specs.Spaces.{barRange, barHere, barsFrom, barHolds, poolOf, openRange}
+use Rattle.sheet_record.specs.Spaces.{barRange, barHere, barsFrom, barHolds, poolOf, openRange, commandBit, spaceBit}
 
 -- ## BARs
 
@@ -104,3 +107,13 @@ module _ (space : Space) (x : Slot) (q : Pool) (wide : Bool) (size : ℕ) (e : x
 
   pub bar-by-size : inSpace space q ≡ true → base ≤ address → ltb (address - base) size ≡ barHolds space x v address
   bar-by-size h l = rw (e, h, ← b, le-leb base address l) (held-by-size base size address l)
+
+-- ## Bits of the command word
+
+pub space-bit-lt : (space : Space) → spaceBit space < 16
+space-bit-lt Memory = omega arith
+space-bit-lt Ports = omega arith
+
+-- a word of zeros has none
+pub no-bit-of-zero : (bit : ℕ) → commandBit bit 0 ≡ false
+no-bit-of-zero bit = rw (zero-div (2 ^ bit))

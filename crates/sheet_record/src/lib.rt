@@ -4,12 +4,13 @@ pub mod places;
 pub mod spaces;
 
 ghost use mathlib.Core.Path.{_≡_};
+ghost use Prim.Native.Nat.{_<_};
 ghost use lib.ListN.{length};
 ghost use Rattle.endian.specs.Endian.{be, le};
 ghost use Rattle.sheet_record.specs.Places.{valuesAt, readbacksAt, recordSize};
 ghost use Rattle.sheet_record.specs.Entry.{idOf, busOf, commandOf, headerOf, isBridge, slotCount, dwords};
 ghost use Rattle.sheet_record.specs.Entry.{primaryOf, secondaryOf, subordinateOf, windowOf};
-ghost use Rattle.sheet_record.specs.Spaces.{enables};
+ghost use Rattle.sheet_record.specs.Spaces.{commandBit, masterBit, enables};
 use pools::Pool;
 use pools::Space;
 use window::Window;
@@ -50,12 +51,28 @@ pub fn slot_count(part: &[u8]) -> usize
     bar::slot_count(part[places::HEADER_TYPE])
 }
 
-// The command bit of the space.
+// A bit of the command word, by its number.
+fn command_bit(part: &[u8], bit: u16) -> bool
+    requires { ⌜ (length (now part) ≡ recordSize) × (bit < 16) ⌝ }
+    ensures { λ r. ⌜ r ≡ commandBit bit (commandOf (now (part .entry))) ⌝ }
+{
+    (command_of(part) >> bit) % 2 == 1
+}
+
+// The bit of the space.
 pub fn is_enabled(part: &[u8], space: Space) -> bool
     requires { ⌜ length (now part) ≡ recordSize ⌝ }
     ensures { λ r. ⌜ r ≡ enables space (commandOf (now (part .entry))) ⌝ }
 {
-    spaces::enables(space, command_of(part))
+    command_bit(part, spaces::bit_of(space))
+}
+
+// Bus master.
+pub fn is_master(part: &[u8]) -> bool
+    requires { ⌜ length (now part) ≡ recordSize ⌝ }
+    ensures { λ r. ⌜ r ≡ commandBit masterBit (commandOf (now (part .entry))) ⌝ }
+{
+    command_bit(part, 2)
 }
 
 pub fn primary_of(part: &[u8]) -> u8

@@ -1,16 +1,16 @@
-// A record in an address space: what enables it there, and whether a BAR holds an address.
+// A record in an address space: the command bit that enables it there, and whether a BAR holds an address.
 ghost use mathlib.Core.Path.{_≡_};
-ghost use Rattle.sheet_record.specs.Spaces.{enables as enablesOf, barHolds};
+ghost use Rattle.sheet_record.specs.Spaces.{spaceBit, barHolds};
 use bar::Slot;
 use pools::Space;
 
 // Command bit 0 enables I/O, bit 1 memory.
-pub fn enables(space: Space, command: u16) -> bool
-    ensures { λ r. ⌜ r ≡ enablesOf space command ⌝ }
+pub fn bit_of(space: Space) -> u16
+    ensures { λ r. ⌜ r ≡ spaceBit space ⌝ }
 {
     match space {
-        Space::Memory => command / 2 % 2 == 1,
-        Space::Io => command % 2 == 1,
+        Space::Memory => 1,
+        Space::Io => 0,
     }
 }
 

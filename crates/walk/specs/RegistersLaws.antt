@@ -2,16 +2,15 @@
 -- one function. Assumes nothing.
 use mathlib.Core.Path.{_≡_, refl, sym, ap, subst, _∙_}
 use mathlib.Core.Logic.{_⊎_, inl, inr}
-use mathlib.Core.Bool.{Bool, true, false}
+use mathlib.Core.Bool.{true}
 use mathlib.Core.List.{List, [], _∷_, map, List·Memᴰ·not-nil, List·Memᴰ·cases-cons, List·Memᴰ·append-cases}
 use mathlib.Core.List.{Memᴰ·append-left, Memᴰ·append-right, Memᴰ·map, Memᴰ·of-map}
-use Prim.Native.Nat.{ℕ, suc, _+_, _≤_}
-use lib.ListN.{getD}
+use Prim.Native.Nat.{ℕ, _+_, _≤_}
 use native.Mathlib.Omega.{arith}
 use Rattle.lists.specs.Lists.{_∈_}
 use Rattle.lists.specs.ListLaws.{mem-cond-elim, flat-intro, flat-elim}
 use Rattle.walk.specs.Ranges.{Range}
-use Rattle.walk.specs.Registers.{Node, Registers, nodes, enabledIn, NumberedFrom}
+use Rattle.walk.specs.Registers.{Node, Registers, nodes, NumberedFrom}
 use Rattle.walk.specs.Registers.{Item, bar, window, barItem, windowItem, openWindows, itemsOf, items}
 
 pub record BarOf (fs : List Registers) (i : Item) : Type 0 where
@@ -55,10 +54,6 @@ node-mem m = Memᴰ·map (λ (g : Registers). g .node) m
 
 pub nodes-elim : {n : Node} (fs : List Registers) → n ∈ nodes fs → (f : Registers) × (f ∈ fs) × (f .node ≡ n)
 nodes-elim fs m = Memᴰ·of-map (λ (f : Registers). f .node) fs m
-
-pub enabled-in-suc : (bits : List Bool) (i : ℕ) → enabledIn bits (suc i) ≡ getD bits i false
-unfolding enabledIn
-enabled-in-suc bits i = refl
 
 pub number-ge : (k : ℕ) (fs : List Registers) (f : Registers) → NumberedFrom k fs → f ∈ fs → k ≤ f .node .number
 unfolding NumberedFrom
