@@ -10,7 +10,7 @@ use Rattle.packet.specs.Rules.{reservedSet, fixedWrong, upperZero, enablesWrong
 use Rattle.packet.specs.Rules.{fromRule5, fromRule6, fromRule7, fromRule8, fromRule9, ruleNumber}
 use Rattle.packet.specs.Verdict.{onRules, onFields, verdictOf}
 use Rattle.packet_numbers.specs.Numbers.{numbersOf}
-use Rattle.packet_numbers.specs.Parsing.{kinds, kindAt, anyAbove, headFrom, enablesFrom, onKind, fromKind, packetOf}
+use Rattle.packet_parsing.specs.Parsing.{kinds, kindAt, anyAbove, headFrom, enablesFrom, onKind, fromKind, packetOf}
 use Rattle.tlp_layout.specs.Layout.{frontBytes, requestBytes, addressBytes, layout}
 use Rattle.tlp_fields.specs.Fields.{headAt, enablesAt, addressAt, unnamed}
 use Rattle.tlp.specs.Reading.{judged, readOf}

@@ -7,9 +7,9 @@ use lib.ListN.{length}
 use lib.Dec.{ltb, eqb}
 use borrow.Author.Tests.{ne-eqb}
 use Rattle.packet.specs.declared.Packet.{Packet}
-use Rattle.packet_numbers.specs.declared.Parsed.{Parsed}
-use Rattle.packet_numbers.specs.declared.Parsed.the-variants.{Accepted as Taken, Refused as NotTaken}
-use Rattle.packet_numbers.specs.Parsing.{packetOf}
+use Rattle.packet_parsing.specs.declared.Parsed.{Parsed}
+use Rattle.packet_parsing.specs.declared.Parsed.the-variants.{Accepted as Taken, Refused as NotTaken}
+use Rattle.packet_parsing.specs.Parsing.{packetOf}
 use Rattle.tlp.specs.declared.Writing.{Writing}
 use Rattle.tlp.specs.declared.Writing.the-variants.{Written, Refused as NotWritten}
 use Rattle.tlp.specs.Writing.{writeOf, roomAs, roomAfter}

@@ -15,12 +15,12 @@ use Rattle.packet.specs.Fields.{kindOf, headOf}
 use Rattle.packet.specs.declared.Verdict.the-variants.{Lawful}
 use Rattle.packet.specs.Verdict.{verdictOf}
 use Rattle.packet.specs.VerdictLaws.{lawful-elim}
-use Rattle.packet_numbers.specs.declared.Parsed.{Parsed}
-use Rattle.packet_numbers.specs.declared.Parsed.the-variants.{Accepted as Taken, Refused as NotTaken}
+use Rattle.packet_parsing.specs.declared.Parsed.{Parsed}
+use Rattle.packet_parsing.specs.declared.Parsed.the-variants.{Accepted as Taken, Refused as NotTaken}
 use Rattle.packet_numbers.specs.Numbers.{numbersOf}
 use Rattle.packet_numbers.specs.NumbersLaws.{length-numbersOf}
-use Rattle.packet_numbers.specs.Parsing.{packetOf}
-use Rattle.packet_numbers.specs.RoundTrip.{packet-of-numbers, numbers-of-packet}
+use Rattle.packet_parsing.specs.Parsing.{packetOf}
+use Rattle.packet_parsing.specs.RoundTrip.{packet-of-numbers, numbers-of-packet}
 use Rattle.tlp.specs.declared.Reading.{Reading}
 use Rattle.tlp.specs.declared.Reading.the-variants.{Accepted, Refused as NotRead}
 use Rattle.tlp.specs.declared.Writing.{Writing}

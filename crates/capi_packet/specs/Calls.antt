@@ -1,10 +1,10 @@
 -- What the calls on a header answer, from document 01's definitions, and what the room of a write then holds. Assumes nothing.
 use Prim.Native.Nat.{ℕ}
 use mathlib.Core.List.{List, [], _∷_}
-use Rattle.packet_numbers.specs.declared.Parsed.{Parsed}
-use Rattle.packet_numbers.specs.declared.Parsed.the-variants.{Accepted as Taken, Refused as NotTaken}
+use Rattle.packet_parsing.specs.declared.Parsed.{Parsed}
+use Rattle.packet_parsing.specs.declared.Parsed.the-variants.{Accepted as Taken, Refused as NotTaken}
 use Rattle.packet_numbers.specs.Numbers.{numbersOf}
-use Rattle.packet_numbers.specs.Parsing.{packetOf}
+use Rattle.packet_parsing.specs.Parsing.{packetOf}
 use Rattle.tlp.specs.declared.Reading.{Reading}
 use Rattle.tlp.specs.declared.Reading.the-variants.{Accepted, Refused as NotRead}
 use Rattle.tlp.specs.declared.Writing.{Writing}

@@ -16,10 +16,10 @@ use Rattle.packet.specs.declared.Verdict.{Verdict}
 use Rattle.packet.specs.declared.Verdict.the-variants.{Lawful, Refused as Unlawful}
 use Rattle.packet.specs.Fields.{kindOf, headOf}
 use Rattle.packet.specs.Verdict.{verdictOf}
-use Rattle.packet_numbers.specs.declared.Parsed.{Parsed}
-use Rattle.packet_numbers.specs.declared.Parsed.the-variants.{Accepted as Taken, Refused as NotTaken}
-use Rattle.packet_numbers.specs.Parsing.{onPair, packetOf}
-use Rattle.packet_numbers.specs.Fields.{fieldsOf, checked, checked-fields}
+use Rattle.packet_parsing.specs.declared.Parsed.{Parsed}
+use Rattle.packet_parsing.specs.declared.Parsed.the-variants.{Accepted as Taken, Refused as NotTaken}
+use Rattle.packet_parsing.specs.Parsing.{onPair, packetOf}
+use Rattle.packet_parsing.specs.Fields.{fieldsOf, checked, checked-fields}
 use Rattle.tlp.specs.declared.Writing.{Writing}
 use Rattle.tlp.specs.declared.Writing.the-variants.{Written, Refused as NotWritten}
 use Rattle.tlp_layout.specs.LayoutLaws.{size-of-lawful}

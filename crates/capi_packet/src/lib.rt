@@ -5,7 +5,7 @@ ghost use Rattle.tlp.specs.Writing.{writeOf, roomAfter};
 ghost use Rattle.capi_answers.specs.Answers.{returned, filled, leftBeside};
 ghost use Rattle.capi_packet.specs.Calls.{readAnswer, onWriting, writeAnswer, roomLeft};
 use packet::Packet;
-use packet_numbers::Parsed;
+use packet_parsing::Parsed;
 use tlp::Reading;
 use tlp::Writing;
 
@@ -26,7 +26,7 @@ pub fn write(packet: &[u64], room: &mut [u8], written: &mut [u64]) -> u32
         now (written .exit) ≡ filled (writeAnswer (now (packet .entry)) (length (now (room .entry)))) (now (written .entry))
         ⌝ }
 {
-    match packet_numbers::fields_of(packet) {
+    match packet_parsing::fields_of(packet) {
         Parsed::Accepted(p) => write_packet(p, room, written),
         Parsed::Refused(n) => n as u32,
     }

@@ -1,7 +1,3 @@
--- A packet as twenty numbers and back: what each number is, what numbers are taken for a packet, and that the two agree.
+-- A packet as twenty numbers: what each number is.
 pub mod Numbers
-pub mod Parsing
-pub mod Fields
 pub mod NumbersLaws
-pub mod RoundTrip
-pub mod RefusedLaws

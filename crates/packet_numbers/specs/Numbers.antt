@@ -16,6 +16,10 @@ use Rattle.packet.specs.declared.Packet.{Packet}
 use Rattle.packet.specs.declared.Packet.the-variants.{Memory, Io, Config, Completion, Message}
 use Rattle.packet.specs.Fields.{headOf}
 
+-- how many numbers a packet has
+abbrev pub size : ℕ
+size = 20
+
 abbrev pub bit : Bool → ℕ
 bit true = 1
 bit false = 0
