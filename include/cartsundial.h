@@ -136,7 +136,7 @@ enum cartsundial_number {
     CARTSUNDIAL_E_NO_BUS_MASTER = 44,       /* from a card: it, or a bridge on its way up, is no bus master (command bit 2) */
     CARTSUNDIAL_E_NO_START = 45,            /* from a card: no type 0 function's record, or no memory or I/O request */
     CARTSUNDIAL_E_NOT_TREE = 50,            /* audit: first record not on the host's first bus; not one bridge to a bus; a bridge's buses */
-    CARTSUNDIAL_E_NOT_NESTED = 51,          /* audit: a BAR or open window outside the window above, or the pool, of its kind */
+    CARTSUNDIAL_E_NOT_NESTED = 51,          /* audit: a BAR or open window outside the window or pool above of its kind; sound: its space */
     CARTSUNDIAL_E_NOT_DISJOINT = 52,        /* audit: two BARs or open windows of one space overlap on a bus */
     CARTSUNDIAL_E_LEDGER_KIND = 60,         /* ledger: no non-posted request to open, or no completion */
     CARTSUNDIAL_E_ALREADY_OPEN = 61,        /* ledger: a request with this requester and tag is open */
@@ -300,6 +300,19 @@ CARTSUNDIAL_CHECKED uint32_t cartsundial_check(const uint8_t *sheet, size_t shee
  * never 41. Both are proved.
  */
 CARTSUNDIAL_CHECKED uint32_t cartsundial_audit(const uint8_t *host, size_t host_len, const uint8_t *sheet, size_t sheet_len)
+    CARTSUNDIAL_READS(1, 2) CARTSUNDIAL_READS(3, 4);
+
+/*
+ * One owner for every address: cartsundial_audit, but for 51, which is asked of the address space and not of the kind. A memory BAR or an
+ * open memory window lies in the low or the high window of the bridge above, whichever its own kind is, and on the root bus in the low or
+ * the high pool. So a sheet with prefetchable windows below 4 GiB, as much firmware leaves it, need not be 51. All else is the same: the
+ * other checks, their numbers and their order.
+ * Every sheet that cartsundial_audit accepts is 0 here too. Over a sheet that is 0 here no two functions have BARs over one address, and
+ * cartsundial_route answers as over an accepted one: a memory or I/O request goes to the one function whose BAR holds the address, where
+ * that function and all bridges above it are enabled, and else is 40; no packet is 41. It stays so when command words are rewritten. All
+ * of this is proved. cartsundial_index asks for a sheet that cartsundial_audit accepts.
+ */
+CARTSUNDIAL_CHECKED uint32_t cartsundial_sound(const uint8_t *host, size_t host_len, const uint8_t *sheet, size_t sheet_len)
     CARTSUNDIAL_READS(1, 2) CARTSUNDIAL_READS(3, 4);
 
 /*

@@ -106,6 +106,7 @@ static void read_header(void) { number = cartsundial_read(header, sizeof header,
 static void write_header(void) { number = cartsundial_write(packet, 20, lines, 16, written, 1); }
 static void check(void) { number = cartsundial_check(sheet, sheet_len); }
 static void audit(void) { number = cartsundial_audit(host, sizeof host, sheet, sheet_len); }
+static void sound(void) { number = cartsundial_sound(host, sizeof host, sheet, sheet_len); }
 static void lookup(void) { number = cartsundial_lookup(sheet, sheet_len, 0xFF00, written, 1); }
 static void id(void) { number = cartsundial_id(sheet, sheet_len, 256, written, 1); }
 static void command(void) { number = cartsundial_command(sheet, sheet_len, 0xFF00, 7); }
@@ -178,6 +179,7 @@ int main(void)
     measure("write", write_header, 12);
     measure("check", check, 12);
     measure("audit", audit, 12);
+    measure("sound", sound, 12);
     measure("lookup", lookup, 12);
     measure("id", id, 12);
     measure("command", command, 12);
