@@ -65,6 +65,7 @@ mod c {
         ) -> u32;
         pub fn cartsundial_check(sheet: *const u8, sheet_len: usize) -> u32;
         pub fn cartsundial_audit(host: *const u8, host_len: usize, sheet: *const u8, sheet_len: usize) -> u32;
+        pub fn cartsundial_sound(host: *const u8, host_len: usize, sheet: *const u8, sheet_len: usize) -> u32;
         pub fn cartsundial_lookup(
             sheet: *const u8,
             sheet_len: usize,
@@ -234,6 +235,11 @@ pub fn check(sheet: &[u8]) -> u32 {
 /// Audits a sheet for the bytes of a host record. Other than 30 bytes are 20, before the sheet is read.
 pub fn audit(host: &[u8], sheet: &[u8]) -> u32 {
     unsafe { c::cartsundial_audit(host.as_ptr(), host.len(), sheet.as_ptr(), sheet.len()) }
+}
+
+/// The same with 51 asked of the address space and not of the kind.
+pub fn sound(host: &[u8], sheet: &[u8]) -> u32 {
+    unsafe { c::cartsundial_sound(host.as_ptr(), host.len(), sheet.as_ptr(), sheet.len()) }
 }
 
 /// Writes to `offset` where in the sheet the 64 register bytes of the function with this ID start. No function has an

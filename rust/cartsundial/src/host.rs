@@ -89,3 +89,31 @@ impl HostRecord {
 pub fn audit(host: &HostRecord, sheet: &[u8]) -> Result<(), Refusal> {
     accepted(calls::audit(&host.bytes(), sheet))
 }
+
+/// One owner for every address: [`audit`], but for 51, which is asked of the address space and not of the kind. A memory BAR
+/// or an open memory window lies in the low or the high window of the bridge above, whichever its own kind is, and on the root
+/// bus in the low or the high pool. So firmware may leave prefetchable windows below 4 GiB.
+///
+/// Every accepted sheet is sound. Over a sound one no two functions have BARs over one address, and [`route`](crate::route)
+/// answers as over an accepted one: to the one function whose BAR holds the address, where that function and all bridges above
+/// it are enabled, and else 40, never 41. [`Index`](crate::Index) asks for an accepted one.
+///
+/// ```
+/// use cartsundial::{audit, sound, HostRecord, Refusal};
+///
+/// let host = HostRecord { low: (0xF900_0000, 0xF9FF_FFFF), ..HostRecord::CLOSED };
+/// // A bridge to bus 1 with a prefetchable window, F9000000 to F90FFFFF, and the others closed.
+/// let mut sheet = [0; 93];
+/// sheet[..3].copy_from_slice(&[1, 0, 90]);
+/// sheet[5 + 0x0E] = 1;
+/// sheet[5 + 0x19..][..5].copy_from_slice(&[1, 1, 0, 0xF0, 0x00]);
+/// sheet[5 + 0x20..][..8].copy_from_slice(&[0xF0, 0xFF, 0x00, 0x00, 0x01, 0xF9, 0x01, 0xF9]);
+/// assert_eq!(audit(&host, &sheet), Err(Refusal::NotNested));
+/// assert_eq!(sound(&host, &sheet), Ok(()));
+/// // One MiB below, it is outside of every pool.
+/// sheet[5 + 0x24..][..4].copy_from_slice(&[0xF1, 0xF8, 0xF1, 0xF8]);
+/// assert_eq!(sound(&host, &sheet), Err(Refusal::NotNested));
+/// ```
+pub fn sound(host: &HostRecord, sheet: &[u8]) -> Result<(), Refusal> {
+    accepted(calls::sound(&host.bytes(), sheet))
+}

@@ -30,6 +30,7 @@
 //! | a board's bridges, and the buses and memory that each keeps free | [`bridges`] |
 //! | a sheet: is it lawful, a function's registers, its command word | [`check`], [`registers`], [`set_command`] |
 //! | is a sheet that other firmware left in order, for a host | [`audit`] |
+//! | has every address on it one owner, wherever firmware put prefetchable memory | [`sound`] |
 //! | a sheet that is checked once and then asked: functions, BARs, windows, buses | [`Sheet`], [`Function`] |
 //! | its functions one by one, or from a record to its ID | [`functions()`], [`id_of`] |
 //! | where a packet goes: a function, every function, the port | [`route`] |
@@ -113,7 +114,7 @@ pub use cards::{route_from, Sending};
 pub use engine::Engine;
 pub use fields::{Body, Enables, Fields};
 pub use functions::{functions, Buses, Function, PlacedBar, Windows};
-pub use host::{audit, HostRecord};
+pub use host::{audit, sound, HostRecord};
 pub use id::{Id, NoId};
 pub use index::{index_length, Index, FULL_INDEX};
 pub use kind::{CompletionKind, ConfigurationKind, Form, IoKind, Kind, MemoryKind, MessageKind, NoKind, Routing};

@@ -117,7 +117,8 @@ refusals! {
     /// Audit: the first record is not on the host's first bus, not exactly one bridge leads to a function's bus, or a
     /// bridge's buses lie outside the parent's or the host's or meet a sibling's.
     NotTree = 50, "first record's bus, the bridge to a bus, or a bridge's buses";
-    /// Audit: a BAR or open window outside the window above, or the pool, of its kind.
+    /// Audit: a BAR or open window outside the window above, or the pool, of its kind; of [`sound`](crate::sound), of its
+    /// address space.
     NotNested = 51, "a BAR or window outside the window or pool above";
     /// Audit: two BARs or open windows of one space overlap on a bus.
     NotDisjoint = 52, "two BARs or windows overlap on a bus";

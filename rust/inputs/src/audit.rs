@@ -316,6 +316,39 @@ fn move_bar(record: &mut [u8], random: &mut Random, up: bool) {
     }
 }
 
+/// Makes some 64-bit BARs prefetchable that were not, or no longer; and of some bridges with no prefetchable window the memory
+/// window prefetchable. All stays where it is, so every address keeps its owner.
+pub fn change_kinds(sheet: &mut [u8], random: &mut Random) {
+    for record in sheet.get_mut(1..).unwrap_or_default().chunks_exact_mut(92) {
+        let mut slot = 0;
+        while slot < 6 {
+            let read_back = 68 + 4 * slot;
+            let is_wide = record[read_back + 3] & 7 == 4;
+            if is_wide && random.chance(1, 2) {
+                record[read_back + 3] ^= 8;
+                record[4 + 0x10 + 4 * slot] ^= 8;
+            }
+            slot += 1 + usize::from(is_wide);
+        }
+        let is_bridge = record[4 + 0x0E] & 0x7F == 1;
+        if is_bridge && is_high_closed(record) && random.chance(1, 2) {
+            // The two edges, of 64-bit form; and no memory window.
+            let edges = [record[4 + 0x20] | 1, record[4 + 0x21], record[4 + 0x22] | 1, record[4 + 0x23]];
+            record[4 + 0x24..4 + 0x28].copy_from_slice(&edges);
+            record[4 + 0x28..4 + 0x30].fill(0);
+            record[4 + 0x20..4 + 0x24].copy_from_slice(&[0xF0, 0xFF, 0, 0]);
+        }
+    }
+}
+
+fn is_high_closed(record: &[u8]) -> bool {
+    let number = |at: usize, width: usize| {
+        record[at..at + width].iter().rev().fold(0u64, |number, &byte| number << 8 | u64::from(byte))
+    };
+    let edge = |limit: usize| number(4 + 0x28 + 4 * limit, 4) << 16 | number(4 + 0x24 + 2 * limit, 2) & 0xFFF0;
+    edge(0) > edge(1)
+}
+
 /// Moves an edge of a pool by one granule, or the first or last bus by one.
 pub fn move_edge(host: &mut [u8], random: &mut Random) {
     let fields = [(0, 1, 1), (1, 1, 1), (2, 4, 20), (6, 4, 20), (10, 8, 20), (18, 8, 20), (26, 2, 12), (28, 2, 12)];

@@ -162,7 +162,9 @@ impl<'a> Tree<'a> {
     fn holds(&self, item: &Item, nesting: Nesting) -> bool {
         self.parent(item.bus).is_some_and(|parent| {
             let admitted = Pool::ALL.into_iter().filter(|&pool| nesting.admits(item.pool, pool));
-            admitted.map(|pool| parent.range(pool)).any(|outer| outer.base <= item.range.base && item.range.last <= outer.last)
+            admitted
+                .map(|pool| parent.range(pool))
+                .any(|outer| outer.base <= item.range.base && item.range.last <= outer.last)
         })
     }
 }

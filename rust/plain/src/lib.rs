@@ -21,7 +21,7 @@ mod script;
 mod sheet;
 mod trace;
 
-pub use audit::audit;
+pub use audit::{audit, sound};
 pub use cards::{route_from, Sending};
 pub use index::{build, find};
 pub use packet::{read, to_numbers, write, write_numbers, Form, Kind, Packet};

@@ -2,7 +2,7 @@
 
 use inputs::board::{self, high, io, memory, prefetchable, Board, CLOSED_HIGH, CLOSED_IO, CLOSED_LOW};
 use inputs::foreign::{request, sheet, Record, IORD, MRD};
-use plain::{audit, programs, Arrival};
+use plain::{audit, programs, sound, Arrival};
 
 /// The host of [`records`], whose root bus fills the pools from edge to edge.
 fn host() -> Board {
@@ -421,6 +421,39 @@ fn each_kind_in_its_own_pool() {
     // Low and high windows of one bridge over one address.
     let both = Record::bridge(0x2000, 0x21, 0x21).low(0xF970, 0xF970).high(0xF971, 0xF971, 0, 0);
     assert_eq!(number(&host, &[both]), 51);
+}
+
+/// One owner for every address: the same, with memory in any memory window or pool, and I/O in I/O.
+#[test]
+fn each_space_in_its_own() {
+    let host = Board { low: (0xF900_0000, 0xF97F_FFFF), high: (0x2_4000_0000, 0x2_406F_FFFF), ..host() };
+    let number = |records: &[Record]| sound(&host.host(), &sheet(records));
+    let at = |index: usize, change: &dyn Fn(Record) -> Record| {
+        let mut records = records();
+        records[index] = change(records[index].clone());
+        number(&records)
+    };
+    assert_eq!(number(&records()), 0);
+    // A low BAR in the high window, a high one in the low window; then past both.
+    assert_eq!(at(2, &|end| end.wide(4, 4, 20, 0x2_4010_0000)), 0);
+    assert_eq!(at(2, &|end| end.wide(4, 12, 20, 0xF910_0000)), 0);
+    assert_eq!(at(2, &|end| end.wide(4, 4, 20, 0x2_4020_0000)), 51);
+    assert_eq!(at(2, &|end| end.wide(4, 12, 20, 0xF920_0000)), 51);
+    // Partly in the one and partly in the other is in neither: the low pool ends where no high one can start.
+    assert_eq!(at(2, &|end| end.wide(4, 12, 21, 0xF920_0000)), 51);
+    // A prefetchable window in the low pool, with nothing there, and over another window of the same bridge.
+    let bridge = Record::bridge(0x2000, 0x21, 0x21);
+    assert_eq!(number(&[bridge.clone().high(0xF971, 0xF971, 0, 0)]), 0);
+    assert_eq!(number(&[bridge.clone().high(0xF981, 0xF981, 0, 0)]), 51);
+    assert_eq!(number(&[bridge.low(0xF970, 0xF970).high(0xF971, 0xF971, 0, 0)]), 52);
+    // Memory never lies in an I/O window, nor I/O in one of memory.
+    assert_eq!(number(&[Record::end(0x2000).bar(0, memory(12), 0x5000)]), 51);
+    let only_low = Board { low: (0, 0xF_FFFF), io: CLOSED_IO, ..host.clone() };
+    assert_eq!(sound(&only_low.host(), &sheet(&[Record::end(0x2000).bar(0, io(8), 0x5001)])), 51);
+    // All other numbers are the audit's.
+    assert_eq!(sound(&host.host()[..29], &sheet(&records())), 20);
+    assert_eq!(at(1, &|bridge| with_buses(bridge, 0x23, 0x23)), 50);
+    assert_eq!(at(2, &|end| end.set(0x0E, 2)), 24);
 }
 
 #[test]

@@ -1,18 +1,19 @@
-//! Sheets that real firmware left (tests/audit): their audits, last winter's fault and memory BARs under 128 bytes among them.
+//! Sheets that real firmware left (tests/audit): their audits, last winter's fault and memory BARs under 128 bytes among them,
+//! and on which of them every address has one owner.
 
 use std::fs;
 
 use inputs::foreign::{request, IORD, IOWR};
 
-/// Name, functions, and the audit's number.
-const CAPTURES: [(&str, usize, u8); 7] = [
-    ("ovmf-one-bridge", 6, 0),
-    ("ovmf-overlap", 10, 52),
-    ("seabios-deep-16", 29, 51),
-    ("seabios-flat", 18, 25),
-    ("seabios-one-bridge", 6, 51),
-    ("seabios-seed1", 10, 0),
-    ("seabios-seed2", 10, 0),
+/// Name, functions, the audit's number, and that of one owner for every address.
+const CAPTURES: [(&str, usize, u8, u8); 7] = [
+    ("ovmf-one-bridge", 6, 0, 0),
+    ("ovmf-overlap", 10, 52, 52),
+    ("seabios-deep-16", 29, 51, 0),
+    ("seabios-flat", 18, 25, 25),
+    ("seabios-one-bridge", 6, 51, 0),
+    ("seabios-seed1", 10, 0, 0),
+    ("seabios-seed2", 10, 0, 0),
 ];
 
 fn read(name: &str, extension: &str) -> Vec<u8> {
@@ -21,17 +22,17 @@ fn read(name: &str, extension: &str) -> Vec<u8> {
 
 #[test]
 fn audits() {
-    for (name, functions, number) in CAPTURES {
+    for (name, functions, number, sound) in CAPTURES {
         let (host, sheet) = (read(name, "host"), read(name, "sheet"));
         assert_eq!(sheet.len(), 1 + 92 * functions, "{name}");
         let passes = number == 0 || number >= 50;
         assert_eq!(plain::check(&sheet), if passes { 0 } else { number }, "{name}");
-        assert_eq!(plain::audit(&host, &sheet), number, "{name}");
+        assert_eq!((plain::audit(&host, &sheet), plain::sound(&host, &sheet)), (number, sound), "{name}");
     }
 }
 
 /// Memory BARs of 16 and 32 bytes are 25. With all of them of 128 bytes, where they are, the sheet passes its checks, and
-/// 51 is left: a 64-bit BAR that is not prefetchable, above 4 GiB.
+/// 51 is left: a 64-bit BAR that is not prefetchable, above 4 GiB. Every address has one owner.
 #[test]
 fn tiny_bars() {
     let (host, mut sheet) = (read("seabios-flat", "host"), read("seabios-flat", "sheet"));
@@ -41,7 +42,7 @@ fn tiny_bars() {
         assert_eq!(sheet[read_back..read_back + 4], tiny.to_be_bytes());
         sheet[read_back..read_back + 4].copy_from_slice(&0xFFFF_FF80u32.to_be_bytes());
     }
-    assert_eq!((plain::check(&sheet), plain::audit(&host, &sheet)), (0, 51));
+    assert_eq!((plain::check(&sheet), plain::audit(&host, &sheet), plain::sound(&host, &sheet)), (0, 51, 0));
 }
 
 /// The I/O window of bridge 00:01.0, 6000 to 6FFF, lies over the I/O BARs of 00:01.1, 00:1F.3 and 00:1F.2 beside it.

@@ -13,6 +13,7 @@ pub enum Call {
     Script,
     Check,
     Audit,
+    Sound,
     Lookup,
     Id,
     Command,
@@ -28,13 +29,14 @@ pub enum Call {
     Count,
 }
 
-const CALLS: [Call; 19] = [
+const CALLS: [Call; 20] = [
     Call::Read,
     Call::Write,
     Call::Plan,
     Call::Script,
     Call::Check,
     Call::Audit,
+    Call::Sound,
     Call::Lookup,
     Call::Id,
     Call::Command,
@@ -65,7 +67,7 @@ impl Call {
             Call::Plan => &[0, 11, 20, 21, 22, 23, 24, 25, 26, 30, 31, 32, 33],
             Call::Script => &[0, 10, 11, 20, 21, 22, 23, 24, 25, 26, 30, 31, 32, 33],
             Call::Check => &[0, 20, 21, 22, 24, 25, 27, 28, 29],
-            Call::Audit => &[0, 20, 21, 22, 24, 25, 26, 27, 28, 29, 50, 51, 52],
+            Call::Audit | Call::Sound => &[0, 20, 21, 22, 24, 25, 26, 27, 28, 29, 50, 51, 52],
             Call::Lookup => &[0, 11, 20, 21, 22, 24, 25, 27, 28, 29, 40],
             Call::Id => &[0, 11, 20, 21, 22, 24, 25, 27, 28, 29, 40],
             Call::Command => &[0, 10, 20, 21, 22, 24, 25, 27, 28, 29, 40],
@@ -103,6 +105,8 @@ pub struct Tally {
     ports: u64,
     /// Lines of traces, by what they say.
     labels: [u64; LABELS.len()],
+    /// Sheets that are sound and not accepted.
+    sound_alone: u64,
 }
 
 impl Default for Tally {
@@ -117,6 +121,7 @@ impl Default for Tally {
             broadcasts: [0; MOST_FUNCTIONS + 1],
             ports: 0,
             labels: [0; LABELS.len()],
+            sound_alone: 0,
         }
     }
 }
@@ -134,6 +139,11 @@ impl Tally {
         if let 1 | 2 = version {
             self.boards[usize::from(version) - 1][number as usize] += 1;
         }
+    }
+
+    /// The numbers of a sheet's two verdicts.
+    pub fn judged(&mut self, audit: u8, sound: u8) {
+        self.sound_alone += u64::from(audit != 0 && sound == 0);
     }
 
     pub fn planned(&mut self, functions: usize) {
@@ -205,6 +215,9 @@ impl Tally {
         if self.broadcasts[1] == 0 || self.broadcasts[MOST_FUNCTIONS] == 0 || self.ports == 0 {
             faults.push("no message went to the one function, to all 512, or to the port".into());
         }
+        if self.sound_alone == 0 {
+            faults.push("no sheet was sound and not accepted".into());
+        }
         for (label, _) in LABELS.iter().zip(self.labels).filter(|&(_, count)| count == 0) {
             faults.push(format!("no line of a trace was: {label}"));
         }
@@ -261,6 +274,7 @@ impl fmt::Display for Tally {
         writeln!(f, "messages for the port: {}", self.ports)?;
         let labels: Vec<String> =
             LABELS.iter().zip(self.labels).map(|(label, count)| format!("{label}: {count}")).collect();
-        writeln!(f, "lines of traces: {}", labels.join(", "))
+        writeln!(f, "lines of traces: {}", labels.join(", "))?;
+        writeln!(f, "sheets that are sound and not accepted: {}", self.sound_alone)
     }
 }
