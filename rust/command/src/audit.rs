@@ -1,11 +1,11 @@
-//! `audit`: whether a sheet is in order for a host.
+//! `audit`: whether a sheet is in order for a host, and whether every address has one owner.
 
 use crate::arguments::{Arguments, Options};
 use crate::failure::{print, Answer, Failure, Verdict};
-use crate::faults;
+use crate::faults::{self, Nesting};
 use crate::named::{NamedSheet, RECORD};
 use crate::source::Source;
-use cartsundial::{audit, check, id_of, HostRecord, Id, Refusal};
+use cartsundial::{audit, check, id_of, sound, HostRecord, Id, Refusal};
 
 pub const OPTIONS: Options = Options { flags: &["--all"], values: &["--host"] };
 
@@ -16,7 +16,12 @@ Judges a sheet, whoever wrote it, for a host: accepted, or the number of the fir
 function that breaks it. On an accepted sheet no address has two owners. HOST is a host record's 30 bytes, or a board, of
 which the host is taken; where SHEET is itself a board, its plan is judged, for its own host unless another is given.
 
-The verdict is the proved library's. Who breaks a rule is looked up beside it, and is not proved.
+A second verdict, `one owner for every address`, asks 51 of the address space and not of the kind: memory may lie in any memory
+window of the bridge above, or memory pool of the host. Prefetchable windows below 4 GiB, which are 51 to the first verdict and
+which much firmware leaves, may pass it. Over a sheet that passes, packets from the host are delivered as over an accepted one.
+The exit status is the first verdict's.
+
+The verdicts are the proved library's. Who breaks a rule is looked up beside them, and is not proved.
 
   --all               every fault, not only those of the first rule that is broken
 ";
@@ -35,16 +40,33 @@ pub fn run(arguments: &Arguments) -> Answer {
         Some(board) => NamedSheet::planned(board).ok(),
         None => NamedSheet::new(sheet.clone(), &names).ok(),
     };
-    match audit(&host, &sheet) {
-        Ok(()) => {
-            print(format!("accepted: {} functions\n", sheet.len() / RECORD))?;
-            Ok(Verdict::Accepted)
-        }
-        Err(refusal) => {
-            print(refused(refusal, &sheet, named.as_ref(), &host, arguments.has("--all")))?;
-            Ok(Verdict::Refused)
+    let verdict = audit(&host, &sheet);
+    let first = match verdict {
+        Ok(()) => format!("accepted: {} functions\n", sheet.len() / RECORD),
+        Err(refusal) => refused(refusal, &sheet, named.as_ref(), &host, arguments.has("--all")),
+    };
+    let second = one_owner(verdict, sound(&host, &sheet), named.as_ref(), &host);
+    print(first + &second)?;
+    Ok(Verdict::of(verdict.is_ok()))
+}
+
+/// The second verdict. Who breaks it is told where the first one has not said so.
+fn one_owner(
+    audited: Result<(), Refusal>,
+    sound: Result<(), Refusal>,
+    named: Option<&NamedSheet>,
+    host: &HostRecord,
+) -> String {
+    let Err(refusal) = sound else { return "one owner for every address: yes\n".into() };
+    let mut text = format!("one owner for every address: {refusal}\n");
+    let is_told = audited == sound && refusal != Refusal::NotNested;
+    if let Some(named) = named.filter(|_| !is_told) {
+        let faults = faults::all(named, host, Nesting::OfSpace);
+        for fault in faults.iter().filter(|fault| fault.refusal == refusal) {
+            text += &format!("  {}: {}\n", refusal.number(), fault.what);
         }
     }
+    text
 }
 
 fn refused(refusal: Refusal, sheet: &[u8], named: Option<&NamedSheet>, host: &HostRecord, is_all: bool) -> String {
@@ -56,7 +78,7 @@ fn refused(refusal: Refusal, sheet: &[u8], named: Option<&NamedSheet>, host: &Ho
         }
         return text;
     };
-    for fault in faults::all(named, host) {
+    for fault in faults::all(named, host, Nesting::OfKind) {
         if is_all || fault.refusal == refusal {
             text += &format!("  {}: {}\n", fault.refusal.number(), fault.what);
         }

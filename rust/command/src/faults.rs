@@ -1,5 +1,5 @@
-//! Who breaks which rule of the audit, all of them: 50 buses, 51 places, 52 overlaps. The verdict is the proved library's;
-//! this list is found by the types, and is not proved.
+//! Who breaks which rule of the audit, or of one owner for every address, all of them: 50 buses, 51 places, 52 overlaps. The
+//! verdict is the proved library's; this list is found by the types, and is not proved.
 
 use crate::listing::{pool_of, windows, word};
 use crate::named::NamedSheet;
@@ -12,6 +12,30 @@ pub struct Fault {
     pub what: String,
 }
 
+/// What 51 asks a BAR or a window to lie in: a window or pool of its kind, as the audit does, or any of its address space.
+#[derive(Clone, Copy, Debug, PartialEq, Eq)]
+pub enum Nesting {
+    OfKind,
+    OfSpace,
+}
+
+impl Nesting {
+    fn admits(self, item: Pool, outer: Pool) -> bool {
+        match self {
+            Nesting::OfKind => item == outer,
+            Nesting::OfSpace => (item == Pool::Io) == (outer == Pool::Io),
+        }
+    }
+
+    /// What is asked for above.
+    fn word(self, item: Pool) -> &'static str {
+        match (self, item) {
+            (Nesting::OfSpace, Pool::Low | Pool::High) => "memory",
+            _ => word(item),
+        }
+    }
+}
+
 /// A BAR or an open window.
 struct Item {
     pool: Pool,
@@ -20,9 +44,9 @@ struct Item {
 }
 
 /// The faults of a sheet that passes its own checks, in the order of the audit's checks.
-pub fn all(named: &NamedSheet, host: &HostRecord) -> Vec<Fault> {
+pub fn all(named: &NamedSheet, host: &HostRecord, nesting: Nesting) -> Vec<Fault> {
     let mut faults = bus_faults(named, host);
-    faults.extend(place_faults(named, host));
+    faults.extend(place_faults(named, host, nesting));
     faults.extend(overlap_faults(named));
     faults
 }
@@ -77,7 +101,7 @@ fn shared_buses(named: &NamedSheet) -> Vec<Fault> {
     faults
 }
 
-fn place_faults(named: &NamedSheet, host: &HostRecord) -> Vec<Fault> {
+fn place_faults(named: &NamedSheet, host: &HostRecord, nesting: Nesting) -> Vec<Fault> {
     let mut faults = Vec::new();
     for function in named.sheet.functions() {
         let bus = function.id.bus();
@@ -88,12 +112,13 @@ fn place_faults(named: &NamedSheet, host: &HostRecord) -> Vec<Fault> {
             (format!("the window of {}", named.title(&bridge)), windows(&bridge))
         };
         for item in items(named, &function) {
-            let window = outer.iter().find(|(pool, _)| *pool == item.pool).map(|(_, range)| range);
+            let admitted = outer.iter().filter(|(pool, _)| nesting.admits(item.pool, *pool)).map(|(_, range)| range);
             let holds =
-                |window: &RangeInclusive<u64>| window.contains(item.range.start()) && window.contains(item.range.end());
-            if !window.is_some_and(holds) {
-                let is = window.map_or("closed".to_string(), text);
-                let what = format!("{} outside {above} for {}, which is {is}", item.what, word(item.pool));
+                |range: &RangeInclusive<u64>| range.contains(item.range.start()) && range.contains(item.range.end());
+            if !admitted.clone().any(holds) {
+                let ranges: Vec<String> = admitted.map(text).collect();
+                let is = if ranges.is_empty() { "closed".to_string() } else { ranges.join(" or ") };
+                let what = format!("{} outside {above} for {}, which is {is}", item.what, nesting.word(item.pool));
                 faults.push(fault(Refusal::NotNested, what));
             }
         }

@@ -52,7 +52,7 @@ const HELP: &str = "\
 cartsundial: PCI Express boards planned, sheets judged, packets routed and traces labelled, over proved code
 
   plan BOARD                a board's plan, with --sheet, --script, --svg, --json, --lspci
-  audit SHEET --host HOST   whether a sheet that other firmware left is in order
+  audit SHEET --host HOST   whether a sheet that other firmware left is in order, and every address has one owner
   route SHEET HEADER..      where a header goes; --from 03:00.0 for card to card
   decode HEADER..           a header in words
   label SHEET TRACE         a line for each header of a trace; --names, --jobs N, --summary

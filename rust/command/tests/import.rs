@@ -27,6 +27,11 @@ fn verdict(machine: &str) -> &'static str {
     }
 }
 
+/// Every address has one owner, also where the audit's answer is 51 for the kind alone. The BAR outside its bridge has none.
+fn is_sound(machine: &str) -> bool {
+    machine != "conventional-linux"
+}
+
 fn file(machine: &str, ending: &str) -> String {
     format!("tests/command/linux/{machine}.{ending}")
 }
@@ -47,15 +52,18 @@ fn sheet_of(start: &Path) -> Vec<u8> {
     run(&["convert", &with(start, "sheet.txt")], b"").out
 }
 
-/// The verdict, by the windows of the running machine and by those of its boot log.
+/// The verdicts, by the windows of the running machine and by those of its boot log.
 #[test]
 fn verdicts() {
+    let (mut accepted, mut sound) = (0, 0);
     for machine in machines() {
         let verdict = verdict(&machine);
         let [lspci, iomem, ioports, dmesg] =
             ["lspci", "iomem", "ioports", "dmesg"].map(|ending| file(&machine, ending));
         let (line, start) = imported(&machine, &[&lspci, &iomem, &ioports]);
         assert!(line.starts_with("0000:00: ") && line.contains(verdict), "{machine}: {line}");
+        let is_told = line.ends_with("; one owner for every address\n");
+        assert_eq!(is_told, verdict != "accepted" && is_sound(&machine), "{machine}: {line}");
         let (line, by_log) = imported(&format!("{machine}-log"), &[&dmesg, &lspci]);
         assert!(line.contains(verdict), "{machine}: {line}");
         assert!(sheet_of(&start) == sheet_of(&by_log));
@@ -63,8 +71,18 @@ fn verdicts() {
         // With pci=nocrs the boot log has one window for everything, and iomem names no root bus.
         assert!(hosts[0] == hosts[1] || machine.ends_with("-realloc"), "{machine}: {hosts:?}");
         let audit = run(&["audit", &with(&start, "sheet.txt"), "--host", &with(&start, "host.txt")], b"");
-        assert!(audit.out.starts_with(verdict.as_bytes()), "{machine}");
+        let text = String::from_utf8(audit.out).unwrap();
+        assert!(text.starts_with(verdict), "{machine}");
+        assert_eq!(text.ends_with("\none owner for every address: yes\n"), is_sound(&machine), "{machine}: {text}");
+        accepted += u32::from(audit.status == 0);
+        sound += u32::from(is_sound(&machine));
+        if !is_sound(&machine) {
+            let (_, second) = text.split_once("\none owner for every address: refused 51: ").unwrap();
+            assert_eq!(second.matches("\n  51: ").count(), 1, "{text}");
+            assert!(second.contains("\n  51: 05:01.0 BAR 0 "), "{text}");
+        }
     }
+    assert_eq!((accepted, sound, machines().count()), (13, 23, 24));
 }
 
 /// A sheet that is exported and imported again is the same; and so it is by sysfs.

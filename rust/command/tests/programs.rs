@@ -4,6 +4,7 @@
 
 mod run;
 
+use cartsundial::{sound, HostRecord};
 use run::{folder, repository, run, Ran};
 use std::fs;
 use std::path::PathBuf;
@@ -123,22 +124,40 @@ fn labels() {
     assert!(same >= 40, "{same}");
 }
 
-/// The verdict with its number, and for 50 to 52 who breaks the rule: the list that is not proved never misses one.
+/// Whether every address has one owner, as the command prints it and the call says; with 50 to 52, who breaks the rule.
+fn is_second_verdict_sound(ran: &Ran, host: &HostRecord, sheet: &[u8]) -> bool {
+    let text = String::from_utf8_lossy(&ran.out);
+    let (_, second) = text.split_once("one owner for every address: ").unwrap();
+    let verdict = sound(host, sheet);
+    if let Err(refusal) = verdict {
+        assert!(second.starts_with(&format!("{refusal}\n")), "{text}");
+        assert!(refusal.number() < 50 || text.contains(&format!("\n  {}: ", refusal.number())), "{text}");
+    } else {
+        assert_eq!(second, "yes\n");
+    }
+    verdict.is_ok()
+}
+
+/// The verdict with its number, and for 50 to 52 who breaks the rule: the list that is not proved never misses one. Likewise
+/// the second verdict, which is the call's.
 #[test]
 fn audits() {
     let folder = folder("audits");
-    let (mut accepted, mut named) = (0, 0);
+    let (mut accepted, mut named, mut sound_alone) = (0, 0, 0);
     let whole = stored("audit", "in").into_iter().map(|(input, answer)| (fs::read(input).unwrap(), answer));
     let halves = stored("audit", "host").into_iter().map(|(host, answer)| {
         ([fs::read(&host).unwrap(), fs::read(host.with_extension("sheet")).unwrap()].concat(), answer)
     });
     for (bytes, answer) in whole.chain(halves) {
         let Some((host, sheet)) = bytes.split_at_checked(30) else { continue };
+        let record = HostRecord::from_bytes(host.try_into().unwrap());
         let files = [folder.join("host"), folder.join("sheet")];
         fs::write(&files[0], host).unwrap();
         fs::write(&files[1], sheet).unwrap();
         let [host, sheet] = [0, 1].map(|file: usize| files[file].to_str().unwrap());
         let ran = run(&["audit", sheet, "--host", host], b"");
+        let is_sound = ran.status < 2 && is_second_verdict_sound(&ran, &record, &bytes[30..]);
+        sound_alone += u32::from(is_sound && ran.status == 1);
         let Some(number) = number(&answer) else {
             assert!(ran.out.starts_with(b"accepted: ") && ran.status == 0, "{}", ran.error);
             accepted += 1;
@@ -150,5 +169,5 @@ fn audits() {
             named += 1;
         }
     }
-    assert!(accepted >= 5 && named >= 10, "{accepted} {named}");
+    assert!(accepted >= 5 && named >= 10 && sound_alone >= 2, "{accepted} {named} {sound_alone}");
 }

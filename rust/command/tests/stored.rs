@@ -7,7 +7,7 @@ use run::{repository, run, Ran};
 use std::{env, fs};
 
 /// Name, exit status, arguments. Files are named from the repository's root.
-const RUNS: [(&str, i32, &str); 38] = [
+const RUNS: [(&str, i32, &str); 39] = [
     ("plan", 0, "plan tests/command/recorder.txt"),
     ("plan-json", 0, "plan docs/example/board --json"),
     ("plan-lspci", 0, "plan tests/command/recorder.txt --lspci"),
@@ -48,6 +48,7 @@ const RUNS: [(&str, i32, &str); 38] = [
     ("convert-sheet", 0, "convert tests/audit/ovmf-one-bridge.sheet"),
     ("export", 0, "export tests/audit/ovmf-one-bridge.sheet"),
     ("help", 0, "--help"),
+    ("help-audit", 0, "audit --help"),
     ("help-label", 0, "label --help"),
     ("no-subcommand", 2, "lable x y"),
 ];

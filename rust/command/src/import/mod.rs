@@ -13,7 +13,7 @@ use crate::arguments::{Arguments, Options};
 use crate::convert;
 use crate::failure::{print, Answer, Failure, Verdict};
 use crate::source::{called, open};
-use cartsundial::{audit, Board, HostRecord, Refusal};
+use cartsundial::{audit, sound, Board, HostRecord};
 use found::Found;
 use log::Log;
 use roots::Root;
@@ -85,7 +85,7 @@ fn read(name: &str, functions: &mut Vec<Found>, log: &mut Log) -> Result<(), Fai
     Ok(())
 }
 
-/// The files of each root bus, and a line with the audit's verdict.
+/// The files of each root bus, and a line with the audit's verdict; where it refuses, and every address has one owner, also that.
 fn write_all(prefix: &str, roots: &[Root]) -> Result<(), Failure> {
     let write = |file: String, text: String| fs::write(&file, text).map_err(Failure::stream(&file));
     for root in roots {
@@ -99,5 +99,9 @@ fn write_all(prefix: &str, roots: &[Root]) -> Result<(), Failure> {
 }
 
 fn verdict(host: &HostRecord, sheet: &[u8]) -> String {
-    audit(host, sheet).map_or_else(|refusal: Refusal| refusal.to_string(), |()| "accepted".to_string())
+    match (audit(host, sheet), sound(host, sheet)) {
+        (Ok(()), _) => "accepted".to_string(),
+        (Err(refusal), Ok(())) => format!("{refusal}; one owner for every address"),
+        (Err(refusal), Err(_)) => refusal.to_string(),
+    }
 }
