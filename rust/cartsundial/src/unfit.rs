@@ -85,5 +85,5 @@ pub fn refused_record(board: &[u8]) -> Option<u16> {
 
 fn is_of_a_record(refusal: Refusal) -> bool {
     use Refusal::*;
-    matches!(refusal, TooManyFunctions | Tree | HeaderType | ReadBack | NoBuses | NoLowRoom | NoHighRoom | NoIoRoom)
+    matches!(refusal, TooManyFunctions | Order | HeaderType | ReadBack | NoBuses | NoLowRoom | NoHighRoom | NoIoRoom)
 }
