@@ -20,12 +20,12 @@ ghost use Rattle.capi_ledger.specs.Calls.{openAnswer, openLeft, completeAnswer,
 ghost use Rattle.capi_script.specs.Calls.{scriptAnswer, scriptLeft};
 ghost use Rattle.capi.specs.Calls.{versionNumber};
 
-// The version of these calls, which the C header and the Rust crate are held against: 0.24.0 is 2400.
+// The version of these calls, which the C header and the Rust crate are held against: 0.27.0 is 2700.
 #[no_mangle]
 pub extern "C" fn cartsundial_version() -> u32
     ensures { λ r. ⌜ r ≡ versionNumber ⌝ }
 {
-    2400
+    2700
 }
 
 // Reads a header's packet as twenty numbers.

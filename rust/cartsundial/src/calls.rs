@@ -26,8 +26,8 @@ pub const TRACE: usize = 6;
 /// an empty one, and any numbers are a ledger.
 pub const LEDGER: usize = 256;
 
-/// The version that this crate is for, 0.24.0, as [`version`] tells the archive's.
-pub const VERSION: u32 = 2400;
+/// The version that this crate is for, 0.27.0, as [`version`] tells the archive's.
+pub const VERSION: u32 = 2700;
 
 /// What a call answers where its answer does not fit the slice for it: tried last, so it would have been accepted.
 pub const SHORT: u32 = 11;
