@@ -16,7 +16,8 @@ use Rattle.sheet.specs.Sheet.{from29, from25, from28, from27, from24, from22, f
 use Rattle.sheet.specs.Examples.{p10, p10-bridge, p10-end, typed, sunk, doubled, shifted, nibbled}
 use Rattle.sheet_ranges.specs.Ranges as rule
 use Rattle.sheet_ranges.specs.Ranges.{rangesOf}
-use Rattle.audit_rule.specs.Audit.{anyPair, notTree, rangesAbove, notNested, notDisjoint, from52, from51, from50, fromSheet, from26, numberBy, auditNumber}
+use Rattle.audit_rule.specs.Audit.{anyPair, notTree, rangesAbove, notNested, notDisjoint, from52, from51, from50, fromSheet, from26}
+use Rattle.audit_rule.specs.Audit.{numberBy, auditNumber}
 use Rattle.audit_rule.specs.Examples.{host, hostBuses, moved, beyond, sibling, disabled}
 use Rattle.finding.specs.declared.Finding.{Finding}
 use Rattle.finding.specs.First.{first}
@@ -80,11 +81,36 @@ examples =
 
 pub examples-hold : All Holds examples
 unfolding findingOf firstFailing checkOf underHost placeIn otherOf leastMeeting readBackMarks restMarks slotMarks fails leastMet placedIn
-    placedOf barsFrom numberedFrom first flatMap auditNumber numberBy from26 fromSheet from50 from51 from52 notTree notNested notDisjoint anyPair any
+    placedOf barsFrom numberedFrom first flatMap auditNumber numberBy from26 fromSheet from50 from51 from52 notTree notNested notDisjoint
+    anyPair any
     keep rangesOf rangesAbove rule.barsFrom hostOfPart hostWrong poolWrong beBytes sheetNumber from21 from20 from22 from24 from27 from28
     from25 from29 isFramed allSized entriesFrom breaks anyBreaks allZero readBacksWrong hasId idTwice entryOf dwords windowOf be le nextOf
     partsOver partsOf closed start stop isNibbled isBarValue valuesFit slots slotHere wideSlot narrowSlot ioSlot sized sizeFrom
 examples-hold = (
   refl,
-  (refl, (refl, (refl, (refl, (refl, (refl, (refl, (refl, (refl, (refl, (refl, (refl, (refl, (refl, (refl, (refl, (refl, (refl, (refl, tt))))))))))))))))))),
+  (
+    refl,
+    (
+      refl,
+      (
+        refl,
+        (
+          refl,
+          (
+            refl,
+            (
+              refl,
+              (
+                refl,
+                (
+                  refl,
+                  (refl, (refl, (refl, (refl, (refl, (refl, (refl, (refl, (refl, (refl, (refl, tt))))))))))),
+                ),
+              ),
+            ),
+          ),
+        ),
+      ),
+    ),
+  ),
 )

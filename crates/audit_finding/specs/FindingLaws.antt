@@ -90,7 +90,8 @@ module _ (host s : List ℕ) where
   under-told size passes =
       either (notTree h es) 50 (from51 OfKind h es) (λ w. of-tree {n = 50} size passes (tree-some h es w) (omega arith)) (λ _.
       either (notNested OfKind h es) 51 (from52 es) (λ w. of-tree {n = 51} size passes (places-some h es w) (omega arith)) (λ _.
-      either (notDisjoint es) 52 0 (λ w. of-tree {n = 52} size passes (notDisjoint-some h es w) (omega arith)) (λ _. of-whole {n = 0} refl (omega arith))))
+      either (notDisjoint es) 52 0 (λ w. of-tree {n = 52} size passes (notDisjoint-some h es w) (omega arith))
+      (λ _. of-whole {n = 0} refl (omega arith))))
 
   pub number-told : Told (auditNumber host s)
   unfolding auditNumber numberBy from26 fromSheet checkOf underHost

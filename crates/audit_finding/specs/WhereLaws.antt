@@ -1,5 +1,5 @@
--- A record that fails a check fails it at its place, and at no earlier one; the other one that it meets is really met, and no lesser one is.
--- Assumes nothing.
+-- A record that fails a check fails it at its place, and at no earlier one; the other one that it meets is really met, and no lesser one
+-- is. Assumes nothing.
 use mathlib.Core.Path.{_≡_, refl, sym, ap, subst, _∙_}
 use mathlib.Core.Bool.{Bool, true, false, cond, not, _&&_, _||_, and-eq-true-iff, true≢false}
 use mathlib.Core.List.{List, [], _∷_, _++_, map}

@@ -1,5 +1,5 @@
-// 51: each BAR and open window lies in the window above of its own pool, or on the root bus in that pool of the host; or, where it is asked of
-// the address space, in any window above or pool of its space.
+// 51: each BAR and open window lies in the window above of its own pool, or on the root bus in that pool of the host; or, where it is
+// asked of the address space, in any window above or pool of its space.
 ghost use mathlib.Core.Path.{_≡_};
 ghost use mathlib.Core.Bool.{false};
 ghost use Prim.Native.Nat.{_*_, _≤_};

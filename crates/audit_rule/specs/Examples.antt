@@ -110,7 +110,8 @@ space-examples =
     ∷ []
 
 pub examples-hold : All Holds examples
-unfolding auditNumber numberBy from26 fromSheet from50 from51 from52 notTree notNested notDisjoint anyPair any keep rangesOf rangesAbove barsFrom
+unfolding auditNumber numberBy from26 fromSheet from50 from51 from52 notTree notNested notDisjoint anyPair any keep rangesOf rangesAbove
+    barsFrom
     hostOfPart hostWrong poolWrong beBytes sheetNumber from21 from20 from22 from24 from27 from28 from25 from29 isFramed allSized
     entriesFrom breaks anyBreaks allZero readBacksWrong hasId idTwice entryOf dwords windowOf be le nextOf partsOver partsOf closed start
     stop isNibbled isBarValue valuesFit slots slotHere wideSlot narrowSlot ioSlot sized sizeFrom
@@ -120,7 +121,8 @@ examples-hold = (
 )
 
 pub space-examples-hold : All HoldsBySpace space-examples
-unfolding soundNumber numberBy from26 fromSheet from50 from51 from52 notTree notNested notDisjoint anyPair any keep rangesOf rangesAbove barsFrom
+unfolding soundNumber numberBy from26 fromSheet from50 from51 from52 notTree notNested notDisjoint anyPair any keep rangesOf rangesAbove
+    barsFrom
     hostOfPart hostWrong poolWrong beBytes sheetNumber from21 from20 from22 from24 from27 from28 from25 from29 isFramed allSized
     entriesFrom breaks anyBreaks allZero readBacksWrong hasId idTwice entryOf dwords windowOf be le nextOf partsOver partsOf closed start
     stop isNibbled isBarValue valuesFit slots slotHere wideSlot narrowSlot ioSlot sized sizeFrom

@@ -10,7 +10,8 @@ use borrow.Author.Tests.{eqb-false}
 use Rattle.packet_parsing.specs.RefusedLaws.{Numbered as NumberedParsed, numbered-packet}
 use Rattle.packet_parsing.specs.declared.Parsed.{Parsed}
 use Rattle.packet_parsing.specs.declared.Parsed.the-variants.{Accepted as Taken, Refused as NotTaken}
-use Rattle.packet_parsing.specs.Parsing.{lastKind, isReserved, kindAt, byAddress, byTarget, completing, messaging, anyAbove, packetAs, onPair, onKind, fromKind, packetOf}
+use Rattle.packet_parsing.specs.Parsing.{lastKind, isReserved, kindAt, byAddress, byTarget, completing, messaging, anyAbove, packetAs}
+use Rattle.packet_parsing.specs.Parsing.{onPair, onKind, fromKind, packetOf}
 use Rattle.tlp.specs.declared.Reading.{Reading}
 use Rattle.tlp.specs.declared.Reading.the-variants.{Accepted, Refused as NotRead}
 use Rattle.tlp.specs.Reading.{readOf}

@@ -1,5 +1,5 @@
-// Who a refusal is about: a record and a place in it and, where two meet, the other one. Types only; what is found under each number is said
-// by those who find it.
+// Who a refusal is about: a record and a place in it and, where two meet, the other one. Types only; what is found under each number is
+// said by those who find it.
 
 // The number of a record, from 1, and a place in it: 0 to 5 a BAR slot, 6 the low, 7 the high and 8 the I/O window, 9 the bus registers, 10
 // the ID. Both are 0 where there is no record.

@@ -40,7 +40,9 @@ use Rattle.packet.specs.VerdictLaws.{message-of-lawful}
 use Rattle.packet_parsing.specs.declared.Parsed.{Parsed}
 use Rattle.packet_parsing.specs.declared.Parsed.the-variants.{Accepted, Refused}
 use Rattle.packet_numbers.specs.Numbers.{size, bit, messageCode, kindCode, headNumbers, bodyNumbers, numbersOf}
-use Rattle.packet_parsing.specs.Parsing.{routings, routingAt, isReserved, kinds, lastKind, kindAt, headMost, byAddress, byTarget, completing, messaging, anyAbove, Within, headFrom, enablesFrom, targetFrom, outcomeFrom, packetAs, onPair, onKind, fromKind, packetOf}
+use Rattle.packet_parsing.specs.Parsing.{routings, routingAt, isReserved, kinds, lastKind, kindAt, headMost, byAddress, byTarget}
+use Rattle.packet_parsing.specs.Parsing.{completing, messaging, anyAbove, Within, headFrom, enablesFrom, targetFrom, outcomeFrom}
+use Rattle.packet_parsing.specs.Parsing.{packetAs, onPair, onKind, fromKind, packetOf}
 use Rattle.packet_numbers.specs.NumbersLaws.{length-numbersOf}
 use Rattle.packet_parsing.specs.ParsingLaws.{none-of-within, within-of-none}
 

@@ -1,4 +1,5 @@
-// Numbers taken for a packet: the twenty of packet_numbers, each at most the greatest that its field holds, 0 where the kind has no such field.
+// Numbers taken for a packet: the twenty of packet_numbers, each at most the greatest that its field holds, 0 where the kind has no such
+// field.
 ghost use mathlib.Core.Path.{_≡_};
 ghost use mathlib.Core.Bool.{false};
 ghost use mathlib.Core.List.{[], _∷_};

@@ -61,7 +61,8 @@ use Rattle.route_cards.specs.RequestLaws.{header-first, sheet-next, other-45, n
 use Rattle.demands.specs.Demand3 as planned
 use Rattle.requests.specs.Audit as audited
 use Rattle.requests.specs.AuditLaws.{above-agree as audited-above}
-use Rattle.requests.specs.CardToCard.{IsCardRequest, MayStart, plannedBoard, acceptedBoard, sendNumber, SentTo, SentToHost, CardRouted}
+use Rattle.requests.specs.CardToCard.{IsCardRequest, MayStart, plannedBoard, acceptedBoard, sendNumber, SentTo, SentToHost}
+use Rattle.requests.specs.CardToCard.{CardRouted}
 use Rattle.requests.specs.CardToCard.{CardCrosses, CardToCard}
 
 -- ## What is asked for
@@ -296,7 +297,8 @@ module _ (b room : List ℕ) (n : ℕ) (bytes : Bytes b) (answered : planning b 
   planned-routed : (header : List ℕ) (p : Packet) → readOf header ≡ Read p → IsCardRequest p sp address
       → (k : ℕ) → IsType0 t k → CardRouted (plannedBoard b t sp address) 64 t header p sp address k
   planned-routed header p read is k type-0 =
-      routed-over t header p read (sheet .passes) sp address is k type-0 (planHost sp (planned.host b)) sound (planned.HasBarOver b sp address)
+      routed-over t header p read (sheet .passes) sp address is k type-0 (planHost sp (planned.host b)) sound
+      (planned.HasBarOver b sp address)
       (planned.bridgesAbove b) tells mostAbove 64 (λ f m. sheet .not-too-deep (f .node .number)) (omega arith)
 
 -- ## An accepted sheet

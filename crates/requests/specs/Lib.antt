@@ -1,5 +1,5 @@
--- Document 02's requests, each in its sentences and then proved: messages (E1), traces (E4), the audit (E6) and the second verdict beside it,
--- the index (E8), empty slots (E10), card to card (E11), open requests (E12), one card's switch (E13) and the write script (E14).
+-- Document 02's requests, each in its sentences and then proved: messages (E1), traces (E4), the audit (E6) and the second verdict beside
+-- it, the index (E8), empty slots (E10), card to card (E11), open requests (E12), one card's switch (E13) and the write script (E14).
 pub mod Messages
 pub mod MessagesLaws
 pub mod Trace

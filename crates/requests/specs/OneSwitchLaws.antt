@@ -314,8 +314,10 @@ module _ (k : ℕ) (s t : List ℕ) (d : DifferAt k s t) where
           nodes-are
           ∙ ap (sending.answer p)
           (send-agree (enabledOf sp t) (enabledOf sp s) (masterOf t) (masterOf s) (registersOf sp s) address (root s) k
-          (numbered-functions sp 1 (entriesOf s)) (enabled-agree sp) (bits-agree masterBit sp) (clear-of sp address (clear .lies-elsewhere)) f
-          (function-mem s checked sp j (type-0 .is-record)) (type-0-no-bridge s sp j type-0) (clear .starts-elsewhere) up-t′ (clear .goes-beside))
+          (numbered-functions sp 1 (entriesOf s)) (enabled-agree sp) (bits-agree masterBit sp)
+          (clear-of sp address (clear .lies-elsewhere)) f
+          (function-mem s checked sp j (type-0 .is-record)) (type-0-no-bridge s sp j type-0) (clear .starts-elsewhere) up-t′
+          (clear .goes-beside))
           ∙ sym (ap (sending.sendRequest p s sp address) (start-of-type-0 s checked sp j type-0))
 
   cards-agree : (j : ℕ) (header : List ℕ)

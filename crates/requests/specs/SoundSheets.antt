@@ -1,5 +1,6 @@
--- "One owner for every address", the second verdict on a sheet that real firmware left, in the words of its request, over the verdict's number
--- and the router's answers on bytes. Bytes are what a slice of u8 holds. `sound-sheets` of SoundSheetsLaws proves it. Assumes nothing.
+-- "One owner for every address", the second verdict on a sheet that real firmware left, in the words of its request, over the verdict's
+-- number and the router's answers on bytes. Bytes are what a slice of u8 holds. `sound-sheets` of SoundSheetsLaws proves it. Assumes
+-- nothing.
 use mathlib.Core.Path.{_≡_}
 use mathlib.Core.Logic.{_↔_}
 use mathlib.Core.List.{List}

@@ -1,5 +1,5 @@
--- Document 02, E4, "Trace annotator in pieces", in its sentences, for any sheet; what is said of pieces, rooms and the end for any line of a
--- record, so also of E8's lines by an index. Lines and numbers are bytes of text. `trace-annotated` of TraceLaws proves it. Assumes
+-- Document 02, E4, "Trace annotator in pieces", in its sentences, for any sheet; what is said of pieces, rooms and the end for any line
+-- of a record, so also of E8's lines by an index. Lines and numbers are bytes of text. `trace-annotated` of TraceLaws proves it. Assumes
 -- nothing.
 use mathlib.Core.Path.{_≡_}
 use mathlib.Core.Bool.{true, false}

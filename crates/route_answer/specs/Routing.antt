@@ -1,6 +1,6 @@
--- Document 01, "The walk", in its order: 40 where there are no functions, 42, and then what a packet is looked for by. With document 02, E1:
--- 43 where 42 is, and the messages that go to every function or end at the port. Over any number of functions, root bus and outcome by what
--- the packet is looked for by: one definition for all who route. Assumes nothing.
+-- Document 01, "The walk", in its order: 40 where there are no functions, 42, and then what a packet is looked for by. With document 02,
+-- E1: 43 where 42 is, and the messages that go to every function or end at the port. Over any number of functions, root bus and outcome
+-- by what the packet is looked for by: one definition for all who route. Assumes nothing.
 use Prim.Native.Nat.{ℕ}
 use mathlib.Core.Path.{_≡_}
 use mathlib.Core.Bool.{cond}

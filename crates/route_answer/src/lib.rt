@@ -1,4 +1,5 @@
-// What becomes of a packet, for all who route: the checks before it is looked for, the answer where it is delivered, and a broadcast's list.
+// What becomes of a packet, for all who route: the checks before it is looked for, the answer where it is delivered, and a broadcast's
+// list.
 ghost use mathlib.Core.Path.{_≡_};
 ghost use lib.ListN.{length};
 ghost use Rattle.route_answer.specs.Routing.{numberOf, arrives, Goes};

@@ -33,7 +33,8 @@ returns c =
     let found = c .before .before in
     let turn = found .before .before in
     let a = turn .before .before .before .args in
-    sym (items-hit (outsideAll (a .nesting) (rangesIn (a .m) (a .above .now))) _ _ _ (found .before .loop-test .taken) _ (found .item-at .ensures) _
+    sym (items-hit (outsideAll (a .nesting) (rangesIn (a .m) (a .above .now))) _ _ _ (found .before .loop-test .taken) _
+    (found .item-at .ensures) _
     (ap not (c .before .is-inside-any .ensures)) (c .if1 .taken))
     ∙ turn .loop .inv
 
@@ -48,7 +49,8 @@ loop-again c =
     let found = c .before .before in
     let turn = found .before .before in
     let a = turn .before .before .before .args in
-    items-miss (outsideAll (a .nesting) (rangesIn (a .m) (a .above .now))) _ _ _ (found .before .loop-test .taken) _ (found .item-at .ensures) _
+    items-miss (outsideAll (a .nesting) (rangesIn (a .m) (a .above .now))) _ _ _ (found .before .loop-test .taken) _
+    (found .item-at .ensures) _
     (ap not (c .before .is-inside-any .ensures)) (c .if1 .left)
     ∙ turn .loop .inv
 

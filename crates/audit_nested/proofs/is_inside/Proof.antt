@@ -14,7 +14,8 @@ returns : tie.Need-returns
 returns c =
     let second = c .before .before .before .before in
     let first = second .before in
-    inside-items (first .before .args .nesting) (first .before .args .a) (first .before .args .outer) _ _ (first .group .ensures) (second .group2 .ensures)
+    inside-items (first .before .args .nesting) (first .before .args .a) (first .before .args .outer) _ _ (first .group .ensures)
+    (second .group2 .ensures)
 
 pub is-inside-spec : {M : Type 1} → statement M
 is-inside-spec = tie.close (tie.spec group-requires group-requires-2 returns)

@@ -47,7 +47,8 @@ loop-again c =
     let found = c .before .before in
     let turn = found .before .before in
     let a = turn .before .before .args in
-    items-miss (inside (a .nesting) (rangeOf (a .a))) _ _ _ (found .before .loop-test .taken) _ (found .item-at .ensures) _ (c .before .is-inside .ensures)
+    items-miss (inside (a .nesting) (rangeOf (a .a))) _ _ _ (found .before .loop-test .taken) _ (found .item-at .ensures) _
+    (c .before .is-inside .ensures)
     (c .if1 .left)
     ∙ turn .loop .inv
 

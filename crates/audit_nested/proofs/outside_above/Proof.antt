@@ -28,7 +28,8 @@ returns c =
     let based = put .before .before in
     let decoded = based .before .before .before in
     let start = decoded .before .before .before .before .before .before .before .args in
-    outside-above-part (start .nesting) (start .host) _ _ _ _ _ _ (based .bus-of .ensures) (decoded .ranges-of .ensures .0) (put .ranges-above .ensures .0)
+    outside-above-part (start .nesting) (start .host) _ _ _ _ _ _ (based .bus-of .ensures) (decoded .ranges-of .ensures .0)
+    (put .ranges-above .ensures .0)
     (c .any-outside .ensures)
 
 pub outside-above-spec : {M : Type 1} → statement M

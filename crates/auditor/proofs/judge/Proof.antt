@@ -28,7 +28,8 @@ returns-3 c =
     let checked = c .before in
     let edges = checked .before in
     let host = edges .before .before in
-    sym (sheet-refused _ _ _ (host .before .if1 .left) _ (host .host-of .ensures) _ (edges .before .host-wrong .ensures) (edges .if2 .left) _
+    sym (sheet-refused _ _ _ (host .before .if1 .left) _ (host .host-of .ensures) _ (edges .before .host-wrong .ensures)
+    (edges .if2 .left) _
     (checked .check .ensures) (c .if3 .taken))
 
 judge-checked-requires : tie.Need-judge-checked-requires
@@ -41,7 +42,8 @@ returns-4 c =
     let edges = checked .before in
     let host = edges .before .before in
     c .judge-checked .ensures
-    ∙ sym (sheet-passed _ _ _ (host .before .if1 .left) _ (host .host-of .ensures) _ (edges .before .host-wrong .ensures) (edges .if2 .left) _
+    ∙ sym (sheet-passed _ _ _ (host .before .if1 .left) _ (host .host-of .ensures) _ (edges .before .host-wrong .ensures)
+    (edges .if2 .left) _
     (checked .check .ensures) (passed .if3 .left))
 
 pub judge-spec : {M : Type 1} → statement M

@@ -94,7 +94,8 @@ returns-4 c =
     let s = call .before .before .before .before .before .before .before .args in
     let line = lineBy (s .engine) (s .bytes .now) in
     fed line (s .state .now) (s .piece .now) (s .lines .now) (s .written .now) (u .result) (u .ensures)
-    (slice .before .if1 .left) (slice .if2 .left) (feed .feed-by .result) (feed .feed-by .ensures .0) _ (feed .feed-by .ensures .1) (fits .if3 .left)
+    (slice .before .if1 .left) (slice .if2 .left) (feed .feed-by .result) (feed .feed-by .ensures .0) _ (feed .feed-by .ensures .1)
+    (fits .if3 .left)
     _ _ _ (put .put-state .ensures) (given .give-one .ensures)
 
 pub take-spec : {M : Type 1} → statement M

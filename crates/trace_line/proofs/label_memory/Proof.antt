@@ -120,7 +120,8 @@ returns-5 c =
     let near = word .before .before in
     let name = near .before in
     let lawful = name .before in
-    let found = by-word _ _ _ _ (accepted lawful) refl refl (lt-ltb _ _ (near .if4 .left)) (word .word-for .result) (word .word-for .ensures) in
+    let found = by-word _ _ _ _ (accepted lawful) refl refl (lt-ltb _ _ (near .if4 .left)) (word .word-for .result)
+    (word .word-for .ensures) in
     λ _. labels-found _ _ _ (accepted lawful) (word .word-for .result) found _ (name .name-of-memory .ensures) _ (c .owned-by2 .ensures)
 
 pub label-memory-spec : {M : Type 1} → statement M
