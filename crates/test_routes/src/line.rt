@@ -1,11 +1,10 @@
 // A line of the script. Its word and its bytes are kept in lent room.
-use crate::answer;
-use crate::answer::Answer;
-use crate::answer::Verb;
 use lines::Ended;
 use lines::Stage;
 use lines::WORD;
 use sheet_text::LONGEST;
+use test_answers::Answer;
+use test_answers::Verb;
 use text::front;
 use text::put_byte;
 
@@ -93,9 +92,9 @@ fn put_answer(
     let verb = named(front(word, line.letters));
     match lines::end(stage) {
         Ended::Passed => Answer { count: 0, size },
-        Ended::Whole => answer::put_answer(out, verb, front(room, line.count), sheet, size),
+        Ended::Whole => test_answers::put_answer(out, verb, front(room, line.count), sheet, size),
         Ended::Wrong => Answer {
-            count: answer::put_refusal(out, verb, line.long),
+            count: test_answers::put_refusal(out, verb, line.long),
             size,
         },
     }

@@ -1,7 +1,7 @@
--- `test_routes::answer::front_mut` is safe: a part has the length that it is taken with. Assumes nothing.
+-- `test_answers::front_mut` is safe: a part has the length that it is taken with. Assumes nothing.
 use borrow.Author.Needs.{needs}
-use Rattle.test_routes.proofs.answer.front_mut.Statement.{statement}
-use Rattle.test_routes.proofs.answer.front_mut.Tie as tie
+use Rattle.test_answers.proofs.front_mut.Statement.{statement}
+use Rattle.test_answers.proofs.front_mut.Tie as tie
 use mathlib.Core.Path.{sym}
 use native.Mathlib.Omega.{arith}
 use lib.Seq.{length-take-le}
