@@ -1,7 +1,10 @@
 -- `index_search::search_aimed` meets its contract: out of reach, or what the word found says. Assumes nothing.
 use borrow.Author.Needs.{needs}
 use borrow.Author.Tests.{not-true, not-false}
-use mathlib.Core.Path.{sym, _∙_}
+use mathlib.Core.Path.{sym, ap₂, _∙_}
+use Prim.Native.Nat.{ℕ}
+use Rattle.route_answer.specs.declared.Routing.the-variants.{Delivered}
+use Rattle.route_answer.specs.Routing.{arrives}
 use Rattle.index_search.specs.AnswerLaws.{aimed-out-of-reach, aimed-at-nobody, aimed-at-owner}
 use Rattle.index_search.proofs.search_aimed.Statement.{statement}
 use Rattle.index_search.proofs.search_aimed.Tie as tie
@@ -60,10 +63,12 @@ returns-3 c =
     let key = word .before .before in
     let reached = key .before in
     let entry = reached .before .before .before in
-    rw (read .record-in .ensures .0, bridges .bridges-in .ensures .0)
-    (aimed-at-owner (entry .args .p) _ _ (entry .args .aim) _ (reached .before .in-reach .ensures)
+    aimed-at-owner (entry .args .p) _ _ (entry .args .aim) _ (reached .before .in-reach .ensures)
     (not-false (reached .before .in-reach .result) (reached .if1 .left)) _ _ (key .key-of .ensures .0) (word .word-over .ensures)
-    (λ z. some .if2 .left (read .record-in .ensures .0 ∙ z)) _ (c .deliver .ensures))
+    (λ z. some .if2 .left (read .record-in .ensures .0 ∙ z)) _
+    (c .deliver .ensures
+    ∙ ap₂ (λ (owner crossed : ℕ). Delivered (arrives (entry .args .p) owner crossed)) (read .record-in .ensures .0)
+    (bridges .bridges-in .ensures .0))
 
 pub search-aimed-spec : {M : Type 1} → statement M
 search-aimed-spec =
