@@ -19,6 +19,7 @@ use Rattle.records.specs.PiecesLaws.{fed-all}
 use Rattle.board_record.specs.declared.Host.{Host}
 use Rattle.board_record.specs.Host.{hostLength, hostOfPart, hostWrong}
 use Rattle.sheet.specs.Sheet.{fullSheet, sheetNumber}
+use Rattle.audit_rule.specs.declared.Nesting.the-variants.{OfKind}
 use Rattle.audit_rule.specs.Audit.{auditNumber}
 use Rattle.auditor.specs.AuditorLaws.{off-edges, sheet-refused}
 use Rattle.audit_feed.specs.declared.Feed.{Feed}
@@ -80,7 +81,7 @@ module _ (s : List ℕ) (long : mostBytes < length s) where
 
   long-input : (n : ℕ) → n ≡ sheetNumber (sheetOf s) → (n ≡ 0 → ⊥)
       → cond (hostWrong (hostOfPart (take hostLength s))) 26 n ≡ inputNumber s
-  unfolding inputNumber
+  unfolding inputNumber auditNumber
   long-input n e d = go (hostWrong h) refl
     where
       h : Host
@@ -90,8 +91,8 @@ module _ (s : List ℕ) (long : mostBytes < length s) where
       size = length-take-le hostLength s (omega arith)
 
       go : (b : Bool) → hostWrong h ≡ b → cond b 26 n ≡ auditNumber (take hostLength s) (sheetOf s)
-      go true w = sym (off-edges (take hostLength s) (sheetOf s) size h refl (hostWrong h) refl w)
-      go false w = sym (sheet-refused (take hostLength s) (sheetOf s) size h refl (hostWrong h) refl w n e d)
+      go true w = sym (off-edges OfKind (take hostLength s) (sheetOf s) size h refl (hostWrong h) refl w)
+      go false w = sym (sheet-refused OfKind (take hostLength s) (sheetOf s) size h refl (hostWrong h) refl w n e d)
 
 module _ {s : List ℕ} {f : Feed} {room : List ℕ} (fed : Fed s f room) where
   count-is : f .count ≡ min (length s) kept
