@@ -113,7 +113,7 @@ fn space(a: Item) -> u64
 }
 
 // Of one space, and each starts before the other ends.
-fn overlap(a: Item, b: Item) -> bool
+pub fn overlap(a: Item, b: Item) -> bool
     ensures { λ r. ⌜ r ≡ overlapOf (rangeOf a) (rangeOf b) ⌝ }
 {
     (space(a) == space(b)) & ((a.first <= b.last) & (b.first <= a.last))

@@ -117,6 +117,13 @@ pub record Found (host s : List ℕ) (f : Finding) : Type 0 where
   pub names-first : (checkOf (f .number) ≡ Whole → ⊥) → Names host s (checkOf (f .number)) f
   pub names-nobody : checkOf (f .number) ≡ Whole → (f .party ≡ nobody) × (f .other ≡ nobody)
 
+-- no record fails where the number is not about one
+pub whole-nobody : (h : Host) (es : List Entry) → firstFailing Whole h es ≡ nobodies
+unfolding firstFailing fails
+whole-nobody h es =
+    first-none (λ r. false) _ nobodies (numbered es)
+    (none-of-all (λ r. false) (numbered es) (all-of (λ r. false ≡ false) (λ r. refl) (numbered es)))
+
 module _ (host s : List ℕ) (n : ℕ) where
   abbrev f : Finding
   f = found n (firstFailing (checkOf n) (hostOfPart host) (entriesOf s))
@@ -137,11 +144,8 @@ module _ (host s : List ℕ) (n : ℕ) where
       }
 
   nobody-of-whole : checkOf n ≡ Whole → firstFailing (checkOf n) (hostOfPart host) (entriesOf s) ≡ nobodies
-  unfolding firstFailing fails
   nobody-of-whole w =
-      ap (λ (c : Check). firstFailing c (hostOfPart host) (entriesOf s)) w
-      ∙ first-none (λ r. false) _ nobodies (numbered (entriesOf s))
-      (none-of-all (λ r. false) (numbered (entriesOf s)) (all-of _ (λ r. refl) (numbered (entriesOf s))))
+      ap (λ (c : Check). firstFailing c (hostOfPart host) (entriesOf s)) w ∙ whole-nobody (hostOfPart host) (entriesOf s)
 
   found-nobody : checkOf n ≡ Whole → (f .party ≡ nobody) × (f .other ≡ nobody)
   found-nobody w = (ap (λ (p : Parties). p .party) (nobody-of-whole w), ap (λ (p : Parties). p .other) (nobody-of-whole w))

@@ -8,4 +8,6 @@ pub mod PlacedLaws
 pub mod FailsLaws
 pub mod WhereLaws
 pub mod FindingLaws
+pub mod Spots
+pub mod Zipped
 pub mod Examples

@@ -39,7 +39,7 @@ use Rattle.audit_finding.specs.FailsLaws.{meets-one-is, numbers-some}
 
 -- ## 25 and 29: the first place that is wrong
 
-abbrev isWrong : Mark → Bool
+abbrev pub isWrong : Mark → Bool
 isWrong m = m .wrong
 
 any-append : {A : Type 0} (t : A → Bool) (xs ys : List A) → any t (xs ++ ys) ≡ (any t xs || any t ys)
@@ -67,7 +67,7 @@ unfolding restMarks allZero any
 rest-marked i [] = refl
 rest-marked i (r ∷ rs) = ap (λ (b : Bool). not (eqb r 0) || b) (rest-marked (i + 1) rs) ∙ sym (not-and (eqb r 0) (allZero rs))
 
-read-backs-marked : (e : Entry) → any isWrong (readBackMarks e) ≡ readBacksWrong e
+pub read-backs-marked : (e : Entry) → any isWrong (readBackMarks e) ≡ readBacksWrong e
 unfolding readBackMarks readBacksWrong
 read-backs-marked e =
     let n = slotCount (e .header) in
@@ -81,7 +81,7 @@ or-false-last : (b : Bool) → (b || false) ≡ b
 or-false-last true = refl
 or-false-last false = refl
 
-nibbles-marked : (e : Entry) → bridges e ≡ true → any isWrong (nibbleMarks e) ≡ breaks rules.the-variants.Nibbles e
+pub nibbles-marked : (e : Entry) → bridges e ≡ true → any isWrong (nibbleMarks e) ≡ breaks rules.the-variants.Nibbles e
 unfolding breaks any
 nibbles-marked e b =
     let low = isNibbled Low (e .low) in

@@ -67,7 +67,7 @@ fn outside_above(
 }
 
 // What the ranges of a bus's functions may lie in. Under no one bridge that is nothing.
-fn ranges_above(host: Host, sheet: &[u8], table: &[u16], bus: u8, room: &mut [u64]) -> usize
+pub fn ranges_above(host: Host, sheet: &[u8], table: &[u16], bus: u8, room: &mut [u64]) -> usize
     requires { ⌜ Checked (now sheet) × Leads (entriesOf (now sheet)) (now table) × (18 ≤ length (now room)) ⌝ }
     ensures { λ r. ⌜
         (rangesIn r (now (room .exit)) ≡ rangesAbove host (parentOf (host .«first_bus») (entriesOf (now (sheet .entry))) bus)) × (r ≤ 6)
@@ -102,7 +102,7 @@ fn is_inside(nesting: Nesting, a: Item, outer: Item) -> bool
 }
 
 // It lies in one of m ranges.
-fn is_inside_any(nesting: Nesting, a: Item, above: &[u64], m: usize) -> bool
+pub fn is_inside_any(nesting: Nesting, a: Item, above: &[u64], m: usize) -> bool
     requires { ⌜ 3 * m ≤ length (now above) ⌝ }
     ensures { λ r. ⌜ r ≡ any (inside nesting (rangeOf a)) (rangesIn m (now (above .entry))) ⌝ }
 {

@@ -56,7 +56,7 @@ fn any_way_up_wrong(host: Host, sheet: &[u8], table: &[u16]) -> bool
 }
 
 // Of the function with this part.
-fn way_up_wrong(host: Host, sheet: &[u8], table: &[u16], part: &[u8]) -> bool
+pub fn way_up_wrong(host: Host, sheet: &[u8], table: &[u16], part: &[u8]) -> bool
     requires { ⌜ Checked (now sheet) × Leads (entriesOf (now sheet)) (now table) × (length (now part) ≡ recordSize) ⌝ }
     ensures { λ r. ⌜ r ≡ wayUpWrong host (entriesOf (now (sheet .entry))) (entryOf (now (part .entry))) ⌝ }
 {
@@ -150,7 +150,7 @@ fn shared_with_later(sheet: &[u8], k: usize) -> bool
 }
 
 // The bus is looked at first: most pairs are of two buses.
-fn buses_shared(part: &[u8], other: &[u8]) -> bool
+pub fn buses_shared(part: &[u8], other: &[u8]) -> bool
     requires { ⌜ (length (now part) ≡ recordSize) × (length (now other) ≡ recordSize) ⌝ }
     ensures { λ r. ⌜ r ≡ busesShared (entryOf (now (part .entry))) (entryOf (now (other .entry))) ⌝ }
 {

@@ -80,3 +80,20 @@ pub first-map : {A B C : Type 0} (t : A → Bool) (say : A → B) (e : B) (f : C
 unfolding first
 first-map t say e f [] = refl
 first-map t say e f (x ∷ xs) = ap (cond (t (f x)) (say (f x))) (first-map t say e f xs)
+
+-- of what is said of every element
+pub first-same : {A B : Type 0} (t : A → Bool) (b : B) (xs : List A) → first t (λ x. b) b xs ≡ b
+unfolding first
+first-same t b [] = refl
+first-same {A} {B} t b (x ∷ xs) = go (t x) (first-same t b xs)
+  where
+    go : (c : Bool) → first t (λ y. b) b xs ≡ b → cond c b (first t (λ y. b) b xs) ≡ b
+    go true e = refl
+    go false e = e
+
+-- by two tests that agree
+pub first-agree : {A B : Type 0} (t u : A → Bool) (say : A → B) (b : B) (xs : List A) → All (λ x. t x ≡ u x) xs
+    → first t say b xs ≡ first u say b xs
+unfolding first
+first-agree t u say b [] h = refl
+first-agree t u say b (x ∷ xs) h = rw (h .0, first-agree t u say b xs (h .1))

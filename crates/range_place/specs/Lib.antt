@@ -1,0 +1,3 @@
+-- The search for a place, turn by turn, in the words of the code.
+pub mod PlaceLaws
+pub mod TurnsLaws
