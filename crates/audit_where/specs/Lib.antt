@@ -1,0 +1,4 @@
+-- Who fails an audit, in the words of the code.
+pub mod Under
+pub mod UnderLaws
+pub mod WhereLaws
