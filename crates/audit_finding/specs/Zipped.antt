@@ -16,8 +16,8 @@ use Rattle.window.specs.Window.{start, stop, isOpen}
 use Rattle.walk.specs.Ranges.{Range}
 use Rattle.sheet_record.specs.Entry.{Entry, bridges}
 use Rattle.sheet_record.specs.Spaces.{poolOf, barRange, openRange, slotsOf}
-use Rattle.audit_rule.specs.Ranges as rule
-use Rattle.audit_rule.specs.Ranges.{barHere, windowsIn, rangesOf}
+use Rattle.sheet_ranges.specs.Ranges as rule
+use Rattle.sheet_ranges.specs.Ranges.{barHere, windowsIn, rangesOf}
 use Rattle.finding.specs.Places.{windowPlace}
 use Rattle.audit_finding.specs.Placed.{Numbered, Placed, placedAt, barsFrom, windowOf, windowsOf, placedOf}
 

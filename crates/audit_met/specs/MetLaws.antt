@@ -9,7 +9,7 @@ use lib.Dec.{eqb}
 use borrow.Author.Tests.{eq-eqb, ne-eqb}
 use Rattle.sheet_record.specs.Entry.{Entry, entryOf, idOf, busOf, headerOf, isBridge, secondaryOf, bus}
 use Rattle.sheet.specs.Sheet.{partAt}
-use Rattle.audit_rule.specs.Parents.{leadsTo}
+use Rattle.sheet_above.specs.Parents.{leadsTo}
 use Rattle.audit_finding.specs.declared.Relation.{Relation}
 use Rattle.audit_finding.specs.declared.Relation.the-variants.{SameId, SharedBuses, Leads}
 use Rattle.audit_finding.specs.Fails.{related, isMet}

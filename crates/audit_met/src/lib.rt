@@ -5,7 +5,7 @@ ghost use lib.ListN.{length};
 ghost use Rattle.sheet_record.specs.Places.{recordSize};
 ghost use Rattle.sheet_record.specs.Entry.{entryOf};
 ghost use Rattle.sheet.specs.Sheet.{Framed, entriesOf};
-ghost use Rattle.audit_rule.specs.Parents.{leadsTo};
+ghost use Rattle.sheet_above.specs.Parents.{leadsTo};
 ghost use Rattle.audit_finding.specs.Placed.{numbered};
 ghost use Rattle.audit_finding.specs.Fails.{related, isMet, leastMet};
 ghost use Rattle.audit_finding.specs.Spots.{recordOf};

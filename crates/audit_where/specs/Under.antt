@@ -6,9 +6,10 @@ use Prim.Native.Nat.{ℕ}
 use Rattle.walk.specs.Ranges.{Range}
 use Rattle.sheet.specs.Sheet.{entriesOf}
 use Rattle.sheet.specs.SheetLaws.{Checked}
-use Rattle.audit_rule.specs.Parents.{parentOf}
+use Rattle.sheet_above.specs.Parents.{parentOf}
+use Rattle.audit_rule.specs.declared.Nesting.the-variants.{OfKind}
 use Rattle.audit_rule.specs.Audit.{outsideAll}
-use Rattle.audit_leaders.specs.Table.{Leads}
+use Rattle.sheet_above.specs.Table.{Leads}
 use Rattle.auditor.specs.declared.Check as auditor
 use Rattle.auditor.specs.declared.Check.the-variants.{Buses, Places, Overlaps}
 use Rattle.finding.specs.declared.Spot.{Spot}
@@ -32,4 +33,4 @@ HasParent table root bus r =
 
 -- the first of a record's BARs and open windows that lies in none of these
 abbrev pub outsideIn : List Range → Numbered → Spot
-outsideIn above r = first (λ p. outsideAll above (p .range)) (λ p. Wrong (p .place) nobody) Right (placedOf r)
+outsideIn above r = first (λ p. outsideAll OfKind above (p .range)) (λ p. Wrong (p .place) nobody) Right (placedOf r)

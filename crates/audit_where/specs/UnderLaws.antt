@@ -11,14 +11,14 @@ use Rattle.board_record.specs.declared.Host.{Host}
 use Rattle.walk.specs.Ranges.{Range}
 use Rattle.sheet_record.specs.Entry.{Entry, entryOf, busOf, bus}
 use Rattle.sheet.specs.Sheet.{entriesOf, partAt}
-use Rattle.audit_rule.specs.Parents as rule
-use Rattle.audit_rule.specs.Parents.{parentOf}
-use Rattle.audit_rule.specs.Ranges.{rangesAbove}
-use Rattle.audit_rule.specs.Audit.{outsideAll, parentIn, parentWrong, outOfHost, wayUpWrong}
-use Rattle.audit_leaders.specs.declared.Parent.{Parent}
-use Rattle.audit_leaders.specs.declared.Parent.the-variants.{Host as UnderHost, Bridge, Nowhere}
-use Rattle.audit_leaders.specs.Table.{IsParent}
-use Rattle.audit_ranges.specs.SearchLaws.{bus-of-entry}
+use Rattle.sheet_above.specs.Parents as rule
+use Rattle.sheet_above.specs.Parents.{parentOf}
+use Rattle.audit_rule.specs.declared.Nesting.the-variants.{OfKind}
+use Rattle.audit_rule.specs.Audit.{rangesAbove, outsideAll, parentIn, parentWrong, outOfHost, wayUpWrong}
+use Rattle.sheet_above.specs.declared.Parent.{Parent}
+use Rattle.sheet_above.specs.declared.Parent.the-variants.{Host as UnderHost, Bridge, Nothing, Several}
+use Rattle.sheet_above.specs.Table.{IsParent}
+use Rattle.sheet_ranges.specs.SearchLaws.{bus-of-entry}
 use Rattle.finding.specs.declared.Party.{Party}
 use Rattle.finding.specs.declared.Spot.{Spot}
 use Rattle.finding.specs.declared.Spot.the-variants.{Right, Wrong}
@@ -44,8 +44,11 @@ module _ (s : List ℕ) (root b : ℕ) (q : Parent) (above : IsParent s root b q
   pub under-bridge : (k : ℕ) → q ≡ Bridge k → true ≡ not (isNowhere (parentOf root (entriesOf s) b))
   under-bridge k e = rw (above .same, e)
 
-  pub under-none : q ≡ Nowhere → false ≡ not (isNowhere (parentOf root (entriesOf s) b))
+  pub under-none : q ≡ Nothing → false ≡ not (isNowhere (parentOf root (entriesOf s) b))
   under-none e = rw (above .same, e)
+
+  pub under-several : q ≡ Several → false ≡ not (isNowhere (parentOf root (entriesOf s) b))
+  under-several e = rw (above .same, e)
 
 -- ## 50: p is the record's part, b its bus
 
@@ -120,7 +123,7 @@ module _ (h : Host) (s : List ℕ) (k : ℕ) (p : List ℕ) (is : p ≡ partAt s
   place-told above e x f =
       f (k + 1)
       ∙ ap (λ (q : List ℕ). outsideIn above (record { number = k + 1; entry = entryOf q })) is
-      ∙ first-agree (λ q. outsideAll above (q .range)) (isOutside h es) (λ q. Wrong (q .place) nobody) Right (placedOf r)
+      ∙ first-agree (λ q. outsideAll OfKind above (q .range)) (isOutside h es) (λ q. Wrong (q .place) nobody) Right (placedOf r)
       (all-imp _ _ (placedOf r) (owners-placed r) agree)
       ∙ spot-alone (isOutside h es) (λ q. q .place) (placedOf r)
       ∙ ap (λ (t : Bool). cond t (Wrong (first (isOutside h es) (λ q. q .place) 0 (placedOf r)) nobody) Right) (sym (outside-placed h es r))
@@ -128,7 +131,7 @@ module _ (h : Host) (s : List ℕ) (k : ℕ) (p : List ℕ) (is : p ≡ partAt s
       above-is : above ≡ rangesAbove h (parentIn h es (r .entry))
       above-is = e ∙ ap (λ (c : ℕ). rangesAbove h (parentOf (h .«first_bus») es c)) bus-is
 
-      agree : (q : Placed) → q .owner ≡ r → outsideAll above (q .range) ≡ isOutside h es q
+      agree : (q : Placed) → q .owner ≡ r → outsideAll OfKind above (q .range) ≡ isOutside h es q
       agree q mine =
-          ap (λ (xs : List Range). outsideAll xs (q .range))
+          ap (λ (xs : List Range). outsideAll OfKind xs (q .range))
           (above-is ∙ ap (λ (m : Numbered). rangesAbove h (parentIn h es (m .entry))) (sym mine))

@@ -12,16 +12,16 @@ ghost use Rattle.sheet.specs.declared.Rule.the-variants.{ReadBacks};
 ghost use Rattle.sheet.specs.Sheet.{Framed, entriesOf, breaks};
 ghost use Rattle.sheet.specs.SheetLaws.{Checked};
 ghost use Rattle.audit_rule.specs.Audit.{auditNumber};
-ghost use Rattle.audit_rule.specs.Ranges.{rangesOf};
-ghost use Rattle.audit_leaders.specs.Table.{Leads};
-ghost use Rattle.audit_ranges.specs.Items.{rangesIn};
+ghost use Rattle.sheet_ranges.specs.Ranges.{rangesOf};
+ghost use Rattle.sheet_above.specs.Table.{Leads};
+ghost use Rattle.sheet_ranges.specs.Items.{rangesIn};
 ghost use Rattle.finding.specs.Places.{partyAt};
 ghost use Rattle.audit_finding.specs.declared.Check.the-variants.{Whole, Tree, Places};
 ghost use Rattle.audit_finding.specs.Finding.{checkOf, firstFailing, findingOf};
 ghost use Rattle.audit_finding.specs.Spots.{spotAt, recordOf};
 ghost use Rattle.audit_where.specs.Under.{checkUnder, HasParent, outsideIn};
 use audit_finding::Relation;
-use audit_leaders::Parent;
+use audit_rule::Nesting;
 use auditor::Check;
 use board_record::Host;
 use finding::Finding;
@@ -30,6 +30,7 @@ use finding::NOBODY;
 use finding::Parties;
 use finding::Party;
 use finding::Spot;
+use sheet_above::Parent;
 use sheet_where::Own;
 
 // Any bytes.
@@ -91,8 +92,8 @@ fn first_failing(check: Check, host: Host, sheet: &[u8]) -> Parties
     requires { ⌜ Checked (now sheet) ⌝ }
     ensures { λ r. ⌜ r ≡ firstFailing (checkUnder check) host (entriesOf (now (sheet .entry))) ⌝ }
 {
-    let mut table = [0u16; audit_leaders::BUSES];
-    audit_leaders::leaders(sheet, &mut table);
+    let mut table = [0u16; sheet_above::BUSES];
+    sheet_above::leaders(sheet, &mut table);
     first_of(check, host, sheet, &table)
 }
 
@@ -160,10 +161,11 @@ fn has_parent(root: u8, table: &[u16], bus: u8) -> bool
     requires { ⌜ length (now table) ≡ 256 ⌝ }
     ensures { λ r. ⌜ HasParent (now (table .entry)) root bus r ⌝ }
 {
-    match audit_leaders::parent_of(table, root, bus) {
+    match sheet_above::parent_in(table, root, bus) {
         Parent::Host => true,
         Parent::Bridge(_) => true,
-        Parent::Nowhere => false,
+        Parent::Nothing => false,
+        Parent::Several => false,
     }
 }
 
@@ -184,10 +186,10 @@ fn place_spot(host: Host, sheet: &[u8], table: &[u16], k: usize) -> Spot
     ensures { λ r. ⌜ r ≡ spotAt Places host (entriesOf (now (sheet .entry))) (recordOf (now (sheet .entry)) k) ⌝ }
 {
     let part = sheet::part(sheet, k);
-    let mut own = [0u64; audit_ranges::ROOM];
-    let mut above = [0u64; audit_ranges::ROOM];
-    let n = audit_ranges::ranges_of(part, &mut own);
-    let m = audit_place::ranges_above(host, sheet, table, sheet_record::bus_of(part), &mut above);
+    let mut own = [0u64; sheet_ranges::ROOM];
+    let mut above = [0u64; sheet_ranges::ROOM];
+    let n = sheet_ranges::ranges_of(part, &mut own);
+    let m = audit_nested::ranges_above(host, sheet, table, sheet_record::bus_of(part), &mut above);
     first_outside(part, &own, n, &above, m)
 }
 
@@ -203,7 +205,7 @@ fn first_outside(part: &[u8], own: &[u64], n: usize, above: &[u64], m: usize) ->
 {
     let mut i: usize = 0;
     while i < n {
-        if !audit_place::is_inside_any(audit_ranges::item_at(own, i), above, m) {
+        if !audit_nested::is_inside_any(Nesting::OfKind, sheet_ranges::item_at(own, i), above, m) {
             return Spot::Wrong(range_place::place_of(part, i), NOBODY);
         }
         i += 1;

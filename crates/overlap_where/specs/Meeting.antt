@@ -3,7 +3,7 @@ use mathlib.Core.Bool.{Bool, not, _&&_}
 use Prim.Native.Nat.{ℕ}
 use lib.Dec.{eqb}
 use Rattle.walk.specs.Ranges.{Range}
-use Rattle.audit_rule.specs.Ranges.{overlap}
+use Rattle.sheet_ranges.specs.Ranges.{overlap}
 use Rattle.finding.specs.declared.Spot.{Spot}
 use Rattle.finding.specs.declared.Spot.the-variants.{Right, Wrong}
 use Rattle.finding.specs.Places.{nobody}

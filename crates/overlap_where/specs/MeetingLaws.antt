@@ -14,8 +14,8 @@ use Rattle.board_record.specs.declared.Host.{Host}
 use Rattle.walk.specs.Ranges.{Range}
 use Rattle.sheet_record.specs.Entry.{Entry, entryOf, busOf, bus}
 use Rattle.sheet.specs.Sheet.{Framed, entriesOf, partAt}
-use Rattle.audit_ranges.specs.SearchLaws.{bus-of-entry}
-use Rattle.audit_rule.specs.Ranges.{overlap}
+use Rattle.sheet_ranges.specs.SearchLaws.{bus-of-entry}
+use Rattle.sheet_ranges.specs.Ranges.{overlap}
 use Rattle.finding.specs.declared.Party.{Party}
 use Rattle.finding.specs.declared.Spot.{Spot}
 use Rattle.finding.specs.declared.Spot.the-variants.{Right, Wrong}

@@ -10,26 +10,26 @@ ghost use Rattle.sheet_record.specs.Entry.{entryOf};
 ghost use Rattle.sheet.specs.declared.Rule.the-variants.{ReadBacks};
 ghost use Rattle.sheet.specs.Sheet.{entriesOf, partAt, breaks};
 ghost use Rattle.sheet.specs.SheetLaws.{Checked};
-ghost use Rattle.audit_rule.specs.Ranges.{rangesOf, overlap};
-ghost use Rattle.audit_ranges.specs.Items.{rangeOf, rangesIn};
+ghost use Rattle.sheet_ranges.specs.Ranges.{rangesOf, overlap};
+ghost use Rattle.sheet_ranges.specs.Items.{rangeOf, rangesIn};
 ghost use Rattle.audit_finding.specs.declared.Check.the-variants.{Overlaps};
 ghost use Rattle.audit_finding.specs.Placed.{numbered, placedAt};
 ghost use Rattle.audit_finding.specs.Where.{leastMeeting};
 ghost use Rattle.audit_finding.specs.Spots.{spotAt, recordOf};
 ghost use Rattle.audit_finding.specs.Zipped.{placesOf};
 ghost use Rattle.overlap_where.specs.Meeting.{meetsHere, metIn, metAt};
-use audit_ranges::Item;
 use finding::NOBODY;
 use finding::Party;
 use finding::Spot;
+use sheet_ranges::Item;
 
 // What 52 says of record k, from 0, of a checked sheet, whatever the host is.
 pub fn overlap_spot(sheet: &[u8], k: usize) -> Spot
     requires { ⌜ Checked (now sheet) × (k < length (entriesOf (now sheet))) ⌝ }
     ensures { λ r. ⌜ ((h : Host) → r ≡ spotAt Overlaps h (entriesOf (now (sheet .entry))) (recordOf (now (sheet .entry)) k)) ⌝ }
 {
-    let mut own = [0u64; audit_ranges::ROOM];
-    let n = audit_ranges::ranges_of(sheet::part(sheet, k), &mut own);
+    let mut own = [0u64; sheet_ranges::ROOM];
+    let n = sheet_ranges::ranges_of(sheet::part(sheet, k), &mut own);
     first_overlap(sheet, k, &own, n)
 }
 
@@ -44,7 +44,7 @@ fn first_overlap(sheet: &[u8], k: usize, own: &[u64], n: usize) -> Spot
     let mut i: usize = 0;
     while i < n {
         let place = range_place::place_of(sheet::part(sheet, k), i);
-        let other = least_meeting(sheet, k, place, audit_ranges::item_at(own, i));
+        let other = least_meeting(sheet, k, place, sheet_ranges::item_at(own, i));
         if other.number != 0 {
             return Spot::Wrong(place, other);
         }
@@ -86,8 +86,8 @@ fn met_at(sheet: &[u8], k: usize, place: u8, x: Item, j: usize) -> Spot
     if sheet_record::bus_of(sheet::part(sheet, k)) != sheet_record::bus_of(part) {
         return Spot::Right;
     }
-    let mut room = [0u64; audit_ranges::ROOM];
-    let n = audit_ranges::ranges_of(part, &mut room);
+    let mut room = [0u64; sheet_ranges::ROOM];
+    let n = sheet_ranges::ranges_of(part, &mut room);
     first_met(part, &room, n, x, j == k, place)
 }
 
@@ -101,7 +101,7 @@ fn first_met(part: &[u8], room: &[u64], n: usize, x: Item, same: bool, place: u8
 {
     let mut i: usize = 0;
     while i < n {
-        if meets_here(part, i, x, audit_ranges::item_at(room, i), same, place) {
+        if meets_here(part, i, x, sheet_ranges::item_at(room, i), same, place) {
             return Spot::Wrong(range_place::place_of(part, i), NOBODY);
         }
         i += 1;
@@ -114,7 +114,7 @@ fn meets_here(part: &[u8], i: usize, x: Item, y: Item, same: bool, place: u8) ->
     requires { ⌜ (length (now part) ≡ recordSize) × (breaks ReadBacks (entryOf (now part)) ≡ false) ⌝ }
     ensures { λ r. ⌜ r ≡ meetsHere (rangeOf x) same place (getD (placesOf (entryOf (now (part .entry)))) i 0) (rangeOf y) ⌝ }
 {
-    if !audit_apart::overlap(x, y) {
+    if !audit_disjoint::overlap(x, y) {
         return false;
     }
     !(same & (range_place::place_of(part, i) == place))

@@ -7,10 +7,10 @@ use native.Mathlib.Numerals.{add-one}
 use native.Mathlib.Omega.{arith}
 use lib.ListN.{length, getD, drop}
 use lib.Seq.{drop-cons}
-use Rattle.audit_rule.specs.Ranges.{rangesOf}
-use Rattle.audit_ranges.specs.declared.Item.{Item}
-use Rattle.audit_ranges.specs.Items.{rangeOf, itemAt, rangesFrom, rangesIn}
-use Rattle.audit_ranges.specs.SearchLaws.{items-none, items-more, items-all}
+use Rattle.sheet_ranges.specs.Ranges.{rangesOf}
+use Rattle.sheet_ranges.specs.declared.Item.{Item}
+use Rattle.sheet_ranges.specs.Items.{rangeOf, itemAt, rangesFrom, rangesIn}
+use Rattle.sheet_ranges.specs.SearchLaws.{items-none, items-more, items-all}
 use Rattle.finding.specs.First.{first}
 use Rattle.finding.specs.FirstLaws.{first-hit, first-miss, first-nil}
 use Rattle.audit_finding.specs.Placed.{Numbered, Placed, placedAt, placedOf}

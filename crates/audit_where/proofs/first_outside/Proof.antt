@@ -5,8 +5,9 @@ use mathlib.Core.Path.{_≡_, refl, sym, ap, _∙_}
 use Prim.Native.Nat.{ℕ, _-_}
 use native.Mathlib.Omega.{arith}
 use Rattle.sheet_record.specs.Entry.{entryOf}
+use Rattle.audit_rule.specs.declared.Nesting.the-variants.{OfKind}
 use Rattle.audit_rule.specs.Audit.{outsideAll}
-use Rattle.audit_ranges.specs.Items.{rangesIn}
+use Rattle.sheet_ranges.specs.Items.{rangesIn}
 use Rattle.finding.specs.declared.Spot.the-variants.{Right, Wrong}
 use Rattle.finding.specs.Places.{nobody}
 use Rattle.finding.specs.First.{first}
@@ -18,7 +19,7 @@ use Rattle.audit_where.proofs.first_outside.Tie as tie
 abbrev Inv-loop : tie.InvT-loop
 Inv-loop part own n above m i₀ i =
     (number : ℕ)
-    → first (λ q. outsideAll (rangesIn m above) (q .range)) (λ q. Wrong (q .place) nobody) Right
+    → first (λ q. outsideAll OfKind (rangesIn m above) (q .range)) (λ q. Wrong (q .place) nobody) Right
     (placedLeft (record { number = number; entry = entryOf part }) own n i)
     ≡ outsideIn (rangesIn m above) (record { number = number; entry = entryOf part })
 
@@ -30,7 +31,7 @@ loop-holds c =
     let start = c .before .before .before in
     let a = start .args in
     λ number. turn-start (record { number = number; entry = entryOf (a .part .now) }) _ _ (start .pre .4)
-    (λ q. outsideAll (rangesIn (a .m) (a .above .now)) (q .range)) (λ q. Wrong (q .place) nobody) Right
+    (λ q. outsideAll OfKind (rangesIn (a .m) (a .above .now)) (q .range)) (λ q. Wrong (q .place) nobody) Right
 
 item-at-requires : tie.Need-item-at-requires Inv-loop μ-loop
 item-at-requires c κs =
@@ -58,7 +59,7 @@ returns c =
     λ number.
     ap (λ (p : ℕ). Wrong p nobody) (c .place-of .ensures)
     ∙ sym (turn-hit (record { number = number; entry = entryOf (a .part .now) }) _ _ (start .pre .4)
-    (λ q. outsideAll (rangesIn (a .m) (a .above .now)) (q .range)) (λ q. Wrong (q .place) nobody) Right _ (more .loop-test .taken) _
+    (λ q. outsideAll OfKind (rangesIn (a .m) (a .above .now)) (q .range)) (λ q. Wrong (q .place) nobody) Right _ (more .loop-test .taken) _
     (at-item-at .item-at .ensures) _ refl (ap not (sym (at-is-inside-any .is-inside-any .ensures)) ∙ c .before .if1 .taken))
     ∙ turn .loop .inv number
 
@@ -77,7 +78,7 @@ loop-again c =
     let a = start .args in
     λ number.
     sym (turn-miss (record { number = number; entry = entryOf (a .part .now) }) _ _ (start .pre .4)
-    (λ q. outsideAll (rangesIn (a .m) (a .above .now)) (q .range)) (λ q. Wrong (q .place) nobody) Right _ (more .loop-test .taken) _
+    (λ q. outsideAll OfKind (rangesIn (a .m) (a .above .now)) (q .range)) (λ q. Wrong (q .place) nobody) Right _ (more .loop-test .taken) _
     (at-item-at .item-at .ensures) _ refl (ap not (sym (c .before .is-inside-any .ensures)) ∙ c .if1 .left))
     ∙ turn .loop .inv number
 
@@ -87,7 +88,7 @@ returns-2 c =
     let a = start .args in
     λ number.
     sym (turn-past (record { number = number; entry = entryOf (a .part .now) }) _ _ (start .pre .4)
-    (λ q. outsideAll (rangesIn (a .m) (a .above .now)) (q .range)) (λ q. Wrong (q .place) nobody) Right _ (c .loop-test .left))
+    (λ q. outsideAll OfKind (rangesIn (a .m) (a .above .now)) (q .range)) (λ q. Wrong (q .place) nobody) Right _ (c .loop-test .left))
     ∙ c .before .loop .inv number
 
 pub first-outside-spec : {M : Type 1} → statement M

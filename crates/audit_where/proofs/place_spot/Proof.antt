@@ -1,7 +1,7 @@
 -- `audit_where::place_spot` meets its contract: the record's ranges and those above, decoded. Assumes nothing.
 use native.Mathlib.Omega.{arith}
 use borrow.Author.Needs.{needs}
-use Rattle.audit_ranges.specs.SearchLaws.{part-fits, part-sized, part-lawful}
+use Rattle.sheet_ranges.specs.SearchLaws.{part-fits, part-sized, part-lawful}
 use Rattle.audit_where.specs.UnderLaws.{place-told}
 use Rattle.audit_where.proofs.place_spot.Statement.{statement}
 use Rattle.audit_where.proofs.place_spot.Tie as tie

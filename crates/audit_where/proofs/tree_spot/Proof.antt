@@ -2,7 +2,7 @@
 use mathlib.Core.Path.{refl}
 use borrow.Author.Tests.{not-true, not-false}
 use borrow.Author.Needs.{needs}
-use Rattle.audit_ranges.specs.SearchLaws.{part-fits, part-sized}
+use Rattle.sheet_ranges.specs.SearchLaws.{part-fits, part-sized}
 use Rattle.audit_where.specs.UnderLaws.{tree-off, tree-nowhere, tree-up, tree-right, tree-shared}
 use Rattle.audit_where.proofs.tree_spot.Statement.{statement}
 use Rattle.audit_where.proofs.tree_spot.Tie as tie

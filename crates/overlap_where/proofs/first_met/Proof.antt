@@ -4,7 +4,7 @@ use mathlib.Core.Path.{_≡_, refl, sym, ap, _∙_}
 use Prim.Native.Nat.{ℕ, _-_}
 use native.Mathlib.Omega.{arith}
 use Rattle.sheet_record.specs.Entry.{entryOf}
-use Rattle.audit_ranges.specs.Items.{rangeOf}
+use Rattle.sheet_ranges.specs.Items.{rangeOf}
 use Rattle.finding.specs.declared.Spot.the-variants.{Right, Wrong}
 use Rattle.finding.specs.Places.{nobody}
 use Rattle.finding.specs.First.{first}

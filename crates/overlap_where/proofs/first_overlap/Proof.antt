@@ -9,7 +9,7 @@ use Rattle.finding.specs.First.{first}
 use Rattle.audit_finding.specs.Placed.{numbered, placedOf}
 use Rattle.audit_finding.specs.Fails.{meetsAny}
 use Rattle.audit_finding.specs.Spots.{recordOf}
-use Rattle.audit_ranges.specs.SearchLaws.{part-fits, part-sized, part-lawful}
+use Rattle.sheet_ranges.specs.SearchLaws.{part-fits, part-sized, part-lawful}
 use Rattle.range_place.specs.TurnsLaws.{placedLeft, turn-start, turn-past, turn-hit, turn-miss}
 use Rattle.overlap_where.specs.MeetingLaws.{say, spot-is, meets-number, meets-none, told-other, place-at}
 use Rattle.overlap_where.proofs.first_overlap.Statement.{statement}

@@ -5,7 +5,7 @@ use Prim.Native.Nat.{_-_}
 use native.Mathlib.Omega.{arith}
 use borrow.Author.Needs.{needs}
 use Rattle.sheet.specs.Sheet.{entriesOf}
-use Rattle.audit_ranges.specs.Items.{rangeOf}
+use Rattle.sheet_ranges.specs.Items.{rangeOf}
 use Rattle.audit_finding.specs.Placed.{numbered, placedAt}
 use Rattle.audit_finding.specs.Where.{leastMeeting}
 use Rattle.audit_finding.specs.Spots.{recordOf}

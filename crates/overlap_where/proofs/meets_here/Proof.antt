@@ -3,7 +3,7 @@ use lib.ListN.{getD}
 use borrow.Author.Tests.{not-true, not-false}
 use borrow.Author.Needs.{needs}
 use Rattle.sheet_record.specs.Entry.{entryOf}
-use Rattle.audit_ranges.specs.Items.{rangeOf}
+use Rattle.sheet_ranges.specs.Items.{rangeOf}
 use Rattle.audit_finding.specs.Zipped.{placesOf}
 use Rattle.overlap_where.specs.MeetingLaws.{apart-here, overlap-here}
 use Rattle.overlap_where.proofs.meets_here.Statement.{statement}

@@ -1,8 +1,8 @@
 -- `overlap_where::met_at` meets its contract: on another bus nothing is decoded. Assumes nothing.
 use native.Mathlib.Omega.{arith}
 use borrow.Author.Needs.{needs}
-use Rattle.audit_ranges.specs.Items.{rangeOf}
-use Rattle.audit_ranges.specs.SearchLaws.{part-fits, part-sized, part-lawful}
+use Rattle.sheet_ranges.specs.Items.{rangeOf}
+use Rattle.sheet_ranges.specs.SearchLaws.{part-fits, part-sized, part-lawful}
 use Rattle.overlap_where.specs.MeetingLaws.{other-bus, one-bus}
 use Rattle.overlap_where.proofs.met_at.Statement.{statement}
 use Rattle.overlap_where.proofs.met_at.Tie as tie

@@ -5,8 +5,8 @@ use Prim.Native.Nat.{ℕ}
 use native.Mathlib.Omega.{arith}
 use borrow.Author.Needs.{needs}
 use Rattle.sheet_record.specs.Entry.{entryOf}
-use Rattle.audit_rule.specs.Ranges.{rangesOf}
-use Rattle.audit_ranges.specs.SearchLaws.{part-fits, part-sized, part-lawful}
+use Rattle.sheet_ranges.specs.Ranges.{rangesOf}
+use Rattle.sheet_ranges.specs.SearchLaws.{part-fits, part-sized, part-lawful}
 use Rattle.overlap_where.proofs.overlap_spot.Statement.{statement}
 use Rattle.overlap_where.proofs.overlap_spot.Tie as tie
 
