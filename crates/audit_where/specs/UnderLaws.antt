@@ -64,6 +64,7 @@ no-way : (p : rule.Parent) (e : Entry) (out : Bool) → isNowhere p ≡ true →
 no-way rule.underHost e out w = absurd (true≢false (sym w))
 no-way (rule.underBridge b) e out w = absurd (true≢false (sym w))
 no-way rule.underNone e out w = refl
+no-way rule.underSeveral e out w = refl
 
 module _ (h : Host) (s : List ℕ) (k : ℕ) (p : List ℕ) (is : p ≡ partAt s k) (b : ℕ) (own : b ≡ busOf p) where
   abbrev es : List Entry
