@@ -11,7 +11,7 @@ use Rattle.audit_rule.specs.declared.Nesting.the-variants.{OfKind}
 use Rattle.audit_rule.specs.Audit.{outsideAll}
 use Rattle.sheet_above.specs.Table.{Leads}
 use Rattle.auditor.specs.declared.Check as auditor
-use Rattle.auditor.specs.declared.Check.the-variants.{Buses, Places, Overlaps}
+use Rattle.auditor.specs.declared.Check.the-variants.{Tree, Nested, Disjoint}
 use Rattle.finding.specs.declared.Spot.{Spot}
 use Rattle.finding.specs.declared.Spot.the-variants.{Right, Wrong}
 use Rattle.finding.specs.Places.{nobody}
@@ -22,9 +22,9 @@ use Rattle.audit_finding.specs.Placed.{Numbered, placedOf}
 use Rattle.audit_finding.specs.Where.{isNowhere}
 
 abbrev pub checkUnder : auditor.Check → Check
-checkUnder Buses = checks.the-variants.Tree
-checkUnder Places = checks.the-variants.Places
-checkUnder Overlaps = checks.the-variants.Overlaps
+checkUnder Tree = checks.the-variants.Tree
+checkUnder Nested = checks.the-variants.Places
+checkUnder Disjoint = checks.the-variants.Overlaps
 
 -- told by the table of any checked sheet whose it is
 abbrev pub HasParent : List ℕ → ℕ → ℕ → Bool → Type 0

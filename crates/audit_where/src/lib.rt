@@ -80,9 +80,9 @@ fn under_parties(number: u8, host: Host, sheet: &[u8]) -> Parties
     ensures { λ r. ⌜ r ≡ firstFailing (checkOf number) host (entriesOf (now (sheet .entry))) ⌝ }
 {
     match number {
-        50 => first_failing(Check::Buses, host, sheet),
-        51 => first_failing(Check::Places, host, sheet),
-        52 => first_failing(Check::Overlaps, host, sheet),
+        50 => first_failing(Check::Tree, host, sheet),
+        51 => first_failing(Check::Nested, host, sheet),
+        52 => first_failing(Check::Disjoint, host, sheet),
         _ => NOBODIES,
     }
 }
@@ -125,9 +125,9 @@ fn spot_at(check: Check, host: Host, sheet: &[u8], table: &[u16], k: usize) -> S
     ensures { λ r. ⌜ r ≡ spotAt (checkUnder check) host (entriesOf (now (sheet .entry))) (recordOf (now (sheet .entry)) k) ⌝ }
 {
     match check {
-        Check::Buses => tree_spot(host, sheet, table, k),
-        Check::Places => place_spot(host, sheet, table, k),
-        Check::Overlaps => overlap_where::overlap_spot(sheet, k),
+        Check::Tree => tree_spot(host, sheet, table, k),
+        Check::Nested => place_spot(host, sheet, table, k),
+        Check::Disjoint => overlap_where::overlap_spot(sheet, k),
     }
 }
 
