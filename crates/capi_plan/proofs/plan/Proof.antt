@@ -1,19 +1,20 @@
--- `capi_plan::plan` meets its contract: with no room for the answer nothing is planned; else by what the planner answers.
--- Assumes nothing.
+-- `capi_plan::plan` meets its contract: by what the planner answers in the part of the sheet that it is lent. Assumes nothing.
 use borrow.Author.Needs.{needs}
-use mathlib.Core.Path.{refl}
-use Rattle.capi_plan.specs.CallsLaws.{planned-nothing, planned}
+use lib.Seq.{length-take-le}
+use mathlib.Core.Path.{refl, sym}
+use native.Mathlib.Omega.{arith}
+use Rattle.capi_plan.specs.CallsLaws.{planned}
 use Rattle.capi_plan.proofs.plan.Statement.{statement}
 use Rattle.capi_plan.proofs.plan.Tie as tie
 
-plan-refusal-requires : tie.Need-plan-refusal-requires
-plan-refusal-requires c κs = search needs
+space-for-requires : tie.Need-space-for-requires
+space-for-requires c κs = search needs
 
-returns : tie.Need-returns
-returns c =
-    let s = c .before .before .before .before .before .args in
-    planned-nothing (s .board .now) (s .sheet .now) (s .written .now) (c .plan-refusal .result) (c .plan-refusal .ensures)
-    (c .before .if1 .taken)
+slice-relend-prefix-plan : tie.Need-slice-relend-prefix-plan
+slice-relend-prefix-plan c = search needs
+
+slice-aggregate-plan : tie.Need-slice-aggregate-plan
+slice-aggregate-plan c = sym (length-take-le _ _ (omega arith))
 
 plan-requires : tie.Need-plan-requires
 plan-requires c κs = search needs
@@ -36,34 +37,34 @@ same-length c = search needs
 same-length-2 : tie.Need-same-length-2
 same-length-2 c = search needs
 
-returns-2 : tie.Need-returns-2
-returns-2 c =
+returns : tie.Need-returns
+returns c =
     let at-n = c .before .before .before .before .before in
     let n = at-n .n in
     let call = at-n .before .before .before .before in
-    let test = call .before .before in
-    let s = test .before .before .before .before .args in
-    planned (s .board .now) (s .sheet .now) (s .written .now) (test .if1 .left) (call .plan .result) (call .plan .ensures .0) _
-    (call .plan .ensures .1) _ _ (rw (n .given .1) (c .before .before .give-one .ensures))
+    let lent = call .before .before .space-for in
+    let s = call .before .before .before .before .before .before .args in
+    planned (s .board .now) (s .sheet .now) (s .written .now) (lent .result) (lent .ensures .1) (call .plan .result)
+    (call .plan .ensures .0) _ (call .plan .ensures .1) _ _ (rw (n .given .1) (c .before .before .give-one .ensures))
 
 same-length-3 : tie.Need-same-length-3
 same-length-3 c = search needs
 
-returns-3 : tie.Need-returns-3
-returns-3 c =
+returns-2 : tie.Need-returns-2
+returns-2 c =
     let call = c .before .before .before .before .before in
-    let test = call .before .before in
-    let s = test .before .before .before .before .args in
-    planned (s .board .now) (s .sheet .now) (s .written .now) (test .if1 .left) (call .plan .result) (call .plan .ensures .0) _
-    (call .plan .ensures .1) _ _
-    (rw (c .before .n2 .given .1) (refl, refl))
+    let lent = call .before .before .space-for in
+    let s = call .before .before .before .before .before .before .args in
+    planned (s .board .now) (s .sheet .now) (s .written .now) (lent .result) (lent .ensures .1) (call .plan .result)
+    (call .plan .ensures .0) _ (call .plan .ensures .1) _ _ (rw (c .before .n2 .given .1) (refl, refl))
 
 pub plan-spec : {M : Type 1} → statement M
 plan-spec =
     tie.close
     (tie.spec
-    plan-refusal-requires
-    returns
+    space-for-requires
+    slice-relend-prefix-plan
+    slice-aggregate-plan
     plan-requires
     enum-known-n
     give-one-requires
@@ -71,6 +72,6 @@ plan-spec =
     cast-result
     same-length
     same-length-2
-    returns-2
+    returns
     same-length-3
-    returns-3)
+    returns-2)
