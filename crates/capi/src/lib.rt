@@ -19,6 +19,8 @@ ghost use Rattle.capi_trace.specs.Calls.{pieceAnswer, stateLeft, linesLeft, end
 ghost use Rattle.capi_ledger.specs.Calls.{openAnswer, openLeft, completeAnswer, completeLeft, countAnswer};
 ghost use Rattle.capi_script.specs.Calls.{scriptAnswer, scriptLeft};
 ghost use Rattle.capi.specs.Calls.{versionNumber};
+ghost use Rattle.plan_answer.specs.Plan.{numberOf as planningNumber, planning};
+use plan_answer::Planning;
 
 // The version of these calls, which the C header and the Rust crate are held against: 0.27.0 is 2700.
 #[no_mangle]
@@ -57,7 +59,13 @@ pub extern "C" fn cartsundial_plan(board: &[u8], sheet: &mut [u8], written: &mut
     ensures { λ _. ⌜ now (sheet .exit) ≡ sheetLeft (now (board .entry)) (now (sheet .entry)) (now (written .entry)) ⌝ }
     ensures { λ _. ⌜ now (written .exit) ≡ filled (planAnswer (now (board .entry)) (length (now (sheet .entry)))) (now (written .entry)) ⌝ }
 {
-    capi_plan::plan(board, sheet, written)
+    if written.len() == 0 {
+        return plan_refusal(board);
+    }
+    match planner::plan(board, sheet) {
+        Planning::Planned(n) => capi_answers::give_one(n as u64, written),
+        Planning::Refused(n) => n as u32,
+    }
 }
 
 // Writes a board's script, the configuration writes that bring its functions to the planned sheet, and the script's length. A requester ID
@@ -286,4 +294,19 @@ pub extern "C" fn cartsundial_ledger_count(ledger: &[u64], count: &mut [u64]) ->
     ensures { λ _. ⌜ now (count .exit) ≡ filled (countAnswer (now (ledger .entry))) (now (count .entry)) ⌝ }
 {
     capi_ledger::count(ledger, count)
+}
+
+// ---- what the planner's call is made of: it is called from here, since through a crate between them a part of it is compiled with data below
+// the stack pointer, which boot code must not have
+
+// The board's own number, or else 11: every sheet has its version byte, so with an empty one the planner ends at its last check and writes
+// nothing.
+fn plan_refusal(board: &[u8]) -> u32
+    ensures { λ r. ⌜ r ≡ planningNumber (planning (now (board .entry)) 0) ⌝ }
+{
+    let mut sheet = [0u8; 1];
+    match planner::plan(board, &mut sheet[..0]) {
+        Planning::Planned(_) => 0,
+        Planning::Refused(n) => n as u32,
+    }
 }

@@ -1,21 +1,20 @@
 -- A plan one step each, in the words of the code. Assumes nothing.
 use Prim.Native.Nat.{ℕ, _<_}
 use native.Mathlib.Omega.{arith}
-use mathlib.Core.Path.{_≡_, refl, ap, _∙_}
+use mathlib.Core.Path.{_≡_, refl, sym, ap, _∙_}
 use mathlib.Core.Bool.{Bool, true, false, cond}
-use mathlib.Core.List.{List, [], _∷_, _++_, append-nil}
-use lib.ListN.{length, take, drop, drop-of-length-le}
-use lib.Seq.{take-length}
+use mathlib.Core.List.{List, [], _∷_}
+use lib.ListN.{length}
 use lib.Dec.{ltb, eqb}
-use borrow.Author.Tests.{lt-ltb, eqb-true}
+use borrow.Author.Tests.{lt-ltb, eq-eqb, ne-eqb}
 use Rattle.sheet.specs.Sheet.{sheetLength}
 use Rattle.plan_rule.specs.Refusals.{refusalOf}
 use Rattle.board.specs.Board.{boardNumber, hostOf, functionsOf}
 use Rattle.board.specs.ToPlacing.{toHost, toPlacing}
 use Rattle.plan_answer.specs.declared.Planning.{Planning}
 use Rattle.plan_answer.specs.declared.Planning.the-variants.{Planned, Refused as NotPlanned}
-use Rattle.plan_answer.specs.Plan.{onRoom, onBoard, planning, sheetAfter}
-use Rattle.capi_answers.specs.Answers.{refuses, returned, filled}
+use Rattle.plan_answer.specs.Plan.{onRoom, onBoard, planning, numberOf as planningNumber, sheetAfter}
+use Rattle.capi_answers.specs.Answers.{returned, filled}
 use Rattle.capi_answers.specs.AnswersLaws.{Answered, answered-short}
 use Rattle.capi_plan.specs.Calls.{onPlanning, planAnswer, sheetLeft}
 
@@ -32,14 +31,14 @@ unplannedOf (NotPlanned n) = n
 
 -- what would be planned is short of room in an empty sheet: the two tests are the board's own number and 30 to 33
 without-room : (accepted kept : Bool) (own out size room : ℕ) → 0 < size
-    → cond accepted (cond kept (onRoom size 0) (NotPlanned out)) (NotPlanned own)
-    ≡ NotPlanned (unplannedOf (cond accepted (cond kept (onRoom size room) (NotPlanned out)) (NotPlanned own)))
+    → planningNumber (cond accepted (cond kept (onRoom size 0) (NotPlanned out)) (NotPlanned own))
+    ≡ unplannedOf (cond accepted (cond kept (onRoom size room) (NotPlanned out)) (NotPlanned own))
 unfolding onRoom
 without-room false kept own out size room h = refl
 without-room true false own out size room h = refl
 without-room true true own out size room h = rw (lt-ltb 0 size h) (go (ltb room size))
   where
-    go : (b : Bool) → NotPlanned 11 ≡ NotPlanned (unplannedOf (cond b (NotPlanned 11) (Planned size)))
+    go : (b : Bool) → 11 ≡ unplannedOf (cond b (NotPlanned 11) (Planned size))
     go true = refl
     go false = refl
 
@@ -48,41 +47,23 @@ module _ (board sheet written : List ℕ) where
   plan-short z (Planned n) = answered-short (n ∷ []) written (omega arith)
   plan-short z (NotPlanned n) = (refl, refl)
 
-  plan-empty : planning board 0 ≡ NotPlanned (unplannedOf (planning board (length sheet)))
+  plan-empty : (room : ℕ) → planningNumber (planning board 0) ≡ unplannedOf (planning board room)
   unfolding planning onBoard
-  plan-empty =
+  plan-empty room =
       let fs = functionsOf board in
       let out = refusalOf (toHost (hostOf board)) (toPlacing fs) in
-      without-room (eqb (boardNumber board) 0) (eqb out 0) (boardNumber board) out (sheetLength (length fs)) (length sheet) (omega arith)
+      without-room (eqb (boardNumber board) 0) (eqb out 0) (boardNumber board) out (sheetLength (length fs)) room (omega arith)
 
-  sheet-empty : sheetAfter board [] ≡ []
-  unfolding sheetAfter
-  sheet-empty = rw plan-empty
+  pub planned-nothing : (r : ℕ) → r ≡ planningNumber (planning board 0) → length written ≡ 0
+      → PlannedFor board sheet written r sheet written
+  planned-nothing r e z =
+      let a = plan-short z (planning board (length sheet)) in
+      (e ∙ plan-empty (length sheet) ∙ a .0, (rw (eq-eqb (length written) 0 z), a .1))
 
-  -- the planner was lent so much of the sheet and left a part in its place
-  module _ (space : ℕ) (lent : space ≡ cond (eqb (length written) 0) 0 (length sheet)) (w : Planning)
-      (e : w ≡ planning board (length (take space sheet))) (part : List ℕ) (f : part ≡ sheetAfter board (take space sheet)) where
-    pub planned : (r : ℕ) (slice : List ℕ) → Answered (onPlanning w) written r slice
-        → PlannedFor board sheet written r (part ++ drop space sheet) slice
-    planned r slice a = go (eqb (length written) 0) refl
-      where
-        go : (b : Bool) → eqb (length written) 0 ≡ b → PlannedFor board sheet written r (part ++ drop space sheet) slice
-        go true z =
-            let none : space ≡ 0 = lent ∙ rw z in
-            let short = plan-short (eqb-true (length written) 0 z) (planning board (length sheet)) in
-            let m = unplannedOf (planning board (length sheet)) in
-            let refused : w ≡ NotPlanned m = e ∙ rw none plan-empty in
-            let left : part ≡ [] = f ∙ rw none sheet-empty in
-            let given : Answered (refuses m) written r slice = rw refused at a in
-            (given .0 ∙ short .0, (rw (z, left, none), given .1 ∙ short .1))
-        go false z =
-            let all : space ≡ length sheet = lent ∙ rw z in
-            let whole : take space sheet ≡ sheet = ap (λ (n : ℕ). take n sheet) all ∙ take-length sheet in
-            let rest : drop space sheet ≡ [] = drop-of-length-le sheet {i = space} (omega arith) in
-            let planned-all : w ≡ planning board (length sheet) = e ∙ ap (λ (s : List ℕ). planning board (length s)) whole in (
-              a .0 ∙ ap (λ (x : Planning). returned (onPlanning x) written) planned-all,
-              (
-                rw (z, rest, append-nil part) (f ∙ ap (sheetAfter board) whole),
-                a .1 ∙ ap (λ (x : Planning). filled (onPlanning x) written) planned-all,
-              ),
-            )
+  module _ (more : length written ≡ 0 → ⊥) (w : Planning) (e : w ≡ planning board (length sheet)) (after : List ℕ)
+      (f : after ≡ sheetAfter board sheet) where
+    pub planned : (r : ℕ) (slice : List ℕ) → Answered (onPlanning w) written r slice → PlannedFor board sheet written r after slice
+    planned r slice a = (
+      a .0 ∙ ap (λ (x : Planning). returned (onPlanning x) written) e,
+      (f ∙ sym (rw (ne-eqb (length written) 0 more)), a .1 ∙ ap (λ (x : Planning). filled (onPlanning x) written) e),
+    )
