@@ -10,6 +10,7 @@ mod audit;
 mod bar;
 mod board;
 mod cards;
+mod finding;
 mod index;
 pub mod ledger;
 mod packet;
@@ -23,6 +24,7 @@ mod trace;
 
 pub use audit::{audit, sound};
 pub use cards::{route_from, Sending};
+pub use finding::{audit_where, Finding, Party};
 pub use index::{build, find};
 pub use packet::{read, to_numbers, write, write_numbers, Form, Kind, Packet};
 pub use plan::plan;

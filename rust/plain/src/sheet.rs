@@ -152,7 +152,7 @@ impl Record<'_> {
         self.is_bridge() && self.bus() == bus && self.secondary() <= target && target <= self.subordinate()
     }
 
-    fn slots(self) -> usize {
+    pub(crate) fn slots(self) -> usize {
         if self.is_bridge() {
             2
         } else {
@@ -194,7 +194,7 @@ impl Record<'_> {
         Range { base, last: limit | (pool.granule() - 1) }
     }
 
-    fn bar_register(self, slot: usize) -> u32 {
+    pub(crate) fn bar_register(self, slot: usize) -> u32 {
         self.u32(BARS + 4 * slot)
     }
 
@@ -206,7 +206,11 @@ impl Record<'_> {
         u32::from_le_bytes([self.0[at], self.0[at + 1], self.0[at + 2], self.0[at + 3]])
     }
 
-    fn has_lawful_buses(self) -> bool {
+    pub(crate) fn has_lawful_type(self) -> bool {
+        slot_count(self.0[HEADER_TYPE]).is_some()
+    }
+
+    pub(crate) fn has_lawful_buses(self) -> bool {
         let primary = self.0[PRIMARY];
         !self.is_bridge()
             || (self.bus() == primary && primary < self.secondary() && self.secondary() <= self.subordinate())
@@ -227,6 +231,16 @@ impl Record<'_> {
             };
         }
         true
+    }
+
+    /// The low four bits of a window's base and limit.
+    pub(crate) fn window_nibbles(self, pool: Pool) -> [u8; 2] {
+        let registers = match pool {
+            Pool::Low => [LOW_BASE, LOW_LIMIT],
+            Pool::High => [HIGH_BASE, HIGH_LIMIT],
+            Pool::Io => [IO_BASE, IO_LIMIT],
+        };
+        registers.map(|at| self.0[at] & 0xF)
     }
 
     fn has_lawful_windows(self) -> bool {
@@ -308,6 +322,11 @@ impl<'a> Sheet<'a> {
         let index = self.records().position(|record| record.id() == id).ok_or(40)?;
         Ok(1 + RECORD * index + HEADER)
     }
+}
+
+/// The records of a sheet whose frame is right, whatever they hold.
+pub(crate) fn records_of(sheet: &[u8]) -> impl Iterator<Item = Record<'_>> {
+    sheet.get(1..).unwrap_or_default().as_chunks().0.iter().map(Record)
 }
 
 /// The number of the first check that the sheet fails, 0 when it passes.
