@@ -26,6 +26,10 @@ pub const TRACE: usize = 6;
 /// an empty one, and any numbers are a ledger.
 pub const LEDGER: usize = 256;
 
+/// How many numbers [`audit_where`] answers with: a record and its place, another record and its place. A place is 0 to 5
+/// for a BAR slot, 6 the low, 7 the high and 8 the I/O window, 9 the bus registers, 10 the ID.
+pub const WHO: usize = 4;
+
 /// The version that this crate is for, 0.27.0, as [`version`] tells the archive's.
 pub const VERSION: u32 = 2700;
 
@@ -66,6 +70,14 @@ mod c {
         pub fn cartsundial_check(sheet: *const u8, sheet_len: usize) -> u32;
         pub fn cartsundial_audit(host: *const u8, host_len: usize, sheet: *const u8, sheet_len: usize) -> u32;
         pub fn cartsundial_sound(host: *const u8, host_len: usize, sheet: *const u8, sheet_len: usize) -> u32;
+        pub fn cartsundial_audit_where(
+            host: *const u8,
+            host_len: usize,
+            sheet: *const u8,
+            sheet_len: usize,
+            who: *mut u64,
+            who_len: usize,
+        ) -> u32;
         pub fn cartsundial_lookup(
             sheet: *const u8,
             sheet_len: usize,
@@ -240,6 +252,15 @@ pub fn audit(host: &[u8], sheet: &[u8]) -> u32 {
 /// The same with 51 asked of the address space and not of the kind.
 pub fn sound(host: &[u8], sheet: &[u8]) -> u32 {
     unsafe { c::cartsundial_sound(host.as_ptr(), host.len(), sheet.as_ptr(), sheet.len()) }
+}
+
+/// Audits a sheet, and writes to `who` whom the number is about: the record and its place, the other record and its place.
+/// Each is 0 where there is none. These are the one answer that a refusal leaves; where `who` has no room for all four it
+/// stays, and 0 becomes 11.
+pub fn audit_where(host: &[u8], sheet: &[u8], who: &mut [u64]) -> u32 {
+    unsafe {
+        c::cartsundial_audit_where(host.as_ptr(), host.len(), sheet.as_ptr(), sheet.len(), who.as_mut_ptr(), who.len())
+    }
 }
 
 /// Writes to `offset` where in the sheet the 64 register bytes of the function with this ID start. No function has an

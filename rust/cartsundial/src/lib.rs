@@ -30,6 +30,7 @@
 //! | a board's bridges, and the buses and memory that each keeps free | [`bridges`] |
 //! | a sheet: is it lawful, a function's registers, its command word | [`check`], [`registers`], [`set_command`] |
 //! | is a sheet that other firmware left in order, for a host | [`audit`] |
+//! | the same, and which record is not, where, and which other one it meets | [`audit_where`] |
 //! | has every address on it one owner, wherever firmware put prefetchable memory | [`sound`] |
 //! | a sheet that is checked once and then asked: functions, BARs, windows, buses | [`Sheet`], [`Function`] |
 //! | its functions one by one, or from a record to its ID | [`functions()`], [`id_of`] |
@@ -83,6 +84,7 @@ pub mod calls;
 mod cards;
 mod engine;
 mod fields;
+mod finding;
 mod functions;
 mod host;
 mod id;
@@ -113,6 +115,7 @@ pub use built::{Board, BoardFunction};
 pub use cards::{route_from, Sending};
 pub use engine::Engine;
 pub use fields::{Body, Enables, Fields};
+pub use finding::{audit_where, Finding, Party, Place};
 pub use functions::{functions, Buses, Function, PlacedBar, Windows};
 pub use host::{audit, sound, HostRecord};
 pub use id::{Id, NoId};

@@ -2,7 +2,7 @@
 
 use crate::lent::{hex, Lent};
 use crate::tally::{Call, Tally};
-use cartsundial::{calls, HostRecord};
+use cartsundial::{calls, HostRecord, Party};
 use inputs::audit;
 use inputs::random::Random;
 use std::fs;
@@ -67,12 +67,35 @@ fn judge(host: &[u8], sheet: &[u8], random: &mut Random, tally: &mut Tally) -> [
     assert!(numbers[0] == numbers[1] || numbers[0] == 51, "{numbers:?} {}", of());
     tally.judged(numbers[0], numbers[1]);
 
+    let found = name(host, sheet, numbers[0], random, tally);
     if let Ok(bytes) = host.try_into() {
         let record = HostRecord::from_bytes(bytes);
         assert_eq!(record.bytes(), *bytes);
         let typed = [cartsundial::audit(&record, sheet), cartsundial::sound(&record, sheet)];
         let typed = typed.map(|verdict| verdict.map_or_else(|refusal| refusal.number(), |()| 0));
         assert_eq!(typed, numbers, "audit, sound {}", of());
+        let named = cartsundial::audit_where(&record, sheet).err();
+        let party = |party: Option<&Party>| party.map_or([0; 2], |party| [party.record.into(), party.place.number()]);
+        let both = named.as_ref().map_or([[0; 2]; 2], |one| [party(one.party.as_ref()), party(one.other.as_ref())]);
+        assert_eq!(both.concat(), found, "who fails {}", of());
+        assert_eq!(named.map_or(0, |one| one.refusal.number()), numbers[0], "who fails {}", of());
     }
     numbers
+}
+
+/// Who fails, by both, in a slice of any length; returns plain Rust's four numbers.
+fn name(host: &[u8], sheet: &[u8], number: u8, random: &mut Random, tally: &mut Tally) -> [u64; calls::WHO] {
+    let plain::Finding { number: again, party, other } = plain::audit_where(host, sheet);
+    assert_eq!(again, number);
+    let found = [party.record as u64, party.place.into(), other.record as u64, other.place.into()];
+    let who: Vec<u64> = (0..random.below(7)).map(|_| random.word()).collect();
+    let mut after = who.clone();
+    let returned = calls::audit_where(host, sheet, &mut after);
+    tally.count(Call::AuditWhere, returned);
+    let (expected, left) = match who.get(calls::WHO..) {
+        Some(rest) => (number.into(), [&found[..], rest].concat()),
+        None => (if number == 0 { calls::SHORT } else { number.into() }, who),
+    };
+    assert_eq!((returned, after), (expected, left), "who fails {} for {}", hex(sheet), hex(host));
+    found
 }
