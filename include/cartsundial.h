@@ -14,7 +14,7 @@
  * Every call takes any bytes and any numbers, always returns, and answers
  *
  *     0                  accepted
- *     any other number   refused, and nothing that was lent has been changed
+ *     any other number   refused, and nothing that was lent has been changed (but for cartsundial_audit_where, whose answer is about a refusal)
  *
  * The numbers are documents 01's and 02's (the enumeration below). What each call returns and what every lent slice holds afterwards is
  * proved, as an equation with a definition: crates/capi/src/lib.rt has the contracts, and the definitions are specs/Answers.antt of
@@ -35,9 +35,9 @@
  * Stack to allow, measured (examples/c/stack.c) and not proved: 64 KiB for any call. cartsundial_plan and cartsundial_script 60 KiB each,
  * of which a board with few bridges in a row needs 50; cartsundial_route, cartsundial_route_from and cartsundial_annotate 12 KiB over a
  * planned sheet, which has at most 32 bridges above a function, and over a foreign one with 255 in a row 22 KiB, cartsundial_route_from 46;
- * every other call 12 KiB. That is what a call takes. A thread's library takes its own part of the same stack (guard page, thread-local
- * data, first frames), and so does each signal handler: a pthread of glibc 2.36 needed 64 KiB for the deepest board and 52 KiB for the
- * deepest sheet, where 60 and 48 KiB were too little.
+ * cartsundial_audit_where 16 KiB; every other call 12 KiB. That is what a call takes. A thread's library takes its own part of the same
+ * stack (guard page, thread-local data, first frames), and so does each signal handler: a pthread of glibc 2.36 needed 64 KiB for the
+ * deepest board and 52 KiB for the deepest sheet, where 60 and 48 KiB were too little.
  *
  * Red zone. The code keeps live data in the 128 bytes below the stack pointer, as the System V convention allows. In user mode nothing has
  * to be done: signal handlers keep clear of it. In ring 0 an interrupt or exception that is handled on the interrupted stack overwrites
@@ -314,6 +314,31 @@ CARTSUNDIAL_CHECKED uint32_t cartsundial_audit(const uint8_t *host, size_t host_
  */
 CARTSUNDIAL_CHECKED uint32_t cartsundial_sound(const uint8_t *host, size_t host_len, const uint8_t *sheet, size_t sheet_len)
     CARTSUNDIAL_READS(1, 2) CARTSUNDIAL_READS(3, 4);
+
+/* A place of a record, as cartsundial_audit_where names it: 0 to 5 is a BAR's slot. */
+enum cartsundial_place {
+    CARTSUNDIAL_PLACE_LOW_WINDOW = 6,
+    CARTSUNDIAL_PLACE_HIGH_WINDOW = 7,
+    CARTSUNDIAL_PLACE_IO_WINDOW = 8,
+    CARTSUNDIAL_PLACE_BUS_REGISTERS = 9,
+    CARTSUNDIAL_PLACE_ID = 10,              /* and so the function as a whole */
+};
+
+/* How many numbers cartsundial_audit_where answers with. */
+#define CARTSUNDIAL_WHO_NUMBERS 4
+
+/*
+ * Judges a sheet as cartsundial_audit does, with its number, and says whom the number is about. who: the record, from 1, and its place; then
+ * the other record that it meets there and that one's place; each 0 where there is none.
+ * For 24 to 29 and 50 to 52 it is the first record at which that check fails, in record order, at the first place that is wrong; the other
+ * one has the same ID (28), leads to the same bus or shares one (50), or has an address in common (52), and no lesser one does. For 20 to 22
+ * and for 26 of the host all four are 0. All of this is proved.
+ * A refused sheet has its answer, so this is the one call that writes where it does not return 0. With room for fewer than four numbers who
+ * stays as it was, and 0 becomes 11.
+ */
+CARTSUNDIAL_CHECKED uint32_t cartsundial_audit_where(const uint8_t *host, size_t host_len, const uint8_t *sheet, size_t sheet_len,
+                                                     uint64_t *CARTSUNDIAL_RESTRICT who, size_t who_len)
+    CARTSUNDIAL_READS(1, 2) CARTSUNDIAL_READS(3, 4) CARTSUNDIAL_WRITES(5, 6);
 
 /*
  * Finds the function with an ID. offset: where its 64 register bytes start in the sheet.

@@ -106,6 +106,7 @@ static void read_header(void) { number = cartsundial_read(header, sizeof header,
 static void write_header(void) { number = cartsundial_write(packet, 20, lines, 16, written, 1); }
 static void check(void) { number = cartsundial_check(sheet, sheet_len); }
 static void audit(void) { number = cartsundial_audit(host, sizeof host, sheet, sheet_len); }
+static void audit_where(void) { number = cartsundial_audit_where(host, sizeof host, sheet, sheet_len, answer, CARTSUNDIAL_WHO_NUMBERS); }
 static void sound(void) { number = cartsundial_sound(host, sizeof host, sheet, sheet_len); }
 static void lookup(void) { number = cartsundial_lookup(sheet, sheet_len, 0xFF00, written, 1); }
 static void id(void) { number = cartsundial_id(sheet, sheet_len, 256, written, 1); }
@@ -180,6 +181,7 @@ int main(void)
     measure("check", check, 12);
     measure("audit", audit, 12);
     measure("sound", sound, 12);
+    measure("audit_where", audit_where, 16);
     measure("lookup", lookup, 12);
     measure("id", id, 12);
     measure("command", command, 12);
