@@ -14,7 +14,8 @@
  * Every call takes any bytes and any numbers, always returns, and answers
  *
  *     0                  accepted
- *     any other number   refused, and nothing that was lent has been changed (but for cartsundial_audit_where, whose answer is about a refusal)
+ *     any other number   refused, and nothing that was lent has been changed (but for the answer of cartsundial_audit_where, which is
+ *                        about a refusal)
  *
  * The numbers are documents 01's and 02's (the enumeration below). What each call returns and what every lent slice holds afterwards is
  * proved, as an equation with a definition: crates/capi/src/lib.rt has the contracts, and the definitions are specs/Answers.antt of
@@ -328,11 +329,11 @@ enum cartsundial_place {
 #define CARTSUNDIAL_WHO_NUMBERS 4
 
 /*
- * Judges a sheet as cartsundial_audit does, with its number, and says whom the number is about. who: the record, from 1, and its place; then
- * the other record that it meets there and that one's place; each 0 where there is none.
+ * Judges a sheet as cartsundial_audit does, with its number, and says whom the number is about. who: the record, from 1, and its place;
+ * then the other record that it meets there and that one's place; each 0 where there is none.
  * For 24 to 29 and 50 to 52 it is the first record at which that check fails, in record order, at the first place that is wrong; the other
- * one has the same ID (28), leads to the same bus or shares one (50), or has an address in common (52), and no lesser one does. For 20 to 22
- * and for 26 of the host all four are 0. All of this is proved.
+ * one has the same ID (28), leads to the same bus or shares one (50), or has an address in common (52), and no lesser one does. For 20 to
+ * 22 and for 26 of the host all four are 0. All of this is proved.
  * A refused sheet has its answer, so this is the one call that writes where it does not return 0. With room for fewer than four numbers who
  * stays as it was, and 0 becomes 11.
  */
