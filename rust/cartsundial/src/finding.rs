@@ -96,14 +96,14 @@ pub fn audit_where(host: &HostRecord, sheet: &[u8]) -> Result<(), Finding> {
     let mut who = [0; calls::WHO];
     match calls::audit_where(&host.bytes(), sheet, &mut who) {
         0 => Ok(()),
-        number => Err(Finding::of(Refusal::of_call(number), who, sheet)),
+        number => Err(Finding::of(crate::refused(number), who, sheet)),
     }
 }
 
 impl Finding {
     /// Of a call's number and its four numbers.
     fn of(refusal: Refusal, who: [u64; calls::WHO], sheet: &[u8]) -> Finding {
-        let passes = refusal.number() >= Refusal::BusTree.number();
+        let passes = refusal.number() >= Refusal::NotTree.number();
         let party = |record: u64, place: u64| Party::of(record, Place::from_number(place)?, sheet, passes);
         Finding { refusal, party: party(who[0], who[1]), other: party(who[2], who[3]) }
     }
@@ -189,9 +189,9 @@ fn word(refusal: Refusal) -> &'static str {
         Refusal::BusRange => "bus numbers",
         Refusal::IdTwice => "ID twice",
         Refusal::WindowNibbles => "window nibbles",
-        Refusal::BusTree => "bus tree",
-        Refusal::Place => "place",
-        Refusal::Overlap => "overlap",
+        Refusal::NotTree => "bus tree",
+        Refusal::NotNested => "place",
+        Refusal::NotDisjoint => "overlap",
         other => other.meaning(),
     }
 }

@@ -38,7 +38,7 @@ fn buses() {
         sheet.extend(record);
     }
     let finding = audit_where(&HostRecord::CLOSED, &sheet).unwrap_err();
-    assert_eq!(finding.refusal, Refusal::BusTree);
+    assert_eq!(finding.refusal, Refusal::NotTree);
     assert_eq!(
         finding.to_string(),
         "50 bus tree: record 1 (00:00.0) bus registers 01-02 and record 2 (00:01.0) bus registers 01-02"

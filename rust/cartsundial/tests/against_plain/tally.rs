@@ -30,7 +30,7 @@ pub enum Call {
     Count,
 }
 
-const CALLS: [Call; 20] = [
+const CALLS: [Call; 21] = [
     Call::Read,
     Call::Write,
     Call::Plan,
