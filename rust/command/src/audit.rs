@@ -5,7 +5,7 @@ use crate::failure::{print, Answer, Failure, Verdict};
 use crate::faults::{self, Nesting};
 use crate::named::{NamedSheet, RECORD};
 use crate::source::Source;
-use cartsundial::{audit, check, id_of, sound, HostRecord, Id, Refusal};
+use cartsundial::{audit, audit_where, sound, HostRecord, Refusal};
 
 pub const OPTIONS: Options = Options { flags: &["--all"], values: &["--host"] };
 
@@ -21,7 +21,8 @@ window of the bridge above, or memory pool of the host. Prefetchable windows bel
 which much firmware leaves, may pass it. Over a sheet that passes, packets from the host are delivered as over an accepted one.
 The exit status is the first verdict's.
 
-The verdicts are the proved library's. Who breaks a rule is looked up beside them, and is not proved.
+The verdicts are the proved library's, and so is the line `first`: the first record that fails the check, in record order, where,
+and the other one that it meets there. The lines after it are looked up beside them, and are not proved.
 
   --all               every fault, not only those of the first rule that is broken
 ";
@@ -71,30 +72,13 @@ fn one_owner(
 
 fn refused(refusal: Refusal, sheet: &[u8], named: Option<&NamedSheet>, host: &HostRecord, is_all: bool) -> String {
     let mut text = format!("{refusal}\n");
+    if let Some(finding) = audit_where(host, sheet).err().filter(|finding| finding.party.is_some()) {
+        text += &format!("  first: {finding}\n");
+    }
     // A sheet that fails its own checks has no functions to ask.
-    let Some(named) = named else {
-        if let Some((record, id)) = record_of(refusal, sheet) {
-            text += &format!("  record {record}, {id}\n");
-        }
-        return text;
-    };
-    for fault in faults::all(named, host, Nesting::OfKind) {
-        if is_all || fault.refusal == refusal {
-            text += &format!("  {}: {}\n", fault.refusal.number(), fault.what);
-        }
+    let faults = named.map_or(Vec::new(), |named| faults::all(named, host, Nesting::OfKind));
+    for fault in faults.iter().filter(|fault| is_all || fault.refusal == refusal) {
+        text += &format!("  {}: {}\n", fault.refusal.number(), fault.what);
     }
     text
-}
-
-/// The first record by which a sheet fails its own checks. Each covers all records before the next starts and looks at a
-/// record and at earlier ones only, so the first front of the sheet with the same number ends with it.
-fn record_of(refusal: Refusal, sheet: &[u8]) -> Option<(u16, Id)> {
-    let is_of_a_record = matches!(refusal.number(), 24 | 25 | 27..=29);
-    let records = (1..=sheet.len() / RECORD).filter(|_| is_of_a_record);
-    let front = |record: usize| &sheet[..1 + RECORD * record];
-    let record = records.into_iter().find(|record| check(front(*record)) == Err(refusal))?;
-    // The records before it pass; the ID of this one stands after its length.
-    let at = 1 + RECORD * (record - 1) + 2;
-    let id = id_of(front(record), record as u16).unwrap_or(Id(u16::from_be_bytes([sheet[at], sheet[at + 1]])));
-    Some((record as u16, id))
 }
