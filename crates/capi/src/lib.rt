@@ -308,8 +308,8 @@ pub extern "C" fn cartsundial_ledger_count(ledger: &[u64], count: &mut [u64]) ->
     capi_ledger::count(ledger, count)
 }
 
-// ---- what the planner's call is made of: it is called from here, since through a crate between them a part of it is compiled with data below
-// the stack pointer, which boot code must not have
+// ---- what the planner's call is made of. It is called from here, since through a crate between them a part of it is compiled with data
+// below the stack pointer, which boot code must not have
 
 // The board's own number, or else 11: every sheet has its version byte, so with an empty one the planner ends at its last check and writes
 // nothing.

@@ -32,4 +32,15 @@ returns-4 : tie.Need-returns-4
 returns-4 c = λ s k l. under-several s _ _ _ (c .before .before .parent-in .ensures s k l) (c .enum-told4 .given .1)
 
 pub has-parent-spec : {M : Type 1} → statement M
-has-parent-spec = tie.close (tie.spec parent-in-requires enum-told enum-told-2 enum-told-3 enum-told-4 returns returns-2 returns-3 returns-4)
+has-parent-spec =
+    tie.close
+    (tie.spec
+    parent-in-requires
+    enum-told
+    enum-told-2
+    enum-told-3
+    enum-told-4
+    returns
+    returns-2
+    returns-3
+    returns-4)
