@@ -1,5 +1,5 @@
 //! docs/FORMATS.md shows a whole sheet under its board. It must be the sheet that the library leaves, byte for byte. (The
-//! other examples there go to the proved programs: docs/formats.sh.) docs/example has a board, its sheet, a trace and its
+//! other examples there go to the proved programs: docs/examples.sh.) docs/example has a board, its sheet, a trace and its
 //! labels, which must belong together, and a trace of requests with what the example `ledger` says of it.
 
 #[allow(dead_code)]
