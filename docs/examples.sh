@@ -95,7 +95,7 @@ framed() {
 cargo build --release --offline --locked --quiet --manifest-path rust/Cargo.toml -p cartsundial --features std
 
 count=0
-documents=(README.md CONTRIBUTING.md docs/*.md rust/README.md)
+documents=(README.md CONTRIBUTING.md docs/*.md {examples,tests}/*/README.md rust/README.md)
 for document in "${documents[@]}"; do
     folder=$parts/${document//\//-}
     mkdir "$folder"

@@ -67,3 +67,4 @@ diff <(sed -n 's/^| \([0-9]*\) | `\([A-Z_]*\)` | `\([A-Za-z]*\)` |.*/\1 \2 \3/p'
     echo 'docs/links.sh: docs/NUMBERS.md has other numbers or names than cartsundial.h and refusal.rs' >&2
     exit 1
 }
+echo 'docs/NUMBERS.md: as in cartsundial.h and refusal.rs'
