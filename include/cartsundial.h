@@ -2,8 +2,22 @@
  * Cartsundial for C: read and write PCI Express headers, plan a board's register sheet, look functions up in it, judge a sheet that other
  * firmware left, route packets over it or by an index of it, label the headers of a trace, and match completions with open requests.
  *
- * Build:  rt staticlib capi          proves everything, then writes target/staticlib/libcapi.a
+ * Build:  make && make install PREFIX=..     proves everything, then puts libcartsundial.a, this file and cartsundial.pc where they belong
+ *         gcc main.c $(pkg-config --cflags --libs cartsundial)
+ *
+ *         rt staticlib capi                  in the repository, without installing: proves, then writes target/staticlib/libcapi.a
  *         gcc -Iinclude main.c target/staticlib/libcapi.a
+ *
+ * The calls stand by job:
+ *
+ *     plan     a board's register sheet                            cartsundial_plan
+ *     sheet    its checks, registers, IDs, command words           cartsundial_check, _lookup, _id, _command
+ *     route    where a header goes                                 cartsundial_route, _route_from; for many headers _index, _find
+ *     trace    a line for each captured header                     cartsundial_annotate, by an index _label; _annotate_end
+ *     audit    whether a sheet that other firmware left will do    cartsundial_audit, _sound, _audit_where
+ *     ledger   which requests wait for completions                 cartsundial_ledger_open, _ledger_complete, _ledger_count
+ *     script   a board's plan as configuration writes              cartsundial_script
+ *     codec    a header's bytes as numbers, and back               cartsundial_read, _write
  *
  * The archive is for x86-64, System V calling convention, position independent, with SSE2. Of a C library it calls memset, and for the
  * lines of a trace memcpy; nothing else.
@@ -84,9 +98,11 @@ extern "C" {
 #if defined(__GNUC__)
 #define CARTSUNDIAL_CHECKED CARTSUNDIAL_CALL __attribute__((nonnull, warn_unused_result))
 #define CARTSUNDIAL_RESTRICT __restrict__
+#define CARTSUNDIAL_INLINE static __inline__
 #else
 #define CARTSUNDIAL_CHECKED CARTSUNDIAL_CALL
 #define CARTSUNDIAL_RESTRICT
+#define CARTSUNDIAL_INLINE static inline
 #endif
 #if defined(__GNUC__) && !defined(__clang__) && __GNUC__ >= 10
 #define CARTSUNDIAL_READS(p, n) __attribute__((access(read_only, p, n)))
@@ -147,25 +163,77 @@ enum cartsundial_number {
     CARTSUNDIAL_E_TOO_MUCH_DATA = 65        /* ledger: a success with more dwords than are still to come */
 };
 
+/* ---- what is counted ---- */
+
+/* How much there is of each; where that differs, the most, so that this much room is always enough. examples/c/sizes.c asks the calls. */
+enum cartsundial_size {
+    CARTSUNDIAL_FUNCTIONS = 512,               /* functions of a board or a sheet */
+    CARTSUNDIAL_BRIDGES_ABOVE = 32,            /* bridges above a function of a board */
+    CARTSUNDIAL_BOARD_BYTES = 16417,           /* a board: 33 bytes up to its functions, and 32 a function at the most */
+    CARTSUNDIAL_HOST_BYTES = 30,               /* a board's host record, after its length */
+    CARTSUNDIAL_SHEET_BYTES = 47105,           /* a sheet of 512 functions: 1, and 92 a function */
+    CARTSUNDIAL_RECORD_BYTES = 92,             /* a function's record of a sheet, with its length */
+    CARTSUNDIAL_REGISTER_BYTES = 64,           /* a function's configuration header */
+    CARTSUNDIAL_SCRIPT_BYTES = 73692,          /* the script of any board */
+    CARTSUNDIAL_SCRIPT_WRITES = 4094,          /* how many writes that is */
+    CARTSUNDIAL_SCRIPT_WRITE_BYTES = 18,       /* one write of a script, with its length */
+    CARTSUNDIAL_HEADER_BYTES = 16,             /* a header written: 12 or 16 bytes */
+    CARTSUNDIAL_ROUTE_NUMBERS = 22,            /* record, bridges, and a packet: every route but a broadcast's */
+    CARTSUNDIAL_ANY_ROUTE_NUMBERS = 534,       /* any route: a broadcast's has the records of up to 512 functions after it */
+    CARTSUNDIAL_INDEX_BYTES = 132096,          /* the index of a sheet of 512 functions */
+    CARTSUNDIAL_INDEX_FRONT_BYTES = 1024,      /* of an index whatever its sheet has */
+    CARTSUNDIAL_INDEX_FUNCTION_BYTES = 256,    /* and for each function */
+    CARTSUNDIAL_TRACE_NUMBERS = 6,             /* the state of a trace */
+    CARTSUNDIAL_LINE_BYTES = 40,               /* a line of a trace, with its newline */
+    CARTSUNDIAL_LEDGER_NUMBERS = 256           /* a ledger of open requests */
+};
+
+/* How many bytes stand before something. Record n of a sheet, from 1, starts at CARTSUNDIAL_RECORDS_OFFSET + 92 (n - 1). */
+enum cartsundial_offset {
+    CARTSUNDIAL_HOST_OFFSET = 3,               /* in a board: the host record, after the version and its length */
+    CARTSUNDIAL_RECORDS_OFFSET = 1,            /* in a sheet: the first record */
+    CARTSUNDIAL_ID_OFFSET = 2,                 /* in a record: the ID, two bytes, the high one first */
+    CARTSUNDIAL_REGISTERS_OFFSET = 4,          /* in a record: the configuration header, each register's low byte first */
+    CARTSUNDIAL_READ_BACKS_OFFSET = 68,        /* in a record: six read-backs of four bytes, the high one first */
+    CARTSUNDIAL_WRITE_HEADER_OFFSET = 2,       /* in a script's write: its twelve header bytes */
+    CARTSUNDIAL_WRITE_DATA_OFFSET = 14         /* in a script's write: its four data bytes, in register order */
+};
+
 /* ---- a packet as twenty numbers ---- */
 
 /* A kind's code. A message has one code, whatever its routing, which stands apart in CARTSUNDIAL_ROUTING. */
 enum cartsundial_kind {
-    CARTSUNDIAL_MRD = 0,
-    CARTSUNDIAL_MRDLK = 1,
-    CARTSUNDIAL_MWR = 2,
-    CARTSUNDIAL_IORD = 3,
-    CARTSUNDIAL_IOWR = 4,
-    CARTSUNDIAL_CFGRD0 = 5,
-    CARTSUNDIAL_CFGWR0 = 6,
-    CARTSUNDIAL_CFGRD1 = 7,
-    CARTSUNDIAL_CFGWR1 = 8,
-    CARTSUNDIAL_CPL = 9,
-    CARTSUNDIAL_CPLD = 10,
-    CARTSUNDIAL_CPLLK = 11,
-    CARTSUNDIAL_CPLDLK = 12,
-    CARTSUNDIAL_MSG = 13,
-    CARTSUNDIAL_MSGD = 14
+    CARTSUNDIAL_KIND_MRD = 0,
+    CARTSUNDIAL_KIND_MRDLK = 1,
+    CARTSUNDIAL_KIND_MWR = 2,
+    CARTSUNDIAL_KIND_IORD = 3,
+    CARTSUNDIAL_KIND_IOWR = 4,
+    CARTSUNDIAL_KIND_CFGRD0 = 5,
+    CARTSUNDIAL_KIND_CFGWR0 = 6,
+    CARTSUNDIAL_KIND_CFGRD1 = 7,
+    CARTSUNDIAL_KIND_CFGWR1 = 8,
+    CARTSUNDIAL_KIND_CPL = 9,
+    CARTSUNDIAL_KIND_CPLD = 10,
+    CARTSUNDIAL_KIND_CPLLK = 11,
+    CARTSUNDIAL_KIND_CPLDLK = 12,
+    CARTSUNDIAL_KIND_MSG = 13,
+    CARTSUNDIAL_KIND_MSGD = 14,
+    /* the same, shorter */
+    CARTSUNDIAL_MRD = CARTSUNDIAL_KIND_MRD,
+    CARTSUNDIAL_MRDLK = CARTSUNDIAL_KIND_MRDLK,
+    CARTSUNDIAL_MWR = CARTSUNDIAL_KIND_MWR,
+    CARTSUNDIAL_IORD = CARTSUNDIAL_KIND_IORD,
+    CARTSUNDIAL_IOWR = CARTSUNDIAL_KIND_IOWR,
+    CARTSUNDIAL_CFGRD0 = CARTSUNDIAL_KIND_CFGRD0,
+    CARTSUNDIAL_CFGWR0 = CARTSUNDIAL_KIND_CFGWR0,
+    CARTSUNDIAL_CFGRD1 = CARTSUNDIAL_KIND_CFGRD1,
+    CARTSUNDIAL_CFGWR1 = CARTSUNDIAL_KIND_CFGWR1,
+    CARTSUNDIAL_CPL = CARTSUNDIAL_KIND_CPL,
+    CARTSUNDIAL_CPLD = CARTSUNDIAL_KIND_CPLD,
+    CARTSUNDIAL_CPLLK = CARTSUNDIAL_KIND_CPLLK,
+    CARTSUNDIAL_CPLDLK = CARTSUNDIAL_KIND_CPLDLK,
+    CARTSUNDIAL_MSG = CARTSUNDIAL_KIND_MSG,
+    CARTSUNDIAL_MSGD = CARTSUNDIAL_KIND_MSGD
 };
 
 /* A message's routing, the low three bits of Type. */
@@ -206,52 +274,92 @@ enum cartsundial_field {
     CARTSUNDIAL_PACKET_NUMBERS = 20    /* how many numbers a packet has */
 };
 
-/* Sizes that are always enough. */
-enum cartsundial_size {
-    CARTSUNDIAL_HEADER_BYTES = 16,     /* a header written: 12 or 16 bytes */
-    CARTSUNDIAL_SHEET_BYTES = 47105,   /* a sheet of 512 functions */
-    CARTSUNDIAL_SCRIPT_BYTES = 73692,  /* the script of any board: at most 4,094 writes of 18 bytes */
-    CARTSUNDIAL_HOST_BYTES = 30,       /* a board's host record, after its length */
-    CARTSUNDIAL_REGISTER_BYTES = 64,   /* a function's configuration header */
-    CARTSUNDIAL_ROUTE_NUMBERS = 22,    /* record, bridges, and a packet: every route but a broadcast's */
-    CARTSUNDIAL_ANY_ROUTE_NUMBERS = 534, /* any route: a broadcast's has the records of up to 512 functions after it */
-    CARTSUNDIAL_INDEX_BYTES = 132096,  /* the index of a sheet of 512 functions: 1,024, and 256 a function */
-    CARTSUNDIAL_TRACE_NUMBERS = 6,     /* the state of a trace */
-    CARTSUNDIAL_LINE_BYTES = 40,       /* a line of a trace, with its newline */
-    CARTSUNDIAL_LEDGER_NUMBERS = 256   /* a ledger of open requests */
-};
-
-/* ---- headers ---- */
+/* ---- in words ---- */
 
 /*
- * header, here and wherever a packet is delivered: bytes in the order of the link, byte 0 (Fmt and Type) first, and each number's high byte
- * first. Of 32-bit words, as a header log has them, give each word's high byte first.
+ * For people: a number in the words that Rust's Refusal has, and a kind by its name, as the lines of a trace have it. Both stand in this
+ * file, so nothing is linked for them. Who wants no text in the program defines CARTSUNDIAL_NO_WORDS.
+ *
+ *     printf("refused %u: %s\n", (unsigned)number, cartsundial_refusal_words(number));    refused 40: no owner
  */
+#ifndef CARTSUNDIAL_NO_WORDS
+CARTSUNDIAL_INLINE const char *cartsundial_refusal_words(uint32_t number)
+{
+    switch (number) {
+    case CARTSUNDIAL_ACCEPTED: return "accepted";
+    case CARTSUNDIAL_E_SHORT_HEADER: return "header under 12 bytes, or under 16 in the four-dword form";
+    case CARTSUNDIAL_E_UNKNOWN_PAIR: return "Fmt and Type pair unknown, or kind and form not carried";
+    case CARTSUNDIAL_E_NOT_CARRIED: return "Fmt and Type pair known but not carried";
+    case CARTSUNDIAL_E_RESERVED_BITS: return "a bit without a name, an address's low two, TH, or AT";
+    case CARTSUNDIAL_E_FIXED_FIELDS: return "TC, Attr, AT, Length or last enables of I/O or configuration, or Length of Cpl, CplLk or Msg";
+    case CARTSUNDIAL_E_UPPER_HALF_ZERO: return "64-bit form with upper half zero";
+    case CARTSUNDIAL_E_BYTE_ENABLES: return "memory byte enables";
+    case CARTSUNDIAL_E_BOUNDARY_CROSSED: return "memory request crosses a 4,096-byte boundary";
+    case CARTSUNDIAL_E_STATUS: return "status not 000, 001, 010 or 100";
+    case CARTSUNDIAL_E_TOO_WIDE: return "a value that its field does not take";
+    case CARTSUNDIAL_E_SHORT_ROOM: return "short room";
+    case CARTSUNDIAL_E_FRAME: return "empty, or lengths of records";
+    case CARTSUNDIAL_E_VERSION: return "version not 1, of a board neither 1 nor 2";
+    case CARTSUNDIAL_E_TOO_MANY_FUNCTIONS: return "over 512 functions";
+    case CARTSUNDIAL_E_ORDER: return "parent, order, depth or function 0";
+    case CARTSUNDIAL_E_HEADER_TYPE: return "header type, or wrong length for it";
+    case CARTSUNDIAL_E_READ_BACK: return "read-back, or BAR value";
+    case CARTSUNDIAL_E_HOST: return "first bus above last, or a pool's edges";
+    case CARTSUNDIAL_E_BUS_RANGE: return "not own bus = primary < secondary <= subordinate";
+    case CARTSUNDIAL_E_ID_TWICE: return "ID twice";
+    case CARTSUNDIAL_E_WINDOW_NIBBLES: return "window nibbles";
+    case CARTSUNDIAL_E_NO_BUSES: return "first bus + bridges + spare buses > last bus";
+    case CARTSUNDIAL_E_NO_LOW_ROOM: return "low item ends past its pool";
+    case CARTSUNDIAL_E_NO_HIGH_ROOM: return "high item ends past its pool";
+    case CARTSUNDIAL_E_NO_IO_ROOM: return "I/O item ends past its pool";
+    case CARTSUNDIAL_E_NO_OWNER: return "no owner";
+    case CARTSUNDIAL_E_CONTESTED: return "contested";
+    case CARTSUNDIAL_E_CONFIGURATION_TYPE: return "wrong configuration type";
+    case CARTSUNDIAL_E_UPWARD: return "a message that only travels up";
+    case CARTSUNDIAL_E_NO_BUS_MASTER: return "no bus master: the starting function, or a bridge on the way up";
+    case CARTSUNDIAL_E_NO_START: return "no start: the record is no type 0 function, or the packet no memory or I/O request";
+    case CARTSUNDIAL_E_NOT_TREE: return "first record's bus, the bridge to a bus, or a bridge's buses";
+    case CARTSUNDIAL_E_NOT_NESTED: return "a BAR or window outside the window or pool above";
+    case CARTSUNDIAL_E_NOT_DISJOINT: return "two BARs or windows overlap on a bus";
+    case CARTSUNDIAL_E_LEDGER_KIND: return "no non-posted request to open, or no completion";
+    case CARTSUNDIAL_E_ALREADY_OPEN: return "a request with this requester and tag is open";
+    case CARTSUNDIAL_E_LEDGER_FULL: return "256 requests are open";
+    case CARTSUNDIAL_E_NOT_OPEN: return "no request with this requester and tag is open";
+    case CARTSUNDIAL_E_MISMATCH: return "a completion that the open request does not get";
+    case CARTSUNDIAL_E_TOO_MUCH_DATA: return "more dwords than are still to come";
+    default: return "no number of this library";
+    }
+}
+
+CARTSUNDIAL_INLINE const char *cartsundial_kind_name(uint64_t kind)
+{
+    switch (kind) {
+    case CARTSUNDIAL_KIND_MRD: return "MRd";
+    case CARTSUNDIAL_KIND_MRDLK: return "MRdLk";
+    case CARTSUNDIAL_KIND_MWR: return "MWr";
+    case CARTSUNDIAL_KIND_IORD: return "IORd";
+    case CARTSUNDIAL_KIND_IOWR: return "IOWr";
+    case CARTSUNDIAL_KIND_CFGRD0: return "CfgRd0";
+    case CARTSUNDIAL_KIND_CFGWR0: return "CfgWr0";
+    case CARTSUNDIAL_KIND_CFGRD1: return "CfgRd1";
+    case CARTSUNDIAL_KIND_CFGWR1: return "CfgWr1";
+    case CARTSUNDIAL_KIND_CPL: return "Cpl";
+    case CARTSUNDIAL_KIND_CPLD: return "CplD";
+    case CARTSUNDIAL_KIND_CPLLK: return "CplLk";
+    case CARTSUNDIAL_KIND_CPLDLK: return "CplDLk";
+    case CARTSUNDIAL_KIND_MSG: return "Msg";
+    case CARTSUNDIAL_KIND_MSGD: return "MsgD";
+    default: return "-";
+    }
+}
+#endif
+
+/* ---- version ---- */
 
 /* The version of the archive, as CARTSUNDIAL_VERSION_NUMBER is that of this file. */
 CARTSUNDIAL_CALL uint32_t cartsundial_version(void);
 
-/*
- * Reads the header at the front of any bytes. packet: its twenty numbers. Later bytes are not looked at.
- * Refused: 1 to 9, then 11 for a packet slice of fewer than twenty numbers.
- */
-CARTSUNDIAL_CHECKED uint32_t cartsundial_read(const uint8_t *header, size_t header_len,
-                                              uint64_t *CARTSUNDIAL_RESTRICT packet, size_t packet_len)
-    CARTSUNDIAL_READS(1, 2) CARTSUNDIAL_WRITES(3, 4);
-
-/*
- * Writes the packet that the first twenty numbers are, 12 or 16 bytes at the front of the room and nothing past them. written: how many.
- * Refused: 11 for fewer than twenty numbers, tried first; 2 for a kind or form outside the list, or not carried together, or a message's
- * routing 6 or 7; 10 for a number that its field does not take (too large, a Length outside 1 to 1,024, or of Cpl, CplLk and Msg other
- * than 0), or other than 0 in a field that the kind does not have; 4 to 9; 11 for a short room, or a written slice of no numbers.
- * What cartsundial_read gave is written back to the same bytes, and what was written is read back as the same twenty numbers.
- */
-CARTSUNDIAL_CHECKED uint32_t cartsundial_write(const uint64_t *packet, size_t packet_len,
-                                               uint8_t *CARTSUNDIAL_RESTRICT room, size_t room_len,
-                                               uint64_t *CARTSUNDIAL_RESTRICT written, size_t written_len)
-    CARTSUNDIAL_READS(1, 2) CARTSUNDIAL_WRITES(3, 4) CARTSUNDIAL_WRITES(5, 6);
-
-/* ---- boards and sheets ---- */
+/* ---- plan ---- */
 
 /*
  * Plans a board: numbers its buses, places every BAR and window, and writes the register sheet at the front of sheet, nothing past it.
@@ -265,81 +373,13 @@ CARTSUNDIAL_CHECKED uint32_t cartsundial_plan(const uint8_t *board, size_t board
                                               uint64_t *CARTSUNDIAL_RESTRICT written, size_t written_len)
     CARTSUNDIAL_READS(1, 2) CARTSUNDIAL_WRITES(3, 4) CARTSUNDIAL_WRITES(5, 6);
 
-/*
- * Writes a board's plan as the configuration writes that boot code makes, at the front of script and nothing past them: a record for each
- * write, of two length bytes (0, 16), twelve header bytes and four data bytes in register order. First come the bus registers of the
- * bridges, then the used BARs and all window registers, then the command words, each by record; type 0 for the host's first bus and type 1
- * below; a byte that a write does not enable is 0. requester: the ID that the writes come from. first_tag: the first write's tag, one up at
- * each write, 0 after 255. written: the script's length, at most CARTSUNDIAL_SCRIPT_BYTES.
- * Made in this order on functions whose other registers are zero, each write reaches its function, the last leaves the planned sheet, and
- * after any of them a memory or I/O address has the owner that it will have, or none. That is proved.
- * Refused: 10 for a requester above FFFFh or a first_tag above FFh, tried first; 20 to 26 and 30 to 33, as cartsundial_plan; then 11 for a
- * short script slice, or a written slice of no numbers.
- */
-CARTSUNDIAL_CHECKED uint32_t cartsundial_script(const uint8_t *board, size_t board_len, uint32_t requester, uint32_t first_tag,
-                                                uint8_t *CARTSUNDIAL_RESTRICT script, size_t script_len,
-                                                uint64_t *CARTSUNDIAL_RESTRICT written, size_t written_len)
-    CARTSUNDIAL_READS(1, 2) CARTSUNDIAL_WRITES(5, 6) CARTSUNDIAL_WRITES(7, 8);
+/* ---- sheet ---- */
 
 /*
  * 0 for a sheet that passes its checks, or the number of the first that it fails, 20 to 29. Give the sheet's own length, not the buffer's.
  */
 CARTSUNDIAL_CHECKED uint32_t cartsundial_check(const uint8_t *sheet, size_t sheet_len)
     CARTSUNDIAL_READS(1, 2);
-
-/*
- * Judges a sheet, whoever wrote it, for a host: 0 for one that is accepted, or the number of the first check that fails. host: the
- * CARTSUNDIAL_HOST_BYTES bytes of a board's host record, without its length; in a board they start at byte 3.
- * Refused: 20 for a host of another length, then 26 for its buses or edges; the sheet's number, 20 to 29; then
- *     50   the first record is not on the host's first bus; a function's bus is neither that nor the secondary bus of exactly one bridge;
- *          a bridge's buses do not lie in the parent's and the host's; two bridges on one bus share a bus
- *     51   a BAR or an open window does not lie in the window above, or on the root bus in the pool, of its kind: low memory, high memory
- *          (from 4 GiB on, for what is 64-bit and prefetchable) or I/O
- *     52   on one bus two BARs or open windows of one space overlap, enabled or not, also of one function
- * Every sheet from cartsundial_plan is accepted for its own host record. Over an accepted sheet cartsundial_route gives a memory or I/O
- * request to the one function whose BAR holds the address, where that function and all bridges above it are enabled, and else answers 40,
- * never 41. Both are proved.
- */
-CARTSUNDIAL_CHECKED uint32_t cartsundial_audit(const uint8_t *host, size_t host_len, const uint8_t *sheet, size_t sheet_len)
-    CARTSUNDIAL_READS(1, 2) CARTSUNDIAL_READS(3, 4);
-
-/*
- * One owner for every address: cartsundial_audit, but for 51, which is asked of the address space and not of the kind. A memory BAR or an
- * open memory window lies in the low or the high window of the bridge above, whichever its own kind is, and on the root bus in the low or
- * the high pool. So a sheet with prefetchable windows below 4 GiB, as much firmware leaves it, need not be 51. All else is the same: the
- * other checks, their numbers and their order.
- * Every sheet that cartsundial_audit accepts is 0 here too. Over a sheet that is 0 here no two functions have BARs over one address, and
- * cartsundial_route answers as over an accepted one: a memory or I/O request goes to the one function whose BAR holds the address, where
- * that function and all bridges above it are enabled, and else is 40; no packet is 41. It stays so when command words are rewritten. All
- * of this is proved. cartsundial_index asks for a sheet that cartsundial_audit accepts.
- */
-CARTSUNDIAL_CHECKED uint32_t cartsundial_sound(const uint8_t *host, size_t host_len, const uint8_t *sheet, size_t sheet_len)
-    CARTSUNDIAL_READS(1, 2) CARTSUNDIAL_READS(3, 4);
-
-/* A place of a record, as cartsundial_audit_where names it: 0 to 5 is a BAR's slot. */
-enum cartsundial_place {
-    CARTSUNDIAL_PLACE_LOW_WINDOW = 6,
-    CARTSUNDIAL_PLACE_HIGH_WINDOW = 7,
-    CARTSUNDIAL_PLACE_IO_WINDOW = 8,
-    CARTSUNDIAL_PLACE_BUS_REGISTERS = 9,
-    CARTSUNDIAL_PLACE_ID = 10,              /* and so the function as a whole */
-};
-
-/* How many numbers cartsundial_audit_where answers with. */
-#define CARTSUNDIAL_WHO_NUMBERS 4
-
-/*
- * Judges a sheet as cartsundial_audit does, with its number, and says whom the number is about. who: the record, from 1, and its place;
- * then the other record that it meets there and that one's place; each 0 where there is none.
- * For 24 to 29 and 50 to 52 it is the first record at which that check fails, in record order, at the first place that is wrong; the other
- * one has the same ID (28), leads to the same bus or shares one (50), or has an address in common (52), and no lesser one does. For 20 to
- * 22 and for 26 of the host all four are 0. All of this is proved.
- * A refused sheet has its answer, so this is the one call that writes where it does not return 0. With room for fewer than four numbers who
- * stays as it was, and 0 becomes 11.
- */
-CARTSUNDIAL_CHECKED uint32_t cartsundial_audit_where(const uint8_t *host, size_t host_len, const uint8_t *sheet, size_t sheet_len,
-                                                     uint64_t *CARTSUNDIAL_RESTRICT who, size_t who_len)
-    CARTSUNDIAL_READS(1, 2) CARTSUNDIAL_READS(3, 4) CARTSUNDIAL_WRITES(5, 6);
 
 /*
  * Finds the function with an ID. offset: where its 64 register bytes start in the sheet.
@@ -366,7 +406,12 @@ CARTSUNDIAL_CHECKED uint32_t cartsundial_id(const uint8_t *sheet, size_t sheet_l
 CARTSUNDIAL_CHECKED uint32_t cartsundial_command(uint8_t *CARTSUNDIAL_RESTRICT sheet, size_t sheet_len, uint32_t id, uint32_t command)
     CARTSUNDIAL_CHANGES(1, 2);
 
-/* ---- routing ---- */
+/* ---- route ---- */
+
+/*
+ * header, here and wherever a packet is delivered: bytes in the order of the link, byte 0 (Fmt and Type) first, and each number's high byte
+ * first. Of 32-bit words, as a header log has them, give each word's high byte first.
+ */
 
 /*
  * Walks a header from the host over a sheet. answer: two numbers that say where it goes, then the twenty numbers of the packet as it
@@ -408,7 +453,7 @@ CARTSUNDIAL_CHECKED uint32_t cartsundial_route_from(uint32_t record, const uint8
                                                     uint64_t *CARTSUNDIAL_RESTRICT answer, size_t answer_len)
     CARTSUNDIAL_READS(2, 3) CARTSUNDIAL_READS(4, 5) CARTSUNDIAL_WRITES(6, 7);
 
-/* ---- routing by an index ---- */
+/* ---- route, by an index ---- */
 
 /*
  * For many headers over one sheet: an index of it, built once, and a search in it for each header in place of the walk.
@@ -434,7 +479,7 @@ CARTSUNDIAL_CHECKED uint32_t cartsundial_find(const uint8_t *header, size_t head
                                               uint64_t *CARTSUNDIAL_RESTRICT answer, size_t answer_len)
     CARTSUNDIAL_READS(1, 2) CARTSUNDIAL_READS(3, 4) CARTSUNDIAL_WRITES(5, 6);
 
-/* ---- traces ---- */
+/* ---- trace ---- */
 
 /*
  * A trace is the version byte 1, then for each captured header two bytes of length, the high one first, and the header's bytes. It is given
@@ -504,7 +549,63 @@ CARTSUNDIAL_CHECKED uint32_t cartsundial_annotate_end(const uint64_t *state, siz
                                                       uint64_t *CARTSUNDIAL_RESTRICT written, size_t written_len)
     CARTSUNDIAL_READS(1, 2) CARTSUNDIAL_WRITES(3, 4) CARTSUNDIAL_WRITES(5, 6);
 
-/* ---- open requests ---- */
+/* ---- audit ---- */
+
+/*
+ * Judges a sheet, whoever wrote it, for a host: 0 for one that is accepted, or the number of the first check that fails. host: the
+ * CARTSUNDIAL_HOST_BYTES bytes of a board's host record, without its length; in a board they start at CARTSUNDIAL_HOST_OFFSET.
+ * Refused: 20 for a host of another length, then 26 for its buses or edges; the sheet's number, 20 to 29; then
+ *     50   the first record is not on the host's first bus; a function's bus is neither that nor the secondary bus of exactly one bridge;
+ *          a bridge's buses do not lie in the parent's and the host's; two bridges on one bus share a bus
+ *     51   a BAR or an open window does not lie in the window above, or on the root bus in the pool, of its kind: low memory, high memory
+ *          (from 4 GiB on, for what is 64-bit and prefetchable) or I/O
+ *     52   on one bus two BARs or open windows of one space overlap, enabled or not, also of one function
+ * Every sheet from cartsundial_plan is accepted for its own host record. Over an accepted sheet cartsundial_route gives a memory or I/O
+ * request to the one function whose BAR holds the address, where that function and all bridges above it are enabled, and else answers 40,
+ * never 41. Both are proved.
+ */
+CARTSUNDIAL_CHECKED uint32_t cartsundial_audit(const uint8_t *host, size_t host_len, const uint8_t *sheet, size_t sheet_len)
+    CARTSUNDIAL_READS(1, 2) CARTSUNDIAL_READS(3, 4);
+
+/*
+ * One owner for every address: cartsundial_audit, but for 51, which is asked of the address space and not of the kind. A memory BAR or an
+ * open memory window lies in the low or the high window of the bridge above, whichever its own kind is, and on the root bus in the low or
+ * the high pool. So a sheet with prefetchable windows below 4 GiB, as much firmware leaves it, need not be 51. All else is the same: the
+ * other checks, their numbers and their order.
+ * Every sheet that cartsundial_audit accepts is 0 here too. Over a sheet that is 0 here no two functions have BARs over one address, and
+ * cartsundial_route answers as over an accepted one: a memory or I/O request goes to the one function whose BAR holds the address, where
+ * that function and all bridges above it are enabled, and else is 40; no packet is 41. It stays so when command words are rewritten. All
+ * of this is proved. cartsundial_index asks for a sheet that cartsundial_audit accepts.
+ */
+CARTSUNDIAL_CHECKED uint32_t cartsundial_sound(const uint8_t *host, size_t host_len, const uint8_t *sheet, size_t sheet_len)
+    CARTSUNDIAL_READS(1, 2) CARTSUNDIAL_READS(3, 4);
+
+/* A place of a record, as cartsundial_audit_where names it: 0 to 5 is a BAR's slot. */
+enum cartsundial_place {
+    CARTSUNDIAL_PLACE_LOW_WINDOW = 6,
+    CARTSUNDIAL_PLACE_HIGH_WINDOW = 7,
+    CARTSUNDIAL_PLACE_IO_WINDOW = 8,
+    CARTSUNDIAL_PLACE_BUS_REGISTERS = 9,
+    CARTSUNDIAL_PLACE_ID = 10,              /* and so the function as a whole */
+};
+
+/* How many numbers cartsundial_audit_where answers with. */
+#define CARTSUNDIAL_WHO_NUMBERS 4
+
+/*
+ * Judges a sheet as cartsundial_audit does, with its number, and says whom the number is about. who: the record, from 1, and its place;
+ * then the other record that it meets there and that one's place; each 0 where there is none.
+ * For 24 to 29 and 50 to 52 it is the first record at which that check fails, in record order, at the first place that is wrong; the other
+ * one has the same ID (28), leads to the same bus or shares one (50), or has an address in common (52), and no lesser one does. For 20 to
+ * 22 and for 26 of the host all four are 0. All of this is proved.
+ * A refused sheet has its answer, so this is the one call that writes where it does not return 0. With room for fewer than four numbers who
+ * stays as it was, and 0 becomes 11.
+ */
+CARTSUNDIAL_CHECKED uint32_t cartsundial_audit_where(const uint8_t *host, size_t host_len, const uint8_t *sheet, size_t sheet_len,
+                                                     uint64_t *CARTSUNDIAL_RESTRICT who, size_t who_len)
+    CARTSUNDIAL_READS(1, 2) CARTSUNDIAL_READS(3, 4) CARTSUNDIAL_WRITES(5, 6);
+
+/* ---- ledger ---- */
 
 /*
  * A ledger holds up to 256 non-posted requests, by requester ID and tag, from their opening until completions close them: a read when all
@@ -539,6 +640,46 @@ CARTSUNDIAL_CHECKED uint32_t cartsundial_ledger_complete(uint64_t *CARTSUNDIAL_R
 CARTSUNDIAL_CHECKED uint32_t cartsundial_ledger_count(const uint64_t *ledger, size_t ledger_len,
                                                       uint64_t *CARTSUNDIAL_RESTRICT count, size_t count_len)
     CARTSUNDIAL_READS(1, 2) CARTSUNDIAL_WRITES(3, 4);
+
+/* ---- script ---- */
+
+/*
+ * Writes a board's plan as the configuration writes that boot code makes, at the front of script and nothing past them: a record for each
+ * write, of two length bytes (0, 16), twelve header bytes and four data bytes in register order. First come the bus registers of the
+ * bridges, then the used BARs and all window registers, then the command words, each by record; type 0 for the host's first bus and type 1
+ * below; a byte that a write does not enable is 0. requester: the ID that the writes come from. first_tag: the first write's tag, one up at
+ * each write, 0 after 255. written: the script's length, at most CARTSUNDIAL_SCRIPT_BYTES.
+ * Made in this order on functions whose other registers are zero, each write reaches its function, the last leaves the planned sheet, and
+ * after any of them a memory or I/O address has the owner that it will have, or none. That is proved.
+ * Refused: 10 for a requester above FFFFh or a first_tag above FFh, tried first; 20 to 26 and 30 to 33, as cartsundial_plan; then 11 for a
+ * short script slice, or a written slice of no numbers.
+ */
+CARTSUNDIAL_CHECKED uint32_t cartsundial_script(const uint8_t *board, size_t board_len, uint32_t requester, uint32_t first_tag,
+                                                uint8_t *CARTSUNDIAL_RESTRICT script, size_t script_len,
+                                                uint64_t *CARTSUNDIAL_RESTRICT written, size_t written_len)
+    CARTSUNDIAL_READS(1, 2) CARTSUNDIAL_WRITES(5, 6) CARTSUNDIAL_WRITES(7, 8);
+
+/* ---- codec ---- */
+
+/*
+ * Reads the header at the front of any bytes. packet: its twenty numbers. Later bytes are not looked at.
+ * Refused: 1 to 9, then 11 for a packet slice of fewer than twenty numbers.
+ */
+CARTSUNDIAL_CHECKED uint32_t cartsundial_read(const uint8_t *header, size_t header_len,
+                                              uint64_t *CARTSUNDIAL_RESTRICT packet, size_t packet_len)
+    CARTSUNDIAL_READS(1, 2) CARTSUNDIAL_WRITES(3, 4);
+
+/*
+ * Writes the packet that the first twenty numbers are, 12 or 16 bytes at the front of the room and nothing past them. written: how many.
+ * Refused: 11 for fewer than twenty numbers, tried first; 2 for a kind or form outside the list, or not carried together, or a message's
+ * routing 6 or 7; 10 for a number that its field does not take (too large, a Length outside 1 to 1,024, or of Cpl, CplLk and Msg other
+ * than 0), or other than 0 in a field that the kind does not have; 4 to 9; 11 for a short room, or a written slice of no numbers.
+ * What cartsundial_read gave is written back to the same bytes, and what was written is read back as the same twenty numbers.
+ */
+CARTSUNDIAL_CHECKED uint32_t cartsundial_write(const uint64_t *packet, size_t packet_len,
+                                               uint8_t *CARTSUNDIAL_RESTRICT room, size_t room_len,
+                                               uint64_t *CARTSUNDIAL_RESTRICT written, size_t written_len)
+    CARTSUNDIAL_READS(1, 2) CARTSUNDIAL_WRITES(3, 4) CARTSUNDIAL_WRITES(5, 6);
 
 #ifdef __cplusplus
 }

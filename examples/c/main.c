@@ -40,7 +40,7 @@ static uint32_t read_request(uint64_t address, uint8_t header[CARTSUNDIAL_HEADER
     uint64_t written[1];
     uint32_t number;
 
-    packet[CARTSUNDIAL_KIND] = CARTSUNDIAL_MRD;
+    packet[CARTSUNDIAL_KIND] = CARTSUNDIAL_KIND_MRD;
     packet[CARTSUNDIAL_FORM] = 3;
     packet[CARTSUNDIAL_LENGTH] = 1;
     packet[CARTSUNDIAL_FIRST_ENABLES] = 0xF;
@@ -63,10 +63,11 @@ static void route_read(uint64_t address)
     if (number == CARTSUNDIAL_ACCEPTED)
         number = cartsundial_id(sheet, sheet_len, (uint32_t)answer[0], id, 1);
     if (number == CARTSUNDIAL_ACCEPTED)
-        printf("read %08" PRIX64 ": record %" PRIu64 ", %02X:%02X.%X, bridges %" PRIu64 " address %08" PRIX64 "\n", address, answer[0],
-               (unsigned)(id[0] >> 8), (unsigned)(id[0] >> 3 & 31), (unsigned)(id[0] & 7), answer[1], answer[2 + CARTSUNDIAL_ADDRESS]);
+        printf("read %08" PRIX64 ": record %" PRIu64 ", %02X:%02X.%X, bridges %" PRIu64 ", %s %08" PRIX64 "\n", address, answer[0],
+               (unsigned)(id[0] >> 8), (unsigned)(id[0] >> 3 & 31), (unsigned)(id[0] & 7), answer[1],
+               cartsundial_kind_name(answer[2 + CARTSUNDIAL_KIND]), answer[2 + CARTSUNDIAL_ADDRESS]);
     else
-        printf("read %08" PRIX64 ": refused %" PRIu32 "\n", address, number);
+        printf("read %08" PRIX64 ": refused %" PRIu32 ": %s\n", address, number, cartsundial_refusal_words(number));
 }
 
 /* Registers 10h to 1Fh of a function, as configuration space has them: BARs, and of a bridge its buses and I/O window. */
@@ -116,10 +117,12 @@ static void label(uint64_t *state, const uint8_t *piece, size_t piece_len)
     print_lines(number, lines, written);
 }
 
-/* The sheet judged for the board's host record, which stands after the version and its own length. */
+/* The sheet judged for the board's host record. */
 static void audit(const char *when)
 {
-    printf("audit, %s: %" PRIu32 "\n", when, cartsundial_audit(board + 3, CARTSUNDIAL_HOST_BYTES, sheet, sheet_len));
+    uint32_t number = cartsundial_audit(board + CARTSUNDIAL_HOST_OFFSET, CARTSUNDIAL_HOST_BYTES, sheet, sheet_len);
+
+    printf("audit, %s: %" PRIu32 ", %s\n", when, number, cartsundial_refusal_words(number));
 }
 
 /* The line that the trace gets if it ends here. */
@@ -179,7 +182,7 @@ int main(void)
     annotate_end(state);
 
     /* the same lines by an index of the sheet, built once; another cut */
-    number = cartsundial_index(board + 3, CARTSUNDIAL_HOST_BYTES, sheet, sheet_len, board_index, sizeof board_index);
+    number = cartsundial_index(board + CARTSUNDIAL_HOST_OFFSET, CARTSUNDIAL_HOST_BYTES, sheet, sheet_len, board_index, sizeof board_index);
     printf("index: %" PRIu32 "\n", number);
     label(again, trace, 2);
     label(again, trace + 2, sizeof trace - 2);
@@ -190,9 +193,9 @@ int main(void)
     printf("command 0001 at 0000: %" PRIu32 "\n", number);
     route_read(0xF9000FFC);
 
-    /* enabled or not, all is in its place; then the first BAR of 01:00.0 moves 1 MiB on, past the window of the bridge above */
+    /* enabled or not, all is in its place; then the first BAR of record 2 moves 1 MiB on, past the window of the bridge above */
     audit("as planned");
-    sheet[97 + 0x12] = 0x10;
+    sheet[CARTSUNDIAL_RECORDS_OFFSET + CARTSUNDIAL_RECORD_BYTES + CARTSUNDIAL_REGISTERS_OFFSET + 0x12] = 0x10;
     audit("a BAR moved");
 
     match();

@@ -14,15 +14,17 @@
 
 enum {
     BUSES = 255,                       /* bridges in a row on a sheet that no planner wrote */
-    ROW = 33,                          /* bridges in a row on a board, the last with nothing below */
-    RECORD = 92,
-    ROOM = 1 + 512 * RECORD
+    ROW = CARTSUNDIAL_BRIDGES_ABOVE + 1, /* bridges in a row on a board, the last with nothing below */
+    RECORD = CARTSUNDIAL_RECORD_BYTES,
+    ROOM = CARTSUNDIAL_SHEET_BYTES
 };
 
 static uint8_t stack[256 * KIB];
-static uint8_t board[64 * KIB], sheet[ROOM], planned[ROOM], script[CARTSUNDIAL_SCRIPT_BYTES], index_bytes[132096], lines[64 * KIB];
+static uint8_t board[64 * KIB], sheet[ROOM], planned[ROOM], lines[64 * KIB];
+static uint8_t script[CARTSUNDIAL_SCRIPT_BYTES], index_bytes[CARTSUNDIAL_INDEX_BYTES];
 static size_t board_len, sheet_len, planned_len;
-static uint64_t answer[534], state[CARTSUNDIAL_TRACE_NUMBERS], ledger[CARTSUNDIAL_LEDGER_NUMBERS], packet[20], written[1];
+static uint64_t answer[CARTSUNDIAL_ANY_ROUTE_NUMBERS], state[CARTSUNDIAL_TRACE_NUMBERS], ledger[CARTSUNDIAL_LEDGER_NUMBERS];
+static uint64_t packet[CARTSUNDIAL_PACKET_NUMBERS], written[1];
 static ucontext_t here, there;
 static uint32_t number;
 

@@ -1,15 +1,31 @@
-//! Links the proved archive, `libcapi.a`: from the folder that `CARTSUNDIAL_LIB_DIR` names, or else from the
-//! repository's `target/staticlib`.
+//! Links the proved archive. It is looked for in this order: in the folder that `CARTSUNDIAL_LIB_DIR` names; in the repository,
+//! where `rt staticlib capi` writes it; where pkg-config finds `cartsundial` installed, of this crate's version.
 
 use std::env;
 use std::path::{Path, PathBuf};
+use std::process::Command;
+
+#[path = "src/version.rs"]
+mod version;
 
 const VARIABLE: &str = "CARTSUNDIAL_LIB_DIR";
 
+/// What the archive is called where it is installed, and as rt writes it.
+const INSTALLED: &str = "cartsundial";
+const BUILT: &str = "capi";
+
+/// An archive that is there, `folder/libname.a`.
+struct Archive {
+    folder: PathBuf,
+    name: &'static str,
+}
+
 fn main() {
-    println!("cargo::rerun-if-env-changed={VARIABLE}");
+    for name in [VARIABLE, "PKG_CONFIG", "PKG_CONFIG_PATH", "PKG_CONFIG_LIBDIR"] {
+        println!("cargo::rerun-if-env-changed={name}");
+    }
     if let Err(message) = link() {
-        println!("cargo::error={message}");
+        message.lines().for_each(|line| println!("cargo::error={line}"));
     }
 }
 
@@ -19,25 +35,78 @@ fn link() -> Result<(), String> {
     if !fits(&architecture, &width, &system) {
         return Err(format!("the proved archive is ELF code for x86-64, which {} is not", variable("TARGET")));
     }
-    let folder = match env::var_os(VARIABLE) {
-        Some(named) => resolved(Path::new(&named), &variable("PWD"))?,
-        None => in_repository(Path::new(&variable("CARGO_MANIFEST_DIR"))),
-    };
-    let archive = folder.join("libcapi.a");
+    let Archive { folder, name } = archive()?;
     // A new archive may be older than the last build, where it was copied with its time; putting it there is new.
-    println!("cargo::rerun-if-changed={}", archive.display());
+    println!("cargo::rerun-if-changed={}", folder.join(file(name)).display());
     println!("cargo::rerun-if-changed={}", folder.display());
-    if !archive.is_file() {
-        let remedy = format!("`rt staticlib capi` in the repository's root writes it; {VARIABLE} names another folder");
-        return Err(format!("the proved archive is missing: {}; {remedy}", archive.display()));
-    }
     println!("cargo::rustc-link-search=native={}", folder.display());
-    println!("cargo::rustc-link-lib=static=capi");
+    println!("cargo::rustc-link-lib=static={name}");
     Ok(())
+}
+
+fn archive() -> Result<Archive, String> {
+    if let Some(named) = env::var_os(VARIABLE) {
+        let folder = resolved(Path::new(&named), &variable("PWD"))?;
+        let missing =
+            || format!("{VARIABLE} is {}, which has neither {} nor {}", folder.display(), file(INSTALLED), file(BUILT));
+        return archive_in(&folder, &[INSTALLED, BUILT]).ok_or_else(missing);
+    }
+    let package = variable("CARGO_MANIFEST_DIR");
+    let built = in_repository(Path::new(&package));
+    if root(Path::new(&package)).join("crates/capi").is_dir() {
+        if let Some(archive) = archive_in(&built, &[BUILT]) {
+            return Ok(archive);
+        }
+        println!("cargo::rerun-if-changed={}", built.display());
+    }
+    installed().map_err(|why| missing(&why))
+}
+
+/// What to do where there is no archive, with what pkg-config says.
+fn missing(why: &str) -> String {
+    let [installed, built] = [INSTALLED, BUILT].map(file);
+    format!(
+        "the proved archive is missing; there are three ways to it:\n\
+         in the repository, `make`, which writes target/staticlib/{built}\n\
+         `make install PREFIX=..`, and PREFIX/lib/pkgconfig in PKG_CONFIG_PATH; now pkg-config says: {why}\n\
+         {VARIABLE}=FOLDER, a folder that has {installed} or {built}"
+    )
+}
+
+/// The first of these names that the folder has an archive of.
+fn archive_in(folder: &Path, names: &[&'static str]) -> Option<Archive> {
+    let name = names.iter().find(|name| folder.join(file(name)).is_file())?;
+    Some(Archive { folder: folder.into(), name })
+}
+
+/// What pkg-config finds, of this crate's version; or what it says.
+fn installed() -> Result<Archive, String> {
+    let program = env::var("PKG_CONFIG").unwrap_or("pkg-config".into());
+    let wanted = format!("{INSTALLED} = {}", dotted(version::VERSION));
+    let output = Command::new(&program).args(["--print-errors", "--variable=libdir", &wanted]).output();
+    let output = output.map_err(|error| format!("{program}: {error}"))?;
+    if !output.status.success() {
+        return Err(last_line(&output.stderr));
+    }
+    let folder = PathBuf::from(last_line(&output.stdout));
+    archive_in(&folder, &[INSTALLED]).ok_or_else(|| format!("{} has no {}", folder.display(), file(INSTALLED)))
+}
+
+fn last_line(output: &[u8]) -> String {
+    String::from_utf8_lossy(output).lines().last().unwrap_or("").trim().to_string()
 }
 
 fn variable(name: &str) -> String {
     env::var(name).unwrap_or_default()
+}
+
+fn file(name: &str) -> String {
+    format!("lib{name}.a")
+}
+
+/// 2800 is 0.28.0.
+pub fn dotted(version: u32) -> String {
+    format!("{}.{}.{}", version / 10_000, version / 100 % 100, version % 100)
 }
 
 /// Whether the archive can be linked for a target: its machine code, its pointers, and the format of its objects.
@@ -56,7 +125,12 @@ pub fn resolved(named: &Path, started: &str) -> Result<PathBuf, String> {
     }
 }
 
-/// Where `rt staticlib capi` writes the archive. The package is two folders below the repository's root.
+/// The repository's root, if the package is in it: two folders below.
+fn root(package: &Path) -> &Path {
+    package.ancestors().nth(2).unwrap_or(Path::new("."))
+}
+
+/// Where `rt staticlib capi` writes the archive.
 pub fn in_repository(package: &Path) -> PathBuf {
-    package.ancestors().nth(2).unwrap_or(Path::new(".")).join("target/staticlib")
+    root(package).join("target/staticlib")
 }

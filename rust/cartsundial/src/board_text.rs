@@ -23,7 +23,7 @@ use core::str::FromStr;
 /// Spare memory is counted in MiB.
 const MIB: u64 = 1 << 20;
 
-/// What is wrong with a board's text, and on which line.
+/// What is wrong with a board's text, and on which line. *With the feature `alloc`.*
 #[derive(Clone, Debug, PartialEq, Eq)]
 pub struct BoardTextError {
     /// From 1.

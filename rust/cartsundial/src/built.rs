@@ -12,7 +12,7 @@ pub(crate) const COMMAND: u16 = 0x0007;
 /// Bit 7 of a header type: the device has more functions.
 const MULTIFUNCTION: u8 = 0x80;
 
-/// A board with its functions' names. Records are numbered from 1 in the order in which they are added; 0 is the host.
+/// A board with its functions' names. *With the feature `alloc`.* Records are numbered from 1 in the order in which they are added; 0 is the host.
 ///
 /// What makes it lawful is not asked here but by [`plan`](Board::plan): everything below a bridge comes right after it, and
 /// what is on one bus rises by device and function.
@@ -36,7 +36,7 @@ pub struct Board {
     pub(crate) functions: Vec<BoardFunction>,
 }
 
-/// A function of a [`Board`].
+/// A function of a [`Board`]. *With the feature `alloc`.*
 #[derive(Clone, Debug, PartialEq, Eq)]
 pub struct BoardFunction {
     /// The record of the bridge just above it, or 0 for the host.

@@ -30,8 +30,7 @@ pub const LEDGER: usize = 256;
 /// for a BAR slot, 6 the low, 7 the high and 8 the I/O window, 9 the bus registers, 10 the ID.
 pub const WHO: usize = 4;
 
-/// The version that this crate is for, 0.28.0, as [`version`] tells the archive's.
-pub const VERSION: u32 = 2800;
+pub use crate::version::VERSION;
 
 /// What a call answers where its answer does not fit the slice for it: tried last, so it would have been accepted.
 pub const SHORT: u32 = 11;

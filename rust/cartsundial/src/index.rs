@@ -63,7 +63,8 @@ impl<S: AsRef<[u8]>, B: AsRef<[u8]> + AsMut<[u8]>> Index<S, B> {
 
 #[cfg(feature = "std")]
 impl<S: AsRef<[u8]>> Index<S, Vec<u8>> {
-    /// Builds the index in a vector of its length, [`FULL_INDEX`] at most, however long the sheet is.
+    /// Builds the index in a vector of its length, [`FULL_INDEX`] at most, however long the sheet is. *With the feature
+    /// `std`.*
     pub fn new(host: &HostRecord, sheet: S) -> Result<Index<S, Vec<u8>>, Refusal> {
         let bytes = vec![0; index_length(functions::most_in(sheet.as_ref()))];
         Index::build(host, sheet, bytes)

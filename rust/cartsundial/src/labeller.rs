@@ -11,6 +11,8 @@ use std::vec::Vec;
 const PIECE: usize = 4096;
 
 /// Takes the bytes of a trace, in pieces of any size, and writes its lines to `W` as they come: over a sheet or by an index.
+/// *With the feature `std`.*
+///
 /// [`Engine`] says what each costs; a sheet is checked once for each piece, which has up to 4 KiB.
 ///
 /// Each piece's lines go to `W` together, with [`Write::write`]. Where `W` fails, they are kept and are written first by the

@@ -1,69 +1,101 @@
 //! A PCI Express header codec, board planner, packet router and trace annotator: Rust types over the proved library.
 //!
-//! The archive `libcapi.a` is compiled from proved code: what each call answers, and what the lent bytes then hold, is an
-//! equation with document 01's definitions, for every input. This crate adds types, a search over [`plan`], a board's text,
-//! and no rules of its own. Any bytes may be given; each call ends with an answer or a [`Refusal`], and a refused call changes no lent
-//! byte.
+//! A board is planned as a register sheet, and a packet is routed over the sheet to the card that owns its address; or there is
+//! a [`Refusal`], a number with its words. Nothing is guessed.
 //!
+#![cfg_attr(feature = "alloc", doc = "```")]
+#![cfg_attr(not(feature = "alloc"), doc = "```ignore")]
+//! use cartsundial::{route, Board, Refusal, Sheet};
+//!
+//! let board: Board = "host buses 00-1F low E0000000+64M high 16G+4G io 2000-5FFF
+//!     bridge 01.0 \"slot\"
+//!       card 00.0 \"capture\" mem32 64K, mem64p 256M
+//!       card 01.0 \"timecode\" mem32 4K, io 128"
+//!     .parse()?;
+//! let sheet = Sheet::new(board.plan()?)?;
+//! for function in sheet.functions() {
+//!     let name = board.function(function.record).and_then(|one| one.name.as_deref());
+//!     println!("{} {name:?}: {:X?}", function.id, function.bars().map(|bar| bar.range()).collect::<Vec<_>>());
+//! }
+//!
+//! // A memory write of one dword at E0000010, as captured: it goes to record 2, over one bridge.
+//! let header = [0x40, 0, 0, 1, 0, 0, 0x21, 0x0F, 0xE0, 0x00, 0x00, 0x10];
+//! let arrival = route(&header, sheet.bytes())?;
+//! let delivery = arrival.delivery().expect("only messages go to many functions, or to none");
+//! assert_eq!((delivery.record, delivery.id.to_string(), delivery.bridges), (2, "01:00.0".to_string(), 1));
+//! assert_eq!(board.function(2).unwrap().name.as_deref(), Some("capture"));
+//!
+//! // 1 MiB further nobody has the address.
+//! let header = [0x40, 0, 0, 1, 0, 0, 0x21, 0x0F, 0xE0, 0x10, 0x00, 0x10];
+//! assert_eq!(route(&header, sheet.bytes()), Err(Refusal::NoOwner));
+//! assert_eq!(Refusal::NoOwner.to_string(), "refused 40: no owner");
+//! # Ok::<(), Box<dyn std::error::Error>>(())
+//! ```
+//!
+//! | for | call |
+//! |---|---|
+//! | a board, built or from its text | [`Board`] |
+//! | a board as a register sheet | [`plan`], [`Board::plan`] |
+//! | the record by which a board is refused, and the pool that it finds no room in | [`refused_record`], [`what_does_not_fit`] |
+//! | a board's bridges, and the buses and memory that each keeps free | [`bridges`] |
+//! | a sheet that is checked once and then asked: functions, BARs, windows, buses | [`Sheet`], [`Function`] |
+//! | a sheet: is it lawful, a function's registers, its command word | [`check`], [`registers`], [`set_command`] |
+//! | its functions one by one, or from a record to its ID | [`functions()`], [`id_of`] |
+//! | where a packet goes: a function, every function, the port | [`route`] |
+//! | the same for many headers over one sheet | [`Index`] |
+//! | where a request goes that starts at a function: another function, the host | [`route_from`] |
+//! | a line for each header of a trace, over a sheet or by an index: in pieces, of a whole one, as bytes come | [`Annotator`], [`lines()`], [`Labeller`] |
+//! | what each of the two costs | [`Engine`] |
+//! | the headers of a trace, and a trace of headers | [`headers()`], [`TraceWriter`] |
+//! | is a sheet that other firmware left in order, for a host | [`audit`] |
+//! | the same, and which record is not, where, and which other one it meets | [`audit_where`] |
+//! | has every address on it one owner, wherever firmware put prefetchable memory | [`sound`] |
+//! | which requests wait for completions, and what a completion belongs to | [`Ledger`] |
+//! | a board as configuration writes, in the order in which boot code makes them | [`write_script`], [`writes`] |
+//! | a header's bytes as a packet, and back | [`read()`], [`write()`] |
+//! | a packet's fields, and a packet or a header of fields | [`Packet::fields`], [`Packet::new`], [`Fields::write`] |
+//! | the same calls with numbers in place of types | [`calls`] |
+//!
+//! # What is proved
+//!
+//! The archive is compiled from proved code: what each call answers, and what the lent bytes then hold, is an equation with
+//! document 01's definitions, for every input. This crate adds types, a search over [`plan`], a board's text, and no rules of its
+//! own. Any bytes may be given; each call ends with an answer or a [`Refusal`], and a refused call changes no lent byte.
 //! docs/FORMATS.md in the repository is document 01 in our own words: headers, boards and sheets byte by byte, which of a
-//! function's registers boot code is to write, and every rule. A header is given in the order of the link, byte 0 first
-//! and each number's high byte first.
+//! function's registers boot code is to write, and every rule. A header is given in the order of the link, byte 0 first and each
+//! number's high byte first.
+//!
+//! # Features
+//!
+//! | feature | what it adds | what it needs |
+//! |---|---|---|
+//! | none, the default | all that is not named below | `core`: the crate is `no_std` |
+//! | `alloc` | [`Board`], built or read from a text, with [`BoardFunction`] and [`BoardTextError`]; [`TraceWriter`] | an allocator |
+//! | `std` | `alloc`, [`Labeller`], which implements `std::io::Write`, and [`Index::new`], in a vector | the standard library |
+//!
+//! # The archive
+//!
+//! The build script links it, for x86-64 and ELF only. It looks, in this order, into the folder that the environment variable
+//! `CARTSUNDIAL_LIB_DIR` names, with `libcartsundial.a` or `libcapi.a`; into the repository's `target/staticlib`, where
+//! `rt staticlib capi` writes it, if the crate is there; and where pkg-config finds `cartsundial`, of this version, as
+//! `make install` leaves it.
+//!
+//! # In boot code
+//!
+//! No call allocates, keeps anything or waits. A stack of 128 KiB holds the deepest board and the deepest sheet; that is tested,
+//! not proved. A call that runs where interrupts are handled on the same stack (ring 0) must not be interrupted: the archive uses
+//! the red zone; include/cartsundial.h says more.
 //!
 //! Nobody may change a slice of a call while it runs, also one that is only read: a call counts on what it found when it looks
 //! again, and writes anywhere if that has changed. For a program's own memory the borrows see to it. Memory that a device or
 //! another process can still write (a ring of captured headers, a mapped file) is none that a slice may be made of: copy it
 //! first.
 //!
-//! Nothing but `core` is needed, so boot code can use it. No call allocates, keeps anything or waits. A stack of 128 KiB
-//! holds the deepest board and the deepest sheet; that is tested, not proved. A call that runs where interrupts are
-//! handled on the same stack (ring 0) must not be interrupted: the archive uses the red zone; include/cartsundial.h says
-//! more.
-//!
-//! | for | call |
-//! |---|---|
-//! | a header's bytes as a packet, and back | [`read()`], [`write()`] |
-//! | a packet's fields, and a packet or a header of fields | [`Packet::fields`], [`Packet::new`], [`Fields::write`] |
-//! | a board, built or from its text | `Board` |
-//! | a board as a register sheet | [`plan`] |
-//! | a board as configuration writes, in the order in which boot code makes them | [`write_script`], [`writes`] |
-//! | the record by which a board is refused, and the pool that it finds no room in | [`refused_record`], [`what_does_not_fit`] |
-//! | a board's bridges, and the buses and memory that each keeps free | [`bridges`] |
-//! | a sheet: is it lawful, a function's registers, its command word | [`check`], [`registers`], [`set_command`] |
-//! | is a sheet that other firmware left in order, for a host | [`audit`] |
-//! | the same, and which record is not, where, and which other one it meets | [`audit_where`] |
-//! | has every address on it one owner, wherever firmware put prefetchable memory | [`sound`] |
-//! | a sheet that is checked once and then asked: functions, BARs, windows, buses | [`Sheet`], [`Function`] |
-//! | its functions one by one, or from a record to its ID | [`functions()`], [`id_of`] |
-//! | where a packet goes: a function, every function, the port | [`route`] |
-//! | the same for many headers over one sheet | [`Index`] |
-//! | where a request goes that starts at a function: another function, the host | [`route_from`] |
-//! | a line for each header of a trace, over a sheet or by an index: in pieces, of a whole one | [`Annotator`], [`lines()`] |
-//! | what each of the two costs | [`Engine`] |
-//! | the headers of a trace, and a trace of headers | [`headers()`], `TraceWriter` |
-//! | which requests wait for completions, and what a completion belongs to | [`Ledger`] |
-//! | the same calls with numbers in place of types | [`calls`] |
-//!
-//! With the feature `alloc`, which is off unless asked for, there are `Board`, which is built or read from a text, and
-//! `TraceWriter`. With the feature `std`, which has `alloc`, `Labeller` is an annotator that implements `std::io::Write`, and
-//! `Index::new` builds an index in a vector.
-//!
-//! ```
-//! use cartsundial::{plan, route, Refusal, FULL_SHEET};
-//!
-//! // A host without functions.
-//! let mut board = vec![1, 0, 30, 0, 255];
-//! board.extend([0xF9, 0, 0, 0, 0xF9, 0xFF, 0xFF, 0xFF]);
-//! board.extend([0, 0, 0, 2, 0x40, 0, 0, 0, 0, 0, 0, 2, 0x7F, 0xFF, 0xFF, 0xFF]);
-//! board.extend([0x40, 0, 0x4F, 0xFF]);
-//! let mut sheet = vec![0; FULL_SHEET];
-//! assert_eq!(plan(&board, &mut sheet), Ok(1));
-//! assert_eq!(sheet[0], 1);
-//!
-//! // A memory read of one dword at F9000FFC.
-//! let header = [0, 0, 0, 1, 0, 0, 0x21, 0x0F, 0xF9, 0, 0x0F, 0xFC];
-//! assert_eq!(route(&header, &sheet[..1]), Err(Refusal::NoOwner));
-//! ```
-
+// What is not built has no page: its name leads to the features.
+#![cfg_attr(not(feature = "alloc"), doc = "[`Board`]: #features\n[`Board::plan`]: #features")]
+#![cfg_attr(not(feature = "alloc"), doc = "[`BoardFunction`]: #features\n[`BoardTextError`]: #features")]
+#![cfg_attr(not(feature = "alloc"), doc = "[`TraceWriter`]: #features")]
+#![cfg_attr(not(feature = "std"), doc = "[`Labeller`]: #features\n[`Index::new`]: #features")]
 #![no_std]
 #![deny(missing_docs)]
 
@@ -103,6 +135,7 @@ mod sheet;
 mod size;
 mod trace;
 mod unfit;
+mod version;
 
 pub use annotator::{Annotator, LONGEST_LINE};
 pub use arrival::{route, Arrival, Delivery};

@@ -62,7 +62,7 @@ impl<'a> Iterator for Headers<'a> {
     }
 }
 
-/// A trace that is written, header by header.
+/// A trace that is written, header by header. *With the feature `alloc`.*
 ///
 /// ```
 /// use cartsundial::{headers, Refusal, TraceWriter};

@@ -4,7 +4,7 @@
 #[path = "../build.rs"]
 mod script;
 
-use script::{fits, in_repository, resolved};
+use script::{dotted, fits, in_repository, resolved};
 use std::path::Path;
 
 #[test]
@@ -35,4 +35,10 @@ fn folders() {
     assert_eq!(resolved("../lib", "/home/me").as_deref(), Ok(Path::new("/home/me/../lib")));
     assert!(resolved("lib", "").unwrap_err().contains("CARTSUNDIAL_LIB_DIR is relative"));
     assert_eq!(in_repository(Path::new("/src/rust/cartsundial")), Path::new("/src/target/staticlib"));
+}
+
+/// As cartsundial.pc has it.
+#[test]
+fn versions() {
+    assert_eq!((dotted(2800), dotted(10203)), ("0.28.0".to_string(), "1.2.3".to_string()));
 }
