@@ -3,6 +3,7 @@
 
 use crate::measure::{compare, Times};
 use crate::subjects::planned;
+use crate::table;
 use inputs::board::{high, memory, Board};
 use std::hint::black_box;
 use std::iter::successors;
@@ -15,19 +16,17 @@ const ID: usize = 2;
 const GROUP: usize = 16;
 
 pub fn print() {
-    println!();
-    println!("An ID twice, nanoseconds a call. By pairs: plain Rust, the search for an ID twice and no other check.");
-    println!("Check: proved, all of 20 to 29 up to the answer.");
-    println!();
-    println!("| functions | IDs | by pairs ns | check ns | check/by pairs |");
-    println!("|---:|---|---:|---:|---:|");
-    sizes().for_each(|functions| all(functions).iter().for_each(|subject| row(functions, subject)));
-    println!();
-    println!("A small sheet, nanoseconds a call. Clearing: 8 KiB of zeros stored, alone.");
-    println!();
-    println!("| functions | clearing ns | check ns |");
-    println!("|---:|---:|---:|");
-    [0, 1, 2, 3, 4, 5, 8, 16].into_iter().for_each(small);
+    let columns: Vec<String> = sizes().map(|functions| format!("{functions} functions")).collect();
+    table::head("IDs", &columns);
+    for at in 0..all(GROUP).len() {
+        let cells: Vec<String> = sizes().map(|functions| table::cell(&time(&all(functions)[at]))).collect();
+        table::row(all(GROUP)[at].ids, &cells);
+    }
+    let small = [0, 1, 2, 3, 4, 5, 8, 16];
+    table::head("functions", &small.map(|functions| functions.to_string()));
+    let times = small.map(small_sheet);
+    table::row("clearing", &times.each_ref().map(|times| table::figure(times.plain)));
+    table::row("check", &times.each_ref().map(|times| table::figure(times.proved)));
 }
 
 /// Four times as many each time, up to a full sheet.
@@ -71,18 +70,17 @@ fn sheet(functions: usize) -> Vec<u8> {
     planned(&board.bytes())
 }
 
-fn row(functions: usize, subject: &Subject) {
-    let Subject { ids, sheet, number } = subject;
+fn time(subject: &Subject) -> Times {
+    let Subject { sheet, number, .. } = subject;
     assert_eq!((check(sheet), by_pairs(sheet)), (*number, *number == 28));
-    let Times { plain, proved } = compare(|| by_pairs(black_box(sheet)), || check(black_box(sheet)));
-    println!("| {functions} | {ids} | {plain:.1} | {proved:.1} | {:.2} |", proved / plain);
+    compare(|| by_pairs(black_box(sheet)), || check(black_box(sheet)))
 }
 
-fn small(functions: usize) {
+/// What clearing the marks takes alone, and the check.
+fn small_sheet(functions: usize) -> Times {
     let sheet = sheet(functions);
     assert_eq!(check(&sheet), 0);
-    let Times { plain, proved } = compare(clear, || check(black_box(&sheet)));
-    println!("| {functions} | {plain:.1} | {proved:.1} |");
+    compare(clear, || check(black_box(&sheet)))
 }
 
 #[inline(never)]

@@ -1,8 +1,9 @@
 //! Labels: a million headers over a full sheet, each whole answer summed, by the yardstick and by those that are held
 //! against it. Build with `--profile lto`.
 
-use crate::measure::{compare, median};
+use crate::measure::{compare, median, Times};
 use crate::subjects::planned;
+use crate::table;
 use inputs::labels;
 use std::hint::black_box;
 use std::time::Instant;
@@ -20,34 +21,16 @@ const ROUNDS: usize = 25;
 const ROUTED: usize = 20_000;
 
 /// A sum over the whole answers for the headers.
-type Engine<'a> = (&'static str, Box<dyn Fn(&[[u8; 16]]) -> u64 + 'a>);
+type Engine<'a> = Box<dyn Fn(&[[u8; 16]]) -> u64 + 'a>;
+
+/// The engines, the yardstick first; then a header by the Rust types, and the index built, in microseconds.
+const COLUMNS: [&str; 6] =
+    ["yardstick", "yardstick, by a call", "proved", "plain", "`Index::find`, to the call", "built, µs, to plain"];
 
 pub fn print() {
-    println!();
-    println!(
-        "Labels: {HEADERS} headers over a full sheet, 80 % memory, 10 % I/O, 5 % configuration, 5 % completions, 90 %"
-    );
-    println!("delivered, over all depths. Nanoseconds a header, of {ROUNDS} rounds; the engines take turns.");
-    println!();
-    println!("| sheet | engine | least ns | median ns | to the yardstick's least | to its median |");
-    println!("|---|---|---:|---:|---:|---:|");
-    let subjects: Vec<Subject> = SHEETS.iter().map(|&(functions, depth)| Subject::planned(functions, depth)).collect();
-    let skewed = Subject::skewed();
-    subjects.iter().for_each(row);
-    row(&skewed);
-    println!();
-    println!("By the types: `Index::find` beside `calls::find`, nanoseconds a header.");
-    println!();
-    println!("| sheet | calls | types | types/calls |");
-    println!("|---|---:|---:|---:|");
-    subjects.iter().for_each(by_types);
-    println!();
-    println!("An index built, microseconds a call.");
-    println!();
-    println!("| sheet | plain | proved | proved/plain |");
-    println!("|---|---:|---:|---:|");
-    subjects.iter().for_each(build);
-    build(&skewed);
+    table::head("sheet", &COLUMNS.map(String::from));
+    let planned = SHEETS.iter().map(|&(functions, depth)| Subject::planned(functions, depth));
+    planned.chain([Subject::skewed()]).for_each(|subject| row(&subject));
 }
 
 /// A sheet, and the host record that it is accepted for.
@@ -60,13 +43,13 @@ struct Subject {
 impl Subject {
     fn planned(functions: usize, depth: usize) -> Subject {
         let board = labels::board(functions, depth);
-        let name = format!("{functions} functions, depth {depth}");
+        let name = format!("{functions}, depth {depth}");
         Subject { name, host: board.host().to_vec(), sheet: planned(&board.bytes()) }
     }
 
     fn skewed() -> Subject {
         let (host, sheet) = labels::skewed();
-        Subject { name: "512 functions, skewed".into(), host: host.to_vec(), sheet }
+        Subject { name: "512, skewed".into(), host: host.to_vec(), sheet }
     }
 
     /// Room for its index.
@@ -76,14 +59,14 @@ impl Subject {
 }
 
 /// Each answer is looked at where it lies, as its caller would find it.
-fn by_types(subject: &Subject) {
-    let Subject { name, host, sheet } = subject;
+fn by_types(subject: &Subject) -> Times {
+    let Subject { host, sheet, .. } = subject;
     let headers = labels::headers(sheet, 1 << 16);
     let host = cartsundial::HostRecord::from_bytes(host[..].try_into().expect("30 bytes"));
     let index = cartsundial::Index::build(&host, sheet, subject.room()).expect("the sheet is accepted");
     let mut answer = [0; ANSWER];
     let mut turns = (headers.iter().cycle(), headers.iter().cycle());
-    let times = compare(
+    compare(
         || {
             turns
                 .0
@@ -91,57 +74,55 @@ fn by_types(subject: &Subject) {
                 .map(|header| black_box(cartsundial::calls::find(header, index.bytes(), black_box(&mut answer))))
         },
         || turns.1.next().map(|header| black_box(&index.find(header)).is_ok()),
-    );
-    println!("| {name} | {:.1} | {:.1} | {:.2} |", times.plain, times.proved, times.proved / times.plain);
+    )
 }
 
-fn build(subject: &Subject) {
-    let Subject { name, host, sheet } = subject;
+/// In microseconds.
+fn build(subject: &Subject) -> Times {
+    let Subject { host, sheet, .. } = subject;
     let (mut plains, mut proveds) = (subject.room(), subject.room());
     let times = compare(
         || plain::build(black_box(host), sheet, &mut plains),
         || cartsundial::calls::index(black_box(host), sheet, &mut proveds),
     );
-    let (plain, proved) = (times.plain / 1000.0, times.proved / 1000.0);
-    println!("| {name} | {plain:.1} | {proved:.1} | {:.2} |", proved / plain);
+    Times { plain: times.plain / 1000.0, proved: times.proved / 1000.0 }
 }
 
 fn row(subject: &Subject) {
-    let Subject { name, host, sheet } = subject;
+    let medians = medians(subject);
+    let engines = medians.iter().map(|&time| table::beside(time, medians[0]));
+    let cells: Vec<String> = engines.chain([by_types(subject), build(subject)].iter().map(table::cell)).collect();
+    table::row(&subject.name, &cells);
+}
+
+/// Nanoseconds a header of each engine, medians over the rounds.
+fn medians(subject: &Subject) -> Vec<f64> {
+    let Subject { host, sheet, .. } = subject;
     let headers = labels::headers(sheet, HEADERS);
     let index = Index::build(sheet);
     let mut bytes = subject.room();
     assert_eq!(cartsundial::calls::index(host, sheet, &mut bytes), 0);
-    let engines: Vec<Engine<'_>> = vec![
-        ("yardstick", Box::new(|headers| summed(headers, |header, answer| index.label(header, answer).into()))),
-        ("yardstick, by a call", Box::new(|headers| summed(headers, |header, answer| called(&index, header, answer)))),
-        (
-            "proved",
-            Box::new(|headers| summed(headers, |header, answer| cartsundial::calls::find(header, &bytes, answer))),
-        ),
-        ("plain", Box::new(|headers| summed(headers, |header, answer| plain_find(header, &bytes, answer)))),
+    let engines: [Engine<'_>; 4] = [
+        Box::new(|headers| summed(headers, |header, answer| index.label(header, answer).into())),
+        Box::new(|headers| summed(headers, |header, answer| called(&index, header, answer))),
+        Box::new(|headers| summed(headers, |header, answer| cartsundial::calls::find(header, &bytes, answer))),
+        Box::new(|headers| summed(headers, |header, answer| plain_find(header, &bytes, answer))),
     ];
     // What the router answers, on both sides, is what the yardstick does.
     let first = &headers[..ROUTED];
     let routed = summed(first, |header, answer| cartsundial::calls::route(header, sheet, answer));
-    engines.iter().for_each(|(name, engine)| assert_eq!(engine(first), routed, "{name}"));
+    engines.iter().for_each(|engine| assert_eq!(engine(first), routed));
 
-    let sums: Vec<u64> = engines.iter().map(|(_, engine)| engine(&headers)).collect();
-    assert!(sums.iter().all(|&sum| sum == sums[0]), "{sums:?}");
-    let mut rounds = vec![Vec::new(); engines.len()];
+    let sum = engines[0](&headers);
+    let mut rounds = [const { Vec::new() }; 4];
     for _ in 0..ROUNDS {
-        for ((_, engine), times) in engines.iter().zip(&mut rounds) {
+        for (engine, times) in engines.iter().zip(&mut rounds) {
             let start = Instant::now();
-            assert_eq!(engine(black_box(&headers)), sums[0]);
+            assert_eq!(engine(black_box(&headers)), sum);
             times.push(start.elapsed().as_nanos() as f64 / HEADERS as f64);
         }
     }
-    let figures: Vec<(f64, f64)> =
-        rounds.into_iter().map(|times| (times.iter().copied().fold(f64::MAX, f64::min), median(times))).collect();
-    for ((engine, _), (least, median)) in engines.iter().zip(&figures) {
-        let ratios = (least / figures[0].0, median / figures[0].1);
-        println!("| {name} | {engine} | {least:.1} | {median:.1} | {:.2} | {:.2} |", ratios.0, ratios.1);
-    }
+    rounds.into_iter().map(median).collect()
 }
 
 /// The numbers of all answers, added up; of a refusal its number.

@@ -1,19 +1,34 @@
 //! A call on a ledger of open requests, by how many are open: the proved one beside plain Rust's array searched by key.
 
 use crate::measure::{compare, Times};
+use crate::table;
 use cartsundial::calls;
 use plain::ledger::{self, PLACES};
 use std::hint::black_box;
 
 type Words = [u64; PLACES];
 
+/// How many requests are open.
+const OPEN: [usize; 3] = [1, 64, PLACES];
+
 pub fn print() {
-    println!();
-    println!("A call on a ledger, nanoseconds a call. Both search 256 words by key; plain Rust is never inlined.");
-    println!();
-    println!("| open | call | plain ns | proved ns | proved/plain |");
-    println!("|---:|---|---:|---:|---:|");
-    [1, 64, 256].into_iter().for_each(rows);
+    table::head("call", &OPEN.map(|open| format!("{open} open")));
+    let row = |name: &str, calls: &dyn Fn(usize) -> Vec<Call>, number: u32, is_timed: &dyn Fn(usize) -> bool| {
+        let cells = OPEN.map(|open| match is_timed(open) {
+            true => table::cell(&time(open, &calls(open), number)),
+            false => table::NONE.into(),
+        });
+        table::row(name, &cells);
+    };
+    let all = [0, 0];
+    let (any, full) = (|_| true, |open| open == PLACES);
+    let more = |open: usize| vec![Open(request(open)), Complete(completion(open, all))];
+    let again = |open: usize| vec![Complete(completion(open - 1, all)), Open(request(open - 1))];
+    row("a request opened, and completed", &more, 0, &|open| !full(open));
+    row("the last completed, and opened again", &again, 0, &any);
+    row("an open key refused, 61", &|open| vec![Open(request(open - 1))], 61, &any);
+    row("a request refused, 62", &|open| vec![Open(request(open))], 62, &full);
+    row("a completion refused, 63", &|open| vec![Complete(completion(open, all))], 63, &any);
 }
 
 /// A memory read of 1,024 dwords under a tag.
@@ -26,52 +41,26 @@ fn completion(tag: usize, length: [u8; 2]) -> [u8; 12] {
     [0x4A, (tag >> 8) as u8 * 8, length[0], length[1], 0, 1, 0, 4, 0x12, 0x34, tag as u8, 0]
 }
 
-/// With so many open: one more and its end, the first of its end and again, a part of the last, one that is open already,
-/// and the end of one that is not open.
-fn rows(open: usize) {
-    let mut words = [0; PLACES];
-    (0..open).for_each(|tag| assert_eq!(ledger::open(&mut words, &request(tag)), Ok(())));
-    let all = [0, 0];
-    if open < PLACES {
-        row(
-            open,
-            "a request opened, and completed",
-            &words,
-            &[Open(request(open)), Complete(completion(open, all))],
-            0,
-        );
-    } else {
-        row(open, "a request refused, 62", &words, &[Open(request(open))], 62);
-    }
-    let last = open - 1;
-    row(
-        open,
-        "the last completed, and opened again",
-        &words,
-        &[Complete(completion(last, all)), Open(request(last))],
-        0,
-    );
-    row(open, "an open key refused, 61", &words, &[Open(request(last))], 61);
-    row(open, "a completion refused, 63", &words, &[Complete(completion(open, all))], 63);
-}
-
 enum Call {
     Open([u8; 12]),
     Complete([u8; 12]),
 }
 use Call::{Complete, Open};
 
-/// The calls one after the other, which leave the words as they were; the last gives the number.
-fn row(open: usize, name: &str, words: &Words, calls: &[Call], number: u32) {
-    let mut sides = (*words, *words);
+/// With so many open, the calls one after the other, which leave the words as they were; the last gives the number. The time
+/// is a call's.
+fn time(open: usize, calls: &[Call], number: u32) -> Times {
+    let mut words = [0; PLACES];
+    (0..open).for_each(|tag| assert_eq!(ledger::open(&mut words, &request(tag)), Ok(())));
+    let mut sides = (words, words);
     assert_eq!((plain_calls(&mut sides.0, calls), proved_calls(&mut sides.1, calls)), (number, number));
-    assert!(sides.0 == *words && sides.1 == *words);
+    assert!(sides.0 == words && sides.1 == words);
     let Times { plain, proved } = compare(
         || plain_calls(black_box(&mut sides.0), black_box(calls)),
         || proved_calls(black_box(&mut sides.1), black_box(calls)),
     );
     let count = calls.len() as f64;
-    println!("| {open} | {name} | {:.1} | {:.1} | {:.2} |", plain / count, proved / count, proved / plain);
+    Times { plain: plain / count, proved: proved / count }
 }
 
 fn plain_calls(words: &mut Words, calls: &[Call]) -> u32 {

@@ -4,8 +4,8 @@ use std::hint::black_box;
 use std::time::{Duration, Instant};
 
 /// How many times each side is timed; and at the least, where a call is longer than a round.
-pub const ROUNDS: usize = 301;
-pub const FEWEST: usize = 21;
+const ROUNDS: usize = 301;
+const FEWEST: usize = 21;
 
 /// How long a round takes, about: short, so that most rounds are not interrupted.
 const ROUND: Duration = Duration::from_micros(500);

@@ -2,7 +2,9 @@
 //! and `annotate` as they are installed, the yardstick's program, and this one as a caller of the library. Build with
 //! `--profile lto`, and the yardstick's program with it.
 
+use crate::measure::median;
 use crate::subjects::planned;
+use crate::table;
 use inputs::{labels, trace};
 use std::env;
 use std::fs::{self, File};
@@ -15,24 +17,18 @@ const SHEETS: [(usize, usize); 4] = [(16, 8), (256, 16), (512, 16), (512, 32)];
 
 const HEADERS: usize = 1_000_000;
 
-/// How many times each program runs. The walk takes seconds.
-const ROUNDS: usize = 21;
-const WALKS: usize = 3;
+/// How many times each program runs, in turn.
+const ROUNDS: usize = 10;
 
 /// What this program is called with to label standard input itself.
 pub const BY_CALL: &str = "through-cartsundial_label";
 pub const BY_LABELLER: &str = "through-labeller";
 
 pub fn print() {
-    println!();
-    println!("Whole programs: {HEADERS} headers, lines to /dev/null. Processor time of the process, user and system, from its");
-    println!("start to its end; nanoseconds a header, least and median of {ROUNDS} runs (annotate {WALKS}), in turn.");
-    println!();
-    println!("| sheet | program | least ns | median ns | to the yardstick's least | to its median |");
-    println!("|---|---|---:|---:|---:|---:|");
     let folder = env::temp_dir().join(format!("cartsundial-bench-{}", process::id()));
     fs::create_dir_all(&folder).expect("a folder for the input");
-    SHEETS.iter().for_each(|&(functions, depth)| rows(functions, depth, &folder));
+    table::head("sheet", &programs(&folder).iter().map(|program| program.name.into()).collect::<Vec<String>>());
+    SHEETS.iter().for_each(|&(functions, depth)| row(functions, depth, &folder));
     fs::remove_dir_all(&folder).expect("the folder is removed");
 }
 
@@ -41,7 +37,6 @@ struct Program {
     path: PathBuf,
     argument: Option<&'static str>,
     input: PathBuf,
-    rounds: usize,
 }
 
 /// The yardstick first.
@@ -56,7 +51,7 @@ fn programs(folder: &Path) -> Vec<Program> {
             "{} is missing: `rt check label annotate`, `cargo build --profile lto`",
             path.display()
         );
-        Program { name, path: path.into(), argument, input: with_host.clone(), rounds: ROUNDS }
+        Program { name, path: path.into(), argument, input: with_host.clone() }
     };
     vec![
         program("yardstick", &beside, None),
@@ -65,13 +60,12 @@ fn programs(folder: &Path) -> Vec<Program> {
         program("Rust's `Labeller` by an index", &here, Some(BY_LABELLER)),
         Program {
             input: folder.join("input-without-host"),
-            rounds: WALKS,
             ..program("`annotate`, which walks", &installed("annotate"), None)
         },
     ]
 }
 
-fn rows(functions: usize, depth: usize, folder: &Path) {
+fn row(functions: usize, depth: usize, folder: &Path) {
     let board = labels::board(functions, depth);
     let sheet = planned(&board.bytes());
     let headers = labels::headers(&sheet, HEADERS);
@@ -85,20 +79,14 @@ fn rows(functions: usize, depth: usize, folder: &Path) {
     programs.iter().for_each(|program| assert!(program.lines(folder) == lines, "{}", program.name));
 
     let mut times = vec![Vec::new(); programs.len()];
-    for round in 0..ROUNDS {
-        for (program, times) in programs.iter().zip(&mut times).filter(|(program, _)| round < program.rounds) {
+    for _ in 0..ROUNDS {
+        for (program, times) in programs.iter().zip(&mut times) {
             times.push(program.time() / HEADERS as f64);
         }
     }
-    let figures: Vec<(f64, f64)> = times
-        .into_iter()
-        .map(|times| (times.iter().copied().fold(f64::MAX, f64::min), crate::measure::median(times)))
-        .collect();
-    for (Program { name, .. }, (least, median)) in programs.iter().zip(&figures) {
-        let ratios = (least / figures[0].0, median / figures[0].1);
-        print!("| {functions} functions, depth {depth} | {name} | {least:.1} | {median:.1} ");
-        println!("| {:.2} | {:.2} |", ratios.0, ratios.1);
-    }
+    let medians: Vec<f64> = times.into_iter().map(median).collect();
+    let cells: Vec<String> = medians.iter().map(|&time| table::beside(time, medians[0])).collect();
+    table::row(&format!("{functions}, depth {depth}"), &cells);
 }
 
 /// Of a header, without the zeros after it.

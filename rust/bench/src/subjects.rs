@@ -50,14 +50,34 @@ pub mod plain_calls {
     }
 
     #[inline(never)]
+    pub fn sound(host: &[u8], sheet: &[u8]) -> u8 {
+        plain::sound(host, sheet)
+    }
+
+    #[inline(never)]
+    pub fn audit_where(host: &[u8], sheet: &[u8]) -> plain::Finding {
+        plain::audit_where(host, sheet)
+    }
+
+    #[inline(never)]
+    pub fn script(board: &[u8], room: &mut [u8]) -> Result<usize, u8> {
+        plain::script(board, 0, 0, room)
+    }
+
+    #[inline(never)]
     pub fn route(header: &[u8], sheet: &[u8]) -> Result<plain::Arrival, u8> {
         plain::route(header, sheet)
+    }
+
+    #[inline(never)]
+    pub fn route_from(record: u16, header: &[u8], sheet: &[u8]) -> Result<plain::Sending, u8> {
+        plain::route_from(record.into(), header, sheet)
     }
 }
 
 /// The proved calls with Rust types, likewise.
 pub mod proved_calls {
-    use cartsundial::{calls, Arrival, Fields, Packet, Refusal};
+    use cartsundial::{calls, Arrival, Fields, Id, Packet, Refusal, Sending};
 
     #[inline(never)]
     pub fn read(header: &[u8]) -> Result<Packet, Refusal> {
@@ -105,8 +125,29 @@ pub mod proved_calls {
     }
 
     #[inline(never)]
+    pub fn sound(host: &[u8], sheet: &[u8]) -> u32 {
+        calls::sound(host, sheet)
+    }
+
+    #[inline(never)]
+    pub fn audit_where(host: &[u8], sheet: &[u8]) -> (u32, [u64; calls::WHO]) {
+        let mut who = [0; calls::WHO];
+        (calls::audit_where(host, sheet, &mut who), who)
+    }
+
+    #[inline(never)]
+    pub fn script(board: &[u8], room: &mut [u8]) -> Result<usize, Refusal> {
+        cartsundial::write_script(board, Id(0), 0, room)
+    }
+
+    #[inline(never)]
     pub fn route(header: &[u8], sheet: &[u8]) -> Result<Arrival, Refusal> {
         cartsundial::route(header, sheet)
+    }
+
+    #[inline(never)]
+    pub fn route_from(record: u16, header: &[u8], sheet: &[u8]) -> Result<Sending, Refusal> {
+        cartsundial::route_from(record, header, sheet)
     }
 }
 
@@ -119,7 +160,8 @@ pub fn headers() -> [(&'static str, Vec<u8>); 3] {
     ]
 }
 
-pub const MIXED: &str = "65,536 lawful headers of every kind, in turn";
+/// 65,536 lawful headers, in turn.
+pub const MIXED: &str = "every kind in turn";
 
 /// Lawful packets of every kind at random, each in the forms that a call starts from.
 pub struct Mixed {
@@ -197,8 +239,7 @@ impl Backplane {
         let (host, board) = (board.host(), board.bytes());
         let sheet = planned(&board);
         let header = request(MRD, last_bar(&sheet));
-        Backplane { name: format!("{functions} functions, depth {depth}"), host, board, sheet, header, depth }
-            .tried(functions)
+        Backplane { name: format!("{functions}, depth {depth}"), host, board, sheet, header, depth }.tried(functions)
     }
 
     /// Both sides plan this board to this sheet, accept it, and deliver the request to the last record.

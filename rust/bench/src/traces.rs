@@ -1,7 +1,8 @@
 //! A trace annotated in pieces.
 
-use crate::measure::{compare, Times, FEWEST};
+use crate::measure::{compare, Times};
 use crate::subjects::Backplane;
+use crate::table;
 use cartsundial::calls::{self, TRACE};
 use cartsundial::Annotator;
 use inputs::foreign::{completion, configuration, message, request, CFGRD1, CPLD, MRD, MSG, MWR};
@@ -20,19 +21,19 @@ const TRACE_BYTES: usize = 1 << 17;
 const PIECES: [usize; 2] = [4, 64];
 
 pub fn print() {
-    println!();
-    println!("A trace annotated: nanoseconds a record, and bytes of the trace a second. At least {FEWEST} rounds.");
-    println!("In pieces, each is a call, and each call checks the sheet. Whole, plain Rust takes records as slices and has no");
-    println!("state; the proved library takes the trace as one piece.");
-    println!();
-    println!("| sheet | trace | plain ns | proved ns | proved/plain | plain MB/s | proved MB/s |");
-    println!("|---|---|---:|---:|---:|---:|---:|");
-    for backplane in &Backplane::all() {
-        let trace = trace_for(&backplane.sheet);
-        PIECES.iter().for_each(|&length| in_pieces(backplane, &trace, length));
-        in_short_room(backplane, &trace, PIECES[0]);
-        whole(backplane, &trace);
+    let backplanes = Backplane::all();
+    let traces: Vec<Vec<u8>> = backplanes.iter().map(|backplane| trace_for(&backplane.sheet)).collect();
+    let columns: Vec<String> = backplanes.iter().map(|backplane| backplane.name.clone()).collect();
+    table::head("trace", &columns);
+    let row = |name: &str, time: &dyn Fn(&[u8], &[u8]) -> Times| {
+        let times = backplanes.iter().zip(&traces).map(|(backplane, trace)| time(&backplane.sheet, trace));
+        table::row(name, &times.map(|times| table::cell(&times)).collect::<Vec<String>>());
+    };
+    for kib in PIECES {
+        row(&format!("pieces of {kib} KiB"), &|sheet, trace| in_pieces(sheet, trace, kib));
     }
+    row("pieces of 4 KiB, room for their lines only", &|sheet, trace| in_short_room(sheet, trace, PIECES[0]));
+    row("whole", &whole);
 }
 
 /// Headers for the sheet's functions, each of them at random: memory requests for BARs of endpoints, completions,
@@ -89,30 +90,25 @@ impl<'a> Turns<'a> {
     }
 }
 
-fn in_pieces(backplane: &Backplane, trace: &[u8], kib: usize) {
+fn in_pieces(sheet: &[u8], trace: &[u8], kib: usize) -> Times {
     // Whole pieces only, so that all are as long.
     let pieces: Vec<&[u8]> = trace.chunks_exact(kib << 10).collect();
-    timed(backplane, &format!("pieces of {kib} KiB"), &pieces, Annotator::room_for(kib << 10));
+    timed(sheet, &pieces, Annotator::room_for(kib << 10))
 }
 
 /// In room for the longest lines of any piece: less than 40 bytes a record, so each line is measured first.
-fn in_short_room(backplane: &Backplane, trace: &[u8], kib: usize) {
+fn in_short_room(sheet: &[u8], trace: &[u8], kib: usize) -> Times {
     let pieces: Vec<&[u8]> = trace.chunks_exact(kib << 10).collect();
-    let (_, longest) = tried(&backplane.sheet, &pieces);
-    timed(backplane, &format!("pieces of {kib} KiB, room for their lines only"), &pieces, longest);
+    timed(sheet, &pieces, tried(sheet, &pieces).1)
 }
 
-fn timed(backplane: &Backplane, name: &str, pieces: &[&[u8]], room: usize) {
-    let sheet = &backplane.sheet;
+fn timed(sheet: &[u8], pieces: &[&[u8]], room: usize) -> Times {
     let (records, _) = tried(sheet, pieces);
-    let Times { plain, proved } = compare(plain_side(sheet, pieces, room), proved_side(sheet, pieces, room));
-    let count = pieces.len() as f64;
-    let times = Times { plain: plain * count, proved: proved * count };
-    row(backplane, name, pieces.concat().len(), records, times);
+    let times = compare(plain_side(sheet, pieces, room), proved_side(sheet, pieces, room));
+    a_record(&times, pieces.len() as f64 / records as f64)
 }
 
-fn whole(backplane: &Backplane, trace: &[u8]) {
-    let sheet = &backplane.sheet;
+fn whole(sheet: &[u8], trace: &[u8]) -> Times {
     let mut room = vec![0; Annotator::room_for(trace.len())];
     let length = proved_feed(&mut [0; TRACE], sheet, trace, &mut room);
     assert!(plain_whole(sheet, trace).as_bytes() == &room[..length]);
@@ -120,19 +116,12 @@ fn whole(backplane: &Backplane, trace: &[u8]) {
         || plain_whole(black_box(sheet), black_box(trace)),
         || proved_feed(&mut [0; TRACE], black_box(sheet), black_box(trace), black_box(&mut room)),
     );
-    row(backplane, "whole", trace.len(), tried(sheet, &[trace]).0, times);
+    a_record(&times, 1.0 / tried(sheet, &[trace]).0 as f64)
 }
 
-/// Of a trace of so many bytes and records, by the time for all of it.
-fn row(backplane: &Backplane, name: &str, bytes: usize, records: u64, times: Times) {
-    let Times { plain, proved } = times;
-    let [plain_record, proved_record] = [plain, proved].map(|time| time / records as f64);
-    let [plain_rate, proved_rate] = [plain, proved].map(|time| bytes as f64 / time * 1000.0);
-    println!(
-        "| {} | {name} | {plain_record:.1} | {proved_record:.1} | {:.2} | {plain_rate:.1} | {proved_rate:.1} |",
-        backplane.name,
-        proved / plain
-    );
+/// Of a call, the part that is a record's.
+fn a_record(times: &Times, part: f64) -> Times {
+    Times { plain: times.plain * part, proved: times.proved * part }
 }
 
 fn plain_side<'a>(sheet: &'a [u8], pieces: &'a [&'a [u8]], room: usize) -> impl FnMut() -> usize + 'a {

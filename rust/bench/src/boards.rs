@@ -1,0 +1,112 @@
+//! Boards and their sheets: a board planned and scripted, its sheet checked and judged, a read of its last card from the host
+//! and from its first card.
+
+use crate::measure::{compare, Times};
+use crate::subjects::{plain_calls, proved_calls, Backplane};
+use crate::table;
+use std::hint::black_box;
+
+/// A sheet's record, and the command word in it.
+const RECORD: usize = 92;
+const COMMAND: usize = 4 + 4;
+const BUS_MASTER: u8 = 4;
+
+pub fn print() {
+    let backplanes = Backplane::all();
+    let columns: Vec<String> = backplanes.iter().map(|backplane| backplane.name.clone()).collect();
+    table::head("call", &columns);
+    let row = |call: &str, time: fn(&Backplane) -> Times| {
+        let cells: Vec<String> = backplanes.iter().map(|backplane| table::cell(&time(backplane))).collect();
+        table::row(call, &cells);
+    };
+    row("plan", plan);
+    row("plan, into room made and zeroed within the time", plan_fresh);
+    row("the write script", script);
+    row("check", check);
+    row("audit", audit);
+    row("sound", sound);
+    row("audit_where, of an accepted sheet", audit_where);
+    row("route, a read of the last card", route);
+    row("route_from, the same from the first card", route_from);
+}
+
+fn plan(backplane: &Backplane) -> Times {
+    let board = &backplane.board;
+    let mut sheets = (vec![0; plain::FULL_SHEET], vec![0; plain::FULL_SHEET]);
+    let times = compare(
+        || plain_calls::plan(black_box(board), black_box(&mut sheets.0)).is_ok(),
+        || proved_calls::plan(black_box(board), black_box(&mut sheets.1)).is_ok(),
+    );
+    assert!(sheets.0 == sheets.1);
+    times
+}
+
+fn plan_fresh(backplane: &Backplane) -> Times {
+    let board = &backplane.board;
+    let fresh = || vec![0; plain::FULL_SHEET];
+    compare(
+        || plain_calls::plan(black_box(board), black_box(&mut fresh())).is_ok(),
+        || proved_calls::plan(black_box(board), black_box(&mut fresh())).is_ok(),
+    )
+}
+
+fn script(backplane: &Backplane) -> Times {
+    let board = &backplane.board;
+    let mut rooms = (vec![0; cartsundial::FULL_SCRIPT], vec![0; cartsundial::FULL_SCRIPT]);
+    let times = compare(
+        || plain_calls::script(black_box(board), black_box(&mut rooms.0)).is_ok(),
+        || proved_calls::script(black_box(board), black_box(&mut rooms.1)).is_ok(),
+    );
+    assert!(rooms.0 == rooms.1);
+    times
+}
+
+fn check(backplane: &Backplane) -> Times {
+    let sheet = &backplane.sheet;
+    compare(|| plain_calls::check(black_box(sheet)), || proved_calls::check(black_box(sheet)).is_ok())
+}
+
+fn audit(Backplane { host, sheet, .. }: &Backplane) -> Times {
+    compare(
+        || plain_calls::audit(black_box(host), black_box(sheet)),
+        || proved_calls::audit(black_box(host), black_box(sheet)),
+    )
+}
+
+fn sound(Backplane { host, sheet, .. }: &Backplane) -> Times {
+    assert_eq!((plain::sound(host, sheet), proved_calls::sound(host, sheet)), (0, 0));
+    compare(
+        || plain_calls::sound(black_box(host), black_box(sheet)),
+        || proved_calls::sound(black_box(host), black_box(sheet)),
+    )
+}
+
+fn audit_where(Backplane { host, sheet, .. }: &Backplane) -> Times {
+    compare(
+        || plain_calls::audit_where(black_box(host), black_box(sheet)),
+        || proved_calls::audit_where(black_box(host), black_box(sheet)),
+    )
+}
+
+fn route(Backplane { header, sheet, .. }: &Backplane) -> Times {
+    compare(
+        || plain_calls::route(black_box(header), black_box(sheet)).is_ok(),
+        || proved_calls::route(black_box(header), black_box(sheet)).is_ok(),
+    )
+}
+
+/// Every function is made a bus master, and the first card reads.
+fn route_from(backplane: &Backplane) -> Times {
+    let header = &backplane.header;
+    let mut sheet = backplane.sheet.clone();
+    sheet[1..].chunks_exact_mut(RECORD).for_each(|record| record[COMMAND] |= BUS_MASTER);
+    let first = (1..).zip(sheet[1..].chunks_exact(RECORD)).find(|(_, record)| record[4 + 0x0E] & 0x7F == 0);
+    let first: u16 = first.expect("a board with cards").0;
+    let sent = plain_calls::route_from(first, header, &sheet).expect("a request that is delivered").numbers();
+    let proved = proved_calls::route_from(first, header, &sheet).expect("a request that is delivered");
+    assert_eq!(sent[..2], [proved.record().unwrap_or(0).into(), proved.bridges().into()]);
+    compare(
+        || plain_calls::route_from(first, black_box(header), black_box(&sheet)).is_ok(),
+        || proved_calls::route_from(first, black_box(header), black_box(&sheet)).is_ok(),
+    )
+}
