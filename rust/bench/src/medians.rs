@@ -23,7 +23,10 @@ pub fn print(arguments: &[String]) -> Result<(), Box<dyn Error>> {
     }
     merged(&texts).for_each(|line| println!("{line}"));
     println!();
-    println!("Medians of {runs} runs; no run's ratio was more than {:.0} % from its median.", 100.0 * farthest(&texts));
+    match runs {
+        1 => println!("One run."),
+        _ => println!("Medians of {runs} runs; no run's ratio was more than {:.0} % off.", 100.0 * farthest(&texts)),
+    }
     Ok(())
 }
 
