@@ -128,16 +128,16 @@ pub fn bars(read_backs: [u32; 6]) -> impl Iterator<Item = Bar> {
     })
 }
 
-/// Whether every slot is unused or starts a BAR, or is the upper half of one.
-pub fn are_lawful(read_backs: &[u32]) -> bool {
+/// The first slot that is neither unused nor the start of a BAR, nor the upper half of one.
+pub fn wrong_slot(read_backs: &[u32]) -> Option<usize> {
     let mut slot = 0;
     while slot < read_backs.len() {
         match Bar::at(read_backs, slot) {
             Ok(bar) => slot += bar.map_or(1, |bar| bar.slots()),
-            Err(Malformed) => return false,
+            Err(Malformed) => return Some(slot),
         }
     }
-    true
+    None
 }
 
 #[cfg(test)]

@@ -1,6 +1,7 @@
 //! The board: host record, function records and their checks.
 
 use crate::bar;
+use crate::finding::{Party, ID};
 use crate::pool::{PerPool, Pool, Range};
 
 pub const MAX_FUNCTIONS: usize = 512;
@@ -140,33 +141,39 @@ pub struct Board {
 impl Board {
     /// Checks 20, 21, 22, 24, 26, 23 and 25, each over all records before the next.
     pub fn parse(bytes: &[u8]) -> Result<Board, u8> {
-        let (&version, records) = bytes.split_first().ok_or(20)?;
+        Board::judge(bytes).map_err(|(number, _)| number)
+    }
+
+    /// The same, and beside the number who fails: for 24, 23 and 25 the first record that does, and where.
+    pub fn judge(bytes: &[u8]) -> Result<Board, (u8, Party)> {
+        let nobody = |number| (number, Party::default());
+        let (&version, records) = bytes.split_first().ok_or(nobody(20))?;
         if version != 1 && version != WITH_SPARES {
-            return Err(21);
+            return Err(nobody(21));
         }
-        let (host, functions) = split_record(records).ok_or(20)?;
-        let host: &[u8; HOST] = host.try_into().map_err(|_| 20)?;
-        let count = count_functions(functions).ok_or(20)?;
+        let (host, functions) = split_record(records).ok_or(nobody(20))?;
+        let host: &[u8; HOST] = host.try_into().map_err(|_| nobody(20))?;
+        let count = count_functions(functions).ok_or(nobody(20))?;
         if count > MAX_FUNCTIONS {
-            return Err(22);
+            return Err(nobody(22));
         }
         let mut board = Board { host: Host::parse(host), functions: [Function::EMPTY; MAX_FUNCTIONS], count };
         let mut rest = functions;
-        for function in &mut board.functions[..count] {
-            let (record, after) = split_record(rest).ok_or(20)?;
-            *function = Function::parse(version, record).ok_or(24)?;
+        for (record, function) in (1..).zip(&mut board.functions[..count]) {
+            let (part, after) = split_record(rest).ok_or(nobody(20))?;
+            *function = Function::parse(version, part).ok_or((24, Party { record, place: ID }))?;
             rest = after;
         }
         if !board.host.is_lawful() {
-            return Err(26);
+            return Err(nobody(26));
         }
-        if !is_tree(board.functions()) {
-            return Err(23);
+        if let Some(record) = misplaced(board.functions()) {
+            return Err((23, Party { record, place: ID }));
         }
-        if !board.functions().iter().all(|function| bar::are_lawful(function.slots())) {
-            return Err(25);
-        }
-        Ok(board)
+        let wrong = (1..)
+            .zip(board.functions())
+            .find_map(|(record, function)| Some(Party { record, place: bar::wrong_slot(function.slots())? as u8 }));
+        wrong.map_or(Ok(board), |party| Err((25, party)))
     }
 
     pub fn functions(&self) -> &[Function] {
@@ -259,21 +266,21 @@ impl Siblings {
     }
 }
 
-/// Check 23: parents, depth-first order, rising siblings, depth, function 0.
-fn is_tree(functions: &[Function]) -> bool {
+/// Check 23: parents, depth-first order, rising siblings, depth, function 0. The first record that is out of place.
+fn misplaced(functions: &[Function]) -> Option<usize> {
     let mut path = Path::new(Siblings::NONE);
     for (record, function) in (1..).zip(functions) {
         while path.record() != function.parent {
             if path.leave().is_none() {
-                return false;
+                return Some(record.into());
             }
         }
         if path.bridges() > MAX_ABOVE || !path.bus().admit(function) {
-            return false;
+            return Some(record.into());
         }
         if function.is_bridge() {
             path.enter(record, Siblings::NONE);
         }
     }
-    true
+    None
 }

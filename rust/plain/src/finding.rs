@@ -25,7 +25,7 @@ pub struct Finding {
 }
 
 const BUSES: u8 = 9;
-const ID: u8 = 10;
+pub const ID: u8 = 10;
 
 /// The audit's number, and whom it is about. For 20 to 22, for 26 and for an accepted sheet that is nobody.
 pub fn audit_where(host: &[u8], sheet: &[u8]) -> Finding {
@@ -96,7 +96,7 @@ fn wrong_window(record: Record<'_>) -> Option<u8> {
     Pool::ALL.into_iter().filter(|_| record.is_bridge()).find(wrong).map(window_place)
 }
 
-fn window_place(pool: Pool) -> u8 {
+pub fn window_place(pool: Pool) -> u8 {
     6 + pool as u8
 }
 
