@@ -1,7 +1,7 @@
 //! A board that is built record by record, or taken from bytes.
 
 use crate::board::{lawful, records, Spares};
-use crate::{plan, Bar, HostRecord, Refusal, FULL_SHEET};
+use crate::{plan, what_does_not_fit, Bar, HostRecord, PlanFinding, Refusal, FULL_SHEET};
 use alloc::string::String;
 use alloc::vec;
 use alloc::vec::Vec;
@@ -168,6 +168,11 @@ impl Board {
         let length = plan(&self.bytes(), &mut sheet)?;
         sheet.truncate(length);
         Ok(sheet)
+    }
+
+    /// What of it finds no bus numbers or no room, and what it needs; `None` where it is planned, or fails its own checks.
+    pub fn what_does_not_fit(&self) -> Option<PlanFinding> {
+        what_does_not_fit(&self.bytes())
     }
 
     fn record_of(&self, one: &BoardFunction) -> Vec<u8> {

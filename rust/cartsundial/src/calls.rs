@@ -1,7 +1,8 @@
 //! The library's calls as it has them: slices in, numbers out.
 //!
-//! Each returns 0 or document 01's number. A refused call changes nothing that it was lent. An answer slice that is too
-//! short is 11, tried last; numbers past the answer's own are left as they were.
+//! Each returns 0 or document 01's number. A refused call changes nothing that it was lent, but for [`plan_where`] and
+//! [`audit_where`], whose answer is about a refusal. An answer slice that is too short is 11, tried last; numbers past the
+//! answer's own are left as they were.
 
 #![allow(unsafe_code)]
 
@@ -30,6 +31,10 @@ pub const LEDGER: usize = 256;
 /// for a BAR slot, 6 the low, 7 the high and 8 the I/O window, 9 the bus registers, 10 the ID.
 pub const WHO: usize = 4;
 
+/// How many numbers [`plan_where`] answers with: as [`WHO`], then how many bus numbers the board needs, and how many bytes of the
+/// low, the high and the I/O pool.
+pub const PLAN_WHO: usize = 8;
+
 pub use crate::version::VERSION;
 
 /// What a call answers where its answer does not fit the slice for it: tried last, so it would have been accepted.
@@ -56,6 +61,7 @@ mod c {
             written: *mut u64,
             written_len: usize,
         ) -> u32;
+        pub fn cartsundial_plan_where(board: *const u8, board_len: usize, who: *mut u64, who_len: usize) -> u32;
         pub fn cartsundial_script(
             board: *const u8,
             board_len: usize,
@@ -219,6 +225,13 @@ pub fn plan(board: &[u8], sheet: &mut [u8], written: &mut [u64]) -> u32 {
     }
 }
 
+/// The number that [`plan`] gives a board, but for the room of its sheet, and writes to `who` whom it is about and what the board
+/// needs: eight numbers. Record and place, and the other record and place, are 0 where there is none; what is needed is 0 where
+/// the board fails its own checks. A refusal leaves them too; where `who` has no room for all eight it stays, and 0 becomes 11.
+pub fn plan_where(board: &[u8], who: &mut [u64]) -> u32 {
+    unsafe { c::cartsundial_plan_where(board.as_ptr(), board.len(), who.as_mut_ptr(), who.len()) }
+}
+
 /// Writes the plan of a board as configuration writes to the start of `script`, 18 bytes each, and their length to
 /// `written`.
 ///
@@ -254,8 +267,7 @@ pub fn sound(host: &[u8], sheet: &[u8]) -> u32 {
 }
 
 /// Audits a sheet, and writes to `who` whom the number is about: the record and its place, the other record and its place.
-/// Each is 0 where there is none. These are the one answer that a refusal leaves; where `who` has no room for all four it
-/// stays, and 0 becomes 11.
+/// Each is 0 where there is none. A refusal leaves them too; where `who` has no room for all four it stays, and 0 becomes 11.
 pub fn audit_where(host: &[u8], sheet: &[u8], who: &mut [u64]) -> u32 {
     unsafe {
         c::cartsundial_audit_where(host.as_ptr(), host.len(), sheet.as_ptr(), sheet.len(), who.as_mut_ptr(), who.len())

@@ -1,6 +1,7 @@
 //! A host record, and the sheets that fit it.
 
-use crate::{accepted, calls, Refusal};
+use crate::{accepted, calls, Pool, Refusal};
+use core::ops::RangeInclusive;
 
 /// A board's host record: its buses and its pools, each by its first and its last. A pool with its first address above its
 /// last is closed.
@@ -44,6 +45,26 @@ impl HostRecord {
             ),
             io: (u16::from_be_bytes([b[26], b[27]]), u16::from_be_bytes([b[28], b[29]])),
         }
+    }
+
+    /// The addresses of a pool; `None` where it is closed.
+    pub fn pool(&self, pool: Pool) -> Option<RangeInclusive<u64>> {
+        let (first, last) = match pool {
+            Pool::Low => (self.low.0.into(), self.low.1.into()),
+            Pool::High => self.high,
+            Pool::Io => (self.io.0.into(), self.io.1.into()),
+        };
+        (first <= last).then_some(first..=last)
+    }
+
+    /// How many bytes a pool has, 0 where it is closed.
+    pub fn room(&self, pool: Pool) -> u64 {
+        self.pool(pool).map_or(0, |range| (range.end() - range.start()).saturating_add(1))
+    }
+
+    /// How many bus numbers there are, 0 where the first is above the last.
+    pub fn bus_numbers(&self) -> u32 {
+        (u32::from(self.buses.1) + 1).saturating_sub(self.buses.0.into())
     }
 
     /// The record's bytes, each number's high byte first.

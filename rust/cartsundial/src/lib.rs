@@ -36,7 +36,7 @@
 //! |---|---|
 //! | a board, built or from its text | [`Board`] |
 //! | a board as a register sheet | [`plan`], [`Board::plan`] |
-//! | the record by which a board is refused, and the pool that it finds no room in | [`refused_record`], [`what_does_not_fit`] |
+//! | what a board needs; for whom it is refused, and what finds no room | [`plan_where`], [`what_does_not_fit`] |
 //! | a board's bridges, and the buses and memory that each keeps free | [`bridges`] |
 //! | a sheet that is checked once and then asked: functions, BARs, windows, buses | [`Sheet`], [`Function`] |
 //! | a sheet: is it lawful, a function's registers, its command word | [`check`], [`registers`], [`set_command`] |
@@ -59,7 +59,7 @@
 //! # What is proved
 //!
 //! The archive is compiled from proved code: what each call answers, and what the lent bytes then hold, is an equation with
-//! document 01's definitions, for every input. This crate adds types, a search over [`plan`], a board's text, and no rules of its
+//! document 01's definitions, for every input. This crate adds types, a board's text, and no rules of its
 //! own. Any bytes may be given; each call ends with an answer or a [`Refusal`], and a refused call changes no lent byte.
 //! docs/FORMATS.md in the repository is document 01 in our own words: headers, boards and sheets byte by byte, which of a
 //! function's registers boot code is to write, and every rule. A header is given in the order of the link, byte 0 first and each
@@ -128,13 +128,14 @@ mod labeller;
 mod ledger;
 mod lines;
 mod packet;
+mod plan_finding;
+mod pool;
 mod refusal;
 mod requests;
 mod script;
 mod sheet;
 mod size;
 mod trace;
-mod unfit;
 mod version;
 
 pub use annotator::{Annotator, LONGEST_LINE};
@@ -160,6 +161,8 @@ pub use labeller::Labeller;
 pub use ledger::{Completed, Ledger, OpenRequest, RequestKind};
 pub use lines::{lines, Line, Lines};
 pub use packet::{read, write, Packet};
+pub use plan_finding::{plan_where, what_does_not_fit, Needs, PlanFinding, PlanParty};
+pub use pool::Pool;
 pub use refusal::{NoRefusal, Refusal};
 pub use script::{write_script, writes, RegisterWrite, Writes, FULL_SCRIPT};
 pub use sheet::Sheet;
@@ -167,7 +170,6 @@ pub use size::{NoSize, Size};
 #[cfg(feature = "alloc")]
 pub use trace::TraceWriter;
 pub use trace::{headers, Headers};
-pub use unfit::{refused_record, what_does_not_fit, Pool, Unfit};
 
 /// The length of the largest sheet: a version byte and 512 records.
 pub const FULL_SHEET: usize = 47_105;

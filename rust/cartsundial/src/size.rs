@@ -15,6 +15,7 @@ const UNITS: [char; 5] = ['K', 'M', 'G', 'T', 'P'];
 /// assert_eq!("64M".parse(), Ok(Size(64 << 20)));
 /// assert_eq!("4 KiB".replace(' ', "").parse(), Ok(Size(4096)));
 /// assert_eq!(Size(3 << 19).to_string(), "1536K");
+/// assert_eq!(format!("{:#}", Size(33 << 20)), "33 MiB");
 /// ```
 #[derive(Clone, Copy, Debug, PartialEq, Eq, PartialOrd, Ord, Hash)]
 pub struct Size(pub u64);
@@ -47,7 +48,7 @@ impl FromStr for Size {
     }
 }
 
-/// In the largest unit that leaves nothing over.
+/// In the largest unit that leaves nothing over. With `#` the unit is spelt out: `33 MiB`, `12 bytes`.
 impl fmt::Display for Size {
     fn fmt(&self, f: &mut fmt::Formatter<'_>) -> fmt::Result {
         let mut number = self.0;
@@ -59,6 +60,11 @@ impl fmt::Display for Size {
             (number, unit) = (number / 1024, Some(one));
         }
         write!(f, "{number}")?;
-        unit.map_or(Ok(()), |unit| write!(f, "{unit}"))
+        match (unit, f.alternate()) {
+            (Some(unit), false) => write!(f, "{unit}"),
+            (Some(unit), true) => write!(f, " {unit}iB"),
+            (None, false) => Ok(()),
+            (None, true) => f.write_str(" bytes"),
+        }
     }
 }

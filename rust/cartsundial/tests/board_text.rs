@@ -1,6 +1,6 @@
 //! A board's text: to bytes and back, its errors with their lines; and sheets that are asked, held against the plain plan.
 
-use cartsundial::{refused_record, Bar, BarKind, Board, HostRecord, Refusal, Sheet, Size, Spares};
+use cartsundial::{plan_where, Bar, BarKind, Board, HostRecord, Refusal, Sheet, Size, Spares};
 use inputs::random::Random;
 use inputs::trees;
 
@@ -105,7 +105,7 @@ fn built() {
     // A second card in the same place.
     board.card(bridge, 0, 0, &[]).unwrap();
     assert_eq!(board.plan(), Err(Refusal::Order));
-    assert_eq!(refused_record(&board.bytes()), Some(3));
+    assert_eq!(plan_where(&board.bytes()).unwrap_err().party.map(|party| party.record), Some(3));
 }
 
 /// Over planned sheets, each BAR lies in the window of its pool of the bridge just above it.

@@ -21,6 +21,7 @@ mod plan;
 mod route;
 mod source;
 mod tally;
+mod unfit;
 mod words;
 
 use arguments::{Arguments, Options};

@@ -7,12 +7,15 @@ use run::{repository, run, Ran};
 use std::{env, fs};
 
 /// Name, exit status, arguments. Files are named from the repository's root.
-const RUNS: [(&str, i32, &str); 39] = [
+const RUNS: [(&str, i32, &str); 42] = [
     ("plan", 0, "plan tests/command/recorder.txt"),
     ("plan-json", 0, "plan docs/example/board --json"),
     ("plan-lspci", 0, "plan tests/command/recorder.txt --lspci"),
     ("plan-refused-31", 1, "plan tests/command/full.txt"),
     ("plan-refused-31-json", 1, "plan tests/command/full.txt --json"),
+    ("plan-refused-31-gap", 1, "plan tests/command/gap.txt"),
+    ("plan-refused-31-gap-json", 1, "plan tests/command/gap.txt --json"),
+    ("plan-refused-31-closed", 1, "plan tests/plan/spares-closed-pool-refused-31.board"),
     ("plan-refused-23", 1, "plan tests/command/order.txt"),
     ("plan-refused-25", 1, "plan tests/command/small.txt"),
     ("plan-refused-30", 1, "plan tests/plan/refused-30.board"),

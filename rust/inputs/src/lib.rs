@@ -10,6 +10,7 @@ pub mod header;
 pub mod labels;
 pub mod ledger;
 pub mod numbers;
+pub mod planted;
 pub mod random;
 pub mod registers;
 pub mod trace;

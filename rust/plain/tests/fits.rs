@@ -1,6 +1,7 @@
 //! What does not fit of a board: who fails, who ends past a pool, before whom most room is lost, and what is needed.
 
 use inputs::board::{high, io, memory, wide, Board, Spares, CLOSED_HIGH, CLOSED_IO, CLOSED_LOW};
+use inputs::planted;
 use inputs::random::Random;
 use inputs::trees;
 use plain::{plan, plan_where, Fit, Needs, Party, FULL_SHEET};
@@ -214,6 +215,23 @@ fn huge() {
 
 fn number(board: &Board) -> u8 {
     plan(&board.bytes(), &mut [0; FULL_SHEET]).err().unwrap_or(0)
+}
+
+/// A board with one fault: its number, and the record and place that the fault was planted in.
+#[test]
+fn planted_faults() {
+    let mut random = Random::new(20);
+    for wanted in planted::NUMBERS {
+        for _ in 0..300 {
+            let planted = planted::board(wanted, &mut random, number);
+            let (number, party, _) = who(&planted.board);
+            assert_eq!(number, wanted);
+            match planted.party {
+                Some((record, place)) => assert_eq!(party, at(record.into(), place), "{wanted}"),
+                None => assert!(party.record > 0 && party.place <= IO, "{wanted}"),
+            }
+        }
+    }
 }
 
 /// With pools of the size that is needed the board is not refused for them; with a granule less it is, and for that pool.

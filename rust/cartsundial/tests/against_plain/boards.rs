@@ -1,9 +1,10 @@
-//! Boards planned.
+//! Boards planned, and what does not fit of them.
 
 use crate::lent::{hex, Lent};
 use crate::tally::{Call, Tally};
-use cartsundial::calls;
+use cartsundial::{calls, Needs, PlanParty};
 use inputs::board::Board;
+use inputs::planted::{self, Planted};
 use inputs::random::Random;
 use inputs::trees;
 
@@ -18,6 +19,21 @@ pub fn compare(random: &mut Random, rounds: u64, tally: &mut Tally) {
         let board = trees::lawful(random);
         edges(&board, random, tally);
     }
+    // One fault each, and the record that it was planted in.
+    for wanted in planted::NUMBERS {
+        for _ in 0..1_000 * rounds {
+            let Planted { board, party } = planted::board(wanted, random, number);
+            let found = fit(&board.bytes(), random, tally);
+            let named = (found.party.record as u16, found.party.place);
+            assert_eq!(found.number, wanted, "{}", hex(&board.bytes()));
+            assert!(party.is_none_or(|party| party == named), "{wanted} {named:?} {}", hex(&board.bytes()));
+        }
+    }
+}
+
+/// The number of a board, 0 where it is planned.
+fn number(board: &Board) -> u8 {
+    plain::plan(&board.bytes(), &mut [0; plain::FULL_SHEET]).err().unwrap_or(0)
 }
 
 /// The board's bytes planned by both, in the same room.
@@ -57,6 +73,44 @@ pub fn plan(board: &[u8], random: &mut Random, tally: &mut Tally) {
         assert_eq!(typed.map_err(|refusal| refusal.number()), answer, "plan {}", hex(board));
         assert!(room == plain_room, "plan {}: the sheet", hex(board));
     }
+    fit(board, random, tally);
+}
+
+/// What does not fit, by both, in a slice of any length; returns plain Rust's answer.
+fn fit(board: &[u8], random: &mut Random, tally: &mut Tally) -> plain::Fit {
+    let fit = plain::plan_where(board);
+    let plain::Fit { number, party, other, needs: plain::Needs { buses, bytes: [low, high, io] } } = fit;
+    let found =
+        [party.record as u64, party.place.into(), other.record as u64, other.place.into(), buses, low, high, io];
+    let mut given = Lent::holding(board, random);
+    let given_before = given.clone();
+    let mut who = Lent::answer(calls::PLAN_WHO, random);
+    let has_room = who.slice().len() >= calls::PLAN_WHO;
+    let (expected, who_then) = match (has_room, number) {
+        (true, _) => (number.into(), who.with(&found)),
+        (false, 0) => (calls::SHORT, who.clone()),
+        (false, _) => (number.into(), who.clone()),
+    };
+    let returned = calls::plan_where(given.slice(), who.slice());
+    tally.count(Call::PlanWhere, returned);
+    assert_eq!(returned, expected, "what does not fit: {}", hex(board));
+    assert!(who == who_then, "what does not fit: {}: {:?}, not {found:?}", hex(board), who.slice());
+    assert!(given == given_before, "what does not fit: {}: what was lent", hex(board));
+
+    if random.chance(1, 4) {
+        let typed = cartsundial::plan_where(board);
+        let party =
+            |party: Option<PlanParty>| party.map_or([0; 2], |party| [party.record.into(), party.place.number()]);
+        let (refusal, both, needs) = match typed {
+            Ok(needs) => (0, [[0; 2]; 2], needs),
+            Err(one) => {
+                (one.refusal.number(), [party(one.party), party(one.lost_before)], one.needs.unwrap_or_default())
+            }
+        };
+        assert_eq!((refusal, both.concat()), (number, found[..4].to_vec()), "what does not fit: {}", hex(board));
+        assert_eq!(needs, Needs { buses: buses as u32, low, high, io }, "what is needed: {}", hex(board));
+    }
+    fit
 }
 
 /// Room for a sheet: just enough, one less, more, or any.

@@ -10,6 +10,7 @@ pub enum Call {
     Read,
     Write,
     Plan,
+    PlanWhere,
     Script,
     Check,
     Audit,
@@ -30,10 +31,11 @@ pub enum Call {
     Count,
 }
 
-const CALLS: [Call; 21] = [
+const CALLS: [Call; 22] = [
     Call::Read,
     Call::Write,
     Call::Plan,
+    Call::PlanWhere,
     Call::Script,
     Call::Check,
     Call::Audit,
@@ -66,7 +68,7 @@ impl Call {
         match self {
             Call::Read => &[0, 1, 2, 3, 4, 5, 6, 7, 8, 9, 11],
             Call::Write => &[0, 2, 4, 5, 6, 7, 8, 9, 10, 11],
-            Call::Plan => &[0, 11, 20, 21, 22, 23, 24, 25, 26, 30, 31, 32, 33],
+            Call::Plan | Call::PlanWhere => &[0, 11, 20, 21, 22, 23, 24, 25, 26, 30, 31, 32, 33],
             Call::Script => &[0, 10, 11, 20, 21, 22, 23, 24, 25, 26, 30, 31, 32, 33],
             Call::Check => &[0, 20, 21, 22, 24, 25, 27, 28, 29],
             Call::Audit | Call::Sound => &[0, 20, 21, 22, 24, 25, 26, 27, 28, 29, 50, 51, 52],
