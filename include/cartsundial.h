@@ -10,7 +10,7 @@
  *
  * The calls stand by job:
  *
- *     plan     a board's register sheet                            cartsundial_plan
+ *     plan     a board's register sheet, or what does not fit      cartsundial_plan, _plan_where
  *     sheet    its checks, registers, IDs, command words           cartsundial_check, _lookup, _id, _command
  *     route    where a header goes                                 cartsundial_route, _route_from; for many headers _index, _find
  *     trace    a line for each captured header                     cartsundial_annotate, by an index _label; _annotate_end
@@ -28,8 +28,8 @@
  * Every call takes any bytes and any numbers, always returns, and answers
  *
  *     0                  accepted
- *     any other number   refused, and nothing that was lent has been changed (but for the answer of cartsundial_audit_where, which is
- *                        about a refusal)
+ *     any other number   refused, and nothing that was lent has been changed (but for the answers of cartsundial_plan_where and
+ *                        cartsundial_audit_where, which are about a refusal)
  *
  * The numbers are documents 01's and 02's (the enumeration below). What each call returns and what every lent slice holds afterwards is
  * proved, as an equation with a definition: crates/capi/src/lib.rt has the contracts, and the definitions are specs/Answers.antt of
@@ -366,12 +366,40 @@ CARTSUNDIAL_CALL uint32_t cartsundial_version(void);
  * A board of version 2 says of each bridge how many buses and how many MiB of low memory are to stay free below it; version 1 has none.
  * written: the sheet's length, at most CARTSUNDIAL_SHEET_BYTES.
  * Refused: 20 to 26 (the board), 30 to 33 (what runs out), then 11 for a short sheet, or a written slice of no numbers.
- * Which record finds no room, at 31, 32 or 33: plan the board's fronts, each cut after a whole record, with a sheet_len of 0. The shortest
- * one that gets the same number ends with that record. (A front that has room for everything gets 11.)
+ * cartsundial_plan_where says which record is meant, and how much of what runs out is needed.
  */
 CARTSUNDIAL_CHECKED uint32_t cartsundial_plan(const uint8_t *board, size_t board_len, uint8_t *CARTSUNDIAL_RESTRICT sheet, size_t sheet_len,
                                               uint64_t *CARTSUNDIAL_RESTRICT written, size_t written_len)
     CARTSUNDIAL_READS(1, 2) CARTSUNDIAL_WRITES(3, 4) CARTSUNDIAL_WRITES(5, 6);
+
+/* Places in the answer of cartsundial_plan_where. */
+enum cartsundial_plan_who {
+    CARTSUNDIAL_PLAN_RECORD = 0,            /* a record, from 1, and its place: 0 to 5, a BAR's slot, or one of cartsundial_place */
+    CARTSUNDIAL_PLAN_PLACE = 1,
+    CARTSUNDIAL_PLAN_LOST_RECORD = 2,       /* before whom most room is lost to alignment, and the place */
+    CARTSUNDIAL_PLAN_LOST_PLACE = 3,
+    CARTSUNDIAL_NEEDS_BUSES = 4,            /* bus numbers */
+    CARTSUNDIAL_NEEDS_LOW = 5,              /* bytes of the low pool, the high pool, the I/O pool */
+    CARTSUNDIAL_NEEDS_HIGH = 6,
+    CARTSUNDIAL_NEEDS_IO = 7,
+    CARTSUNDIAL_PLAN_WHO_NUMBERS = 8        /* how many numbers the answer has */
+};
+
+/*
+ * Judges a board as cartsundial_plan does, without a sheet: returns its number, but for the sheet's room, and says whom that is about and
+ * what the board needs. who: eight numbers, at the places of cartsundial_plan_who.
+ * Record and place: for 24, 23 and 25 the first record that fails that check, at CARTSUNDIAL_PLACE_ID, for 25 at its first wrong slot; for
+ * 31, 32 and 33 the first item of the root bus that ends past its pool, in record order, a BAR or a window. Room lost, for 31, 32 and 33:
+ * the item of that pool, on any bus, before which most addresses stay empty, the first of those. All are 0 where there is none.
+ * Needs: the root bus's number and those of bridges and their spares; of each pool the bytes from its base to the edge of a granule after
+ * the last item of the root bus, 0 where there is none. A closed pool is counted from 0. An end past 2^62 is told as 2^62. They are there
+ * for 0 and for 30 to 33, and all 0 where the board fails its own checks. So a host short of room is told how much it has to have.
+ * A refused board has its answer: this call, and cartsundial_audit_where, write where they do not return 0. With room for fewer than eight
+ * numbers who stays as it was, and 0 becomes 11.
+ */
+CARTSUNDIAL_CHECKED uint32_t cartsundial_plan_where(const uint8_t *board, size_t board_len,
+                                                    uint64_t *CARTSUNDIAL_RESTRICT who, size_t who_len)
+    CARTSUNDIAL_READS(1, 2) CARTSUNDIAL_WRITES(3, 4);
 
 /* ---- sheet ---- */
 
@@ -580,7 +608,7 @@ CARTSUNDIAL_CHECKED uint32_t cartsundial_audit(const uint8_t *host, size_t host_
 CARTSUNDIAL_CHECKED uint32_t cartsundial_sound(const uint8_t *host, size_t host_len, const uint8_t *sheet, size_t sheet_len)
     CARTSUNDIAL_READS(1, 2) CARTSUNDIAL_READS(3, 4);
 
-/* A place of a record, as cartsundial_audit_where names it: 0 to 5 is a BAR's slot. */
+/* A place of a record, as cartsundial_plan_where and cartsundial_audit_where name it: 0 to 5 is a BAR's slot. */
 enum cartsundial_place {
     CARTSUNDIAL_PLACE_LOW_WINDOW = 6,
     CARTSUNDIAL_PLACE_HIGH_WINDOW = 7,
@@ -598,8 +626,8 @@ enum cartsundial_place {
  * For 24 to 29 and 50 to 52 it is the first record at which that check fails, in record order, at the first place that is wrong; the other
  * one has the same ID (28), leads to the same bus or shares one (50), or has an address in common (52), and no lesser one does. For 20 to
  * 22 and for 26 of the host all four are 0. All of this is proved.
- * A refused sheet has its answer, so this is the one call that writes where it does not return 0. With room for fewer than four numbers who
- * stays as it was, and 0 becomes 11.
+ * A refused sheet has its answer: this call, and cartsundial_plan_where, write where they do not return 0. With room for fewer than four
+ * numbers who stays as it was, and 0 becomes 11.
  */
 CARTSUNDIAL_CHECKED uint32_t cartsundial_audit_where(const uint8_t *host, size_t host_len, const uint8_t *sheet, size_t sheet_len,
                                                      uint64_t *CARTSUNDIAL_RESTRICT who, size_t who_len)

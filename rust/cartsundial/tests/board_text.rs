@@ -108,6 +108,21 @@ fn built() {
     assert_eq!(plan_where(&board.bytes()).unwrap_err().party.map(|party| party.record), Some(3));
 }
 
+/// A board's own answer is that of its bytes.
+#[test]
+fn what_does_not_fit() {
+    let text = "host low F8000000+32M\ncard 00.0 mem32 1M\ncard 01.0 mem32 16M\nbridge 02.0\n  card 00.0 mem32 4K";
+    let mut board: Board = text.parse().unwrap();
+    assert_eq!(
+        board.what_does_not_fit().unwrap().to_string(),
+        "31 low pool full: record 3 (00:02.0) low window ends past it; needs 33 MiB, has 32 MiB; \
+         most room is lost to alignment before record 2 (00:01.0) BAR 0"
+    );
+    board.set_bars(1, &[]).unwrap();
+    assert_eq!(board.what_does_not_fit(), None);
+    assert_eq!(plan_where(&board.bytes()).map(|needs| needs.low), Ok(17 << 20));
+}
+
 /// Over planned sheets, each BAR lies in the window of its pool of the bridge just above it.
 #[test]
 fn sheets_that_are_asked() {

@@ -125,3 +125,11 @@ fn sizes() {
         assert_eq!(here as u64, size, "{name}");
     }
 }
+
+/// The answer of `cartsundial_plan_where` has as many numbers as here, and a name for each.
+#[test]
+fn what_does_not_fit() {
+    let places = enumerators("plan_who");
+    assert!((0..=calls::PLAN_WHO as u64).eq(places.iter().map(|(_, place)| *place)), "{places:?}");
+    assert_eq!(places[calls::PLAN_WHO].0, "PLAN_WHO_NUMBERS");
+}

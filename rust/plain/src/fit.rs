@@ -163,7 +163,7 @@ fn placed(board: &Board) -> Vec<Placed> {
 
 /// What the root bus needs of a pool: from its base to the granule's edge after the last item.
 fn bytes_of(board: &Board, items: &[Placed], pool: Pool) -> u64 {
-    let last = items.iter().filter(|one| one.on_root && one.item.pool == pool).next_back();
+    let last = items.iter().rfind(|one| one.on_root && one.item.pool == pool);
     let length = last.map_or(0, |last| {
         let end = last.end().next_multiple_of(pool.granule().into());
         end.min(TOLD) - base(&board.host.pools[pool as usize])

@@ -126,6 +126,21 @@ fn a_gap_before_another() {
     assert_eq!(fit(&board).needs.bytes, [33 * MIB, 0, 0]);
 }
 
+/// The example of docs/FORMATS.md: 7 MiB are needed of 16, and with 6 the last card ends past the pool.
+#[test]
+fn the_example_of_the_formats() {
+    let mut board = Board { low: (0xF800_0000, 0xF8FF_FFFF), high: CLOSED_HIGH, io: CLOSED_IO, ..Board::new() };
+    board.end(0, 0x00, &[memory(12)]);
+    let bridge = board.bridge(0, 0x08);
+    board.end(bridge, 0x00, &[memory(16), memory(21)]);
+    board.end(0, 0x10, &[memory(12)]);
+    assert_eq!(fit(&board), Fit { needs: Needs { buses: 2, bytes: [7 * MIB, 0, 0] }, ..Fit::default() });
+    board.low.1 = 0xF86F_FFFF;
+    assert_eq!(who(&board).0, 0);
+    board.low.1 = 0xF85F_FFFF;
+    assert_eq!(who(&board), (31, at(4, 0), at(2, LOW)));
+}
+
 /// Inside a bridge, behind a BAR of 64 KiB, one of 8 MiB loses most; on the root bus the bridge's window ends past the pool.
 #[test]
 fn a_gap_inside_a_bridge() {
