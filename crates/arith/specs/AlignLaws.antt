@@ -35,7 +35,7 @@ module _ (a : ℕ) (pos : 0 < a) where
   align-le-align-up x h = le-of-dvd (omega (arith, le-align-up x)) (dvd-of-mod-eq-zero a (align-up-multiple x))
 
   -- No multiple comes before it
-  align-up-least : (x m : ℕ) → x ≤ m → Multiple a m → alignUp a x ≤ m
+  pub align-up-least : (x m : ℕ) → x ≤ m → Multiple a m → alignUp a x ≤ m
   unfolding alignUp
   align-up-least x m h e =
       let q : ℕ = (x + (a - 1)) / a in

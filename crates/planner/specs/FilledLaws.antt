@@ -17,7 +17,7 @@ use Rattle.plan_rule.specs.SizingLaws.{laid-ext}
 use Rattle.board_record.specs.declared.Host.{Host}
 use Rattle.board_record.specs.declared.Function.{Function}
 use Rattle.board_record.specs.Function.{isBridge, spareLow}
-use Rattle.board.specs.Board.{boardNumber, hostOf, functionsOf}
+use Rattle.board.specs.Board.{boardNumber, functionsOf}
 use Rattle.board.specs.ToPlacing.{toHost, toPlacing}
 use Rattle.plan_sizing.specs.declared.Laid.{Laid}
 use Rattle.plan_sizing.specs.Cut.{cut}
@@ -65,7 +65,7 @@ module _ {ps hs ss ps' hs' ss' : List ℕ} {n : ℕ} (b : List ℕ) (e : boardNu
         memo-room = omega (arith, few, memo-room);
       }
 
-  module _ {h : Host} {counts' memo' : List ℕ} {m : Measured} (host-is : h ≡ hostOf b)
+  module _ {h : Host} {counts' memo' : List ℕ} {m : Measured}
       (s : CountedAndSized ps' hs' ss' n h counts memo counts' memo' m) where
     few : length (functionsOf b) ≤ mostFunctions
     few = omega (arith, filled-few b e room filled, filled .count)
@@ -73,13 +73,12 @@ module _ {ps hs ss ps' hs' ss' : List ℕ} {n : ℕ} (b : List ℕ) (e : boardNu
     counted : AllCounted (toPlacing (functionsOf b)) counts' (length (functionsOf b)) (m .bridges)
     counted = counted-filled b e room filled (s .counted)
 
-    root-is : m .root ≡ cut (busLaid (toPlacing (functionsOf b)) 0 (rootLaid (toHost (hostOf b))))
+    root-is : m .root ≡ cut (busLaid (toPlacing (functionsOf b)) 0 (rootLaid (toHost h)))
     root-is =
         s .sized .laid
         ∙ ap (λ (fs : List placing.Function). cut (busLaid fs 0 (rootFrom (basesOf (h .low .base) (h .high .base) (h .io .base)))))
         (functions-filled b e room filled)
         ∙ ap (λ (l : laid.Laid). cut (busLaid (toPlacing (functionsOf b)) 0 l)) (root-from-bases h)
-        ∙ ap (λ (x : Host). cut (busLaid (toPlacing (functionsOf b)) 0 (rootLaid (toHost x)))) host-is
 
     stored : (i : ℕ) (f : Function) → RecordAt (functionsOf b) i f → isBridge f ≡ true → laidAt memo' i
         ≡ below (toPlacing (functionsOf b)) i (spareLow f)
@@ -94,7 +93,7 @@ module _ {ps hs ss ps' hs' ss' : List ℕ} {n : ℕ} (b : List ℕ) (e : boardNu
         ∙ ap₂ (λ (fs : List placing.Function) (x : ℕ). below fs i (sparesIn x % 65536)) (functions-filled b e room filled) head
         ∙ ap (λ (x : ℕ). below (toPlacing (functionsOf b)) i (x % 65536)) (spares-of-head f)
 
-    pub measured : IsMeasured b counts' memo' m
+    pub measured : IsMeasured b h counts' memo' m
     measured =
         let sized-functions = functionsIn (take n ps') (take n hs') (take (6 * n) ss') in
         record {

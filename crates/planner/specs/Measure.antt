@@ -13,7 +13,7 @@ use Rattle.board_record.specs.declared.Span.{Span}
 use Rattle.board_record.specs.declared.Host.{Host}
 use Rattle.board_record.specs.declared.Function.{Function}
 use Rattle.board_record.specs.Function.{isBridge, spareLow}
-use Rattle.board.specs.Board.{hostOf, functionsOf}
+use Rattle.board.specs.Board.{functionsOf}
 use Rattle.board.specs.ToPlacing.{toHost, toPlacing}
 use Rattle.plan_sizing.specs.Cut.{cut}
 use Rattle.plan_sizing.specs.Functions.{functionsIn}
@@ -52,12 +52,12 @@ pub record CountedAndSized (ps hs ss : List ℕ) (n : ℕ) (h : Host) (counts me
   pub sized : BoardSized (functionsIn (take n ps) (take n hs) (take (6 * n) ss)) (basesOf (h .low .base) (h .high .base) (h .io .base))
       memo memo' (m .root)
 
--- the board measured: its functions and the bus numbers they take, what its root bus comes to, and the arrays that count those numbers and
--- keep what lies below each bridge
-pub record IsMeasured (b counts memo : List ℕ) (m : Measured) : Type 0 where
+-- the board measured: its functions and the bus numbers they take, what its root bus comes to from the bases of h, and the arrays that
+-- count those numbers and keep what lies below each bridge
+pub record IsMeasured (b : List ℕ) (h : Host) (counts memo : List ℕ) (m : Measured) : Type 0 where
   pub functions : m .functions ≡ length (functionsOf b)
   pub bridges-are : m .bridges ≡ bridges (toPlacing (functionsOf b))
-  pub root : m .root ≡ cut (busLaid (toPlacing (functionsOf b)) 0 (rootLaid (toHost (hostOf b))))
+  pub root : m .root ≡ cut (busLaid (toPlacing (functionsOf b)) 0 (rootLaid (toHost h)))
   pub few-buses : m .bridges ≤ mostTaken * mostFunctions
   pub counts-room : 2 * length (functionsOf b) + 2 ≤ length counts
   pub counted : Counted (toPlacing (functionsOf b)) counts (length (functionsOf b))

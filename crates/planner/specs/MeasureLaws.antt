@@ -18,6 +18,7 @@ use Rattle.plan_rule.specs.Layout.{Piece, isOn, select, layoutEnd, largestAlign
 use Rattle.plan_rule.specs.LayoutLaws.{HasAlign, le-end-at, le-layout-end}
 use Rattle.plan_rule.specs.Pieces.{pieces}
 use Rattle.plan_rule.specs.PieceLaws.{Shaped, has-align, pieces-shaped}
+use Rattle.plan_rule.specs.Numbering.{bridges}
 use Rattle.plan_rule.specs.declared.Extent.{Extent}
 use Rattle.plan_rule.specs.Sizing.{extend, busLaid, rootLaid, endsPast}
 use Rattle.plan_rule.specs.ExtentLaws.{extend-align}
@@ -40,7 +41,7 @@ use Rattle.planner.specs.Measure.{runsOut, refusalBy, IsMeasured}
 abbrev pub OpenEndsLow : placing.Host → Pool → Type 0
 OpenEndsLow h q = h .base q ≤ h .last q → h .last q < 4503599627370496
 
-open-ends-low : {h : placing.Host} → HostEdges h → (q : Pool) → OpenEndsLow h q
+pub open-ends-low : {h : placing.Host} → HostEdges h → (q : Pool) → OpenEndsLow h q
 open-ends-low e Low o = omega (arith, e .low-ends-below-4-GiB o)
 open-ends-low e High o = e .high-ends-below-2^52 o
 open-ends-low e Io o = omega (arith, e .io-ends-below-64-KiB o)
@@ -48,7 +49,7 @@ open-ends-low e Io o = omega (arith, e .io-ends-below-64-KiB o)
 -- ---- one pool
 
 -- whatever is laid out from a base on ends past it
-past-base : (l base : ℕ) → l ≤ base → (ps : List Piece) → All Shaped ps → (ltb 0 (largestAlign ps) && ltb l (layoutEnd base ps))
+pub past-base : (l base : ℕ) → l ≤ base → (ps : List Piece) → All Shaped ps → (ltb 0 (largestAlign ps) && ltb l (layoutEnd base ps))
     ≡ ltb 0 (largestAlign ps)
 unfolding layoutEnd largestAlign
 past-base l base g [] h = refl
@@ -77,44 +78,56 @@ module _ (h : placing.Host) (fs : List placing.Function) (lawful : Lawful fs) (q
       ∙ omega arith in
       out-of-pool-end h fs lawful q ∙ past-base (suc (h .last q)) (h .base q) closed content content-shaped ∙ ap (ltb 0) (sym align)
 
--- a pool runs out exactly when the code finds so, from what it kept of the root bus
+-- a pool's base and last, read by its name
+pub base-of-span : (h : Host) (q : Pool) → spanOf h q .base ≡ toHost h .base q
+base-of-span h Low = refl
+base-of-span h High = refl
+base-of-span h Io = refl
+
+pub last-of-span : (h : Host) (q : Pool) → spanOf h q .last ≡ toHost h .last q
+last-of-span h Low = refl
+last-of-span h High = refl
+last-of-span h Io = refl
+
+-- a pool runs out exactly when the code finds so, from the root bus's alignment and, of an open pool, its end up to 2^62
+module _ (h : Host) (fs : List placing.Function) (lawful : Lawful fs) (q : Pool) (e : Extent) where
+  abbrev laid : Extent
+  laid = busLaid fs 0 (rootLaid (toHost h)) .extent q
+
+  pub runs-out-at : e .align ≡ laid .align → (toHost h .base q ≤ toHost h .last q → e ≡ capped laid) → OpenEndsLow (toHost h) q
+      → (x : Span) → x .base ≡ toHost h .base q → x .last ≡ toHost h .last q → runsOut x e ≡ outOfPool (toHost h) fs q
+  runs-out-at align ended low x b l = go (ltb (x .last) (x .base)) refl
+    where
+      go : (t : Bool) → ltb (x .last) (x .base) ≡ t → cond t (ltb 0 (e .align)) (endsPast (x .last) e) ≡ outOfPool (toHost h) fs q
+      go true g = ap (ltb 0) align ∙ sym (out-of-closed (toHost h) fs lawful q (omega (arith, ltb-true (x .last) (x .base) g, b, l)))
+      go false g =
+          let opens : toHost h .base q ≤ toHost h .last q = omega (arith, ltb-false (x .last) (x .base) g, b, l) in
+          ap₂ endsPast l (ended opens) ∙ sym (out-of-pool-capped (toHost h) fs lawful q (low opens))
+
 module _ (h : Host) (fs : List placing.Function) (lawful : Lawful fs) (r : Laid) (e : r ≡ cut (busLaid fs 0 (rootLaid (toHost h)))) where
   kept-end : (q : Pool) → extentIn r q ≡ capped (busLaid fs 0 (rootLaid (toHost h)) .extent q)
   kept-end Low = ap (λ (x : Laid). x .low) e
   kept-end High = ap (λ (x : Laid). x .high) e
   kept-end Io = ap (λ (x : Laid). x .io) e
 
-  runs-out-at : (q : Pool) (x : Span) → x .base ≡ toHost h .base q → x .last ≡ toHost h .last q → OpenEndsLow (toHost h) q
-      → runsOut x (extentIn r q) ≡ outOfPool (toHost h) fs q
-  runs-out-at q x b l low = go (ltb (x .last) (x .base)) refl
-    where
-      align : extentIn r q .align ≡ busLaid fs 0 (rootLaid (toHost h)) .extent q .align
-      align = ap (λ (y : Extent). y .align) (kept-end q)
-
-      go : (t : Bool) → ltb (x .last) (x .base) ≡ t
-          → cond t (ltb 0 (extentIn r q .align)) (endsPast (x .last) (extentIn r q)) ≡ outOfPool (toHost h) fs q
-      go true g = ap (ltb 0) align ∙ sym (out-of-closed (toHost h) fs lawful q (omega (arith, ltb-true (x .last) (x .base) g, b, l)))
-      go false g =
-          let opens : toHost h .base q ≤ toHost h .last q = omega (arith, ltb-false (x .last) (x .base) g, b, l) in
-          ap₂ endsPast l (kept-end q) ∙ sym (out-of-pool-capped (toHost h) fs lawful q (low opens))
-
   pub runs-out-is : (q : Pool) → OpenEndsLow (toHost h) q → runsOut (spanOf h q) (extentIn r q) ≡ outOfPool (toHost h) fs q
-  runs-out-is Low = runs-out-at Low (h .low) refl refl
-  runs-out-is High = runs-out-at High (h .high) refl refl
-  runs-out-is Io = runs-out-at Io (h .io) refl refl
+  runs-out-is q low =
+      let kept = kept-end q in
+      runs-out-at h fs lawful q (extentIn r q) (ap (λ (y : Extent). y .align) kept) (λ _. kept) low (spanOf h q) (base-of-span h q)
+      (last-of-span h q)
 
 -- ---- the number
 
-pub refusal-by-is : {counts memo : List ℕ} {m : Measured} (b : List ℕ) → Bytes b → boardNumber b ≡ 0 → IsMeasured b counts memo m
-    → refusalBy (hostOf b) m ≡ refusalOf (toHost (hostOf b)) (toPlacing (functionsOf b))
+-- from whether each pool runs out
+pub refusal-by-out : (h : Host) (fs : List placing.Function) (m : Measured) → m .bridges ≡ bridges fs
+    → ((q : Pool) → runsOut (spanOf h q) (extentIn (m .root) q) ≡ outOfPool (toHost h) fs q) → refusalBy h m ≡ refusalOf (toHost h) fs
 unfolding refusalBy refusalOf
+refusal-by-out h fs m buses out = rw (buses, out Low, out High, out Io)
+
+pub refusal-by-is : {counts memo : List ℕ} {m : Measured} (b : List ℕ) → Bytes b → boardNumber b ≡ 0
+    → IsMeasured b (hostOf b) counts memo m
+    → refusalBy (hostOf b) m ≡ refusalOf (toHost (hostOf b)) (toPlacing (functionsOf b))
 refusal-by-is {m = m} b bytes accepted is =
     let board = board-of-accepted b bytes accepted in
-    let out = runs-out-is (hostOf b) (toPlacing (functionsOf b)) (board .lawful) (m .root) (is .root) in
-    rw (
-      is .bridges-are,
-      out Low (open-ends-low (board .edges) Low),
-      out High (open-ends-low (board .edges) High),
-      out Io
-          (open-ends-low (board .edges) Io),
-    )
+    refusal-by-out (hostOf b) (toPlacing (functionsOf b)) m (is .bridges-are)
+    (λ q. runs-out-is (hostOf b) (toPlacing (functionsOf b)) (board .lawful) (m .root) (is .root) q (open-ends-low (board .edges) q))

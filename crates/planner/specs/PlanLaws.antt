@@ -1,5 +1,5 @@
 -- The planner's answers, in the words of its code. Assumes nothing.
-use mathlib.Core.Path.{_≡_, sym, ap, _∙_}
+use mathlib.Core.Path.{_≡_, sym, ap, subst, _∙_}
 use mathlib.Core.List.{List, _++_}
 use Prim.Native.Nat.{ℕ, _+_, _≤_, _<_}
 use native.Mathlib.Nat.{zero-add}
@@ -77,9 +77,10 @@ host-read-is b e part host = host ∙ ap hostOfPart part ∙ sym (accepted-of-ze
 
 module _ {h : Host} {counts memo : List ℕ} {m : Measured} {n : ℕ} (b : List ℕ) (bytes : Bytes b) (accepted : boardNumber b ≡ 0)
     (host-is : h ≡ hostOf b)
-    (is : IsMeasured b counts memo m) (number : n ≡ refusalBy h m) where
+    (is : IsMeasured b h counts memo m) (number : n ≡ refusalBy h m) where
   number-is : n ≡ refusalOf (toHost (hostOf b)) (toPlacing (functionsOf b))
-  number-is = number ∙ ap (λ (x : Host). refusalBy x m) host-is ∙ refusal-by-is b bytes accepted is
+  number-is = number ∙ ap (λ (x : Host). refusalBy x m) host-is
+      ∙ refusal-by-is b bytes accepted (subst (λ (x : Host). IsMeasured b x counts memo m) host-is is)
 
   size-is : {size : ℕ} → size ≡ sheetLength (m .functions) → size ≡ sheetLength (length (functionsOf b))
   size-is e = e ∙ ap sheetLength (is .functions)

@@ -72,7 +72,7 @@ module _ (h : placing.Host) (fs : List placing.Function) (board : Board h fs) (k
   room-by-last = record { kept = kept-by-last; low = below-2^52; fits = in-bound }
 
 pub placing-of-measured : {h : Host} {counts memo : List ℕ} {m : Measured} (b sheet : List ℕ) → Bytes b → boardNumber b ≡ 0 → h ≡ hostOf b
-    → IsMeasured b counts memo m → refusalOf (toHost (hostOf b)) (toPlacing (functionsOf b)) ≡ 0
+    → IsMeasured b h counts memo m → refusalOf (toHost (hostOf b)) (toPlacing (functionsOf b)) ≡ 0
     → sheetLength (length (functionsOf b)) ≤ length sheet
     → Placing b h counts memo sheet
 placing-of-measured {h} {counts} {memo} b sheet bytes accepted host-is is planned fits =

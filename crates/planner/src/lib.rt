@@ -69,9 +69,9 @@ fn plan_lawful(board: &[u8], sheet: &mut [u8]) -> Planning
 
 // One pass fills the arrays, one counts the bus numbers that the functions take, one sizes every bus.
 fn measure(board: &[u8], host: Host, counts: &mut [u8], memo: &mut [u64]) -> Measured
-    requires { ⌜ (boardNumber (now board) ≡ 0) × (host ≡ hostOf (now board)) ⌝ }
+    requires { ⌜ boardNumber (now board) ≡ 0 ⌝ }
     requires { ⌜ (2 * mostFunctions + 2 ≤ length (now counts)) × (7 * mostFunctions ≤ length (now memo)) ⌝ }
-    ensures { λ r. ⌜ IsMeasured (now (board .entry)) (now (counts .exit)) (now (memo .exit)) r ⌝ }
+    ensures { λ r. ⌜ IsMeasured (now (board .entry)) host (now (counts .exit)) (now (memo .exit)) r ⌝ }
 {
     let mut parents = [0u16; MOST_FUNCTIONS];
     let mut heads = [0u32; MOST_FUNCTIONS];

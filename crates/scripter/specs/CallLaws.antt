@@ -1,5 +1,5 @@
 -- The call's answers, in the words of its code. Assumes nothing.
-use mathlib.Core.Path.{_≡_, refl, sym, ap, _∙_}
+use mathlib.Core.Path.{_≡_, refl, sym, ap, subst, _∙_}
 use mathlib.Core.List.{List, _++_}
 use Prim.Native.Nat.{ℕ, _+_, _*_, _≤_, _<_}
 use native.Mathlib.Nat.{zero-add}
@@ -61,9 +61,10 @@ room-after-is b requester tag room e g = g ∙ ap (λ (p : Scripting). roomAs p 
 -- ---- a lawful one
 
 module _ {h : Host} {counts memo : List ℕ} {m : Measured} {n : ℕ} (b : List ℕ) (bytes : Bytes b) (accepted : boardNumber b ≡ 0)
-    (host-is : h ≡ hostOf b) (is : IsMeasured b counts memo m) (number : n ≡ refusalBy h m) where
+    (host-is : h ≡ hostOf b) (is : IsMeasured b h counts memo m) (number : n ≡ refusalBy h m) where
   number-is : n ≡ refusalOf (toHost (hostOf b)) (toPlacing (functionsOf b))
-  number-is = number ∙ ap (λ (x : Host). refusalBy x m) host-is ∙ refusal-by-is b bytes accepted is
+  number-is = number ∙ ap (λ (x : Host). refusalBy x m) host-is
+      ∙ refusal-by-is b bytes accepted (subst (λ (x : Host). IsMeasured b x counts memo m) host-is is)
 
   pub script-refused : (size room : ℕ) → ¬ (n ≡ 0) → Refused n ≡ scriptingAs (onBoard (hostOf b) (functionsOf b) fullSheet) size room
   script-refused size room some =

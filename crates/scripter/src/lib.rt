@@ -81,9 +81,9 @@ fn script_lawful(board: &[u8], requester: u16, tag: u8, room: &mut [u8]) -> Scri
 // The planner's measuring, with its tables, once more: shared by two calls it would be a function of its own, and its tables would lie on
 // top of the cursors' array in both. Inlined into each, they take the same place.
 fn measure(board: &[u8], host: Host, counts: &mut [u8], memo: &mut [u64]) -> Measured
-    requires { ⌜ (boardNumber (now board) ≡ 0) × (host ≡ hostOf (now board)) ⌝ }
+    requires { ⌜ boardNumber (now board) ≡ 0 ⌝ }
     requires { ⌜ (2 * mostFunctions + 2 ≤ length (now counts)) × (7 * mostFunctions ≤ length (now memo)) ⌝ }
-    ensures { λ r. ⌜ IsMeasured (now (board .entry)) (now (counts .exit)) (now (memo .exit)) r ⌝ }
+    ensures { λ r. ⌜ IsMeasured (now (board .entry)) host (now (counts .exit)) (now (memo .exit)) r ⌝ }
 {
     let mut parents = [0u16; MOST_FUNCTIONS];
     let mut heads = [0u32; MOST_FUNCTIONS];

@@ -31,7 +31,7 @@ count-and-size-requires c κs =
     let at-fill = c .before .before .before .before .before .before .before .before in
     let fill = at-fill .fill in
     let pre = at-fill .before .before .before .before .before .before .before .pre in
-    measurable _ (pre .0 .0) (record { parents = omega arith; heads = omega arith; readbacks = omega arith }) (fill .ensures) _ _
+    measurable _ (pre .0) (record { parents = omega arith; heads = omega arith; readbacks = omega arith }) (fill .ensures) _ _
     (pre .1 .0) (pre .1 .1)
 
 same-length : tie.Need-same-length
@@ -46,8 +46,8 @@ returns c =
     let at-fill = c .before .before .before .before .before .before .before .before .before .before .before .before .before in
     let fill = at-fill .fill in
     let pre = at-fill .before .before .before .before .before .before .before .pre in
-    measured _ (pre .0 .0) (record { parents = omega arith; heads = omega arith; readbacks = omega arith }) (fill .ensures) _ _
-    (pre .1 .0) (pre .1 .1) (pre .0 .1) (count-and-size .ensures)
+    measured _ (pre .0) (record { parents = omega arith; heads = omega arith; readbacks = omega arith }) (fill .ensures) _ _
+    (pre .1 .0) (pre .1 .1) (count-and-size .ensures)
 
 pub measure-spec : {M : Type 1} → statement M
 measure-spec =

@@ -30,12 +30,7 @@ slice-aggregate-measure-2 c = search needs
 
 measure-requires : tie.Need-measure-requires
 measure-requires c κs =
-    let at-args = c .before .before .before .before .before .before in
-    let args = at-args .args in
-    let pre = at-args .pre in (
-      (pre, (host-read-is (args .board .now) pre (c .before .before .before .part-at .ensures) (c .before .before .host-of .ensures))),
-      (omega arith, omega arith),
-    )
+    let pre = c .before .before .before .before .before .before .pre in (pre, (omega arith, omega arith))
 
 refusal-requires : tie.Need-refusal-requires
 refusal-requires c κs = c .before .before .measure .ensures .few-buses

@@ -34,14 +34,7 @@ slice-aggregate-measure-2 c = search needs
 
 measure-requires : tie.Need-measure-requires
 measure-requires c κs =
-    let at-host-of = c .before .before in
-    let host-of = at-host-of .host-of in
-    let at-part-at = at-host-of .before in
-    let part-at = at-part-at .part-at in
-    let at-args = at-part-at .before .before .before in
-    let pre = at-args .pre in
-    let args = at-args .args in
-    ((pre, (host-read-is (args .board .now) pre (part-at .ensures) (host-of .ensures))), (omega arith, omega arith))
+    let pre = c .before .before .before .before .before .before .pre in (pre, (omega arith, omega arith))
 
 refusal-requires : tie.Need-refusal-requires
 refusal-requires c κs = c .before .before .measure .ensures .few-buses
