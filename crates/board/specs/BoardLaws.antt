@@ -23,7 +23,8 @@ use Rattle.board_record.specs.Function.{isShort, functionOfPart, wrongIn, heade
 use Rattle.board_record.specs.FunctionLaws.{right-of-version}
 use Rattle.board_record.specs.Rules.{breaks}
 use Rattle.board.specs.Pass.{anyBreaks}
-use Rattle.board_order.specs.Order.{anyMisplaced}
+use Rattle.board_order.specs.Order.{anyMisplaced, firstMisplaced}
+use Rattle.board_order.specs.OrderLaws.{any-misplaced-agree}
 use Rattle.board.specs.Board.{misframed, fromReadbacks, fromOrder, fromEdges, fromHeaders, fromCount, fromFrame, fromVersion}
 use Rattle.board.specs.Board.{isVersion, boardNumber, hostOf, functionsOf}
 
@@ -145,6 +146,14 @@ module _ (fs : List Function) where
   pub past-order : anyMisplaced 0 [] fs ≡ false → fromOrder fs ≡ fromReadbacks fs
   unfolding fromOrder
   past-order e = rw e
+
+-- 23 by the first that is misplaced: k is its number, 0 where none is
+module _ (fs : List Function) (k : ℕ) (first : k ≡ firstMisplaced 0 [] fs) where
+  pub none-misplaced : k ≡ 0 → anyMisplaced 0 [] fs ≡ false
+  none-misplaced z = any-misplaced-agree 0 [] fs ∙ rw (sym first ∙ z)
+
+  pub some-misplaced : (k ≡ 0 → ⊥) → anyMisplaced 0 [] fs ≡ true
+  some-misplaced d = any-misplaced-agree 0 [] fs ∙ rw (← first, ne-eqb k 0 d)
 
 -- ---- what a board that is accepted keeps
 

@@ -38,7 +38,7 @@ pub fn check(board: &[u8]) -> u8
     if board_record::host_wrong(board_record::host_of(records::part_at(board, HOST, HOST_LENGTH))) {
         return 26;
     }
-    if board_order::misplaced(board) {
+    if board_order::first_misplaced(board) != 0 {
         return 23;
     }
     if any_breaks(Rule::ReadBacks, board) {

@@ -18,7 +18,7 @@ use Rattle.records.specs.Limits.{mostAbove}
 use Rattle.board_record.specs.declared.Function.{Function}
 use Rattle.board_order.specs.declared.Found.the-variants.{At, Nowhere}
 use Rattle.board_record.specs.Function.{isBridge, functionOfPart}
-use Rattle.board_order.specs.Stack.{Level, fresh, closeTo, unplacedAt, entered, enter, sharedAfter, unplacedFrom}
+use Rattle.board_order.specs.Stack.{Level, fresh, closeTo, unplacedAt, entered, enter, sharedAfter, firstUnplaced}
 use Rattle.board_order.specs.Levels.{levelAt, deepest, foundIn, openAfter}
 
 -- ---- finding
@@ -75,18 +75,18 @@ module _ (p : ℕ) (b n s : List ℕ) where
 -- ---- one function
 
 module _ (b n s : List ℕ) (k number : ℕ) (f : Function) (fs : List Function) where
-  pub order-nowhere : foundIn (f .parent) b k ≡ Nowhere → unplacedFrom number (deepest b n s k) (f ∷ fs) ≡ true
-  unfolding unplacedFrom
+  pub order-nowhere : foundIn (f .parent) b k ≡ Nowhere → firstUnplaced number (deepest b n s k) (f ∷ fs) ≡ suc number
+  unfolding firstUnplaced
   order-nowhere e = rw (closeTo-nowhere (f .parent) b n s k e)
 
   pub order-hit : (i : ℕ) → foundIn (f .parent) b k ≡ At i → unplacedAt (getD n i 0) (getD s i 0) i f ≡ true
-      → unplacedFrom number (deepest b n s k) (f ∷ fs) ≡ true
-  unfolding unplacedFrom deepest
+      → firstUnplaced number (deepest b n s k) (f ∷ fs) ≡ suc number
+  unfolding firstUnplaced deepest
   order-hit i e h = rw (closeTo-found (f .parent) b n s k i e, length-deepest (f .parent) b n s i, h)
 
   pub order-miss : (i : ℕ) → foundIn (f .parent) b k ≡ At i → unplacedAt (getD n i 0) (getD s i 0) i f ≡ false
-      → unplacedFrom number (deepest b n s k) (f ∷ fs) ≡ unplacedFrom (suc number) (enter (suc number) f (deepest b n s (suc i))) fs
-  unfolding unplacedFrom deepest
+      → firstUnplaced number (deepest b n s k) (f ∷ fs) ≡ firstUnplaced (suc number) (enter (suc number) f (deepest b n s (suc i))) fs
+  unfolding firstUnplaced deepest
   order-miss i e h = rw (closeTo-found (f .parent) b n s k i e, length-deepest (f .parent) b n s i, h)
 
 -- ---- what a function in its place changes
@@ -177,8 +177,8 @@ openAfter-le i f = go (isBridge f)
 
 pub order-turn : (s : List ℕ) (at n : ℕ) (f : Function) → nextOf (drop at s) ≡ Record n → f ≡ functionOfPart (take n (drop (at + 2) s))
     → (number : ℕ) (ls : List Level)
-    → unplacedFrom number ls (map functionOfPart (partsFrom s at))
-    ≡ unplacedFrom number ls (f ∷ map functionOfPart (partsFrom s (at + 2 + n)))
+    → firstUnplaced number ls (map functionOfPart (partsFrom s at))
+    ≡ firstUnplaced number ls (f ∷ map functionOfPart (partsFrom s (at + 2 + n)))
 order-turn s at n f e h number ls =
-    pass-record (λ (ps : List (List ℕ)). unplacedFrom number ls (map functionOfPart ps)) s at n e
-    ∙ ap (λ (g : Function). unplacedFrom number ls (g ∷ map functionOfPart (partsFrom s (at + 2 + n)))) (sym h)
+    pass-record (λ (ps : List (List ℕ)). firstUnplaced number ls (map functionOfPart ps)) s at n e
+    ∙ ap (λ (g : Function). firstUnplaced number ls (g ∷ map functionOfPart (partsFrom s (at + 2 + n)))) (sym h)

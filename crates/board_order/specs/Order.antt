@@ -52,3 +52,8 @@ misplaced n before f =
 unfoldable pub anyMisplaced : ℕ → List Function → List Function → Bool
 anyMisplaced n before [] = false
 anyMisplaced n before (f ∷ fs) = let later = anyMisplaced (suc n) (f ∷ before) fs in misplaced n before f || later
+
+-- the number of the first that is, 0 where none is
+unfoldable pub firstMisplaced : ℕ → List Function → List Function → ℕ
+firstMisplaced n before [] = 0
+firstMisplaced n before (f ∷ fs) = let later = firstMisplaced (suc n) (f ∷ before) fs in cond (misplaced n before f) (suc n) later

@@ -12,7 +12,7 @@ use Rattle.lists.specs.ListLaws.{all-imp, all-append}
 use Rattle.records.specs.Limits.{mostAbove}
 use Rattle.board_record.specs.declared.Function.{Function}
 use Rattle.board_record.specs.Function.{isBridge}
-use Rattle.board_order.specs.Order.{above, parents, lastSibling, hasFunctionZero, misplaced}
+use Rattle.board_order.specs.Order.{above, parents, lastSibling, hasFunctionZero, misplaced, anyMisplaced, firstMisplaced}
 
 -- ---- what 23 leaves true of a function and the records before it
 
@@ -40,6 +40,17 @@ placed-of-not-misplaced n before f e =
     go true p false q false t false u e = absurd (true≢false e)
     go true p false q false t true u e =
         record { parent-open = p; rising = ltb-false _ _ q; shallow = ltb-false _ _ t; function-zero = u }
+
+-- some function is misplaced where there is a first one
+pub any-misplaced-agree : (n : ℕ) (before fs : List Function) → anyMisplaced n before fs ≡ not (eqb (firstMisplaced n before fs) 0)
+unfolding anyMisplaced firstMisplaced
+any-misplaced-agree n before [] = refl
+any-misplaced-agree n before (f ∷ fs) = go (misplaced n before f) (any-misplaced-agree (suc n) (f ∷ before) fs)
+  where
+    go : (t : Bool) → anyMisplaced (suc n) (f ∷ before) fs ≡ not (eqb (firstMisplaced (suc n) (f ∷ before) fs) 0)
+        → (t || anyMisplaced (suc n) (f ∷ before) fs) ≡ not (eqb (cond t (suc n) (firstMisplaced (suc n) (f ∷ before) fs)) 0)
+    go true on = sym (ap not (ne-eqb (suc n) 0 (λ e. omega arith)))
+    go false on = on
 
 -- the records before a function, each in its place
 abbrev pub Ordered : List Function → Type 0

@@ -1,6 +1,6 @@
 -- Depth-first order told by the buses that are open, deepest first, each with what its next function is judged by. Assumes nothing.
 use Prim.Native.Nat.{ℕ, suc, _/_, _%_}
-use mathlib.Core.Bool.{Bool, true, false, cond, not, _||_}
+use mathlib.Core.Bool.{Bool, true, cond, not, _||_}
 use mathlib.Core.List.{List, [], _∷_}
 use lib.ListN.{length}
 use lib.Dec.{eqb, ltb}
@@ -47,8 +47,9 @@ abbrev pub enter : ℕ → Function → List Level → List Level
 enter k f [] = []
 enter k f (l ∷ ls) = opened k f (entered f l ∷ ls)
 
--- 23 of functions after record n, with these buses open
-unfoldable pub unplacedFrom : ℕ → List Level → List Function → Bool
-unplacedFrom n ls [] = false
-unplacedFrom n ls (f ∷ fs) =
-    unplaced (closeTo (f .parent) ls) f || unplacedFrom (suc n) (enter (suc n) f (closeTo (f .parent) ls)) fs
+-- the first of the functions after record n that is not in its place, with these buses open; 0 where each is
+unfoldable pub firstUnplaced : ℕ → List Level → List Function → ℕ
+firstUnplaced n ls [] = 0
+firstUnplaced n ls (f ∷ fs) =
+    let later = firstUnplaced (suc n) (enter (suc n) f (closeTo (f .parent) ls)) fs in
+    cond (unplaced (closeTo (f .parent) ls) f) (suc n) later

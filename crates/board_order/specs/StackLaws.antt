@@ -1,4 +1,4 @@
--- The open buses tell 23 as document 01 does: `unplacedFrom` from the host's bus on is `anyMisplaced`. Assumes nothing.
+-- The open buses tell 23 as document 01 does: `firstUnplaced` from the host's bus on is `firstMisplaced`. Assumes nothing.
 use mathlib.Core.Path.{_≡_, refl, sym, ap, ap₂, _∙_}
 use mathlib.Core.Bool.{Bool, true, false, cond, not, _&&_, _||_, false≢true}
 use mathlib.Core.List.{List, [], _∷_, map}
@@ -11,10 +11,12 @@ use Rattle.lists.specs.Lists.{All, any}
 use Rattle.records.specs.Limits.{mostAbove}
 use Rattle.board_record.specs.declared.Function.{Function}
 use Rattle.board_record.specs.Function.{isBridge}
-use Rattle.board_order.specs.Order.{above, parents, lastSibling, isShared, isFunctionZero, hasFunctionZero, misplaced, anyMisplaced}
+use Rattle.board_order.specs.Order.{above, parents, lastSibling, isShared, isFunctionZero, hasFunctionZero, misplaced}
+use Rattle.board_order.specs.Order.{firstMisplaced}
 use Rattle.board_order.specs.OrderLaws.{Placed, placed-of-not-misplaced, Ordered, upToHost, lt-up-to-host, fromOn, fromOn-none}
 use Rattle.board_order.specs.OrderLaws.{fromOn-parents, le-of-parent, parents-bridge, parents-end}
-use Rattle.board_order.specs.Stack.{Level, fresh, closeTo, unplacedAt, unplaced, entered, opened, enter, sharedAfter, unplacedFrom}
+use Rattle.board_order.specs.Stack.{Level, fresh, closeTo, unplacedAt, unplaced, entered, opened, enter, sharedAfter}
+use Rattle.board_order.specs.Stack.{firstUnplaced}
 
 -- ---- what the records before say of a bus
 
@@ -215,25 +217,22 @@ enter-levels before f o h =
 
 -- ---- all functions
 
-unplacedFrom-agree : (fs before : List Function) → Ordered before
-    → unplacedFrom (length before) (levels before) fs ≡ anyMisplaced (length before) before fs
-unfolding unplacedFrom anyMisplaced
-unplacedFrom-agree [] before o = refl
-unplacedFrom-agree (f ∷ fs) before o = go (misplaced (length before) before f) refl (unplacedFrom-agree fs (f ∷ before))
+firstUnplaced-agree : (fs before : List Function) → Ordered before
+    → firstUnplaced (length before) (levels before) fs ≡ firstMisplaced (length before) before fs
+unfolding firstUnplaced firstMisplaced
+firstUnplaced-agree [] before o = refl
+firstUnplaced-agree (f ∷ fs) before o = go (misplaced (length before) before f) refl (firstUnplaced-agree fs (f ∷ before))
   where
-    rest : List Level → Bool
-    rest ls = unplacedFrom (suc (length before)) (enter (suc (length before)) f ls) fs
-
     go : (t : Bool) → misplaced (length before) before f ≡ t
-        → (Ordered (f ∷ before) → unplacedFrom (suc (length before)) (levels (f ∷ before)) fs
-        ≡ anyMisplaced (suc (length before)) (f ∷ before) fs)
-        → unplacedFrom (length before) (levels before) (f ∷ fs) ≡ anyMisplaced (length before) before (f ∷ fs)
+        → (Ordered (f ∷ before) → firstUnplaced (suc (length before)) (levels (f ∷ before)) fs
+        ≡ firstMisplaced (suc (length before)) (f ∷ before) fs)
+        → firstUnplaced (length before) (levels before) (f ∷ fs) ≡ firstMisplaced (length before) before (f ∷ fs)
     go true e on = rw (unplaced-agree before f o, e)
     go false e on =
         let h = placed-of-not-misplaced (length before) before f e in
         rw (unplaced-agree before f o, e, enter-levels before f o h) (on (h, o))
 
 -- from the host's bus on
-pub unplaced-host : (fs : List Function) → unplacedFrom 0 (fresh 0 ∷ []) fs ≡ anyMisplaced 0 [] fs
+pub first-unplaced-host : (fs : List Function) → firstUnplaced 0 (fresh 0 ∷ []) fs ≡ firstMisplaced 0 [] fs
 unfolding parents lastSibling lastShared
-unplaced-host fs = unplacedFrom-agree fs [] tt
+first-unplaced-host fs = firstUnplaced-agree fs [] tt

@@ -8,7 +8,7 @@ ghost use Rattle.records.specs.Limits.{mostAbove};
 ghost use Rattle.records.specs.Records.{partsFrom, anyPart};
 ghost use Rattle.board_record.specs.Function.{functionOfPart, headerWrong};
 ghost use Rattle.board_record.specs.Host.{functionsAt};
-ghost use Rattle.board_order.specs.Order.{anyMisplaced};
+ghost use Rattle.board_order.specs.Order.{firstMisplaced};
 ghost use Rattle.board_order.specs.Stack.{unplacedAt, sharedAfter};
 ghost use Rattle.board_order.specs.Levels.{foundIn, openAfter};
 use records::MOST_ABOVE;
@@ -23,9 +23,10 @@ pub enum Found {
     Nowhere,
 }
 
-pub fn misplaced(board: &[u8]) -> bool
+// The number of the first function that is misplaced, 0 where none is.
+pub fn first_misplaced(board: &[u8]) -> usize
     requires { ⌜ anyPart headerWrong (partsFrom (now board) functionsAt) ≡ false ⌝ }
-    ensures { λ r. ⌜ r ≡ anyMisplaced 0 [] (map functionOfPart (partsFrom (now (board .entry)) functionsAt)) ⌝ }
+    ensures { λ r. ⌜ r ≡ firstMisplaced 0 [] (map functionOfPart (partsFrom (now (board .entry)) functionsAt)) ⌝ }
 {
     // of each level: the record that it is the bus of, one more than the device/function of its last function, and than the device of its
     // last function 0 that is not alone
@@ -38,21 +39,21 @@ pub fn misplaced(board: &[u8]) -> bool
     loop {
         match records::next_at(board, at) {
             Next::End => {
-                return false;
+                return 0;
             }
             Next::Broken => {
-                return false;
+                return 0;
             }
             Next::Record(n) => {
+                number += 1;
                 let part = records::part_at(board, at, n);
                 let Found::At(i) = level_of(&buses, levels, board_record::parent_of(part) as usize)
                 else {
-                    return true;
+                    return number;
                 };
                 if unplaced(part, i, nexts[i], shared[i]) {
-                    return true;
+                    return number;
                 }
-                number += 1;
                 nexts[i] = board_record::devfn_of(part) as usize + 1;
                 shared[i] = shared_after(shared[i], part);
                 buses[i + 1] = number;

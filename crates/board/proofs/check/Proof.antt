@@ -20,7 +20,7 @@ use Rattle.board.specs.PassLaws.{any-never}
 use Rattle.board.specs.Board.{misframed, fromReadbacks, fromOrder, fromEdges, fromHeaders, fromCount, fromFrame}
 use Rattle.board.specs.Board.{boardNumber}
 use Rattle.board.specs.BoardLaws.{any-map, host-of-framed, breaks-of-framed, framed, past-version, past-count, past-headers}
-use Rattle.board.specs.BoardLaws.{other-version, right-parts, past-edges, past-order}
+use Rattle.board.specs.BoardLaws.{other-version, right-parts, past-edges, past-order, none-misplaced, some-misplaced}
 
 -- the start of the call, from each check that is passed
 abbrev start-2 : tie.Else2 → tie.Start
@@ -91,7 +91,7 @@ past-6 : (c : tie.Else6) → boardNumber (bytes (start-6 c)) ≡ fromOrder (func
 past-6 c = past-5 (c .before .before .before .before) ∙ past-edges _ _ (sym (edges (c .before)) ∙ c .if6 .left)
 
 past-7 : (c : tie.Else7) → boardNumber (bytes (start-7 c)) ≡ fromReadbacks (functions (start-7 c))
-past-7 c = past-6 (c .before .before) ∙ past-order _ (sym (c .before .misplaced .ensures) ∙ c .if7 .left)
+past-7 c = past-6 (c .before .before) ∙ past-order _ (none-misplaced _ _ (c .before .first-misplaced .ensures) (c .if7 .left))
 
 readbacks : (c : tie.After-any-breaks2) → c .any-breaks2 .result ≡ any readbacksWrong (functions (start-7 (c .before)))
 readbacks c =
@@ -153,12 +153,12 @@ returns-6 : tie.Need-returns-6
 unfolding fromEdges
 returns-6 c = sym (past-5 (c .before .before .before .before) ∙ rw (sym (edges (c .before)) ∙ c .if6 .taken))
 
-misplaced-requires : tie.Need-misplaced-requires
-misplaced-requires c κs = records-right (c .before .before .before .before)
+first-misplaced-requires : tie.Need-first-misplaced-requires
+first-misplaced-requires c κs = records-right (c .before .before .before .before)
 
 returns-7 : tie.Need-returns-7
 unfolding fromOrder
-returns-7 c = sym (past-6 (c .before .before) ∙ rw (sym (c .before .misplaced .ensures) ∙ c .if7 .taken))
+returns-7 c = sym (past-6 (c .before .before) ∙ rw (some-misplaced _ _ (c .before .first-misplaced .ensures) (c .if7 .taken)))
 
 any-breaks-requires-2 : tie.Need-any-breaks-requires-2
 any-breaks-requires-2 c κs = records-right (c .before .before .before .before .before .before)
@@ -189,7 +189,7 @@ check-spec =
     host-of-requires
     host-wrong-requires
     returns-6
-    misplaced-requires
+    first-misplaced-requires
     returns-7
     any-breaks-requires-2
     returns-8
