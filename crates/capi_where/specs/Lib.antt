@@ -1,3 +1,3 @@
--- The call that tells who fails an audit: its answer, and that in the words of its code.
+-- The calls that tell who fails an audit and what does not fit of a board: their answers, and those in the words of their code.
 pub mod Calls
 pub mod CallsLaws

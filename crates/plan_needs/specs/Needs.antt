@@ -1,0 +1,32 @@
+-- What a lawful board needs of its host: bus numbers, and bytes of each pool from its base. Assumes nothing.
+use mathlib.Core.List.{List, [], _∷_}
+use Prim.Native.Nat.{ℕ, suc, _-_}
+use Rattle.arith.specs.Align.{alignUp}
+use Rattle.plan_rule.specs.Pools.{Pool, low, high, io, granule}
+use Rattle.plan_rule.specs.Records.{Host, Function}
+use Rattle.plan_rule.specs.Layout.{Piece, select, layoutEnd}
+use Rattle.plan_rule.specs.Pieces.{pieces}
+use Rattle.plan_rule.specs.Numbering.{bridges}
+use Rattle.plan_rule.specs.Cap.{cap}
+use Rattle.plan_needs.specs.declared.Needs.{Needs}
+use Rattle.plan_needs.specs.Bases.{layoutBase}
+
+-- the root bus's number, and those of the bridges and their spares
+abbrev pub busesNeeded : List Function → ℕ
+busesNeeded fs = suc (bridges fs)
+
+-- what is laid out from the base, to the granule's edge after it; nothing where there is nothing
+abbrev pub lengthFrom : ℕ → Pool → List Piece → ℕ
+lengthFrom base q [] = 0
+lengthFrom base q (p ∷ ps) = cap (alignUp (granule q) (layoutEnd base (p ∷ ps))) - base
+
+unfoldable pub bytesNeeded : Host → List Function → Pool → ℕ
+bytesNeeded h fs q = lengthFrom (layoutBase h q) q (select 0 q (pieces 1 fs))
+
+unfoldable pub needsOf : Host → List Function → Needs
+needsOf h fs =
+    record { buses = busesNeeded fs; low = bytesNeeded h fs low; high = bytesNeeded h fs high; io = bytesNeeded h fs io }
+
+-- of a board that is not lawful
+abbrev pub noNeeds : Needs
+noNeeds = record { buses = 0; low = 0; high = 0; io = 0 }

@@ -1,0 +1,74 @@
+// What a lawful board needs of its host: bus numbers, and bytes of each pool from its base.
+ghost use mathlib.Core.Path.{_≡_};
+ghost use Prim.Native.Nat.{_≤_, _<_};
+ghost use Rattle.plan_rule.specs.Cap.{cap};
+ghost use Rattle.plan_needs.specs.Bases.{laidSpan, laidHostOf};
+ghost use Rattle.plan_needs.specs.Measured.{bytesBy, needsBy, PastBases};
+use board_record::Host;
+use board_record::Span;
+use plan_rule::Extent;
+use plan_sizing::Laid;
+use pools::Pool;
+
+// So many bus numbers, the root bus's among them, and so many bytes of each pool, told up to 2^62.
+pub struct Needs {
+    pub buses: u32,
+    pub low: u64,
+    pub high: u64,
+    pub io: u64,
+}
+
+// The host with each closed pool at 0, where it is laid out from.
+pub fn laid_host(h: Host) -> Host
+    ensures { λ r. ⌜ r ≡ laidHostOf h ⌝ }
+{
+    let low = h.low;
+    let high = h.high;
+    let io = h.io;
+    Host {
+        first_bus: h.first_bus,
+        last_bus: h.last_bus,
+        low: laid_span(low),
+        high: laid_span(high),
+        io: laid_span(io),
+    }
+}
+
+fn laid_span(x: Span) -> Span
+    ensures { λ r. ⌜ r ≡ laidSpan x ⌝ }
+{
+    if x.last < x.base {
+        return Span {
+            base: 0,
+            last: x.last,
+        };
+    }
+    x
+}
+
+// What a board needs whose bridges and their spares take so many numbers, and whose root bus comes to this from the bases of `laid`.
+pub fn needs_of(laid: Host, bridges: u32, root: Laid) -> Needs
+    requires { ⌜ (bridges < 4294967295) × PastBases laid root ⌝ }
+    ensures { λ r. ⌜ r ≡ needsBy laid bridges root ⌝ }
+{
+    let low = laid.low;
+    let high = laid.high;
+    let io = laid.io;
+    Needs {
+        buses: bridges + 1,
+        low: bytes_of(Pool::Low, low.base, root.low),
+        high: bytes_of(Pool::High, high.base, root.high),
+        io: bytes_of(Pool::Io, io.base, root.io),
+    }
+}
+
+// From the base to the granule's edge at or after the end; nothing where there is no item.
+fn bytes_of(q: Pool, base: u64, e: Extent) -> u64
+    requires { ⌜ base ≤ cap (e .end) ⌝ }
+    ensures { λ r. ⌜ r ≡ bytesBy q base e ⌝ }
+{
+    if e.align == 0 {
+        return 0;
+    }
+    plan_rule::window_size(q, e.end) - base
+}
