@@ -3,5 +3,4 @@ pub mod Line
 pub mod Engine
 pub mod Bounds
 pub mod LineLaws
-pub mod Label
 pub mod LabelLaws

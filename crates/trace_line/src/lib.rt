@@ -2,33 +2,25 @@
 // `2 IOWr refused 40`, looked up by one of two engines.
 ghost use mathlib.Core.Path.{_≡_};
 ghost use mathlib.Core.Bool.{true};
-ghost use mathlib.Core.List.{_++_};
-ghost use Prim.Native.Nat.{_%_, _≤_};
+ghost use Prim.Native.Nat.{_≤_};
 ghost use lib.ListN.{length, getD};
-ghost use Rattle.text.specs.Text.{Put, ascii};
-ghost use Rattle.packet_text.specs.Labels.{kindText};
-ghost use Rattle.pairs.specs.declared.Kind.the-variants.{Memory as MemoryOf, Io as IoOf, Config as ConfigOf, Completion as CompletionOf};
+ghost use Rattle.text.specs.Text.{Put};
 ghost use Rattle.packet.specs.declared.Packet.{Packet as PacketOf};
-ghost use Rattle.packet.specs.Fields.{kindOf};
 ghost use Rattle.tlp_kinds.specs.Kinds.{isMemory, isIo, isConfig, isCompletion};
 ghost use Rattle.sheet.specs.Sheet.{sheetNumber};
 ghost use Rattle.route_answer.specs.Routing.{answer};
 ghost use Rattle.route.specs.Route.{fromSheet};
 ghost use Rattle.index_search.specs.Search.{outcomeBy};
+ghost use Rattle.trace_label.specs.Label.{wayText, Labels, Told};
 ghost use Rattle.trace_line.specs.declared.Engine.the-variants.{Index as ByIndex};
 ghost use Rattle.trace_line.specs.Line.{ownerText};
 ghost use Rattle.trace_line.specs.Engine.{Knows, packetBy, labelBy, lineBy};
-ghost use Rattle.trace_line.specs.Label.{nameIn, Names, wayText, Labels, Told, Over};
 use packet::Packet;
-use pairs::CompletionKind;
-use pairs::ConfigKind;
-use pairs::IoKind;
-use pairs::MemoryKind;
-use pairs::MessageKind;
 use route_answer::Routing;
-use text::put_named;
 use text::put_text;
 use tlp::Reading;
+use trace_label::Label;
+use trace_label::untold;
 
 // What a header is looked up in, whose bytes are lent beside it: a sheet, whose own number is known, so that who labels many headers over
 // one sheet checks it once; or an index.
@@ -36,29 +28,6 @@ pub enum Engine {
     Sheet(u8),
     Index,
 }
-
-// What a header is labelled with, made before its line is begun: a space and the kind's name or `-` in a word, where the packet goes, and
-// the owner's number or the refusal's.
-struct Label {
-    name: u64,
-    way: u8,
-    number: u16,
-}
-
-// Where a packet goes. As plain numbers a label is quicker than as an enum (docs/PROVING.md).
-const OWNER: u8 = 0;
-
-const REFUSED: u8 = 1;
-
-const ALL: u8 = 2;
-
-const PORT: u8 = 3;
-
-// Not told by a header's bytes alone: it takes a packet.
-const UNTOLD: u8 = 4;
-
-// The name of a header that is refused: ` -`.
-const NONE: u64 = 0x202d000000000002;
 
 // Puts the line at a place, as far as it fits, and answers the next place.
 pub fn put_line(
@@ -75,8 +44,8 @@ pub fn put_line(
     let told = label_by_bytes(header, engine, bytes);
     let label = label_of(told, header, engine, bytes);
     let mut at = text::put_decimal(out, start, n);
-    at = put_name(out, at, label.name);
-    at = put_way(out, at, label.way, label.number);
+    at = trace_label::put_name(out, at, label.name);
+    at = trace_label::put_way(out, at, label.way, label.number);
     put_text(out, at, b"\n")
 }
 
@@ -85,7 +54,7 @@ fn label_of(told: Label, header: &[u8], engine: Engine, bytes: &[u8]) -> Label
     requires { ⌜ Knows engine (now bytes) × Told told (labelBy engine (now bytes) (now header)) ⌝ }
     ensures { λ r. ⌜ Labels r (labelBy engine (now (bytes .entry)) (now (header .entry))) ⌝ }
 {
-    if told.way != UNTOLD {
+    if told.way != trace_label::UNTOLD {
         return told;
     }
     label_packet(header, engine, bytes)
@@ -101,16 +70,6 @@ fn label_by_bytes(header: &[u8], engine: Engine, bytes: &[u8]) -> Label
     }
 }
 
-fn untold() -> Label
-    ensures { λ r. ⌜ r .way ≡ 4 ⌝ }
-{
-    Label {
-        name: NONE,
-        way: UNTOLD,
-        number: 0,
-    }
-}
-
 // ---- by a packet
 
 // The name is in a word, so that it is stored at once. The packet is let go.
@@ -119,10 +78,10 @@ fn label_packet(header: &[u8], engine: Engine, bytes: &[u8]) -> Label
     ensures { λ r. ⌜ Labels r (labelBy engine (now (bytes .entry)) (now (header .entry))) ⌝ }
 {
     match tlp::read(header) {
-        Reading::Accepted(p) => way_of(name_of(p), route_by(p, engine, bytes)),
+        Reading::Accepted(p) => way_of(trace_label::name_of(p), route_by(p, engine, bytes)),
         Reading::Refused(n) => Label {
-            name: NONE,
-            way: REFUSED,
+            name: trace_label::NONE,
+            way: trace_label::REFUSED,
             number: n as u16,
         },
     }
@@ -134,22 +93,22 @@ fn way_of(name: u64, routing: Routing) -> Label
     match routing {
         Routing::Delivered(d) => Label {
             name,
-            way: OWNER,
+            way: trace_label::OWNER,
             number: d.owner,
         },
         Routing::Broadcast(_, _) => Label {
             name,
-            way: ALL,
+            way: trace_label::ALL,
             number: 0,
         },
         Routing::Port(_) => Label {
             name,
-            way: PORT,
+            way: trace_label::PORT,
             number: 0,
         },
         Routing::Refused(n) => Label {
             name,
-            way: REFUSED,
+            way: trace_label::REFUSED,
             number: n as u16,
         },
     }
@@ -219,7 +178,7 @@ fn label_memory(header: &[u8], index: &[u8]) -> Label
     if packet::memory_rules(h, e, a) != 0 {
         return untold();
     }
-    let name = name_of_memory(k);
+    let name = trace_label::name_of_memory(k);
     if index_layout::MEMORY_END <= a {
         return owned_by(name, 0);
     }
@@ -243,7 +202,7 @@ fn label_io(header: &[u8], index: &[u8]) -> Label
     if packet::io_rules(h, e, a) != 0 {
         return untold();
     }
-    let name = name_of_io(k);
+    let name = trace_label::name_of_io(k);
     if index_layout::IO_SIZE <= a {
         return owned_by(name, 0);
     }
@@ -274,7 +233,7 @@ fn label_config(header: &[u8], index: &[u8]) -> Label
     if route_arrival::type_wrong(Packet::Config(k, h, e, t), index[index_layout::ROOT]) {
         return untold();
     }
-    let name = name_of_config(k);
+    let name = trace_label::name_of_config(k);
     owned_by(
         name,
         index_find::word_for(
@@ -299,7 +258,7 @@ fn label_completion(header: &[u8], index: &[u8]) -> Label
     if packet::completion_rules(k, h, o) != 0 {
         return untold();
     }
-    let name = name_of_completion(k);
+    let name = trace_label::name_of_completion(k);
     owned_by(
         name,
         index_find::word_for(
@@ -318,111 +277,13 @@ fn owned_by(name: u64, word: u64) -> Label
     if record == 0 {
         return Label {
             name,
-            way: REFUSED,
+            way: trace_label::REFUSED,
             number: 40,
         };
     }
     Label {
         name,
-        way: OWNER,
+        way: trace_label::OWNER,
         number: record as u16,
     }
-}
-
-// ---- names
-
-// A space and the kind's name, as it was read and not as it arrives: a CfgRd1 stays one. The last byte says how many bytes they are.
-fn name_of(p: Packet) -> u64
-    ensures { λ r. ⌜ Names r (ascii " " ++ kindText (kindOf p)) ⌝ }
-{
-    match p {
-        Packet::Memory(k, _, _, _) => name_of_memory(k),
-        Packet::Io(k, _, _, _) => name_of_io(k),
-        Packet::Config(k, _, _, _) => name_of_config(k),
-        Packet::Completion(k, _, _) => name_of_completion(k),
-        Packet::Message(k, _, _, _, _) => match k {
-            MessageKind::Msg => 0x204d736700000004,
-            MessageKind::MsgD => 0x204d736744000005,
-        },
-    }
-}
-
-fn name_of_memory(k: MemoryKind) -> u64
-    ensures { λ r. ⌜ Names r (ascii " " ++ kindText (MemoryOf k)) ⌝ }
-{
-    match k {
-        MemoryKind::MRd => 0x204d526400000004,
-        MemoryKind::MRdLk => 0x204d52644c6b0006,
-        MemoryKind::MWr => 0x204d577200000004,
-    }
-}
-
-fn name_of_io(k: IoKind) -> u64
-    ensures { λ r. ⌜ Names r (ascii " " ++ kindText (IoOf k)) ⌝ }
-{
-    match k {
-        IoKind::IORd => 0x20494f5264000005,
-        IoKind::IOWr => 0x20494f5772000005,
-    }
-}
-
-fn name_of_config(k: ConfigKind) -> u64
-    ensures { λ r. ⌜ Names r (ascii " " ++ kindText (ConfigOf k)) ⌝ }
-{
-    match k {
-        ConfigKind::CfgRd0 => 0x2043666752643007,
-        ConfigKind::CfgWr0 => 0x2043666757723007,
-        ConfigKind::CfgRd1 => 0x2043666752643107,
-        ConfigKind::CfgWr1 => 0x2043666757723107,
-    }
-}
-
-fn name_of_completion(k: CompletionKind) -> u64
-    ensures { λ r. ⌜ Names r (ascii " " ++ kindText (CompletionOf k)) ⌝ }
-{
-    match k {
-        CompletionKind::Cpl => 0x2043706c00000004,
-        CompletionKind::CplD => 0x2043706c44000005,
-        CompletionKind::CplLk => 0x2043706c4c6b0006,
-        CompletionKind::CplDLk => 0x2043706c444c6b07,
-    }
-}
-
-// ---- a label as text
-
-// Where there is room for the word it is stored whole, and what is put next stands over the rest of it.
-fn put_name(out: &mut [u8], start: usize, name: u64) -> usize
-    requires { ⌜ name % 256 ≤ 8 ⌝ }
-    ensures { λ r. ⌜ Over (now (out .entry)) start (nameIn name) (now (out .exit)) r ⌝ }
-{
-    let at = text::place(out, start);
-    if out.len() - at < 8 {
-        return put_short(out, start, name);
-    }
-    endian::write_be64(out, at, name);
-    at + (name % 256) as usize
-}
-
-fn put_short(out: &mut [u8], at: usize, name: u64) -> usize
-    ensures { λ r. ⌜ Put (now (out .entry)) at (nameIn name) (now (out .exit)) r ⌝ }
-{
-    let mut word = [0u8; 8];
-    endian::write_be64(&mut word, 0, name);
-    let count = (name % 256) as usize;
-    put_text(out, at, text::front(&word, count))
-}
-
-fn put_way(out: &mut [u8], at: usize, way: u8, number: u16) -> usize
-    ensures { λ r. ⌜ Put (now (out .entry)) at (wayText way number) (now (out .exit)) r ⌝ }
-{
-    if way == OWNER {
-        return put_named(out, at, b" owner ", number as u64);
-    }
-    if way == REFUSED {
-        return put_named(out, at, b" refused ", number as u64);
-    }
-    if way == ALL {
-        return put_text(out, at, b" owner all");
-    }
-    put_text(out, at, b" owner port")
 }

@@ -3,7 +3,7 @@ use borrow.Author.Needs.{needs}
 use mathlib.Core.Path.{refl, sym, _∙_}
 use borrow.Author.Tests.{eq-eqb, ne-eqb}
 use Rattle.index_layout.specs.Words.{recordIn}
-use Rattle.trace_line.specs.Label.{wayText}
+use Rattle.trace_label.specs.Label.{wayText}
 use Rattle.trace_line.proofs.owned_by.Statement.{statement}
 use Rattle.trace_line.proofs.owned_by.Tie as tie
 

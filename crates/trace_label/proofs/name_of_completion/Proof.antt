@@ -1,12 +1,12 @@
--- `trace_line::name_of_memory` meets its contract: one word for each kind, by computation. Assumes nothing.
+-- `trace_label::name_of_completion` meets its contract: one word for each kind, by computation. Assumes nothing.
 use borrow.Author.Needs.{needs}
 use native.Mathlib.Omega.{arith}
 use mathlib.Core.Path.{refl}
 use Rattle.endian.specs.Endian.{beBytes}
 use Rattle.text.specs.Text.{ascii}
-use Rattle.trace_line.specs.Label.{nameIn, Names}
-use Rattle.trace_line.proofs.name_of_memory.Statement.{statement}
-use Rattle.trace_line.proofs.name_of_memory.Tie as tie
+use Rattle.trace_label.specs.Label.{nameIn, Names}
+use Rattle.trace_label.proofs.name_of_completion.Statement.{statement}
+use Rattle.trace_label.proofs.name_of_completion.Tie as tie
 
 enum-told : tie.Need-enum-told
 enum-told c = search needs
@@ -16,6 +16,9 @@ enum-told-2 c = search needs
 
 enum-told-3 : tie.Need-enum-told-3
 enum-told-3 c = search needs
+
+enum-told-4 : tie.Need-enum-told-4
+enum-told-4 c = search needs
 
 returns : tie.Need-returns
 unfolding nameIn beBytes ascii
@@ -29,6 +32,11 @@ returns-3 : tie.Need-returns-3
 unfolding nameIn beBytes ascii
 returns-3 c = rw (c .enum-told3 .given .1) (record { is = refl; few = omega arith })
 
-pub name-of-memory-spec : {M : Type 1} → statement M
-name-of-memory-spec =
-    tie.close (tie.spec enum-told enum-told-2 enum-told-3 returns returns-2 returns-3)
+returns-4 : tie.Need-returns-4
+unfolding nameIn beBytes ascii
+returns-4 c = rw (c .enum-told4 .given .1) (record { is = refl; few = omega arith })
+
+pub name-of-completion-spec : {M : Type 1} → statement M
+name-of-completion-spec =
+    tie.close
+    (tie.spec enum-told enum-told-2 enum-told-3 enum-told-4 returns returns-2 returns-3 returns-4)

@@ -10,7 +10,7 @@ use lib.Dec.{eqb}
 use Rattle.endian.specs.Endian.{beBytes}
 use Rattle.text.specs.Text.{ascii}
 use Rattle.packet_text.specs.Labels.{named}
-use Rattle.trace_line.specs.declared.Label.{Label}
+use Rattle.trace_label.specs.declared.Label.{Label}
 
 -- the first bytes of a word, as many as its last byte says
 unfoldable pub nameIn : ℕ → List ℕ

@@ -1,9 +1,9 @@
--- `trace_line::put_short` meets its contract: the name stands at the front of its word. Assumes nothing.
+-- `trace_label::put_short` meets its contract: the name stands at the front of its word. Assumes nothing.
 use borrow.Author.Needs.{needs}
-use Rattle.trace_line.proofs.put_short.Statement.{statement}
-use Rattle.trace_line.proofs.put_short.Tie as tie
+use Rattle.trace_label.proofs.put_short.Statement.{statement}
+use Rattle.trace_label.proofs.put_short.Tie as tie
 use mathlib.Core.Path.{_≡_, _∙_}
-use Rattle.trace_line.specs.LabelLaws.{word-stored}
+use Rattle.trace_label.specs.LabelLaws.{word-stored}
 
 slice-aggregate-write-be64 : tie.Need-slice-aggregate-write-be64
 slice-aggregate-write-be64 c = search needs

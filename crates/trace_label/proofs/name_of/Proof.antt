@@ -1,12 +1,12 @@
--- `trace_line::name_of` meets its contract: its kind's word. Assumes nothing.
+-- `trace_label::name_of` meets its contract: its kind's word. Assumes nothing.
 use borrow.Author.Needs.{needs}
 use native.Mathlib.Omega.{arith}
 use mathlib.Core.Path.{refl}
 use Rattle.endian.specs.Endian.{beBytes}
 use Rattle.text.specs.Text.{ascii}
-use Rattle.trace_line.specs.Label.{nameIn, Names}
-use Rattle.trace_line.proofs.name_of.Statement.{statement}
-use Rattle.trace_line.proofs.name_of.Tie as tie
+use Rattle.trace_label.specs.Label.{nameIn, Names}
+use Rattle.trace_label.proofs.name_of.Statement.{statement}
+use Rattle.trace_label.proofs.name_of.Tie as tie
 
 enum-known-p : tie.Need-enum-known-p
 enum-known-p c = search needs

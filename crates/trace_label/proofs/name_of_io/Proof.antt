@@ -1,12 +1,12 @@
--- `trace_line::name_of_io` meets its contract: one word for each kind, by computation. Assumes nothing.
+-- `trace_label::name_of_io` meets its contract: one word for each kind, by computation. Assumes nothing.
 use borrow.Author.Needs.{needs}
 use native.Mathlib.Omega.{arith}
 use mathlib.Core.Path.{refl}
 use Rattle.endian.specs.Endian.{beBytes}
 use Rattle.text.specs.Text.{ascii}
-use Rattle.trace_line.specs.Label.{nameIn, Names}
-use Rattle.trace_line.proofs.name_of_io.Statement.{statement}
-use Rattle.trace_line.proofs.name_of_io.Tie as tie
+use Rattle.trace_label.specs.Label.{nameIn, Names}
+use Rattle.trace_label.proofs.name_of_io.Statement.{statement}
+use Rattle.trace_label.proofs.name_of_io.Tie as tie
 
 enum-told : tie.Need-enum-told
 enum-told c = search needs

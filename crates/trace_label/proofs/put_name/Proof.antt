@@ -1,9 +1,9 @@
--- `trace_line::put_name` meets its contract: the word stored whole, or its name put as far as it fits. Assumes nothing.
+-- `trace_label::put_name` meets its contract: the word stored whole, or its name put as far as it fits. Assumes nothing.
 use borrow.Author.Needs.{needs}
-use Rattle.trace_line.proofs.put_name.Statement.{statement}
-use Rattle.trace_line.proofs.put_name.Tie as tie
+use Rattle.trace_label.proofs.put_name.Statement.{statement}
+use Rattle.trace_label.proofs.put_name.Tie as tie
 use native.Mathlib.Omega.{arith}
-use Rattle.trace_line.specs.LabelLaws.{name-over, name-put}
+use Rattle.trace_label.specs.LabelLaws.{name-over, name-put}
 
 place-requires : tie.Need-place-requires
 place-requires c κs = search needs

@@ -1,10 +1,10 @@
--- `trace_line::put_way` meets its contract, for each way. Assumes nothing.
+-- `trace_label::put_way` meets its contract, for each way. Assumes nothing.
 use borrow.Author.Needs.{needs}
-use Rattle.trace_line.proofs.put_way.Statement.{statement}
-use Rattle.trace_line.proofs.put_way.Tie as tie
+use Rattle.trace_label.proofs.put_way.Statement.{statement}
+use Rattle.trace_label.proofs.put_way.Tie as tie
 use borrow.Author.Tests.{eq-eqb, ne-eqb}
 use Rattle.text.specs.Text.{ascii}
-use Rattle.trace_line.specs.Label.{wayText}
+use Rattle.trace_label.specs.Label.{wayText}
 
 slice-aggregate-put-named : tie.Need-slice-aggregate-put-named
 slice-aggregate-put-named c = search needs

@@ -1,12 +1,12 @@
--- `trace_line::name_of_completion` meets its contract: one word for each kind, by computation. Assumes nothing.
+-- `trace_label::name_of_config` meets its contract: one word for each kind, by computation. Assumes nothing.
 use borrow.Author.Needs.{needs}
 use native.Mathlib.Omega.{arith}
 use mathlib.Core.Path.{refl}
 use Rattle.endian.specs.Endian.{beBytes}
 use Rattle.text.specs.Text.{ascii}
-use Rattle.trace_line.specs.Label.{nameIn, Names}
-use Rattle.trace_line.proofs.name_of_completion.Statement.{statement}
-use Rattle.trace_line.proofs.name_of_completion.Tie as tie
+use Rattle.trace_label.specs.Label.{nameIn, Names}
+use Rattle.trace_label.proofs.name_of_config.Statement.{statement}
+use Rattle.trace_label.proofs.name_of_config.Tie as tie
 
 enum-told : tie.Need-enum-told
 enum-told c = search needs
@@ -36,7 +36,7 @@ returns-4 : tie.Need-returns-4
 unfolding nameIn beBytes ascii
 returns-4 c = rw (c .enum-told4 .given .1) (record { is = refl; few = omega arith })
 
-pub name-of-completion-spec : {M : Type 1} → statement M
-name-of-completion-spec =
+pub name-of-config-spec : {M : Type 1} → statement M
+name-of-config-spec =
     tie.close
     (tie.spec enum-told enum-told-2 enum-told-3 enum-told-4 returns returns-2 returns-3 returns-4)

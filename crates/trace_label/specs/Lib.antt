@@ -1,0 +1,3 @@
+-- A header's label as the code holds it.
+pub mod Label
+pub mod LabelLaws
