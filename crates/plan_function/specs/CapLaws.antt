@@ -22,7 +22,7 @@ use Rattle.plan_function.specs.Function.{belowWindow}
 abbrev pub capEnds : Ends → Ends
 capEnds c q = cap (c q)
 
-size-pos : (q : Pool) (wide : Bool) (z : ℕ) → BarSize q wide z → 0 < z
+pub size-pos : (q : Pool) (wide : Bool) (z : ℕ) → BarSize q wide z → 0 < z
 size-pos q wide z b = omega (arith, b .power, pow-pos (b .bit))
 
 -- ## BARs

@@ -193,7 +193,7 @@ module _ (k : ℕ) (f : Function) (ss : List Slot) (rest : List Piece) (c : Curs
   windowsIn q = cond (f .bridge) (sizing.windowFor k b q (inner q)) []
 
   -- on its bus in pool q: its BARs, then a bridge's window
-  select-own : (q : Pool) → select b q own ≡ select b q (barPieces k b (barsFrom 0 ss)) ++ windowsIn q
+  pub select-own : (q : Pool) → select b q own ≡ select b q (barPieces k b (barsFrom 0 ss)) ++ windowsIn q
   unfolding ownPieces
   select-own q =
       keep-append (isOn b q) (barPieces k b (f .bars)) (cond (f .bridge) (windowPieces k (f .parent) (f .spareLow) rest) [])

@@ -24,6 +24,15 @@ pub record Board (h : Host) (fs : List Function) : Type 0 where
   pub lawful : Lawful fs
   pub edges : HostEdges h
 
+-- An open pool ends below 2^52
+abbrev pub OpenEndsLow : Host → Pool → Type 0
+OpenEndsLow h q = IsOpen h q → h .last q < 2 ^ 52
+
+pub open-ends-low : {h : Host} → HostEdges h → (q : Pool) → OpenEndsLow h q
+open-ends-low e low o = omega (arith, e .low-ends-below-4-GiB o)
+open-ends-low e high o = e .high-ends-below-2^52 o
+open-ends-low e io o = omega (arith, e .io-ends-below-64-KiB o)
+
 -- Low memory ends before high memory starts
 pub memory-apart : (h : Host) → HostEdges h → MemoryApart h
 memory-apart h e opens opens′ = omega (arith, e .low-ends-below-4-GiB opens, e .high-starts-at-4-GiB opens′)

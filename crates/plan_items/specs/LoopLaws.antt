@@ -2,7 +2,7 @@
 use mathlib.Core.Path.{_≡_, refl, sym, ap, ap₂, subst, _∙_}
 use mathlib.Core.Bool.{Bool, true, false, cond}
 use mathlib.Core.List.{List, [], _∷_, _++_, map}
-use Prim.Native.Nat.{ℕ, zero, suc, _+_, _*_, _≤_, _<_, max}
+use Prim.Native.Nat.{ℕ, suc, _+_, _*_, _≤_, _<_, max}
 use native.Mathlib.Omega.{arith}
 use lib.ListN.{length, take, drop, length-drop}
 use Rattle.arith.specs.Powers.{PowerOfTwo}
@@ -42,9 +42,10 @@ use Rattle.plan_function.specs.Pass.{cursorsAt}
 use Rattle.plan_function.specs.PassLaws.{ownAt, cursors-at-start, cursors-at-step}
 use Rattle.plan_function.specs.JoinLaws.{insideOf, parent-lt}
 use Rattle.plan_function.specs.LoopLaws.{agrees-start}
-use Rattle.plan_good.specs.Boards.{HostEdges}
+use Rattle.plan_good.specs.Boards.{open-ends-low}
 use Rattle.plan_pass.specs.Step.{extentsIn, cursorsNext, Placeable, Bridged}
-use Rattle.plan_pass.specs.StepLaws.{endsIn, RecordAt, Prepared, record-agrees, record-placeable, record-bridged}
+use Rattle.plan_pass.specs.StepLaws.{endsIn, map-drop, RecordAt, is-at-of-record, Prepared, record-agrees, record-placeable, record-bridged}
+use Rattle.plan_pass.specs.LoopLaws.{length-functions}
 use Rattle.plan_pass.specs.Loop.{mostBuses, basesFor, Filled}
 use Rattle.plan_sheet.specs.Accepted.{board-of-accepted}
 use Rattle.plan_needs.specs.Bases.{laidHostOf}
@@ -57,13 +58,8 @@ use Rattle.plan_items.specs.Walk.{watchedOf, nothingSeen, seeAll, toldOf
 use Rattle.plan_items.specs.ItemsLaws.{ofPool, toldIn, items-append}
 use Rattle.plan_items.specs.RecordLaws.{own-told}
 use Rattle.plan_items.specs.WalkLaws.{see-all-append, see-all-none}
-use Rattle.plan_items.specs.SeenLaws.{OpenEndsLow, seen-all}
+use Rattle.plan_items.specs.SeenLaws.{seen-all}
 use Rattle.plan_items.specs.Loop.{seenIn, placedOn, toldOn, toldFrom, innerIn, toldNext, Seeable, Holding, Walking, Walked, Walkable}
-
-map-drop : {A B : Type 0} (g : A → B) (i : ℕ) (xs : List A) → drop i (map g xs) ≡ map g (drop i xs)
-map-drop g zero xs = refl
-map-drop g (suc i) [] = refl
-map-drop g (suc i) (x ∷ xs) = map-drop g i xs
 
 no-items : (q : Pool) (d : Cursors) (k : ℕ) → toldIn q (itemsFrom d (pieces k [])) ≡ []
 unfolding pieces itemsFrom keep
@@ -80,9 +76,7 @@ module _ (b : List ℕ) (q : Pool) (first : ℕ) (counts memo c : List ℕ) (pre
   later = pieces (suc (suc i)) (drop (suc i) fs)
 
   is-at : IsAt fs i (toFunction f)
-  is-at =
-      map-drop toFunction i (functionsOf b) ∙ ap (map toFunction) at
-      ∙ ap (λ (l : List placing.Function). toFunction f ∷ l) (sym (map-drop toFunction (suc i) (functionsOf b)))
+  is-at = is-at-of-record (functionsOf b) i f at
 
   before : f .parent < suc i
   before = parent-lt (placedOn b) fs (prepared .lawful) i (toFunction f) is-at (slotsOf f) refl
@@ -157,10 +151,6 @@ pub aligned-as-stored : {x : Extent} (q : Pool) (f : Function) (i : ℕ) (memo c
 aligned-as-stored q f i memo c s e b = rw e (s .aligned b)
 
 -- ## Turns
-
-length-functions : (ls : List (List ℕ)) → length (map functionOfPart ls) ≡ length ls
-length-functions [] = refl
-length-functions (p ∷ ls) = ap suc (length-functions ls)
 
 few-functions : (b : List ℕ) {first : ℕ} {counts memo c : List ℕ} → Walking b first counts memo c → length (functionsOf b) ≤ mostFunctions
 few-functions b r =
@@ -292,11 +282,6 @@ walking-of-walkable {b} {h} {g} {counts} {memo} c base p laid base-is filled lon
     each Low = ap (λ (x : kept.Cursors). x .low) same ∙ ap cap (laid-base (hostOf b) Low)
     each High = ap (λ (x : kept.Cursors). x .high) same ∙ ap cap (laid-base (hostOf b) High)
     each Io = ap (λ (x : kept.Cursors). x .io) same ∙ ap cap (laid-base (hostOf b) Io)
-
-open-ends-low : {h : placing.Host} → HostEdges h → (q : Pool) → OpenEndsLow h q
-open-ends-low e Low o = omega (arith, e .low-ends-below-4-GiB o)
-open-ends-low e High o = e .high-ends-below-2^52 o
-open-ends-low e Io o = omega (arith, e .io-ends-below-64-KiB o)
 
 pub walked-all : {b : List ℕ} {h : Host} {counts memo : List ℕ} {w : Watched} {seen : Seen} (q : Pool) → Bytes b → Walkable b h counts memo
     → w ≡ watchedOf (toHost h) q → seen ≡ seeAll w nothingSeen (toldOn b (w .pool)) → seen

@@ -6,30 +6,29 @@ use mathlib.Core.List.{List, [], _∷_, _++_, map, map-append}
 use Prim.Native.Nat.{ℕ, suc, _+_, _<_}
 use native.Mathlib.Omega.{arith}
 use lib.Dec.{eqb}
-use lib.Pow.{pow-pos}
 use borrow.Author.Tests.{eq-eqb}
 use Rattle.arith.specs.Align.{alignUp}
 use Rattle.pools.specs.PoolsLaws.{granule-pos}
 use Rattle.bar.specs.declared.Slot.{Slot}
 use Rattle.bar.specs.declared.Slot.the-variants.{Unused, Bar, Upper, Bad}
-use Rattle.bar.specs.Bar.{BarSize, SizedSlot}
+use Rattle.bar.specs.Bar.{SizedSlot}
 use Rattle.lists.specs.Lists.{All, keep}
 use Rattle.lists.specs.ListLaws.{all-imp}
-use Rattle.lists.specs.KeepLaws.{keep-none, keep-append}
 use Rattle.plan_bars.specs.Bars.{barsFrom}
 use Rattle.plan_rule.specs.Pools.{Pool, granule, samePool}
 use Rattle.plan_rule.specs.Records as placing
 use Rattle.plan_rule.specs.Records.{Function}
 use Rattle.plan_rule.specs.RecordLaws.{false-of-not}
-use Rattle.plan_rule.specs.Layout.{Piece, isOn, select, endAt, layoutEnd}
+use Rattle.plan_rule.specs.Layout.{Piece, select, endAt, layoutEnd}
 use Rattle.plan_rule.specs.LayoutLaws.{HasAlign}
-use Rattle.plan_rule.specs.Pieces.{windowPiece, barPiece, barPieces, contentOf, windowPieces, ownPieces}
-use Rattle.plan_rule.specs.PieceLaws.{Own, BarsSized, own-pieces, Shaped, has-align, content-shaped, window-of-is}
+use Rattle.plan_rule.specs.Pieces.{windowPiece, barPiece, barPieces, ownPieces}
+use Rattle.plan_rule.specs.PieceLaws.{Own, BarsSized, own-pieces, Shaped, window-of-is}
 use Rattle.plan_rule.specs.Placing.{Cursors, isWindowOf}
 use Rattle.plan_rule.specs.declared.Extent.{Extent}
 use Rattle.plan_rule.specs.Sizing.{nothing, extend, withSpare, windowFor}
-use Rattle.plan_rule.specs.ExtentLaws.{window-over-extent, extend-content, select-windows}
 use Rattle.plan_rule.specs.Cap.{cap, capped, cap-align}
+use Rattle.plan_function.specs.CapLaws.{size-pos}
+use Rattle.plan_function.specs.FunctionLaws.{select-own}
 use Rattle.plan_items.specs.declared.Told.{Told}
 use Rattle.plan_items.specs.Items.{itemAt, itemsFrom, placeOf}
 use Rattle.plan_items.specs.Walk.{toldOf, toldAt, barsTold, barsEnd, windowTold}
@@ -55,9 +54,6 @@ unfolding itemsLaid
 nothing-told e = refl
 
 -- ## BARs
-
-size-pos : (q : Pool) (wide : Bool) (z : ℕ) → BarSize q wide z → 0 < z
-size-pos q wide z b = omega (arith, b .power, pow-pos (b .bit))
 
 module _ (k b : ℕ) (q : Pool) where
   -- the pieces of pool q from slot s on
@@ -146,21 +142,6 @@ module _ (k : ℕ) (f : Function) (ss : List Slot) (rest : List Piece) (c : Curs
   abbrev windowsIn : List Piece
   windowsIn = cond (f .bridge) (windowFor k b q inner) []
 
-  -- on its bus in pool q: its BARs, then a bridge's window
-  select-own : select b q own ≡ select b q (barPieces k b (barsFrom 0 ss)) ++ windowsIn
-  unfolding ownPieces
-  select-own =
-      keep-append (isOn b q) (barPieces k b (f .bars)) (cond (f .bridge) (windowPieces k (f .parent) (f .spareLow) rest) [])
-      ∙ ap₂ (λ (x y : List Piece). x ++ y) (ap (λ (l : List placing.Bar). select b q (barPieces k b l)) bars) (go (f .bridge))
-    where
-      go : (t : Bool) → select b q (cond t (windowPieces k (f .parent) (f .spareLow) rest) []) ≡ cond t (windowFor k b q inner) []
-      go true =
-          select-windows k (f .parent) (f .spareLow) q rest
-          ∙ window-over-extent k b q (contentOf k (f .spareLow) q rest)
-          (all-imp _ _ (contentOf k (f .spareLow) q rest) (content-shaped k (f .spareLow) q rest shaped) has-align)
-          ∙ ap (windowFor k b q) (extend-content k (f .spareLow) q rest)
-      go false = keep-none (isOn b q) [] tt
-
   on-bus : All (OnBus b q) own
   on-bus = all-imp _ _ own (own-pieces k f rest sized) each
     where
@@ -173,7 +154,7 @@ module _ (k : ℕ) (f : Function) (ss : List Slot) (rest : List Piece) (c : Curs
       ++ cond (f .bridge) (windowTold q b k (barsEnd q (cap (c b q)) ss) (capped inner)) []
   own-told =
       ap (map toldOf)
-      (items-select b q c own on-bus ∙ ap (itemsLaid (c b q)) select-own
+      (items-select b q c own on-bus ∙ ap (itemsLaid (c b q)) (select-own k f ss rest c bars before sized shaped q)
       ∙ items-laid-append (c b q) (slotPieces k b q 0 ss) windowsIn)
       ∙ map-append toldOf (itemsLaid (c b q) (slotPieces k b q 0 ss)) (itemsLaid (layoutEnd (c b q) (slotPieces k b q 0 ss)) windowsIn)
       ∙ ap₂ (λ (x y : List Told). x ++ y) (bars-told k b q (c b q) 0 ss slots-sized) (go (f .bridge))

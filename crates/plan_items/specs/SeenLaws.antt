@@ -4,11 +4,10 @@ use mathlib.Core.Path.{_≡_, refl, sym, ap, _∙_}
 use mathlib.Core.Logic.{⊎-elim}
 use mathlib.Core.Bool.{Bool, true, false, cond, _&&_, _||_}
 use mathlib.Core.List.{List, [], _∷_}
-use Prim.Native.Nat.{ℕ, suc, _≤_, _<_}
+use Prim.Native.Nat.{ℕ, suc, _<_}
 use native.Mathlib.Omega.{arith}
 use lib.Dec.{eqb, ltb}
-use borrow.Author.Tests.{lt-ltb, le-ltb, ltb-false, ne-eqb}
-use Rattle.arith.specs.Order.{le-or-lt}
+use borrow.Author.Tests.{ltb-false, ne-eqb}
 use Rattle.arith.specs.BoolLaws.{true-or-false}
 use Rattle.lists.specs.Lists.{All, keep}
 use Rattle.plan_rule.specs.Pools.{Pool, samePool}
@@ -16,7 +15,8 @@ use Rattle.plan_rule.specs.Records.{Host, Function, Sized}
 use Rattle.plan_rule.specs.Pieces.{pieces}
 use Rattle.plan_rule.specs.PieceLaws.{pieces-owner}
 use Rattle.plan_rule.specs.Placing.{fromBases}
-use Rattle.plan_rule.specs.Cap.{cap}
+use Rattle.plan_rule.specs.Cap.{cap, cap-past}
+use Rattle.plan_good.specs.Boards.{OpenEndsLow}
 use Rattle.plan_needs.specs.Bases.{isClosed, laidHost}
 use Rattle.finding.specs.declared.Party.{Party}
 use Rattle.finding.specs.First.{first}
@@ -25,17 +25,6 @@ use Rattle.plan_items.specs.declared.Seen.{Seen}
 use Rattle.plan_items.specs.Items.{Item, itemsOf, partyOf, itemEnd, runsOut, firstOut, mostLostFrom, mostLost}
 use Rattle.plan_items.specs.Walk.{watchedOf, nothingSeen, endsOut, see, seeAll, toldOf}
 use Rattle.plan_items.specs.ItemsLaws.{toldIn, all-items}
-
--- an open pool ends below 2^52
-abbrev pub OpenEndsLow : Host → Pool → Type 0
-OpenEndsLow h q = h .base q ≤ h .last q → h .last q < 4503599627370496
-
-cap-past : (last x : ℕ) → last < 4503599627370496 → ltb (suc last) (cap x) ≡ ltb (suc last) x
-cap-past last x h =
-    ⊎-elim
-    (λ (l : x ≤ suc last). le-ltb (suc last) (cap x) (omega arith) ∙ sym (le-ltb (suc last) x l))
-    (λ (l : suc last < x). lt-ltb (suc last) (cap x) (omega arith) ∙ sym (lt-ltb (suc last) x l))
-    (le-or-lt x (suc last))
 
 same-either : {A : Type 0} (t : Bool) (x : A) → cond t x x ≡ x
 same-either true x = refl

@@ -1,6 +1,5 @@
 -- A host record with its closed pools at 0, as placing sees it. Assumes nothing.
 use mathlib.Core.Path.{_≡_, refl}
-use Prim.Native.Nat.{ℕ}
 use Rattle.plan_rule.specs.Pools.{Pool, low, high, io}
 use Rattle.plan_rule.specs.Records as placing
 use Rattle.board_record.specs.declared.Host.{Host}

@@ -247,7 +247,7 @@ unfolding sheetBytes
 version-first [] ps = refl
 version-first (x ∷ xs) ps = refl
 
-length-functions : (ls : List (List ℕ)) → length (map functionOfPart ls) ≡ length ls
+pub length-functions : (ls : List (List ℕ)) → length (map functionOfPart ls) ≡ length ls
 length-functions [] = refl
 length-functions (p ∷ ls) = ap suc (length-functions ls)
 

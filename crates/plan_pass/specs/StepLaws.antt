@@ -129,7 +129,7 @@ length-keptValues set m e h good =
 
 -- ## Small
 
-map-drop : {A B : Type 0} (g : A → B) (i : ℕ) (xs : List A) → drop i (map g xs) ≡ map g (drop i xs)
+pub map-drop : {A B : Type 0} (g : A → B) (i : ℕ) (xs : List A) → drop i (map g xs) ≡ map g (drop i xs)
 map-drop g zero xs = refl
 map-drop g (suc i) [] = refl
 map-drop g (suc i) (x ∷ xs) = map-drop g i xs
@@ -137,7 +137,7 @@ map-drop g (suc i) (x ∷ xs) = map-drop g i xs
 abbrev pub RecordAt : List Function → ℕ → Function → Type 0
 RecordAt fs i f = drop i fs ≡ f ∷ drop (suc i) fs
 
-is-at-of-record : (fs : List Function) (i : ℕ) (f : Function) → RecordAt fs i f → IsAt (toPlacing fs) i (toFunction f)
+pub is-at-of-record : (fs : List Function) (i : ℕ) (f : Function) → RecordAt fs i f → IsAt (toPlacing fs) i (toFunction f)
 is-at-of-record fs i f e =
     map-drop toFunction i fs ∙ ap (map toFunction) e
     ∙ ap (λ (l : List placing.Function). toFunction f ∷ l) (sym (map-drop toFunction (suc i) fs))

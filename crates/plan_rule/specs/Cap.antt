@@ -151,7 +151,7 @@ cap-bus-laid fs h b l =
     has-align))
 
 -- Past a pool that ends below 2^52 is the same of both
-cap-past : (last x : ℕ) → last < 4503599627370496 → ltb (suc last) (cap x) ≡ ltb (suc last) x
+pub cap-past : (last x : ℕ) → last < 4503599627370496 → ltb (suc last) (cap x) ≡ ltb (suc last) x
 cap-past last x h =
     ⊎-elim
     (λ (l : x ≤ suc last). le-ltb (suc last) (cap x) (omega arith) ∙ sym (le-ltb (suc last) x l))

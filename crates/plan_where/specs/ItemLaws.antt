@@ -3,13 +3,12 @@
 use mathlib.Core.Path.{_≡_, refl, sym, ap, ap₂, _∙_}
 use mathlib.Core.Logic.{_⊎_, inl, inr, ⊎-elim}
 use mathlib.Core.Bool.{Bool, true, false, cond, _&&_, _||_, and-true, false≢true}
-use mathlib.Core.List.{List, [], _∷_, _++_, map}
+use mathlib.Core.List.{List, [], _∷_}
 use Prim.Native.Nat.{ℕ, suc, _≤_, _<_}
 use native.Mathlib.Omega.{arith}
 use lib.Dec.{eqb, ltb}
-use borrow.Author.Tests.{ltb-true, ltb-false, lt-ltb, le-ltb, eq-eqb, ne-eqb}
+use borrow.Author.Tests.{ltb-true, ltb-false, lt-ltb, eq-eqb, ne-eqb}
 use Rattle.lists.specs.Lists.{All, any, keep}
-use Rattle.lists.specs.ListLaws.{all-imp}
 use Rattle.lists.specs.KeepLaws.{all-keep}
 use Rattle.plan_rule.specs.Pools.{Pool, samePool}
 use Rattle.plan_rule.specs.Records.{Host, Function, Lawful}
@@ -26,7 +25,7 @@ use Rattle.finding.specs.First.{first}
 use Rattle.finding.specs.FirstLaws.{FirstOf, first-of-any, first-is}
 use Rattle.plan_needs.specs.Bases.{isClosed, layoutBase, laidHost}
 use Rattle.plan_items.specs.declared.Loss.{Loss}
-use Rattle.plan_items.specs.Items.{Item, itemAt, itemsFrom, itemsOf, partyOf, itemEnd, runsOut, firstOut, lostBefore, noLoss, larger}
+use Rattle.plan_items.specs.Items.{Item, itemsFrom, itemsOf, partyOf, runsOut, firstOut, lostBefore, noLoss}
 use Rattle.plan_items.specs.Items.{mostLostFrom, mostLost}
 
 -- ## Some item runs out exactly when the pool does

@@ -3,19 +3,16 @@ use mathlib.Core.Path.{_≡_, refl, sym, ap, subst, _∙_}
 use mathlib.Core.Logic.{⊎-elim}
 use mathlib.Core.Bool.{Bool, true, false, cond}
 use mathlib.Core.List.{List}
-use Prim.Native.Nat.{ℕ, suc, _+_, _*_, _≤_, _<_}
+use Prim.Native.Nat.{ℕ, _+_, _≤_, _<_}
 use native.Mathlib.Omega.{arith}
-use lib.Dec.{ltb}
-use lib.ListN.{length}
 use borrow.Author.Tests.{ltb-false, le-ltb}
 use Rattle.arith.specs.Order.{le-or-lt}
 use Rattle.endian.specs.Endian.{Bytes}
 use Rattle.pools.specs.declared.Pool.{Pool}
 use Rattle.pools.specs.declared.Pool.the-variants.{Low, High, Io}
-use Rattle.records.specs.Limits.{mostFunctions}
 use Rattle.plan_rule.specs.Records as placing
 use Rattle.plan_rule.specs.Records.{Lawful}
-use Rattle.plan_rule.specs.Layout.{select, largestAlign}
+use Rattle.plan_rule.specs.Layout.{select}
 use Rattle.plan_rule.specs.Pieces.{pieces}
 use Rattle.plan_rule.specs.Numbering.{bridges}
 use Rattle.plan_rule.specs.declared.Extent.{Extent}
@@ -28,14 +25,14 @@ use Rattle.board_record.specs.declared.Host.{Host}
 use Rattle.board_record.specs.Host.{spanOf}
 use Rattle.board.specs.Board.{boardNumber, hostOf, functionsOf}
 use Rattle.board.specs.ToPlacing.{toHost, toPlacing}
-use Rattle.plan_good.specs.Boards.{Board}
+use Rattle.plan_good.specs.Boards.{Board, OpenEndsLow, open-ends-low}
 use Rattle.plan_sheet.specs.Accepted.{board-of-accepted}
 use Rattle.plan_sizing.specs.declared.Laid.{Laid}
 use Rattle.plan_sizing.specs.Cut.{extentIn, cut}
 use Rattle.plan_pass.specs.PreparedLaws.{prepared-of-accepted}
 use Rattle.planner.specs.declared.Measured.{Measured}
 use Rattle.planner.specs.Measure.{runsOut, refusalBy, IsMeasured}
-use Rattle.planner.specs.MeasureLaws.{OpenEndsLow, open-ends-low, base-of-span, last-of-span, runs-out-at, refusal-by-out}
+use Rattle.planner.specs.MeasureLaws.{base-of-span, last-of-span, runs-out-at, refusal-by-out}
 use Rattle.plan_needs.specs.Bases.{isClosed, layoutBase, laidHostOf}
 use Rattle.plan_needs.specs.BasesLaws.{laid-base}
 use Rattle.plan_needs.specs.Needs.{needsOf}

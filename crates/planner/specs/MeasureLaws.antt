@@ -32,19 +32,10 @@ use Rattle.board_record.specs.Host.{spanOf}
 use Rattle.board.specs.ToPlacing.{toHost, toPlacing}
 use Rattle.plan_sizing.specs.declared.Laid.{Laid}
 use Rattle.plan_sizing.specs.Cut.{extentIn, cut}
-use Rattle.plan_good.specs.Boards.{HostEdges}
+use Rattle.plan_good.specs.Boards.{OpenEndsLow, open-ends-low}
 use Rattle.plan_sheet.specs.Accepted.{board-of-accepted}
 use Rattle.planner.specs.declared.Measured.{Measured}
 use Rattle.planner.specs.Measure.{runsOut, refusalBy, IsMeasured}
-
--- an open pool ends below 2^52
-abbrev pub OpenEndsLow : placing.Host → Pool → Type 0
-OpenEndsLow h q = h .base q ≤ h .last q → h .last q < 4503599627370496
-
-pub open-ends-low : {h : placing.Host} → HostEdges h → (q : Pool) → OpenEndsLow h q
-open-ends-low e Low o = omega (arith, e .low-ends-below-4-GiB o)
-open-ends-low e High o = e .high-ends-below-2^52 o
-open-ends-low e Io o = omega (arith, e .io-ends-below-64-KiB o)
 
 -- ---- one pool
 

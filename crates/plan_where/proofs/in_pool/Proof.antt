@@ -1,6 +1,5 @@
 -- `plan_where::in_pool` meets its contract: what the walk over the items has seen. Assumes nothing.
-use mathlib.Core.Path.{_≡_, ap}
-use borrow.Author.Needs.{needs}
+use mathlib.Core.Path.{ap}
 use Rattle.finding.specs.declared.Parties.{Parties}
 use Rattle.plan_items.specs.declared.Seen.{Seen}
 use Rattle.plan_where.specs.Finding.{inPool}

@@ -1,6 +1,5 @@
 -- `plan_where::parties_under` meets its contract: by the number. Assumes nothing.
 use native.Mathlib.Omega.{arith}
-use borrow.Author.Needs.{needs}
 use borrow.Author.Tests.{eq-eqb, ne-eqb}
 use Rattle.plan_where.specs.Finding.{partiesUnder}
 use Rattle.plan_where.proofs.parties_under.Statement.{statement}
