@@ -5,7 +5,8 @@ ghost use lib.ListN.{length};
 ghost use Rattle.sheet.specs.Sheet.{sheetNumber};
 ghost use Rattle.audit_rule.specs.Audit.{auditNumber, soundNumber};
 ghost use Rattle.audit_finding.specs.Finding.{findingOf};
-ghost use Rattle.capi_where.specs.Calls.{whoNumber, whoFilled};
+ghost use Rattle.plan_where.specs.Finding.{planFindingOf};
+ghost use Rattle.capi_where.specs.Calls.{whoNumber, whoFilled, planNumber, planFilled};
 ghost use Rattle.index_build.specs.Build.{buildNumber, indexAfter};
 ghost use Rattle.trace_line.specs.declared.Engine.the-variants.{Index};
 ghost use Rattle.trace_line.specs.Line.{lineOver};
@@ -24,12 +25,12 @@ ghost use Rattle.capi.specs.Calls.{versionNumber};
 ghost use Rattle.plan_answer.specs.Plan.{numberOf as planningNumber, planning};
 use plan_answer::Planning;
 
-// The version of these calls, which the C header and the Rust crate are held against: 0.28.0 is 2800.
+// The version of these calls, which the C header and the Rust crate are held against: 0.30.0 is 3000.
 #[no_mangle]
 pub extern "C" fn cartsundial_version() -> u32
     ensures { λ r. ⌜ r ≡ versionNumber ⌝ }
 {
-    2800
+    3000
 }
 
 // Reads a header's packet as twenty numbers.
@@ -118,14 +119,25 @@ pub extern "C" fn cartsundial_sound(host: &[u8], sheet: &[u8]) -> u32
     auditor::sound(host, sheet) as u32
 }
 
-// The audit's number, and whom it is about: the record and its place, the other record and its place. A refused sheet has them, so this is
-// the one call whose refusal writes what it was lent; with room for fewer than four the slice stays, and 0 is 11.
+// The audit's number, and whom it is about: the record and its place, the other record and its place. A refused sheet has them, so its
+// refusal writes what it was lent; with room for fewer than four the slice stays, and 0 is 11.
 #[no_mangle]
 pub extern "C" fn cartsundial_audit_where(host: &[u8], sheet: &[u8], who: &mut [u64]) -> u32
     ensures { λ r. ⌜ r ≡ whoNumber (findingOf (now (host .entry)) (now (sheet .entry))) (now (who .entry)) ⌝ }
     ensures { λ _. ⌜ now (who .exit) ≡ whoFilled (findingOf (now (host .entry)) (now (sheet .entry))) (now (who .entry)) ⌝ }
 {
     capi_where::audit_where(host, sheet, who)
+}
+
+// The planner's number, and whom it is about: the record and its place, the record and place before which most room is lost; then how many
+// buses the board needs, and how many bytes of the low, the high and the I/O pool. A refused board has them too; with room for fewer than
+// eight the slice stays, and 0 is 11.
+#[no_mangle]
+pub extern "C" fn cartsundial_plan_where(board: &[u8], who: &mut [u64]) -> u32
+    ensures { λ r. ⌜ r ≡ planNumber (planFindingOf (now (board .entry))) (now (who .entry)) ⌝ }
+    ensures { λ _. ⌜ now (who .exit) ≡ planFilled (planFindingOf (now (board .entry))) (now (who .entry)) ⌝ }
+{
+    capi_where::plan_where(board, who)
 }
 
 // Where the 64 register bytes of the function with an ID start in the sheet.
