@@ -46,7 +46,8 @@ use Rattle.sheet.specs.Sheet.{sheetLength}
 use Rattle.plan_answer.specs.declared.Planning.the-variants.{Refused}
 use Rattle.plan_answer.specs.Plan.{onRoom, onBoard, planning, numberOf}
 use Rattle.plan_sheet.specs.Accepted.{board-of-accepted}
-use Rattle.planner.specs.MeasureLaws.{open-ends-low, past-base}
+use Rattle.plan_good.specs.Boards.{open-ends-low}
+use Rattle.planner.specs.MeasureLaws.{past-base}
 use Rattle.finding.specs.declared.Parties.{Parties}
 use Rattle.finding.specs.Places.{nobody, nobodies}
 use Rattle.board_where.specs.Where.{failingOf}
