@@ -103,6 +103,18 @@ static void make_sheet(int window)
 /* ---- calls ---- */
 
 static void plan(void) { number = cartsundial_plan(board, board_len, planned, sizeof planned, written, 1); }
+static void plan_where(void) { number = cartsundial_plan_where(board, board_len, answer, CARTSUNDIAL_PLAN_WHO_NUMBERS); }
+
+/* The same board with its low pool closed: what does not fit is looked for. */
+static void plan_where_refused(void)
+{
+    static uint8_t closed[sizeof board];
+
+    memcpy(closed, board, board_len);
+    memset(closed + 3 + 6, 0, 4);
+    number = cartsundial_plan_where(closed, board_len, answer, CARTSUNDIAL_PLAN_WHO_NUMBERS);
+    number = number == CARTSUNDIAL_E_NO_LOW_ROOM && answer[0] != 0 ? CARTSUNDIAL_ACCEPTED : 1;
+}
 static void write_script(void) { number = cartsundial_script(board, board_len, 0, 0, script, sizeof script, written, 1); }
 static void read_header(void) { number = cartsundial_read(header, sizeof header, packet, 20); }
 static void write_header(void) { number = cartsundial_write(packet, 20, lines, 16, written, 1); }
@@ -177,6 +189,8 @@ int main(void)
     make_sheet(1);
     measure("plan", plan, 60);
     planned_len = (size_t)written[0];
+    measure("plan_where", plan_where, 60);
+    measure("plan_where, refused", plan_where_refused, 60);
     measure("script", write_script, 60);
     measure("read", read_header, 12);
     measure("write", write_header, 12);
