@@ -53,7 +53,8 @@ use Rattle.route_cards.specs.Search.{functionAt, IsType0}
 use Rattle.route_cards.specs.RecordLaws.{function-mem, function-elim, type-0-no-bridge, start-of-type-0}
 use Rattle.route_cards.specs.RequestLaws.{type-0-or-nowhere}
 use Rattle.trace.specs.Annotated.{numberAfter}
-use Rattle.trace_line.specs.Line.{labelOf, labelWith, lineWith, lineOver}
+use Rattle.trace_label.specs.Label.{labelOf, labelWith}
+use Rattle.trace_line.specs.Line.{lineWith, lineOver}
 use Rattle.index_search.specs.Search.{searchOf}
 use Rattle.index_build.specs.Build.{indexAfter}
 use Rattle.demands.specs.Demand3.{IsRequest}

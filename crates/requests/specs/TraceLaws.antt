@@ -22,7 +22,8 @@ use Rattle.trace.specs.Trace.{stateOf, linesOf, endLine}
 use Rattle.trace.specs.TraceLaws.{stateAll, state-all, pieces-told}
 use Rattle.trace.specs.Feed.{textPut, fedOf, endedOf}
 use Rattle.trace.specs.FeedLaws.{short-front, Call, called-state, called-lines}
-use Rattle.trace_line.specs.Line.{labelWith, lineWith, lineOver}
+use Rattle.trace_label.specs.Label.{labelWith}
+use Rattle.trace_line.specs.Line.{lineWith, lineOver}
 use Rattle.trace_line.specs.LineLaws.{line-front}
 use Rattle.requests.specs.Trace.{Labels, linesAfter, told, Annotates, Feeds, Ends, Calls, Prints, TraceAnnotated}
 use Rattle.stream_trace.specs.ProgramLaws.{program-no-length, program-long, program-short, program-pieces}

@@ -1,42 +1,30 @@
--- What a header is labelled with as the code holds it: a name in a word, and where the packet goes as a number. LabelLaws joins this with
--- the label. Assumes nothing.
-use Prim.Native.Nat.{ℕ, _+_, _%_, _≤_, min}
-use mathlib.Core.Path.{_≡_}
-use mathlib.Core.Bool.{cond}
+-- Document 02, E4, of a record's line "`1 MRd owner 2` or `2 IOWr refused 40`" what follows its number: "the kind is as read, a refused
+-- header's `-`, a broadcast's owner `all`, form 100's `port`." By document 01's reader and any routing. Assumes nothing.
+use Prim.Native.Nat.{ℕ}
 use mathlib.Core.List.{List, _++_}
-use lib.ListN.{length, take}
-use lib.Seq.{sets}
-use lib.Dec.{eqb}
-use Rattle.endian.specs.Endian.{beBytes}
 use Rattle.text.specs.Text.{ascii}
-use Rattle.packet_text.specs.Labels.{named}
-use Rattle.trace_label.specs.declared.Label.{Label}
+use Rattle.packet.specs.Fields.{kindOf}
+use Rattle.packet_text.specs.Labels.{kindText, named}
+use Rattle.tlp.specs.declared.Reading.{Reading}
+use Rattle.tlp.specs.declared.Reading.the-variants.{Accepted, Refused as NotRead}
+use Rattle.tlp.specs.Reading.{readOf}
+use Rattle.route_answer.specs.declared.Routing.{Routing}
+use Rattle.route_answer.specs.declared.Routing.the-variants.{Delivered, Broadcast, Port, Refused}
 
--- the first bytes of a word, as many as its last byte says
-unfoldable pub nameIn : ℕ → List ℕ
-nameIn word = take (word % 256) (beBytes 8 word)
+-- the kind as read
+abbrev pub kindRead : Reading → List ℕ
+kindRead (Accepted p) = kindText (kindOf p)
+kindRead (NotRead n) = ascii "-"
 
-pub record Names (word : ℕ) (name : List ℕ) : Type 0 where
-  pub is : nameIn word ≡ name
-  pub few : word % 256 ≤ 8
+abbrev pub ownerText : Routing → List ℕ
+ownerText (Delivered d) = named " owner " (d .owner)
+ownerText (Broadcast functions p) = ascii " owner all"
+ownerText (Port p) = ascii " owner port"
+ownerText (Refused n) = named " refused " n
 
--- where a packet goes, with its owner's number or a refusal's
-unfoldable pub wayText : ℕ → ℕ → List ℕ
-wayText way n =
-    cond (eqb way 0) (named " owner " n)
-    (cond (eqb way 1) (named " refused " n) (cond (eqb way 2) (ascii " owner all") (ascii " owner port")))
+abbrev pub labelOf : Reading → Routing → List ℕ
+labelOf reading routing = ascii " " ++ (kindRead reading ++ ownerText routing)
 
-pub record Labels (l : Label) (label : List ℕ) : Type 0 where
-  pub is : nameIn (l .name) ++ wayText (l .way) (l .number) ≡ label
-  pub few : l .name % 256 ≤ 8
-
--- unless it is untold, for which the way is 4
-abbrev pub Told : Label → List ℕ → Type 0
-Told l label = ¬ (l .way ≡ 4) → Labels l label
-
--- a text put at a place with up to eight bytes more, which stand where the next text will
-pub record Over (bytes : List ℕ) (at : ℕ) (text : List ℕ) (after : List ℕ) (next : ℕ) : Type 0 where
-  pub rest : List ℕ
-  pub stored : after ≡ sets bytes at (text ++ rest)
-  pub few : length rest ≤ 8
-  pub place : next ≡ min (at + length text) (length bytes)
+-- of a header that `route` takes somewhere
+unfoldable pub labelWith : (List ℕ → Routing) → List ℕ → List ℕ
+labelWith route header = labelOf (readOf header) (route header)

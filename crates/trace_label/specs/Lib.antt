@@ -1,3 +1,5 @@
--- A header's label as the code holds it.
+-- A header's label, and as the code holds it.
 pub mod Label
+pub mod Word
+pub mod WordLaws
 pub mod LabelLaws

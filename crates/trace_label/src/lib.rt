@@ -6,7 +6,7 @@ ghost use Rattle.text.specs.Text.{Put, ascii};
 ghost use Rattle.packet_text.specs.Labels.{kindText};
 ghost use Rattle.pairs.specs.declared.Kind.the-variants.{Memory as MemoryOf, Io as IoOf, Config as ConfigOf, Completion as CompletionOf};
 ghost use Rattle.packet.specs.Fields.{kindOf};
-ghost use Rattle.trace_label.specs.Label.{nameIn, Names, wayText, Over};
+ghost use Rattle.trace_label.specs.Word.{nameIn, Names, wayText, Over};
 use packet::Packet;
 use pairs::CompletionKind;
 use pairs::ConfigKind;

@@ -10,7 +10,8 @@ use Rattle.route.specs.Route.{fromSheet, routeOf}
 use Rattle.index_search.specs.Search.{searchPacket, searchOf}
 use Rattle.trace_line.specs.declared.Engine.{Engine}
 use Rattle.trace_line.specs.declared.Engine.the-variants.{Sheet, Index}
-use Rattle.trace_line.specs.Line.{labelWith, lineWith}
+use Rattle.trace_label.specs.Label.{labelWith}
+use Rattle.trace_line.specs.Line.{lineWith}
 
 -- the number that it has is its sheet's
 abbrev pub Knows : Engine → List ℕ → Type 0

@@ -3,4 +3,3 @@ pub mod Line
 pub mod Engine
 pub mod Bounds
 pub mod LineLaws
-pub mod LabelLaws

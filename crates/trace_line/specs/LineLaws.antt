@@ -25,10 +25,11 @@ use Rattle.route_answer.specs.declared.Routing.{Routing}
 use Rattle.route_answer.specs.declared.Routing.the-variants.{Delivered, Broadcast, Port, Refused}
 use Rattle.route.specs.Route.{routePacket, fromSheet, fromReading, routeOf}
 use Rattle.index_search.specs.Search.{searchOf}
+use Rattle.trace_label.specs.Label.{kindRead, ownerText, labelWith}
 use Rattle.trace_line.specs.declared.Engine.{Engine}
 use Rattle.trace_line.specs.declared.Engine.the-variants.{Sheet, Index}
-use Rattle.trace_line.specs.Line.{kindRead, ownerText, labelWith, lineWith, lineOver}
-use Rattle.trace_line.specs.Engine.{packetBy, routingBy, labelBy, lineBy}
+use Rattle.trace_line.specs.Line.{lineWith, lineOver}
+use Rattle.trace_line.specs.Engine.{packetBy, routingBy, lineBy}
 use Rattle.trace_line.specs.Bounds.{Small, SmallRouting, small-routing}
 
 -- ## Digits
@@ -116,27 +117,24 @@ module _ (p : Packet) (sheet : List ℕ) (n : ℕ) (number : n ≡ sheetNumber s
   sheet-passed h r e = rw (← number, eq-eqb n 0 h) e
 
 -- only a packet is looked up
-pub routing-accepted : (engine : Engine) (bytes header : List ℕ) (p : Packet) → readOf header ≡ Accepted p
+by-packet : (engine : Engine) (bytes header : List ℕ) (p : Packet) → readOf header ≡ Accepted p
     → routingBy engine bytes header ≡ packetBy engine p bytes
 unfolding routingBy packetBy routeOf searchOf
-routing-accepted (Sheet number) bytes header p e = rw e
-routing-accepted Index bytes header p e = rw e
+by-packet (Sheet number) bytes header p e = rw e
+by-packet Index bytes header p e = rw e
 
-routing-refused : (engine : Engine) (bytes header : List ℕ) (n : ℕ) → readOf header ≡ NotRead n
-    → routingBy engine bytes header ≡ Refused n
+by-refusal : (engine : Engine) (bytes header : List ℕ) (n : ℕ) → readOf header ≡ NotRead n → routingBy engine bytes header ≡ Refused n
 unfolding routingBy routeOf searchOf
-routing-refused (Sheet number) bytes header n e = rw e
-routing-refused Index bytes header n e = rw e
+by-refusal (Sheet number) bytes header n e = rw e
+by-refusal Index bytes header n e = rw e
 
 module _ (engine : Engine) (bytes header : List ℕ) (reading : Reading) (is-reading : reading ≡ readOf header) where
-  pub label-accepted : (p : Packet) → reading ≡ Accepted p
-      → labelBy engine bytes header ≡ ascii " " ++ (kindText (kindOf p) ++ ownerText (packetBy engine p bytes))
-  unfolding labelWith
-  label-accepted p e = let read = sym is-reading ∙ e in rw (routing-accepted engine bytes header p read, read)
+  pub routing-accepted : (p : Packet) → reading ≡ Accepted p → (r : Routing) → r ≡ packetBy engine p bytes
+      → r ≡ routingBy engine bytes header
+  routing-accepted p e r routed = routed ∙ sym (by-packet engine bytes header p (sym is-reading ∙ e))
 
-  pub label-refused : (n : ℕ) → reading ≡ NotRead n → labelBy engine bytes header ≡ ascii " - refused " ++ decimal n
-  unfolding labelWith ascii
-  label-refused n e = let read = sym is-reading ∙ e in rw (routing-refused engine bytes header n read, read)
+  pub routing-refused : (n : ℕ) → reading ≡ NotRead n → routingBy engine bytes header ≡ Refused n
+  routing-refused n e = by-refusal engine bytes header n (sym is-reading ∙ e)
 
 -- ## The front
 

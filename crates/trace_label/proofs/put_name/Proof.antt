@@ -3,7 +3,7 @@ use borrow.Author.Needs.{needs}
 use Rattle.trace_label.proofs.put_name.Statement.{statement}
 use Rattle.trace_label.proofs.put_name.Tie as tie
 use native.Mathlib.Omega.{arith}
-use Rattle.trace_label.specs.LabelLaws.{name-over, name-put}
+use Rattle.trace_label.specs.WordLaws.{name-over, name-put}
 
 place-requires : tie.Need-place-requires
 place-requires c κs = search needs

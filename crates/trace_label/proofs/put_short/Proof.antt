@@ -3,7 +3,7 @@ use borrow.Author.Needs.{needs}
 use Rattle.trace_label.proofs.put_short.Statement.{statement}
 use Rattle.trace_label.proofs.put_short.Tie as tie
 use mathlib.Core.Path.{_≡_, _∙_}
-use Rattle.trace_label.specs.LabelLaws.{word-stored}
+use Rattle.trace_label.specs.WordLaws.{word-stored}
 
 slice-aggregate-write-be64 : tie.Need-slice-aggregate-write-be64
 slice-aggregate-write-be64 c = search needs

@@ -4,7 +4,7 @@ use Rattle.trace_label.proofs.put_way.Statement.{statement}
 use Rattle.trace_label.proofs.put_way.Tie as tie
 use borrow.Author.Tests.{eq-eqb, ne-eqb}
 use Rattle.text.specs.Text.{ascii}
-use Rattle.trace_label.specs.Label.{wayText}
+use Rattle.trace_label.specs.Word.{wayText}
 
 slice-aggregate-put-named : tie.Need-slice-aggregate-put-named
 slice-aggregate-put-named c = search needs

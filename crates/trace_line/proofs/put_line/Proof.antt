@@ -5,7 +5,7 @@ use Rattle.trace_line.proofs.put_line.Tie as tie
 use Rattle.text.specs.Text.{ascii}
 use Rattle.text.specs.TextLaws.{put-append}
 use Rattle.trace_line.specs.Line.{lineWith}
-use Rattle.trace_label.specs.LabelLaws.{label-put}
+use Rattle.trace_label.specs.WordLaws.{label-put}
 
 label-by-bytes-requires : tie.Need-label-by-bytes-requires
 label-by-bytes-requires c κs = search needs

@@ -3,7 +3,7 @@ use borrow.Author.Needs.{needs}
 use Rattle.trace_line.proofs.way_of.Statement.{statement}
 use Rattle.trace_line.proofs.way_of.Tie as tie
 use mathlib.Core.Path.{refl}
-use Rattle.trace_label.specs.Label.{wayText}
+use Rattle.trace_label.specs.Word.{wayText}
 
 enum-known-routing : tie.Need-enum-known-routing
 enum-known-routing c = search needs

@@ -1,4 +1,4 @@
--- `trace_line::label_memory` meets its contract: where nothing refuses the header, the word found decides. Assumes nothing.
+-- `index_label::label_memory` meets its contract: where nothing refuses the header, the word found decides. Assumes nothing.
 use borrow.Author.Needs.{needs}
 use mathlib.Core.Path.{_≡_, refl, sym, _∙_}
 use borrow.Author.Tests.{lt-ltb, le-ltb}
@@ -7,9 +7,9 @@ use Rattle.tlp.specs.declared.Reading.the-variants.{Accepted}
 use Rattle.tlp.specs.Reading.{readOf}
 use Rattle.tlp_kinds.specs.KindsLaws.{accepted-memory}
 use Rattle.index_find.specs.FoundLaws.{out-of-reach, by-word}
-use Rattle.trace_line.specs.LabelLaws.{labels-found}
-use Rattle.trace_line.proofs.label_memory.Statement.{statement}
-use Rattle.trace_line.proofs.label_memory.Tie as tie
+use Rattle.index_label.specs.FoundLaws.{labels-found}
+use Rattle.index_label.proofs.label_memory.Statement.{statement}
+use Rattle.index_label.proofs.label_memory.Tie as tie
 
 shared-slice-read-b : tie.Need-shared-slice-read-b
 shared-slice-read-b c = search needs

@@ -1,9 +1,9 @@
--- `trace_line::label_by_index` meets its contract: by the path of the kind that byte 0 says. Assumes nothing.
+-- `index_label::label_by_index` meets its contract: by the path of the kind that byte 0 says. Assumes nothing.
 use borrow.Author.Needs.{needs}
 use native.Mathlib.Omega.{arith}
 use mathlib.Core.Path.{sym, _∙_}
-use Rattle.trace_line.proofs.label_by_index.Statement.{statement}
-use Rattle.trace_line.proofs.label_by_index.Tie as tie
+use Rattle.index_label.proofs.label_by_index.Statement.{statement}
+use Rattle.index_label.proofs.label_by_index.Tie as tie
 
 untold-requires : tie.Need-untold-requires
 untold-requires c κs = search needs

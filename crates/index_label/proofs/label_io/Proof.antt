@@ -1,4 +1,4 @@
--- `trace_line::label_io` meets its contract: where nothing refuses the header, the word found decides. Assumes nothing.
+-- `index_label::label_io` meets its contract: where nothing refuses the header, the word found decides. Assumes nothing.
 use borrow.Author.Needs.{needs}
 use Prim.Native.Nat.{_+_}
 use native.Mathlib.Omega.{arith}
@@ -11,9 +11,9 @@ use Rattle.tlp.specs.Reading.{readOf}
 use Rattle.tlp_kinds.specs.KindsLaws.{accepted-io}
 use Rattle.index_layout.specs.Keys.{ioBase}
 use Rattle.index_find.specs.FoundLaws.{out-of-reach, by-word}
-use Rattle.trace_line.specs.LabelLaws.{labels-found}
-use Rattle.trace_line.proofs.label_io.Statement.{statement}
-use Rattle.trace_line.proofs.label_io.Tie as tie
+use Rattle.index_label.specs.FoundLaws.{labels-found}
+use Rattle.index_label.proofs.label_io.Statement.{statement}
+use Rattle.index_label.proofs.label_io.Tie as tie
 
 shared-slice-read-io-kind : tie.Need-shared-slice-read-io-kind
 shared-slice-read-io-kind c = search needs

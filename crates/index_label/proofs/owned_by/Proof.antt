@@ -1,11 +1,11 @@
--- `trace_line::owned_by` meets its contract: a record, or nobody's. Assumes nothing.
+-- `index_label::owned_by` meets its contract: a record, or nobody's. Assumes nothing.
 use borrow.Author.Needs.{needs}
 use mathlib.Core.Path.{refl, sym, _∙_}
 use borrow.Author.Tests.{eq-eqb, ne-eqb}
 use Rattle.index_layout.specs.Words.{recordIn}
-use Rattle.trace_label.specs.Label.{wayText}
-use Rattle.trace_line.proofs.owned_by.Statement.{statement}
-use Rattle.trace_line.proofs.owned_by.Tie as tie
+use Rattle.trace_label.specs.Word.{wayText}
+use Rattle.index_label.proofs.owned_by.Statement.{statement}
+use Rattle.index_label.proofs.owned_by.Tie as tie
 
 record-in-requires : tie.Need-record-in-requires
 record-in-requires c κs = search needs
