@@ -2,18 +2,11 @@
 -- nothing.
 use mathlib.Core.Path.{_≡_, refl, sym, ap, _∙_}
 use mathlib.Core.List.{List, [], _∷_, _++_}
-use Prim.Native.Nat.{ℕ, suc, _+_, _≤_, _<_}
+use Prim.Native.Nat.{ℕ, _+_, _≤_, _<_}
 use native.Mathlib.Omega.{arith}
 use lib.ListN.{length, length-append}
 use Rattle.index_slots.specs.Slots.{Slot, moved, placed}
-
-pub placed-append : (count n : ℕ) (xs ys : List Slot) (o : List ℕ)
-    → placed count n (xs ++ ys) o ≡ placed (count + length xs) n ys (placed count n xs o)
-unfolding placed
-placed-append count n [] ys o = let e : count + 0 ≡ count = omega arith in rw e
-placed-append count n (x ∷ xs) ys o =
-    let e : count + suc (length xs) ≡ suc count + length xs = omega arith in
-    placed-append (suc count) n xs ys _ ∙ rw e
+use Rattle.index_slots.specs.PlacedLaws.{placed-append}
 
 -- ## One piece: o₁ and count₁ are told after it
 
