@@ -3,14 +3,13 @@
 use mathlib.Core.Path.{_≡_, refl, sym, ap, _∙_}
 use mathlib.Core.Bool.{Bool, true, false, cond}
 use mathlib.Core.List.{List, [], _∷_}
-use Prim.Native.Nat.{ℕ, _+_, _-_, _/_, _%_, _≤_, _<_}
+use Prim.Native.Nat.{ℕ, _+_, _-_, _/_, _%_, _<_}
 use native.Mathlib.Omega.{arith}
 use lib.ListN.{length}
 use lib.Dec.{eqb, ltb}
 use borrow.Author.Tests.{ltb-true, ltb-false, lt-ltb, le-ltb}
 use Rattle.endian.specs.Endian.{Bytes}
-use Rattle.lists.specs.Lists.{All, keep}
-use Rattle.lists.specs.ListLaws.{all-intro}
+use Rattle.lists.specs.Lists.{keep}
 use Rattle.pools.specs.declared.Space.{Space}
 use Rattle.pools.specs.declared.Space.the-variants.{Memory, Io as Ports}
 use Rattle.board_record.specs.Host.{hostOfPart}
@@ -21,7 +20,6 @@ use Rattle.walk.specs.WalkLaws.{walk-none}
 use Rattle.walk.specs.Ids.{tallyById}
 use Rattle.walk.specs.Good.{FirstOn}
 use Rattle.walk.specs.Delivery.{outcomeOf, outcome-from-first, root-is-first}
-use Rattle.sheet.specs.Sheet.{entriesOf}
 use Rattle.sheet.specs.Spaces.{registersOf, nodesOf, enabledOf}
 use Rattle.sheet.specs.SheetLaws.{passes-of-zero}
 use Rattle.claims.specs.declared.Aim.{Aim}
@@ -30,24 +28,14 @@ use Rattle.route.specs.Route.{walked, root}
 use Rattle.audit_rule.specs.Host.{hostFor}
 use Rattle.audit_rule.specs.Accepted.{Accepted}
 use Rattle.audit_rule.specs.AcceptedLaws.{good-of-accepted}
-use Rattle.index_layout.specs.Places.{mostSlots}
 use Rattle.index_layout.specs.Keys.{memoryEnd, ioSize, idSize, ioBase, idBase, noKey}
 use Rattle.index_rule.specs.Owners.{Owner, endOf, keyOf, inReach, ownersOf}
-use Rattle.index_rule.specs.Insert.{inserted}
 use Rattle.index_rule.specs.Search.{sortedOwners, keyAt, wordAt, Last, answerAt}
-use Rattle.index_rule.specs.InsertLaws.{Ordered, inserted-ordered, length-inserted}
+use Rattle.index_rule.specs.InsertLaws.{length-inserted}
 use Rattle.index_rule.specs.Answered.{onLine}
 use Rattle.index_rule.specs.IdsLaws.{outcomeById}
-use Rattle.index_rule.specs.CountLaws.{seven-each}
-use Rattle.index_rule.specs.WordLaws.{Fits}
-use Rattle.index_rule.specs.SearchLaws.{each-fits, outcome-of-last}
+use Rattle.index_rule.specs.SearchLaws.{outcome-of-last}
 use Rattle.index_rule.specs.LineLaws.{owners-fit, owners-answered, past-space, past-ids}
-
--- at most seven a function
-pub sorted-few : (host s : List ℕ) → length (sortedOwners host s) ≤ mostSlots (length (entriesOf s))
-unfolding sortedOwners
-sorted-few host s =
-    omega (arith, length-inserted (λ (x : Owner). x .start) [] (ownersOf host s), seven-each (hostOfPart host .«first_bus») s)
 
 -- a sheet with no functions has no claims by ID
 tally-of-none : (target devfn bus : ℕ) → tallyById [] target devfn bus ≡ none
@@ -131,15 +119,3 @@ module _ (host s : List ℕ) (host-bytes : Bytes host) (bytes : Bytes s) (a : Ac
       walked-by-key aim e
       ∙ outcome-of-last (ownersOf host s) (owners-answered host s host-bytes bytes a) (owners-fit host s host-bytes bytes a) m (keyOf aim)
       (omega (arith, room, few)) (key-near aim e) p last
-
-  -- ## What the index holds: keys below the fillers', words of 64 bits, in order
-
-  pub sorted-fit : All Fits (sortedOwners host s)
-  unfolding sortedOwners
-  sorted-fit =
-      all-intro Fits (inserted (λ (x : Owner). x .start) [] (ownersOf host s))
-      (each-fits (ownersOf host s) (owners-answered host s host-bytes bytes a) (owners-fit host s host-bytes bytes a))
-
-pub sorted-ordered : (host s : List ℕ) → Ordered (λ (x : Owner). x .start) (sortedOwners host s)
-unfolding sortedOwners
-sorted-ordered host s = inserted-ordered (λ (x : Owner). x .start) [] (ownersOf host s) tt

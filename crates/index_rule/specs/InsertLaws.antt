@@ -3,7 +3,7 @@
 use mathlib.Core.Path.{_≡_, refl, ap, _∙_}
 use mathlib.Core.Logic.{_⊎_, inl, inr}
 use mathlib.Core.Bool.{Bool, true, false, cond}
-use mathlib.Core.List.{List, [], _∷_, _++_, map, List·Memᴰ·head, List·Memᴰ·tail, List·Memᴰ·not-nil, List·Memᴰ·cases-cons}
+use mathlib.Core.List.{List, [], _∷_, map, List·Memᴰ·head, List·Memᴰ·tail, List·Memᴰ·not-nil, List·Memᴰ·cases-cons}
 use Prim.Native.Nat.{ℕ, suc, _+_, _≤_}
 use native.Mathlib.Omega.{arith}
 use lib.ListN.{length}
@@ -120,12 +120,6 @@ module _ {A : Type 0} (key : A → ℕ) where
   unfolding inserted
   length-inserted ys [] = omega arith
   length-inserted ys (x ∷ xs) = omega (arith, length-inserted (insert key x ys) xs, length-insert x ys)
-
-  -- one pass after another
-  pub inserted-append : (ys xs zs : List A) → inserted key ys (xs ++ zs) ≡ inserted key (inserted key ys xs) zs
-  unfolding inserted
-  inserted-append ys [] zs = refl
-  inserted-append ys (x ∷ xs) zs = inserted-append (insert key x ys) xs zs
 
 -- ## What things become
 

@@ -1,11 +1,10 @@
 -- A pass over the records, in the words of the code: what it inserts of record k and of those after it. Assumes nothing.
 use mathlib.Core.Path.{_≡_, refl, ap, _∙_}
-use mathlib.Core.Bool.{Bool, true, false, cond, _&&_}
-use mathlib.Core.List.{List, [], _∷_, _++_, map, map-append, flatMap}
+use mathlib.Core.Bool.{Bool, true, false, cond}
+use mathlib.Core.List.{List, [], _∷_, _++_, map, flatMap}
 use Prim.Native.Nat.{ℕ, _+_, _≤_, _<_}
 use native.Mathlib.Omega.{arith}
 use lib.ListN.{length}
-use lib.Dec.{leb, ltb}
 use Rattle.lists.specs.Lists.{keep}
 use Rattle.lists.specs.KeepLaws.{keep-nil, map-keep-append}
 use Rattle.walk.specs.Ranges.{Range}
@@ -25,27 +24,6 @@ use Rattle.index_rule.specs.Owners.{Segment, startsIn, ownedOf, idOwners
 -- what the pass takes of them
 unfoldable pub taken : Segment → ℕ → List Node → Node → List Range → List Owner
 taken g top ns n rs = map (moved (g .base)) (keep (startsIn g) (map (barOwner top ns n) rs))
-
-module _ (g : Segment) (top : ℕ) (ns : List Node) (n : Node) where
-  pub taken-none : taken g top ns n [] ≡ []
-  unfolding taken keep
-  taken-none = refl
-
-  pub taken-one : (r : Range) → taken g top ns n (r ∷ [])
-      ≡ cond (leb (g .first) (r .start) && ltb (r .start) (g .end)) (moved (g .base) (barOwner top ns n r) ∷ []) []
-  unfolding taken keep
-  taken-one r = go (startsIn g (barOwner top ns n r))
-    where
-      go : (t : Bool) → map (moved (g .base)) (cond t (barOwner top ns n r ∷ []) [])
-          ≡ cond t (moved (g .base) (barOwner top ns n r) ∷ []) []
-      go true = refl
-      go false = refl
-
-  pub taken-append : (rs qs : List Range) → taken g top ns n (rs ++ qs) ≡ taken g top ns n rs ++ taken g top ns n qs
-  unfolding taken
-  taken-append rs qs =
-      ap (λ (xs : List Owner). map (moved (g .base)) (keep (startsIn g) xs)) (map-append (barOwner top ns n) rs qs)
-      ∙ map-keep-append (startsIn g) (moved (g .base)) (map (barOwner top ns n) rs) (map (barOwner top ns n) qs)
 
 -- ## From record k on
 

@@ -60,9 +60,6 @@ module _ {outcome : ℕ → Outcome} (ys : List Owner) (answered : Answered ys o
       was (inl n) = absurd (List·Memᴰ·not-nil n)
       was (inr n) = n
 
-  pub each-fits : (x : Owner) → x ∈ sorted → Fits x
-  each-fits x m = fits x (of-sorted x m)
-
   rising : Rises (startAt sorted) (length sorted)
   rising = rises-of-ordered sorted (inserted-ordered (λ (z : Owner). z .start) [] ys tt)
 

@@ -30,20 +30,6 @@ pub exponent-of-power : (b : ℕ) → b < 64 → exponentOf (2 ^ b) ≡ b
 unfolding exponentOf
 exponent-of-power b h = exponent-over 64 b (omega arith)
 
--- of any number it is at most 64
-exponent-over-le : (n size : ℕ) → exponentOver n size ≤ n
-unfolding exponentOver
-exponent-over-le zero size = omega arith
-exponent-over-le (suc n) size = go (leb size 1) (exponent-over-le n (size / 2))
-  where
-    go : (t : Bool) → exponentOver n (size / 2) ≤ n → cond t 0 (suc (exponentOver n (size / 2))) ≤ suc n
-    go true h = omega arith
-    go false h = omega (arith, h)
-
-pub exponent-le : (size : ℕ) → exponentOf size ≤ 64
-unfolding exponentOf
-exponent-le size = exponent-over-le 64 size
-
 -- ## The word
 
 pub record Fits (x : Owner) : Type 0 where
