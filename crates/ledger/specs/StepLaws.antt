@@ -1,11 +1,12 @@
 -- What is known of a call by its verdict. Assumes nothing.
 use mathlib.Core.Path.{_≡_, refl}
-use mathlib.Core.Bool.{Bool, true, false, cond, _&&_, false≢true}
+use mathlib.Core.Bool.{Bool, true, false, cond, _&&_}
 use mathlib.Core.List.{List}
 use Prim.Native.Nat.{ℕ, _*_, _-_, _≤_, _<_}
 use lib.ListN.{length, getD}
 use lib.Dec.{ltb}
 use borrow.Author.Tests.{ltb-true, ltb-false}
+use Rattle.arith.specs.BoolLaws.{both-of-and}
 use Rattle.pairs.specs.declared.CompletionKind.{CompletionKind as Completing}
 use Rattle.packet.specs.declared.Head.{Head}
 use Rattle.packet.specs.declared.Outcome.{Outcome}
@@ -60,10 +61,6 @@ pub data Completed (key : ℕ) (k : Completing) (dwords status : ℕ) (ws : List
   other : placeOf key ws < length ws → disagrees (wordAt key ws) k status ≡ false → isSuccess status ≡ false
       → Completed key k dwords status ws (Closed (placeOf key ws))
 
-and-true : (a b : Bool) → a && b ≡ true → (a ≡ true) × (b ≡ true)
-and-true true b e = (refl, e)
-and-true false b e = absurd (false≢true e)
-
 pub completed : (key : ℕ) (k : Completing) (dwords status : ℕ) (ws : List ℕ)
     → Completed key k dwords status ws (onCompletion key k dwords status ws)
 unfolding onCompletion settled onSuccess
@@ -78,7 +75,7 @@ completed key k dwords status ws = by-place (ltb (placeOf key ws) (length ws)) r
         (Closed (placeOf key ws)))
     by-part i a false exceeds less s m p = other i a s
     by-part i a true true less s m p = more i a s (ltb-true _ _ m)
-    by-part i a true false true s m p = let e = and-true _ _ p in part i a s (e .0) (ltb-true _ _ (e .1))
+    by-part i a true false true s m p = let e = both-of-and _ _ p in part i a s (e .0) (ltb-true _ _ (e .1))
     by-part i a true false false s m p = whole i a s (ltb-false _ _ m) (λ r. ltb-false _ _ (rw r at p))
 
     by-form : placeOf key ws < length ws → (disagree : Bool) → disagrees (wordAt key ws) k status ≡ disagree

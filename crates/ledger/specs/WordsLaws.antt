@@ -1,12 +1,13 @@
 -- The place of a key and the places in use, in the words of the two loops over places. Assumes nothing.
 use mathlib.Core.Path.{_≡_, refl, subst}
-use mathlib.Core.Bool.{Bool, true, false, cond, _||_, true≢false}
+use mathlib.Core.Bool.{Bool, false, cond, _||_}
 use mathlib.Core.List.{List, [], _∷_}
 use Prim.Native.Nat.{ℕ, zero, suc, _+_, _≤_, _<_}
 use native.Mathlib.Omega.{arith}
 use lib.ListN.{length, getD, drop}
 use lib.Dec.{eqb}
 use borrow.Author.Tests.{eq-eqb, ne-eqb, eqb-false}
+use Rattle.arith.specs.BoolLaws.{false-of-or}
 use Rattle.ledger.specs.Words.{keyIn, usedBy, placeOf, inUse}
 
 -- ## Where a key is found
@@ -51,10 +52,6 @@ isAmongFour k ws i =
     let has : ℕ → Bool = λ j. eqb (keyIn (getD ws j 0)) k in
     has i || (has (i + 1) || (has (i + 2) || has (i + 3)))
 
-or-false : (a b : Bool) → a || b ≡ false → (a ≡ false) × (b ≡ false)
-or-false true b e = absurd (true≢false e)
-or-false false b e = (refl, e)
-
 module _ (k i all : ℕ) (ws : List ℕ) where
   skip-one : (j next : ℕ) → j + 1 ≡ next → j < length ws → j + placeOf k (drop j ws) ≡ all → eqb (keyIn (getD ws j 0)) k ≡ false
       → next + placeOf k (drop next ws) ≡ all
@@ -65,9 +62,9 @@ module _ (k i all : ℕ) (ws : List ℕ) where
   pub skip-four : i + 4 ≤ length ws → i + placeOf k (drop i ws) ≡ all → isAmongFour k ws i ≡ false
       → i + 4 + placeOf k (drop (i + 4) ws) ≡ all
   skip-four room e none =
-      let (first, rest) = or-false _ _ none in
-      let (second, more) = or-false _ _ rest in
-      let (third, fourth) = or-false _ _ more in
+      let (first, rest) = false-of-or _ _ none in
+      let (second, more) = false-of-or _ _ rest in
+      let (third, fourth) = false-of-or _ _ more in
       let e1 = skip-one i (i + 1) refl (omega arith) e first in
       let e2 = skip-one (i + 1) (i + 2) (omega arith) (omega arith) e1 second in
       let e3 = skip-one (i + 2) (i + 3) (omega arith) (omega arith) e2 third in
