@@ -1,7 +1,7 @@
 -- An input longer than any lawful board: fed in pieces, wherever the cuts fall, it comes to document 01's number. Assumes nothing.
 use Prim.Native.Nat.{ℕ, _+_, _-_, _*_, min, _≤_, _<_}
 use mathlib.Core.Path.{_≡_, refl, sym, ap, ap₂, _∙_}
-use mathlib.Core.Bool.{Bool, true, false, cond, _||_}
+use mathlib.Core.Bool.{Bool, true, false, cond, _||_, or-false, or-assoc}
 use mathlib.Core.List.{List, [], _∷_, _++_, foldl}
 use native.Mathlib.Omega.{arith}
 use borrow.Author.Tests.{ne-eqb, lt-ltb, le-ltb, ltb-true, ltb-false, eqb-true, not-false}
@@ -62,14 +62,6 @@ tally-records t [] h = omega arith
 tally-records t (p ∷ ps) h =
     let e = counted-min (t .records) h in
     ap (λ (u : Tally). u .records) (tally-more t p ps) ∙ tally-records (begunOf t (length p)) ps (omega arith) ∙ rw e (omega arith)
-
-or-false : (b : Bool) → b || false ≡ b
-or-false true = refl
-or-false false = refl
-
-or-assoc : (a b c : Bool) → (a || b) || c ≡ a || (b || c)
-or-assoc true b c = refl
-or-assoc false b c = refl
 
 -- after the host every record is a function
 tally-misframed : (t : Tally) (ps : List (List ℕ)) → 1 ≤ t .records → t .records ≤ mostCounted

@@ -1,6 +1,6 @@
 -- The laws of a board's frame taken byte by byte: a loop's turn, and pieces in a row. Assumes nothing.
 use mathlib.Core.Path.{_≡_, refl, sym, ap, _∙_}
-use mathlib.Core.Bool.{Bool, true, false, cond, _||_, or-true}
+use mathlib.Core.Bool.{Bool, true, false, cond, _||_, or-true, or-false}
 use mathlib.Core.List.{List, [], _∷_, _++_}
 use Prim.Native.Nat.{ℕ, suc, _+_, _≤_, _<_}
 use native.Mathlib.Numerals.{add-one}
@@ -99,8 +99,4 @@ shown-version v = go (eqb v 2)
   where
     go : (t : Bool) → eqb (cond t 1 v) 1 ≡ eqb v 1 || t
     go true = sym (or-true (eqb v 1))
-    go false = sym (or-none (eqb v 1))
-      where
-        or-none : (b : Bool) → b || false ≡ b
-        or-none true = refl
-        or-none false = refl
+    go false = sym (or-false (eqb v 1))
