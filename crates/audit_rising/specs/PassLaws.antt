@@ -22,7 +22,7 @@ use Rattle.audit_rising.specs.RisingLaws.{rising-clear}
 use Rattle.audit_rising.specs.Spots.{sided, keyOf, spotOf, spotsOf, busesOf}
 use Rattle.audit_rising.specs.SpotsLaws.{disjoint-of-clear, shared-none}
 
-header-entry : (p : List ℕ) → bridges (entryOf p) ≡ isBridge (headerOf p)
+pub header-entry : (p : List ℕ) → bridges (entryOf p) ≡ isBridge (headerOf p)
 unfolding entryOf
 header-entry p = refl
 

@@ -1,7 +1,7 @@
 -- Where all of them rise, no two ranges of one bus and one space overlap, and no two bridges of one bus share a bus. Assumes nothing.
 use mathlib.Core.Path.{_≡_, refl, sym, ap}
 use mathlib.Core.Logic.{_⊎_, inl, inr}
-use mathlib.Core.Bool.{Bool, true, false, _&&_, and-eq-true-iff, false≢true}
+use mathlib.Core.Bool.{Bool, true, false, _&&_, and-false, and-eq-true-iff, false≢true}
 use mathlib.Core.List.{List, [], _∷_, _++_, map, flatMap, List·Memᴰ·head, Memᴰ·map}
 use Prim.Native.Nat.{ℕ, suc, _+_, _*_, _%_, _≤_}
 use native.Mathlib.Omega.{arith}
@@ -20,14 +20,10 @@ use Rattle.audit_rising.specs.Spots.{sided, spotOf, spotsOf, busesOf}
 
 -- ## Two ranges
 
-and-none : (x : Bool) → (x && false) ≡ false
-and-none true = refl
-and-none false = refl
-
 module _ (a b c d : ℕ) where
   -- from a to b and from c to d
   below : b ≤ c → (ltb a d && ltb c b) ≡ false
-  below h = rw (le-ltb c b h) (and-none (ltb a d))
+  below h = rw (le-ltb c b h) (and-false (ltb a d))
 
   above : d ≤ a → (ltb a d && ltb c b) ≡ false
   above h = rw (le-ltb a d h)
@@ -118,7 +114,7 @@ buses-apart e f c true q =
   where
     go : (suc (e .subordinate) ≤ f .secondary) ⊎ (suc (f .subordinate) ≤ e .secondary)
         → (leb (e .secondary) (f .subordinate) && leb (f .secondary) (e .subordinate)) ≡ false
-    go (inl h) = rw (lt-leb (f .secondary) (e .subordinate) h) (and-none (leb (e .secondary) (f .subordinate)))
+    go (inl h) = rw (lt-leb (f .secondary) (e .subordinate) h) (and-false (leb (e .secondary) (f .subordinate)))
     go (inr h) = rw (lt-leb (e .secondary) (f .subordinate) h)
 
 -- a function with all that is behind it

@@ -19,6 +19,7 @@ use Rattle.sheet_above.specs.declared.Parent.{Parent}
 use Rattle.sheet_above.specs.declared.Parent.the-variants.{Host, Bridge, Nothing, Several}
 use Rattle.sheet_above.specs.Table.{parentIn, IsParent}
 use Rattle.audit_rule.specs.Audit.{firstElsewhere, busesIn, parentWrong, busesShared}
+use Rattle.audit_rising.specs.PassLaws.{header-entry}
 
 -- ## The first record
 
@@ -32,10 +33,6 @@ module _ (s : List ℕ) (f : Framed 1 s) (n root : ℕ) (count : n ≡ length (e
   first-here some p is b own = ap (firstElsewhere root) (entries-index s f 0 (omega (arith, count, some))) ∙ rw (own, is)
 
 -- ## The way up
-
-header-entry : (p : List ℕ) → bridges (entryOf p) ≡ isBridge (headerOf p)
-unfolding entryOf
-header-entry p = refl
 
 module _ (first last : ℕ) (p : List ℕ) (bridge : Bool) (is : bridge ≡ isBridge (headerOf p)) where
   pub outside-none : bridge ≡ false → (bridges (entryOf p) && not (busesIn first last (entryOf p))) ≡ false
