@@ -1,6 +1,6 @@
 -- A sheet longer than a full one: its frame, byte by byte, comes to document 01's number. Assumes nothing.
 use mathlib.Core.Path.{_≡_, refl, sym, ap, _∙_}
-use mathlib.Core.Bool.{Bool, true, false, cond, not, _&&_, _||_}
+use mathlib.Core.Bool.{Bool, true, false, cond, not, _&&_, _||_, or-false}
 use mathlib.Core.List.{List, [], _∷_, foldl}
 use Prim.Native.Nat.{ℕ, _-_, _<_}
 use native.Mathlib.Omega.{arith}
@@ -36,11 +36,7 @@ noted-part m p = noted-bytes (length p) (m || not (eqb (length p) recordSize)) p
 
 noted : (m : Bool) (ps : List (List ℕ)) → foldl (heardPart heardBy) m ps ≡ m || not (allSized ps)
 unfolding allSized
-noted m [] = or-false m
-  where
-    or-false : (b : Bool) → b ≡ b || false
-    or-false true = refl
-    or-false false = refl
+noted m [] = sym (or-false m)
 noted m (p ∷ ps) =
     ap (λ (b : Bool). foldl (heardPart heardBy) b ps) (noted-part m p)
     ∙ noted (m || not (eqb (length p) recordSize)) ps
