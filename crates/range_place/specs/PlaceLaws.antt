@@ -23,6 +23,7 @@ use Rattle.sheet_record.specs.Entry.{dwords, headerOf, isBridge, slotCount, ent
 use Rattle.sheet.specs.declared.Rule.the-variants.{ReadBacks}
 use Rattle.sheet.specs.Sheet.{breaks}
 use Rattle.sheet.specs.RulesLaws.{lawful-entry}
+use Rattle.sheet_ranges.specs.BarsLaws.{slots-le-six}
 use Rattle.audit_finding.specs.Zipped.{barPlace, barPlaces, windowPlaces, placesOf}
 
 -- ## An element of two lists joined
@@ -122,12 +123,8 @@ module _ (p set : List ℕ) (n : ℕ) (r : set ≡ dwords (be 4) 6 p readbacksAt
   unfolding placesOf entryOf
   places-start m = rw (r, c)
 
-  few : (b : Bool) → cond b 2 6 ≤ 6
-  few true = omega arith
-  few false = omega arith
-
   pub few-slots : n ≤ 6
-  few-slots = omega (arith, c, few (isBridge (headerOf p)))
+  few-slots = omega (arith, c, slots-le-six p)
 
   six : length set ≡ 6
   unfolding dwords

@@ -20,6 +20,7 @@ use Rattle.bar.specs.Values.{valueHere, isValue, isBarValue}
 use Rattle.bar.specs.ValuesLaws.{head-at, not-bad-of-value, entry-within}
 use Rattle.sheet_record.specs.Places.{valuesAt, readbacksAt}
 use Rattle.sheet_record.specs.Entry.{dwords, headerOf, isBridge, slotCount, entryOf}
+use Rattle.sheet_ranges.specs.BarsLaws.{slots-le-six}
 use Rattle.finding.specs.declared.Spot.{Spot}
 use Rattle.finding.specs.declared.Spot.the-variants.{Right, Wrong}
 use Rattle.finding.specs.Places.{nobody, wrongIf}
@@ -97,13 +98,6 @@ module _ (rest : Spot) (set values : List ℕ) (n i : ℕ) (six : length set ≡
 
 -- ## Of a record's part
 
-slots-few : (p : List ℕ) → slotCount (headerOf p) ≤ 6
-slots-few p = go (isBridge (headerOf p))
-  where
-    go : (b : Bool) → cond b 2 6 ≤ 6
-    go true = omega arith
-    go false = omega arith
-
 counted : (p : List ℕ) (b : Bool) → dwords (le 4) (cond b 2 6) p valuesAt ≡ take (cond b 2 6) (dwords (le 4) 6 p valuesAt)
 unfolding dwords
 counted p true = refl
@@ -120,7 +114,7 @@ module _ (p set values : List ℕ) (n : ℕ) (r : set ≡ dwords (be 4) 6 p read
   set-six = ap length r
 
   pub few-slots : n ≤ 6
-  few-slots = omega (arith, c, slots-few p)
+  few-slots = omega (arith, c, slots-le-six p)
 
   pub slots-start : slotsLeft (spotIn (restOf p)) (take n set) (take n values) 0 ≡ spotIn (readBackMarks (entryOf p))
   unfolding readBackMarks restOf entryOf
