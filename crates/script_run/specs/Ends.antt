@@ -2,7 +2,7 @@
 -- Assumes nothing.
 use mathlib.Core.Path.{_≡_, refl, sym, ap, subst, _∙_}
 use mathlib.Core.Logic.{_⊎_, inl, inr}
-use mathlib.Core.Bool.{Bool, true, false, cond, _&&_, _||_}
+use mathlib.Core.Bool.{Bool, true, false, cond, _||_}
 use mathlib.Core.List.{List, [], _++_, List·Memᴰ·head, List·Memᴰ·tail, Memᴰ·append-left, Memᴰ·append-right}
 use Prim.Native.Nat.{ℕ, zero, suc, _+_, _-_, _*_, _/_, _%_, _≤_, _<_}
 use native.Mathlib.Omega.{arith}
@@ -10,7 +10,7 @@ use lib.Dec.{eqb, leb, ltb}
 use lib.ListN.{length, getD, take, drop, length-take, List·getD-eq-default}
 use lib.Seq.{getD-take}
 use borrow.Author.Tests.{eqb-true, eqb-false, ltb-true, ltb-false, leb-false, not-false}
-use Rattle.arith.specs.BoolLaws.{false-of-or}
+use Rattle.arith.specs.BoolLaws.{both-of-and, false-of-or}
 use Rattle.endian.specs.Endian.{Bytes, be, le, beBytes, leBytes}
 use Rattle.endian.specs.EndianLaws.{be-lt}
 use Rattle.endian.specs.BytesLaws.{bytes-take, bytes-drop}
@@ -35,6 +35,7 @@ use Rattle.script_writes.specs.declared.Pass.{Pass}
 use Rattle.script_writes.specs.declared.Pass.the-variants.{Buses, Registers, Commands}
 use Rattle.script_writes.specs.Writes.{Write, writeOf, named, threeBytes, twoBytes, fourBytes, isUsed, slotWrites, barWrites}
 use Rattle.script_writes.specs.Writes.{windowWrites, writesIn, passWrites, writesOf}
+use Rattle.script_writes.specs.WritesLaws.{slot-count-le}
 use Rattle.scripter.specs.CountingLaws.{getD-dwords}
 use Rattle.script_run.specs.Model.{isKept, modelOf, registerPlace}
 use Rattle.script_run.specs.Copying.{allPlaces, all-places-elim, all-places-intro}
@@ -180,21 +181,13 @@ module _ (final : List ℕ) (en : Endable final) (k : ℕ) (h : k < length (entr
   values-fit =
       let e = breaks-index ReadBacks final (en .framed) (en .readbacks) k h in
       let n = slotCount (headerOf p) in
-      and-left _ _ (not-false _ e)
-    where
-      and-left : (s t : Bool) → (s && t) ≡ true → s ≡ true
-      and-left true t e = refl
-      and-left false t e = e
+      both-of-and _ _ (not-false _ e) .0
 
   part-bytes : Bytes p
   part-bytes = bytes-take recordSize (drop (recordAt k + 2) final) (bytes-drop (recordAt k + 2) final (en .bytes))
 
   slot-le : slotCount (headerOf p) ≤ 6
-  slot-le = go b
-    where
-      go : (t : Bool) → cond t 2 6 ≤ 6
-      go true = omega arith
-      go false = omega arith
+  slot-le = slot-count-le (headerOf p)
 
   small : (i : ℕ) → getD (take (slotCount (headerOf p)) (dwords (be 4) 6 p readbacksAt)) i 0 < 4294967296
   small i = go (ltb i (slotCount (headerOf p))) refl
