@@ -17,6 +17,7 @@ use Rattle.sheet.specs.Sheet.{entriesOf}
 use Rattle.sheet.specs.SheetLaws.{checked-of-zero}
 use Rattle.claims.specs.declared.Aim.{Aim}
 use Rattle.route.specs.Route.{walked, root, routeOf}
+use Rattle.route.specs.RouteLaws.{length-nodes}
 use Rattle.route_answer.specs.Listed.{onRoom, listedAfter}
 use Rattle.route.specs.Listed.{listAfter}
 use Rattle.audit_rule.specs.Audit.{auditNumber}
@@ -27,7 +28,6 @@ use Rattle.index_rule.specs.Insert as rule
 use Rattle.index_rule.specs.InsertLaws.{map-inserted, insert-is}
 use Rattle.index_rule.specs.Search as owners
 use Rattle.index_rule.specs.Search.{sortedOwners, nobody, answerAt}
-use Rattle.index_rule.specs.CountLaws.{length-nodes}
 use Rattle.index_rule.specs.WordLaws.{word-small}
 use Rattle.index_rule.specs.LineLaws.{owners-fit}
 use Rattle.index_rule.specs.IndexLaws.{root-of-accepted, walked-out-of-reach, key-near, walked-at-last}

@@ -1,6 +1,6 @@
 -- The functions of a sheet as the index has them: their numbers count from 1, their IDs have 16 bits, and each has at most seven owners.
 -- Assumes nothing.
-use mathlib.Core.Path.{_≡_, refl, ap, _∙_}
+use mathlib.Core.Path.{_≡_, refl, _∙_}
 use mathlib.Core.Logic.{_⊎_, inl, inr}
 use mathlib.Core.Bool.{Bool, true, false, cond, and-eq-true-iff}
 use mathlib.Core.List.{List, [], _∷_, _++_, map, flatMap, List·Memᴰ·not-nil, List·Memᴰ·cases-cons}
@@ -23,6 +23,7 @@ use Rattle.sheet.specs.Sheet.{Framed, entriesFrom, entriesOf}
 use Rattle.sheet.specs.CheckLaws.{partFrom, first-at}
 use Rattle.sheet.specs.LookupLaws.{id-of-entry}
 use Rattle.sheet.specs.Spaces.{functionsFrom, nodesFrom, nodesOf, enabledOf}
+use Rattle.route.specs.RouteLaws.{length-nodes}
 use Rattle.index_layout.specs.Places.{mostSlots}
 use Rattle.index_layout.specs.Keys.{lowEnd, memoryEnd, idBase}
 use Rattle.index_rule.specs.Owners.{Owner, isLive, barOwner, ownersOn, owned, ownedIn, idOf, idOwner, moved}
@@ -75,11 +76,6 @@ listed-from k (e ∷ es) small n m = go (List·Memᴰ·cases-cons m) (listed-fro
 
 pub listed : (s : List ℕ) → Bytes s → Framed 1 s → (n : Node) → n ∈ nodesOf s → Listed 1 (length (entriesOf s)) n
 listed s bytes framed n m = listed-from 1 (entriesOf s) (ids-from s 1 (entriesOf s) bytes refl framed) n m
-
-pub length-nodes : (k : ℕ) (es : List Entry) → length (nodesFrom k es) ≡ length es
-unfolding nodesFrom
-length-nodes k [] = refl
-length-nodes k (e ∷ es) = ap suc (length-nodes (k + 1) es)
 
 -- ## At most seven owners a function
 

@@ -115,7 +115,7 @@ module _ (s : List ℕ) (m : ℕ) (count : m ≡ length (entriesOf s)) where
 
 -- ## A packet over a sheet that passes its checks
 
-length-nodes : (k : ℕ) (es : List Entry) → length (nodesFrom k es) ≡ length es
+pub length-nodes : (k : ℕ) (es : List Entry) → length (nodesFrom k es) ≡ length es
 unfolding nodesFrom
 length-nodes k [] = refl
 length-nodes k (e ∷ es) = ap suc (length-nodes (k + 1) es)
