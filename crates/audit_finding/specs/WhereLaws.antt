@@ -1,7 +1,7 @@
 -- A record that fails a check fails it at its place, and at no earlier one; the other one that it meets is really met, and no lesser one
 -- is. Assumes nothing.
 use mathlib.Core.Path.{_≡_, refl, sym, ap, subst, _∙_}
-use mathlib.Core.Bool.{Bool, true, false, cond, not, _&&_, _||_, and-eq-true-iff, true≢false}
+use mathlib.Core.Bool.{Bool, true, false, cond, not, _&&_, _||_, or-false, and-eq-true-iff, true≢false}
 use mathlib.Core.List.{List, [], _∷_, _++_, map}
 use Prim.Native.Nat.{ℕ, _+_, _≤_, _<_}
 use native.Mathlib.Omega.{arith}
@@ -77,10 +77,6 @@ read-backs-marked e =
     ∙ ap (λ (b : Bool). not (valuesFit (slots rs) rs (e .values)) || b) (rest-marked n (drop n (e .readbacks)))
     ∙ sym (not-and (valuesFit (slots rs) rs (e .values)) (allZero (drop n (e .readbacks))))
 
-or-false-last : (b : Bool) → (b || false) ≡ b
-or-false-last true = refl
-or-false-last false = refl
-
 pub nibbles-marked : (e : Entry) → bridges e ≡ true → any isWrong (nibbleMarks e) ≡ breaks rules.the-variants.Nibbles e
 unfolding breaks any
 nibbles-marked e b =
@@ -88,7 +84,7 @@ nibbles-marked e b =
     let high = isNibbled High (e .high) in
     let io = isNibbled Io (e .io) in
     rw b
-    (ap (λ (x : Bool). not low || (not high || x)) (or-false-last (not io))
+    (ap (λ (x : Bool). not low || (not high || x)) (or-false (not io))
     ∙ ap (λ (x : Bool). not low || x) (sym (not-and high io))
     ∙ sym (not-and low (high && io)))
 
