@@ -1,6 +1,6 @@
 -- What the search answers, one step each in the words of the code. Assumes nothing.
 use mathlib.Core.Path.{_≡_, refl, sym, ap, _∙_}
-use mathlib.Core.Bool.{Bool, true, false, cond, not, _&&_}
+use mathlib.Core.Bool.{Bool, true, false, cond, not, _&&_, and-false}
 use mathlib.Core.List.{List}
 use Prim.Native.Nat.{ℕ, _+_, _-_, _/_, _%_, _^_, _<_, _≤_}
 use native.Mathlib.Omega.{arith}
@@ -64,14 +64,9 @@ root-of-short ix h = sym (List·getD-eq-default ix 0 {n = 2} (omega (arith, h)))
 
 -- ## A slot
 
--- a false conjunct behind another test
-and-false : (b : Bool) → false ≡ b && false
-and-false true = refl
-and-false false = refl
-
 module _ (start word key : ℕ) where
   pub over-before : key < start → false ≡ isOver start word key
-  over-before h = rw (lt-leb start key h) (and-false (not (eqb (recordIn word) 0)))
+  over-before h = rw (lt-leb start key h) (sym (and-false (not (eqb (recordIn word) 0))))
 
   pub over-from : start ≤ key → not (eqb (recordIn word) 0) && eqb ((key - start) / sizeIn word) 0 ≡ isOver start word key
   over-from h = rw (le-leb start key h)
