@@ -7,11 +7,11 @@ use mathlib.Core.List.{List, [], _∷_, _++_, map, flatMap}
 use mathlib.Core.List.{cons≢nil, head-eq-of-cons-eq}
 use Prim.Native.Nat.{ℕ, zero, suc, _+_, _*_, _≤_, _<_}
 use native.Mathlib.Nat.{add-zero}
-use native.Mathlib.Numerals.{add-one}
 use native.Mathlib.Omega.{arith}
 use lib.ListN.{length, take, drop, set, length-drop, length-set}
-use lib.Seq.{sets, length-sets, drop-drop, length-take-le, take-all}
+use lib.Seq.{sets, length-sets, length-take-le, take-all}
 use Rattle.arith.specs.Order.{eq-or-ne}
+use Rattle.lists.specs.ListLaws.{drop-suc}
 use Rattle.pools.specs.declared.Pool.{Pool}
 use Rattle.pools.specs.declared.Pool.the-variants.{Low, High, Io}
 use Rattle.window.specs.Window.{closed, opened}
@@ -115,9 +115,6 @@ io-bytes first counts memo c i f r e = rw e (go (isBridge f))
 
 -- ## Turns
 
-rest-step : (fs : List Function) (i : ℕ) (f : Function) (r : List Function) → drop i fs ≡ f ∷ r → drop (suc i) fs ≡ r
-rest-step fs i f r e = ap (λ (k : ℕ). drop k fs) (sym (add-one i)) ∙ sym (drop-drop 1 i fs) ∙ ap (drop 1) e
-
 pub standing-start : (b : List ℕ) {first : ℕ} {counts memo c sheet : List ℕ} → Ready b first counts memo c sheet
     → Standing b c sheet c sheet functionsAt 0
 standing-start b r =
@@ -143,7 +140,7 @@ module _ {b : List ℕ} {first : ℕ} {counts memo c₀ sheet₀ c sheet : List 
     opened-rest = sym (s .rest) ∙ pass-record (map functionOfPart) b at n e
 
     next-rest : drop (suc i) (functionsOf b) ≡ map functionOfPart (partsFrom b (at + 2 + n))
-    next-rest = rest-step (functionsOf b) i here (map functionOfPart (partsFrom b (at + 2 + n))) opened-rest
+    next-rest = drop-suc i (functionsOf b) here (map functionOfPart (partsFrom b (at + 2 + n))) opened-rest
 
     record-here : RecordAt (functionsOf b) i here
     record-here = opened-rest ∙ ap (λ (l : List Function). here ∷ l) (sym next-rest)
