@@ -1,7 +1,7 @@
 -- 50: the test of a sheet's buses fails exactly where they are a tree. Assumes nothing.
 use mathlib.Core.Path.{_≡_, refl, sym, ap, subst, _∙_}
 use mathlib.Core.Logic.{_⊎_, inl, inr, _↔_}
-use mathlib.Core.Bool.{Bool, true, false, not, _&&_, _||_, and-eq-true-iff, true≢false, false≢true}
+use mathlib.Core.Bool.{Bool, true, false, not, _&&_, _||_, and-false, and-eq-true-iff, true≢false, false≢true}
 use mathlib.Core.List.{List, [], _∷_}
 use Prim.Native.Nat.{ℕ, suc}
 use native.Mathlib.Omega.{arith}
@@ -68,11 +68,7 @@ buses-of-apart e f i j apart = go (bridges e) refl (bridges f) refl (eqb (bus e)
   where
     by : Apart (busRange (nodeOf i e)) (busRange (nodeOf j f))
         → (leb (e .secondary) (f .subordinate) && leb (f .secondary) (e .subordinate)) ≡ false
-    by (inl l) = rw (lt-leb (f .secondary) (e .subordinate) l) (neither (leb (e .secondary) (f .subordinate)))
-      where
-        neither : (b : Bool) → (b && false) ≡ false
-        neither true = refl
-        neither false = refl
+    by (inl l) = rw (lt-leb (f .secondary) (e .subordinate) l) (and-false (leb (e .secondary) (f .subordinate)))
     by (inr l) = rw (lt-leb (e .secondary) (f .subordinate) l)
 
     go : (a : Bool) → bridges e ≡ a → (b : Bool) → bridges f ≡ b → (c : Bool) → eqb (bus e) (bus f) ≡ c

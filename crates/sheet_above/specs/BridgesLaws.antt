@@ -1,7 +1,7 @@
 -- The bridges above a bus in the words of the code: those met so far and those above the bus reached are all. Assumes nothing.
 use mathlib.Core.Path.{_≡_, refl, sym, ap, ap₂, _∙_}
 use mathlib.Core.Logic.{inl, inr}
-use mathlib.Core.Bool.{Bool, true, false, _&&_, and-eq-true-iff}
+use mathlib.Core.Bool.{Bool, true, _&&_, and-true, and-assoc, and-eq-true-iff}
 use mathlib.Core.List.{List, [], _∷_}
 use Prim.Native.Nat.{ℕ, _+_, _/_, _≤_, _<_}
 use native.Mathlib.Omega.{arith}
@@ -56,14 +56,6 @@ pub record CountedTo (s : List ℕ) (root bus at count : ℕ) (memory io : Bool)
   pub all-memory : (memory && allEnabled (enabledOf Memory s) (above root (nodesOf s) at))
       ≡ allEnabled (enabledOf Memory s) (above root (nodesOf s) bus)
   pub all-io : (io && allEnabled (enabledOf Io s) (above root (nodesOf s) at)) ≡ allEnabled (enabledOf Io s) (above root (nodesOf s) bus)
-
-and-assoc : (a b c : Bool) → ((a && b) && c) ≡ (a && (b && c))
-and-assoc true b c = refl
-and-assoc false b c = refl
-
-and-true : (a : Bool) → (a && true) ≡ a
-and-true true = refl
-and-true false = refl
 
 module _ (s table : List ℕ) (root : ℕ) (c : BusTree s table root) where
   abbrev ns : List Node
