@@ -46,7 +46,8 @@ pub record HasBytes (h g : Host) (q : Pool) (n : ℕ) : Type 0 where
   pub below : g .base q + n < limit
 
 -- what is laid out from a base ends within n bytes of it exactly when it needs no more
-length-exact : (q : Pool) (base n : ℕ) (p : Piece) (ps : List Piece) → All HasAlign (p ∷ ps) → Multiple (granule q) (base + n) → base + n < limit
+length-exact : (q : Pool) (base n : ℕ) (p : Piece) (ps : List Piece) → All HasAlign (p ∷ ps) → Multiple (granule q) (base + n)
+    → base + n < limit
     → (layoutEnd base (p ∷ ps) ≤ base + n) ↔ (lengthFrom base q (p ∷ ps) ≤ n)
 length-exact q base n p ps aligned edge below = (
   λ l. omega (arith, align-up-least (granule q) (granule-pos q) (layoutEnd base (p ∷ ps)) (base + n) l edge),
