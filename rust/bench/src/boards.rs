@@ -10,6 +10,8 @@ use std::hint::black_box;
 const RECORD: usize = 92;
 const COMMAND: usize = 4 + 4;
 const BUS_MASTER: u8 = 4;
+/// The low pool's last address in a board: a length and six bytes into the host record.
+const LOW_LAST: usize = 1 + 2 + 6;
 
 pub fn print() {
     let backplanes = Backplane::all();
@@ -21,6 +23,8 @@ pub fn print() {
     };
     row("plan", plan);
     row("plan, into room made and zeroed within the time", plan_fresh);
+    row("plan_where, of a planned board", plan_where);
+    row("plan_where, 31: the low pool is closed", plan_where_refused);
     row("the write script", script);
     row("check", check);
     row("audit", audit);
@@ -28,6 +32,21 @@ pub fn print() {
     row("audit_where, of an accepted sheet", audit_where);
     row("route, a read of the last card", route);
     row("route_from, the same from the first card", route_from);
+}
+
+fn plan_where(backplane: &Backplane) -> Times {
+    where_of(&backplane.board, 0)
+}
+
+fn plan_where_refused(backplane: &Backplane) -> Times {
+    let mut board = backplane.board.clone();
+    board[LOW_LAST..LOW_LAST + 4].fill(0);
+    where_of(&board, 31)
+}
+
+fn where_of(board: &[u8], number: u8) -> Times {
+    assert_eq!((plain::plan_where(board).number, proved_calls::plan_where(board).0), (number, number.into()));
+    compare(|| plain_calls::plan_where(black_box(board)), || proved_calls::plan_where(black_box(board)))
 }
 
 fn plan(backplane: &Backplane) -> Times {

@@ -60,6 +60,11 @@ pub mod plain_calls {
     }
 
     #[inline(never)]
+    pub fn plan_where(board: &[u8]) -> plain::Fit {
+        plain::plan_where(board)
+    }
+
+    #[inline(never)]
     pub fn script(board: &[u8], room: &mut [u8]) -> Result<usize, u8> {
         plain::script(board, 0, 0, room)
     }
@@ -133,6 +138,12 @@ pub mod proved_calls {
     pub fn audit_where(host: &[u8], sheet: &[u8]) -> (u32, [u64; calls::WHO]) {
         let mut who = [0; calls::WHO];
         (calls::audit_where(host, sheet, &mut who), who)
+    }
+
+    #[inline(never)]
+    pub fn plan_where(board: &[u8]) -> (u32, [u64; calls::PLAN_WHO]) {
+        let mut who = [0; calls::PLAN_WHO];
+        (calls::plan_where(board, &mut who), who)
     }
 
     #[inline(never)]
