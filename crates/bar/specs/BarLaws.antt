@@ -9,7 +9,7 @@ use native.Mathlib.Numerals.{add-one}
 use borrow.Author.Tests.{eqb-false, ltb-true, ltb-false}
 use lib.Dec.{eqb, ltb}
 use lib.ListN.{length, getD, take, drop, length-take, length-drop, drop-of-length-le}
-use lib.Seq.{drop-cons, drop-drop}
+use lib.Seq.{drop-cons, drop-drop, getD-take}
 use Rattle.pools.specs.declared.Pool.{Pool}
 use Rattle.pools.specs.declared.Pool.the-variants.{Low, Io}
 use Rattle.bar.specs.declared.Slot.{Slot}
@@ -203,3 +203,43 @@ any-bad-step s i x h e l = go (takesNext x) ∙ sym (ap anyBad (slots-at-step s 
 pub any-bad-end : (s : List ℕ) (i : ℕ) → length s ≤ i → anyBad (slots (drop i s)) ≡ false
 unfolding anyBad slots
 any-bad-end s i h = rw (drop-of-length-le s h)
+
+-- ## A slot told by its read-back, in the words of code that looks at the read-back r at place i of the first m before it decodes
+
+pub slot-of-pair : (set : List ℕ) (n m i r u : ℕ) (b : Bool) (x : Slot) → length set ≡ 6 → m ≡ min n 6 → i < m → r ≡ getD set i 0
+    → u ≡ getD set (i + 1) 0 → b ≡ ltb (i + 1) m && isWide r → i + 1 < m → b ≡ true → x ≡ wideSlot r u → x ≡ slotHere (drop i (take n set))
+slot-of-pair set n m i r u b x six e h p q t g y z =
+    z ∙ sym
+    (slot-here-at (take n set) i m r u (e ∙ sym (length-first set n six)) h (p ∙ sym (getD-take n set i 0 (omega arith)))
+    (q ∙ sym (getD-take n set (i + 1) 0 (omega arith))) ∙ rw (sym t ∙ y))
+
+pub slot-of-single : (set : List ℕ) (n m i r : ℕ) (b : Bool) (x : Slot) → length set ≡ 6 → m ≡ min n 6 → i < m → r ≡ getD set i 0
+    → b ≡ ltb (i + 1) m && isWide r → b ≡ false → x ≡ narrowSlot r → x ≡ slotHere (drop i (take n set))
+slot-of-single set n m i r b x six e h p t y z =
+    z ∙ sym
+    (slot-here-at (take n set) i m r (getD (take n set) (i + 1) 0) (e ∙ sym (length-first set n six)) h
+    (p ∙ sym (getD-take n set i 0 (omega arith))) refl ∙ rw (sym t ∙ y))
+
+-- a read-back of 0 is an unused slot
+pub slot-of-none : (set : List ℕ) (n m i : ℕ) → length set ≡ 6 → m ≡ min n 6 → i < m → getD set i 0 ≡ 0
+    → Unused ≡ slotHere (drop i (take n set))
+unfolding narrowSlot
+slot-of-none set n m i six e h z =
+    sym
+    (slot-here-at (take n set) i m 0 (getD (take n set) (i + 1) 0) (e ∙ sym (length-first set n six)) h
+    (sym z ∙ sym (getD-take n set i 0 (omega arith))) refl ∙ go (ltb (i + 1) m))
+  where
+    go : (b : Bool) → cond (b && isWide 0) (wideSlot 0 (getD (take n set) (i + 1) 0)) (narrowSlot 0) ≡ Unused
+    go true = refl
+    go false = refl
+
+pub pair-span : (r u : ℕ) (x : Slot) → x ≡ wideSlot r u → isBad x ≡ false → span x ≡ 2
+pair-span r u x e l = let t = ap takesNext e ∙ wide-takes-next r u (ap isBad (sym e) ∙ l) in rw t
+
+pub single-span : (r : ℕ) (x : Slot) → x ≡ narrowSlot r → span x ≡ 1
+single-span r x e = let t = ap takesNext e ∙ narrow-takes-one r in rw t
+
+-- and of the slot there, however it was decoded
+pub here-span : (set : List ℕ) (n m i r : ℕ) (b : Bool) (x : Slot) → length set ≡ 6 → m ≡ min n 6 → i < m → r ≡ getD set i 0
+    → b ≡ ltb (i + 1) m && isWide r → b ≡ false → x ≡ slotHere (drop i (take n set)) → span x ≡ 1
+here-span set n m i r b x six e h p t y z = single-span r x (z ∙ sym (slot-of-single set n m i r b (narrowSlot r) six e h p t y refl))

@@ -1,8 +1,9 @@
 // BARs: what a function's set of six read-backs says of its slots, and what the values in its registers say.
 // A set is six numbers, handed on together; the first n count: 6 for header type 0, 2 for type 1.
 ghost use mathlib.Core.Path.{_≡_};
-ghost use mathlib.Core.Bool.{cond, not, _&&_};
+ghost use mathlib.Core.Bool.{true, cond, not, _&&_};
 ghost use Prim.Native.Nat.{ℕ, _+_, _^_, _<_, _≤_, min};
+ghost use lib.Dec.{ltb};
 ghost use lib.ListN.{length, getD, take, drop};
 ghost use Rattle.arith.specs.Powers.{PowerOfTwo};
 ghost use Rattle.bar.specs.Header.{isBridge, slotCount};
@@ -101,7 +102,7 @@ fn io_slot(r: u32) -> Slot
 }
 
 // A read-back of 32 bits alone.
-fn narrow_slot(r: u32) -> Slot
+pub fn narrow_slot(r: u32) -> Slot
     ensures { λ s. ⌜ s ≡ narrowSlot r ⌝ }
 {
     if r == 0 {
@@ -128,7 +129,7 @@ fn joined(low: u32, upper: u32) -> u64
 }
 
 // A 64-bit read-back is judged on the joined 64 bits.
-fn wide_slot(r: u32, upper: u32) -> Slot
+pub fn wide_slot(r: u32, upper: u32) -> Slot
     ensures { λ s. ⌜ s ≡ wideSlot r upper ⌝ }
 {
     let size = size_of(18446744073709551615, 128, joined(r, upper) / 16 * 16);
@@ -211,6 +212,23 @@ fn is_bad(s: Slot) -> bool
     }
 }
 
+// A 64-bit read-back at place i of n that has another one after it. A loop over a set asks this and decodes what it then knows: where the
+// next place depends on a decoded slot, the processor waits for it.
+pub fn is_paired(r: u32, i: usize, n: usize) -> bool
+    requires { ⌜ i < n ⌝ }
+    ensures { λ b. ⌜ (b ≡ ltb (i + 1) n && isWide r) × (b ≡ true → i + 1 < n) ⌝ }
+{
+    (i + 1 < n) & is_wide(r)
+}
+
+// A loop over a set decodes memory BARs in place and leaves I/O to `slot_at`, a call: what calls nothing may keep data below the stack
+// pointer, which boot code must not have.
+pub fn is_memory(r: u32) -> bool
+    ensures { λ b. ⌜ b ≡ not (isIoBar r) ⌝ }
+{
+    !is_io(r)
+}
+
 // No read-back of the first n gives 25.
 pub fn is_lawful(set: [u32; 6], n: usize) -> bool
     ensures { λ r. ⌜ r ≡ not (anyBad (slots (take n set))) ⌝ }
@@ -218,11 +236,29 @@ pub fn is_lawful(set: [u32; 6], n: usize) -> bool
     let m = count(n);
     let mut i: usize = 0;
     while i < m {
-        let s = slot_in(&set, n, i);
-        if is_bad(s) {
+        let r = set[i];
+        if r == 0 {
+            i += 1;
+            continue;
+        }
+        if is_paired(r, i, m) {
+            if is_bad(wide_slot(r, set[i + 1])) {
+                return false;
+            }
+            i += 2;
+            continue;
+        }
+        if is_memory(r) {
+            if is_bad(narrow_slot(r)) {
+                return false;
+            }
+            i += 1;
+            continue;
+        }
+        if is_bad(slot_in(&set, n, i)) {
             return false;
         }
-        i += span(s);
+        i += 1;
     }
     true
 }

@@ -5,13 +5,15 @@ use mathlib.Core.Bool.{Bool, true, false, cond, not, _&&_, _||_, and-true, and-f
 use mathlib.Core.List.{List, [], _∷_}
 use Prim.Native.Nat.{ℕ, zero, suc, _+_, _*_, _≤_, _<_}
 use native.Mathlib.Omega.{arith}
-use lib.ListN.{length, getD, take, List·getD-eq-default}
+use native.Mathlib.Numerals.{add-one}
+use lib.ListN.{length, getD, set, take, drop, drop-of-length-le, List·getD-eq-default}
+use lib.Seq.{sets, drop-cons}
 use lib.Dec.{eqb, leb}
 use borrow.Author.Tests.{eqb-true, ne-eqb, not-false, leb-true, leb-false}
 use Rattle.arith.specs.BoolLaws.{false-of-or}
 use Rattle.endian.specs.Endian.{be}
 use Rattle.bar.specs.Bar.{slots, anyBad}
-use Rattle.bar.specs.Header.{headerType, isBridge as isBridgeHeader}
+use Rattle.bar.specs.Header.{headerType, isBridge as isBridgeHeader, slotCount as slotCountFor}
 use Rattle.board_record.specs.Function.{bridgeLength, lengthFor, readbacksFor, sparesFor, functionOfPart, wrongFor, wrongIn}
 use Rattle.board_record.specs.Function.{headerWrong, isBridge, slotCount, endLength, plainBridge, bridgeWithSpares, sparesAt}
 use Rattle.board_record.specs.Function.{readbacksWrong}
@@ -187,3 +189,74 @@ module _ (p : List ℕ) (j : ℕ) (b : Bool) (q : b ≡ isBridge (functionOfPart
       go : (t : Bool) → t ≡ isBridgeHeader (getD p 3 0) → leb 2 j && t ≡ false → 6 + 4 * j + 4 ≤ length p
       go true s f = omega (arith, le-length p w, leb-false 2 j (sym (and-true (leb 2 j)) ∙ f))
       go false s f = omega (arith, length-of-end p w (sym s))
+
+-- ---- the read-backs stored in a loop over those that count
+
+-- those that count
+abbrev pub countedFor : ℕ → List ℕ → List ℕ
+countedFor header p =
+    cond (isBridgeHeader header)
+    (be 4 p 6 ∷ be 4 p 10 ∷ [])
+    (be 4 p 6 ∷ be 4 p 10 ∷ be 4 p 14 ∷ be 4 p 18 ∷ be 4 p 22 ∷ be 4 p 26 ∷ [])
+
+module _ (header : ℕ) (p : List ℕ) where
+  pub length-counted : length (countedFor header p) ≡ slotCountFor header
+  length-counted = go (isBridgeHeader header)
+    where
+      go : (t : Bool)
+          → length (cond t (be 4 p 6 ∷ be 4 p 10 ∷ []) (be 4 p 6 ∷ be 4 p 10 ∷ be 4 p 14 ∷ be 4 p 18 ∷ be 4 p 22 ∷ be 4 p 26 ∷ []))
+          ≡ cond t 2 6
+      go true = refl
+      go false = refl
+
+  -- stored over zeros they are all six
+  pub counted-start : sets (0 ∷ 0 ∷ 0 ∷ 0 ∷ 0 ∷ 0 ∷ []) 0 (countedFor header p) ≡ readbacksFor header p
+  counted-start = go (isBridgeHeader header)
+    where
+      go : (t : Bool)
+          → sets (0 ∷ 0 ∷ 0 ∷ 0 ∷ 0 ∷ 0 ∷ []) 0
+          (cond t (be 4 p 6 ∷ be 4 p 10 ∷ []) (be 4 p 6 ∷ be 4 p 10 ∷ be 4 p 14 ∷ be 4 p 18 ∷ be 4 p 22 ∷ be 4 p 26 ∷ []))
+          ≡ cond t (be 4 p 6 ∷ be 4 p 10 ∷ 0 ∷ 0 ∷ 0 ∷ 0 ∷ [])
+          (be 4 p 6 ∷ be 4 p 10 ∷ be 4 p 14 ∷ be 4 p 18 ∷ be 4 p 22 ∷ be 4 p 26 ∷ [])
+      go true = refl
+      go false = refl
+
+  pub counted-read : (j : ℕ) → j < slotCountFor header → be 4 p (6 + 4 * j) ≡ getD (countedFor header p) j 0
+  counted-read j h = go (isBridgeHeader header) h
+    where
+      two : (k : ℕ) → k < 2 → be 4 p (6 + 4 * k) ≡ getD (be 4 p 6 ∷ be 4 p 10 ∷ []) k 0
+      two zero u = refl
+      two (suc zero) u = refl
+      two (suc (suc k)) u = absurd (omega arith)
+
+      six : (k : ℕ) → k < 6 → be 4 p (6 + 4 * k) ≡ getD (be 4 p 6 ∷ be 4 p 10 ∷ be 4 p 14 ∷ be 4 p 18 ∷ be 4 p 22 ∷ be 4 p 26 ∷ []) k 0
+      six zero u = refl
+      six (suc zero) u = refl
+      six (suc (suc zero)) u = refl
+      six (suc (suc (suc zero))) u = refl
+      six (suc (suc (suc (suc zero)))) u = refl
+      six (suc (suc (suc (suc (suc zero))))) u = refl
+      six (suc (suc (suc (suc (suc (suc k)))))) u = absurd (omega arith)
+
+      go : (t : Bool) → j < cond t 2 6
+          → be 4 p (6 + 4 * j)
+          ≡ getD (cond t (be 4 p 6 ∷ be 4 p 10 ∷ []) (be 4 p 6 ∷ be 4 p 10 ∷ be 4 p 14 ∷ be 4 p 18 ∷ be 4 p 22 ∷ be 4 p 26 ∷ [])) j 0
+      go true u = two j u
+      go false u = six j u
+
+pub counted-fits : (p : List ℕ) (j : ℕ) → headerWrong p ≡ false → j < slotCountFor (getD p 3 0) → 6 + 4 * j + 4 ≤ length p
+counted-fits p j w = go (isBridgeHeader (getD p 3 0)) refl
+  where
+    go : (t : Bool) → isBridgeHeader (getD p 3 0) ≡ t → j < cond t 2 6 → 6 + 4 * j + 4 ≤ length p
+    go true s u = omega (arith, le-length p w)
+    go false s u = omega (arith, length-of-end p w s)
+
+-- storing the rest of a list, one more of it stored, and all of it
+module _ (o vs r : List ℕ) (j : ℕ) (e : sets o j (drop j vs) ≡ r) where
+  pub rest-turn : {v : ℕ} → v ≡ getD vs j 0 → j < length vs → sets (set o j v) (j + 1) (drop (j + 1) vs) ≡ r
+  rest-turn q h =
+      let more : drop j vs ≡ getD vs j 0 ∷ drop (suc j) vs = drop-cons vs j 0 h in
+      rw (q, add-one j) (rw more at e)
+
+  pub rest-end : length vs ≤ j → o ≡ r
+  rest-end h = rw (drop-of-length-le vs {i = j} h) at e

@@ -204,24 +204,14 @@ fn readbacks_of(part: &[u8]) -> [u32; 6]
     requires { ⌜ headerWrong (now part) ≡ false ⌝ }
     ensures { λ r. ⌜ r ≡ readbacksFor (getD (now (part .entry)) 3 0) (now (part .entry)) ⌝ }
 {
-    if bar::is_bridge(part[3]) {
-        return [
-            endian::read_be32(part, 6) as u32,
-            endian::read_be32(part, 10) as u32,
-            0,
-            0,
-            0,
-            0,
-        ];
+    let mut set = [0u32; 6];
+    let n = bar::slot_count(part[3]);
+    let mut j: usize = 0;
+    while j < n {
+        set[j] = endian::read_be32(part, 6 + 4 * j) as u32;
+        j += 1;
     }
-    [
-        endian::read_be32(part, 6) as u32,
-        endian::read_be32(part, 10) as u32,
-        endian::read_be32(part, 14) as u32,
-        endian::read_be32(part, 18) as u32,
-        endian::read_be32(part, 22) as u32,
-        endian::read_be32(part, 26) as u32,
-    ]
+    set
 }
 
 // ---- the checks of a function by itself

@@ -8,7 +8,7 @@ use native.Mathlib.Numerals.{add-one}
 use borrow.Author.Tests.{eq-eqb, ne-eqb}
 use lib.Dec.{eqb}
 use lib.ListN.{length, getD, set, take, drop, replicate, length-append, length-take, length-drop, drop-of-length-le, take-append-drop}
-use lib.Seq.{sets, sets-eq, length-sets, length-take-le, take-at, drop-at, drop-drop}
+use lib.Seq.{sets, sets-eq, set-getD, length-sets, length-take-le, take-at, drop-at, drop-drop}
 use Rattle.arith.specs.Align.{alignUp}
 use Rattle.pools.specs.declared.Pool.{Pool}
 use Rattle.pools.specs.declared.Pool.the-variants.{Low, High, Io}
@@ -19,7 +19,7 @@ use Rattle.bar.specs.declared.Slot.the-variants.{Unused, Bar, Upper, Bad}
 use Rattle.bar.specs.Bar.{isIoBar, isWide, ioWrong, ioSlot, narrowSlot, wideSlot, slotHere, sized, slots, isBad, anyBad, takesNext, span}
 use Rattle.bar.specs.Bar.{widePool}
 use Rattle.bar.specs.Bar.{SizedSlot}
-use Rattle.bar.specs.BarLaws.{sized-slots, length-first, length-slots, slots-at-step, any-bad-of-bad, any-bad-step}
+use Rattle.bar.specs.BarLaws.{sized-slots, length-first, length-slots, slots-at-step, any-bad-of-bad, any-bad-step, slot-of-none}
 use Rattle.bar.specs.Values.{valueOf, registersOf}
 use Rattle.bar.specs.ValuesLaws.{head-at}
 use Rattle.window.specs.Window.{closed, opened}
@@ -244,7 +244,7 @@ module _ (set : List ℕ) (n : ℕ) (c : Ends) (values : List ℕ) (at : Cursors
   inside = omega (arith, length-first set n six)
 
   -- the loop's slot is lawful
-  not-bad : isBad x ≡ false
+  pub not-bad : isBad x ≡ false
   not-bad = false-of-not (isBad x) (λ b. true≢false (sym (any-bad-of-bad first i x inside here b) ∙ p .lawful))
 
   slots-now : slots (drop i first) ≡ x ∷ after-slot x first i
@@ -344,6 +344,23 @@ module _ (set : List ℕ) (n : ℕ) (c : Ends) (values : List ℕ) (at : Cursors
             ∙ cap-after-bars (afterBar e x) rest (all-sized (drop (i + span x) first)) q
             ∙ ap (λ (f : Ends). cap (f q)) (sym (ends-after x first i (afterBar e x)))
             ∙ ap (λ (xs : List Slot). cap (afterBars e xs q)) (sym slots-now)
+
+-- a read-back of 0 leaves all as it is
+pub placing-skip : (rs : List ℕ) (n : ℕ) (c : Ends) (values : List ℕ) (at : Cursors) (i : ℕ) → Placing rs n c values at i → i < n → n ≤ 6
+    → length rs ≡ 6 → getD rs i 0 ≡ 0 → Placing rs n c values at (i + 1)
+placing-skip rs n c values at i p below most six z =
+    placing-step rs n c values at i p below most six Unused (slot-of-none rs n n i six (omega arith) below z) 0 0 values at refl refl stored
+    (p .kept)
+  where
+    head-zeros : (k : ℕ) → getD (zeros k) 0 0 ≡ 0
+    head-zeros zero = refl
+    head-zeros (suc k) = refl
+
+    clear : getD values i 0 ≡ 0
+    clear = sym (head-at values i) ∙ ap (λ (l : List ℕ). getD l 0 0) (p .clear) ∙ head-zeros (6 - i)
+
+    stored : values ≡ sets values i (0 ∷ [])
+    stored = sym (ap (set values i) (sym clear) ∙ set-getD values i 0)
 
 pub placing-end : (set : List ℕ) (n : ℕ) (c : Ends) (values : List ℕ) (at : Cursors) (i : ℕ) → Placing set n c values at i → n ≤ i
     → _≡_ {A = BarsPlaced} (record { values = values; cursors = at }) (barsPlaced set n c)

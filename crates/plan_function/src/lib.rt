@@ -63,11 +63,32 @@ pub fn place_bars(set: [u32; 6], n: usize, c: Cursors) -> BarsPlaced
     let mut at = kept(c);
     let mut i: usize = 0;
     while i < n {
+        let r = set[i];
+        if r == 0 {
+            i += 1;
+            continue;
+        }
+        if bar::is_paired(r, i, n) {
+            let x = bar::wide_slot(r, set[i + 1]);
+            let v = bar::value_of(x, r, bar_start(at, x));
+            put_registers(&mut values, i, x, v);
+            at = after_bar(at, x);
+            i += 2;
+            continue;
+        }
+        if bar::is_memory(r) {
+            let x = bar::narrow_slot(r);
+            let v = bar::value_of(x, r, bar_start(at, x));
+            put_registers(&mut values, i, x, v);
+            at = after_bar(at, x);
+            i += 1;
+            continue;
+        }
         let x = bar::slot_at(set, n, i);
-        let v = bar::value_of(x, set[i], bar_start(at, x));
+        let v = bar::value_of(x, r, bar_start(at, x));
         put_registers(&mut values, i, x, v);
         at = after_bar(at, x);
-        i += bar::span(x);
+        i += 1;
     }
     BarsPlaced {
         values: values,

@@ -106,7 +106,7 @@ fn walk_records(
             Next::Record(n) => {
                 let f = plan_pass::function_at(board, at, n);
                 seen = see_next(w, seen, f, i, memo, cursors);
-                plan_pass::place_record(f, i, first, counts, memo, cursors);
+                plan_pass::pass_over(board, at, n, i, first, counts, memo, cursors);
                 at = at + 2 + n;
                 i += 1;
             }

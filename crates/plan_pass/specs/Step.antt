@@ -4,7 +4,7 @@ use mathlib.Core.Path.{_≡_}
 use Prim.Native.Nat.{ℕ, suc, _+_, _-_, _*_, _≤_, _<_, max}
 use mathlib.Core.Bool.{false, cond}
 use mathlib.Core.List.{List, [], _∷_}
-use lib.ListN.{length, getD, take}
+use lib.ListN.{length, getD, take, drop}
 use lib.Seq.{sets}
 use Rattle.arith.specs.Powers.{PowerOfTwo}
 use Rattle.pools.specs.declared.Pool.{Pool}
@@ -13,7 +13,7 @@ use Rattle.pools.specs.Pools.{granule}
 use Rattle.bar.specs.Bar.{slots, anyBad}
 use Rattle.window.specs.Window.{closed}
 use Rattle.board_record.specs.declared.Function.{Function}
-use Rattle.board_record.specs.Function.{isBridge, slotCount}
+use Rattle.board_record.specs.Function.{functionOfPart, isBridge, slotCount}
 use Rattle.plan_sizing.specs.declared.Laid.{Laid}
 use Rattle.plan_sizing.specs.Memo.{laidAt}
 use Rattle.plan_function.specs.declared.Cursors.{Cursors}
@@ -23,6 +23,10 @@ use Rattle.plan_function.specs.declared.WindowsPlaced.{WindowsPlaced}
 use Rattle.plan_function.specs.Kept.{endsOf, extentIn, barsPlaced, windowsPlaced}
 use Rattle.sheet_bytes.specs.declared.Registers.{Registers}
 use Rattle.sheet_bytes.specs.Layout.{plannedOf, recordBytes}
+
+-- the function of the record of n bytes at a place of a board
+abbrev pub functionAt : List ℕ → ℕ → ℕ → Function
+functionAt board at n = functionOfPart (take n (drop (at + 2) board))
 
 abbrev pub cursorsIn : List ℕ → ℕ → Cursors
 cursorsIn c b = record { low = getD c (3 * b) 0; high = getD c (3 * b + 1) 0; io = getD c (3 * b + 2) 0 }

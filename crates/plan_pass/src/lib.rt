@@ -11,14 +11,14 @@ ghost use Rattle.board_record.specs.Function.{isBridge as isBridgeOf, slotCount
 ghost use Rattle.plan_rule.specs.Pieces.{windowAlign};
 ghost use Rattle.records.specs.declared.Next.the-variants.{Record};
 ghost use Rattle.records.specs.Records.{nextOf};
-ghost use Rattle.sheet.specs.Sheet.{sheetLength};
+ghost use Rattle.sheet_record.specs.Places.{stride};
 ghost use Rattle.sheet_bytes.specs.Layout.{sheetBytes};
 ghost use Rattle.plan_pass.specs.Loop.{mostBuses, planOn, Ready, basesFor, Filled, Placing};
 ghost use Rattle.plan_sizing.specs.Memo.{laidAt};
 ghost use Rattle.plan_function.specs.Kept.{extentIn, windowsPlaced};
 ghost use Rattle.plan_pass.specs.Step.{cursorsIn, endsList, extentsIn, numberIn, NumberFits, barsIn, leafWith, bridgeWith};
 ghost use Rattle.plan_pass.specs.Step.{leafRegisters, bridgeRegisters};
-ghost use Rattle.plan_pass.specs.Step.{registersOf, recordOf, leafNext, bridgeNext, cursorsNext, Placeable, Bridged};
+ghost use Rattle.plan_pass.specs.Step.{functionAt, registersOf, recordOf, leafNext, bridgeNext, cursorsNext, Placeable, Bridged};
 use board_record::Function;
 use board_record::Host;
 use plan_function::BarsPlaced;
@@ -68,8 +68,8 @@ pub fn place_records(
                 return;
             }
             Next::Record(n) => {
-                let f = function_at(board, at, n);
-                write_next(f, i, first, counts, memo, cursors, sheet);
+                let to = 1 + STRIDE * i;
+                place_at(board, at, n, i, first, counts, memo, cursors, sheet, to);
                 at = at + 2 + n;
                 i += 1;
             }
@@ -78,7 +78,7 @@ pub fn place_records(
 }
 
 // Record i + 1: its registers, and the cursors after it. Its BARs are placed here for both kinds: one call is inlined, two are not.
-pub fn place_record(
+fn place_record(
     f: Function,
     i: usize,
     first: u8,
@@ -311,29 +311,86 @@ pub fn function_at(board: &[u8], at: usize, n: usize) -> Function
     board_record::function_of(records::part_at(board, at, n))
 }
 
-// Record i + 1 placed, and written at its place in the sheet.
-fn write_next(
+// Record i + 1, at a place of the board, placed and written at a place of the output: the one call of all that is below it, for whoever
+// places records. So it is compiled as a whole, and what it hands on stays in registers.
+pub fn place_at(
+    board: &[u8],
+    at: usize,
+    n: usize,
+    i: usize,
+    first: u8,
+    counts: &[u8],
+    memo: &[u64],
+    cursors: &mut [u64],
+    out: &mut [u8],
+    to: usize,
+)
+    requires { ⌜ (nextOf (drop at (now board)) ≡ Record n) × (headerWrong (take n (drop (at + 2) (now board))) ≡ false) ⌝ }
+    requires { ⌜
+        Placeable first (now counts) (now cursors) (functionAt (now board) at n)
+        × (isBridgeOf (functionAt (now board) at n) ≡ true
+        → Bridged first (now counts) (now memo) (now cursors) i (functionAt (now board) at n .parent))
+        × (to + stride ≤ length (now out))
+        ⌝ }
+    ensures cursors { λ _. ⌜
+        now (cursors .exit) ≡ cursorsNext (now (memo .entry)) (now (cursors .entry)) i (functionAt (now (board .entry)) at n)
+        ⌝ }
+    ensures out { λ _. ⌜ now (out .exit)
+        ≡ sets (now (out .entry)) to
+        (recordOf first (now (counts .entry)) (now (memo .entry)) (now (cursors .entry)) i (functionAt (now (board .entry)) at n)) ⌝ }
+{
+    let f = function_at(board, at, n);
+    write_placed(f, i, first, counts, memo, cursors, out, to);
+}
+
+// The cursors after record i + 1, for whoever wants no more of it.
+pub fn pass_over(
+    board: &[u8],
+    at: usize,
+    n: usize,
+    i: usize,
+    first: u8,
+    counts: &[u8],
+    memo: &[u64],
+    cursors: &mut [u64],
+)
+    requires { ⌜ (nextOf (drop at (now board)) ≡ Record n) × (headerWrong (take n (drop (at + 2) (now board))) ≡ false) ⌝ }
+    requires { ⌜
+        Placeable first (now counts) (now cursors) (functionAt (now board) at n)
+        × (isBridgeOf (functionAt (now board) at n) ≡ true
+        → Bridged first (now counts) (now memo) (now cursors) i (functionAt (now board) at n .parent))
+        ⌝ }
+    ensures { λ _. ⌜
+        now (cursors .exit) ≡ cursorsNext (now (memo .entry)) (now (cursors .entry)) i (functionAt (now (board .entry)) at n)
+        ⌝ }
+{
+    let mut bytes = [0u8; STRIDE];
+    place_at(board, at, n, i, first, counts, memo, cursors, &mut bytes, 0);
+}
+
+// A function placed as record i + 1, and written.
+fn write_placed(
     f: Function,
     i: usize,
     first: u8,
     counts: &[u8],
     memo: &[u64],
     cursors: &mut [u64],
-    sheet: &mut [u8],
+    out: &mut [u8],
+    to: usize,
 )
     requires { ⌜
         Placeable first (now counts) (now cursors) f
         × (isBridgeOf f ≡ true → Bridged first (now counts) (now memo) (now cursors) i (f .parent))
         ⌝ }
-    requires { ⌜ sheetLength (suc i) ≤ length (now sheet) ⌝ }
+    requires { ⌜ to + stride ≤ length (now out) ⌝ }
     ensures cursors { λ _. ⌜ now (cursors .exit) ≡ cursorsNext (now (memo .entry)) (now (cursors .entry)) i f ⌝ }
-    ensures sheet { λ _. ⌜ now (sheet .exit)
-        ≡ sets (now (sheet .entry)) (sheetLength i)
+    ensures out { λ _. ⌜ now (out .exit)
+        ≡ sets (now (out .entry)) to
         (recordOf first (now (counts .entry)) (now (memo .entry)) (now (cursors .entry)) i f) ⌝ }
 {
-    let at = 1 + STRIDE * i;
     let r = place_record(f, i, first, counts, memo, cursors);
-    sheet_bytes::write_record(sheet, at, r);
+    sheet_bytes::write_record(out, to, r);
 }
 
 // ---- the pass

@@ -176,9 +176,18 @@ fn with_bars(l: Laid, set: [u32; 6], n: usize) -> Laid
     let mut done = l;
     let mut i: usize = 0;
     while i < n {
-        let s = bar::slot_at(set, n, i);
-        done = with_slot(done, s);
-        i += bar::span(s);
+        let r = set[i];
+        if r == 0 {
+            i += 1;
+            continue;
+        }
+        if bar::is_paired(r, i, n) {
+            done = with_slot(done, bar::wide_slot(r, set[i + 1]));
+            i += 2;
+            continue;
+        }
+        done = with_slot(done, bar::narrow_slot(r));
+        i += 1;
     }
     done
 }

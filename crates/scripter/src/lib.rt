@@ -1,17 +1,19 @@
 // The write script: a board's bytes to the plan as configuration writes, or the number. No sheet is kept: each part of the script is a
 // placing pass of its own, whose records are laid out one at a time, so the call takes no more stack than the planner.
 ghost use mathlib.Core.Path.{_≡_};
-ghost use mathlib.Core.Bool.{true};
+ghost use mathlib.Core.Bool.{false, true};
 ghost use Prim.Native.Nat.{ℕ, _+_, _*_, _≤_, _<_};
-ghost use lib.ListN.{length};
+ghost use lib.ListN.{length, take, drop};
 ghost use lib.Seq.{sets};
 ghost use Rattle.records.specs.Limits.{mostFunctions};
-ghost use Rattle.board_record.specs.Function.{isBridge as isBridgeOf};
+ghost use Rattle.records.specs.declared.Next.the-variants.{Record};
+ghost use Rattle.records.specs.Records.{nextOf};
+ghost use Rattle.board_record.specs.Function.{isBridge as isBridgeOf, headerWrong};
 ghost use Rattle.board.specs.Board.{boardNumber, hostOf, functionsOf};
 ghost use Rattle.sheet.specs.Sheet.{fullSheet};
 ghost use Rattle.plan_answer.specs.Plan.{onBoard};
 ghost use Rattle.planner.specs.Measure.{IsMeasured};
-ghost use Rattle.plan_pass.specs.Step.{cursorsNext, Placeable, Bridged};
+ghost use Rattle.plan_pass.specs.Step.{functionAt, cursorsNext, Placeable, Bridged};
 ghost use Rattle.plan_pass.specs.Loop.{mostBuses, Placing};
 ghost use Rattle.script_writes.specs.Writes.{writesIn};
 ghost use Rattle.script_writes.specs.Script.{writeStride};
@@ -272,8 +274,19 @@ fn pass_records(
                 return next;
             }
             Next::Record(n) => {
-                let f = plan_pass::function_at(board, at, n);
-                next = put_next(pass, f, i, counts, memo, cursors, boot, next, room);
+                next = put_next(
+                    pass,
+                    board,
+                    at,
+                    n,
+                    i,
+                    counts,
+                    memo,
+                    cursors,
+                    boot,
+                    next,
+                    room,
+                );
                 at = at + 2 + n;
                 i += 1;
             }
@@ -284,7 +297,9 @@ fn pass_records(
 // Record i + 1 placed, and its writes in this part.
 fn put_next(
     pass: Pass,
-    f: Function,
+    board: &[u8],
+    at: usize,
+    n: usize,
     i: usize,
     counts: &[u8],
     memo: &[u64],
@@ -293,23 +308,39 @@ fn put_next(
     from: Place,
     room: &mut [u8],
 ) -> Place
+    requires { ⌜ (nextOf (drop at (now board)) ≡ Record n) × (headerWrong (take n (drop (at + 2) (now board))) ≡ false) ⌝ }
     requires { ⌜
-        Placeable (boot .root) (now counts) (now cursors) f
-        × (isBridgeOf f ≡ true → Bridged (boot .root) (now counts) (now memo) (now cursors) i (f .parent))
+        Placeable (boot .root) (now counts) (now cursors) (functionAt (now board) at n)
+        × (isBridgeOf (functionAt (now board) at n) ≡ true
+        → Bridged (boot .root) (now counts) (now memo) (now cursors) i (functionAt (now board) at n .parent))
         ⌝ }
     requires { ⌜
-        from .at + writeStride * length (writesIn pass 0 (placedPart boot (now counts) (now memo) (now cursors) i f))
+        from .at + writeStride * length
+        (writesIn pass 0 (placedPart boot (now counts) (now memo) (now cursors) i (functionAt (now board) at n)))
         ≤ length (now room)
         ⌝ }
-    ensures cursors { λ _. ⌜ now (cursors .exit) ≡ cursorsNext (now (memo .entry)) (now (cursors .entry)) i f ⌝ }
+    ensures cursors { λ _. ⌜
+        now (cursors .exit) ≡ cursorsNext (now (memo .entry)) (now (cursors .entry)) i (functionAt (now (board .entry)) at n)
+        ⌝ }
     ensures room { λ r. ⌜
         ((k : ℕ) → Wrote boot (now (room .entry)) from
-        (writesIn pass k (placedPart boot (now (counts .entry)) (now (memo .entry)) (now (cursors .entry)) i f))
+        (writesIn pass k
+        (placedPart boot (now (counts .entry)) (now (memo .entry)) (now (cursors .entry)) i (functionAt (now (board .entry)) at n)))
         (now (room .exit)) r)
         ⌝ }
 {
     let mut bytes = [0u8; STRIDE];
-    let r = plan_pass::place_record(f, i, boot.root, counts, memo, cursors);
-    sheet_bytes::write_record(&mut bytes, 0, r);
+    plan_pass::place_at(
+        board,
+        at,
+        n,
+        i,
+        boot.root,
+        counts,
+        memo,
+        cursors,
+        &mut bytes,
+        0,
+    );
     script_writes::put_writes(pass, &bytes[2..], boot, from, room)
 }

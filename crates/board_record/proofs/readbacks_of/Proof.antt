@@ -1,102 +1,107 @@
--- `board_record::readbacks_of` meets its contract: a function that is no bridge has 30 bytes. Assumes nothing.
+-- `board_record::readbacks_of` meets its contract. The loop's invariant: storing the rest of those that count gives all six. The measure
+-- is how many are left. Assumes nothing.
 use borrow.Author.Needs.{needs}
 use mathlib.Core.Path.{_≡_, sym, _∙_}
+use Prim.Native.Nat.{_-_, _≤_}
 use native.Mathlib.Omega.{arith}
-use lib.ListN.{length}
-use Rattle.board_record.specs.Function.{endLength}
-use Rattle.board_record.specs.FunctionLaws.{le-length, length-of-end}
+use lib.ListN.{length, getD, drop}
+use lib.Seq.{sets}
+use Rattle.board_record.specs.Function.{readbacksFor}
+use Rattle.board_record.specs.FunctionLaws.{le-length, countedFor, length-counted, counted-start, counted-read, counted-fits}
+use Rattle.board_record.specs.FunctionLaws.{rest-turn, rest-end}
 use Rattle.board_record.proofs.readbacks_of.Statement.{statement}
 use Rattle.board_record.proofs.readbacks_of.Tie as tie
 
--- where a function is no bridge
-left : (c : tie.Else1) → length (c .before .before .before .before .args .part .now) ≡ endLength
-left c =
-    let s = c .before .before .before .before in
-    length-of-end (s .args .part .now) (s .pre) (sym (c .before .is-bridge .ensures) ∙ c .if1 .left)
+abbrev Inv-loop : tie.InvT-loop
+Inv-loop part set₀ n j₀ set j =
+    (j ≤ n) × (sets set j (drop j (countedFor (getD part 3 0) part)) ≡ readbacksFor (getD part 3 0) part)
 
-shared-slice-read-is-bridge : tie.Need-shared-slice-read-is-bridge
-shared-slice-read-is-bridge c = omega (arith, le-length _ (c .before .before .pre))
+abbrev μ-loop : tie.MeasureT-loop
+μ-loop part set₀ n j₀ set j = n - j
 
-is-bridge-requires : tie.Need-is-bridge-requires
-is-bridge-requires c κs = search needs
+-- src/lib.rt:208:29
+shared-slice-read-slot-count : tie.Need-shared-slice-read-slot-count Inv-loop μ-loop
+shared-slice-read-slot-count c = omega (arith, le-length _ (c .before .before .pre))
 
-read-be32-requires : tie.Need-read-be32-requires
-read-be32-requires c κs = omega (arith, le-length _ (c .before .before .before .before .pre))
+-- src/lib.rt:208:9
+slot-count-requires : tie.Need-slot-count-requires Inv-loop μ-loop
+slot-count-requires c κs = search needs
 
-cast-t6 : tie.Need-cast-t6
-cast-t6 c = search needs
+-- src/lib.rt:210:5
+loop-holds : tie.Need-loop-holds Inv-loop μ-loop
+loop-holds c =
+    let p = c .before .before .before .args .part .now in
+    (omega arith, counted-start (getD p 3 0) p)
 
-read-be32-requires-2 : tie.Need-read-be32-requires-2
-read-be32-requires-2 c κs = omega (arith, le-length _ (c .before .before .before .before .before .pre))
+-- src/lib.rt:211:46
+mul-read-be32 : tie.Need-mul-read-be32 Inv-loop μ-loop
+mul-read-be32 c = search needs
 
-cast-t8 : tie.Need-cast-t8
-cast-t8 c = search needs
+-- src/lib.rt:211:42
+add-read-be32 : tie.Need-add-read-be32 Inv-loop μ-loop
+add-read-be32 c = omega (arith, c .before .before .slot-count .ensures .1)
 
-returns : tie.Need-returns
-returns c = simp (sym (c .before .before .before .is-bridge .ensures) ∙ c .before .before .if1 .taken) (cc)
+-- src/lib.rt:211:18
+read-be32-requires : tie.Need-read-be32-requires Inv-loop μ-loop
+read-be32-requires c κs = counted-fits _ _ (c .before .before .before .before .before .pre) (omega (arith, c .before .before .slot-count .ensures .0))
 
-read-be32-requires-3 : tie.Need-read-be32-requires-3
-read-be32-requires-3 c κs = omega (arith, left c)
+-- src/lib.rt:211:18
+cast-set : tie.Need-cast-set Inv-loop μ-loop
+cast-set c = search needs
 
-cast-t10 : tie.Need-cast-t10
-cast-t10 c = search needs
+-- src/lib.rt:211:9
+mul-set : tie.Need-mul-set Inv-loop μ-loop
+mul-set c = search needs
 
-read-be32-requires-4 : tie.Need-read-be32-requires-4
-read-be32-requires-4 c κs = omega (arith, left (c .before))
+-- src/lib.rt:211:9
+array-write-set : tie.Need-array-write-set Inv-loop μ-loop
+array-write-set c = omega (arith, c .before .before .before .slot-count .ensures .1)
 
-cast-t12 : tie.Need-cast-t12
-cast-t12 c = search needs
+-- src/lib.rt:212:9
+add-j : tie.Need-add-j Inv-loop μ-loop
+add-j c = omega (arith, c .before .before .before .slot-count .ensures .1)
 
-read-be32-requires-5 : tie.Need-read-be32-requires-5
-read-be32-requires-5 c κs = omega (arith, left (c .before .before))
+-- src/lib.rt:210:5
+loop-less : tie.Need-loop-less Inv-loop μ-loop
+loop-less c = omega arith
 
-cast-t14 : tie.Need-cast-t14
-cast-t14 c = search needs
+-- src/lib.rt:210:5
+loop-again : tie.Need-loop-again Inv-loop μ-loop
+loop-again c =
+    let p = c .before .before .before .before .before .before .args .part .now in
+    let l = c .before .before .loop in
+    let e = c .before .before .before .slot-count .ensures .0 in (
+      omega arith,
+      rest-turn (l .set) (countedFor (getD p 3 0) p) (readbacksFor (getD p 3 0) p) (l .j) (l .inv .1)
+          (c .read-be32 .ensures .0 ∙ counted-read (getD p 3 0) p (l .j) (omega (arith, e)))
+          (omega (arith, e, length-counted (getD p 3 0) p)),
+    )
 
-read-be32-requires-6 : tie.Need-read-be32-requires-6
-read-be32-requires-6 c κs = omega (arith, left (c .before .before .before))
-
-cast-t16 : tie.Need-cast-t16
-cast-t16 c = search needs
-
-read-be32-requires-7 : tie.Need-read-be32-requires-7
-read-be32-requires-7 c κs = omega (arith, left (c .before .before .before .before))
-
-cast-t18 : tie.Need-cast-t18
-cast-t18 c = search needs
-
-read-be32-requires-8 : tie.Need-read-be32-requires-8
-read-be32-requires-8 c κs = omega (arith, left (c .before .before .before .before .before))
-
-cast-t20 : tie.Need-cast-t20
-cast-t20 c = search needs
-
-returns-2 : tie.Need-returns-2
-returns-2 c =
-    let no = c .before .before .before .before .before .before in
-    simp (sym (no .before .is-bridge .ensures) ∙ no .if1 .left) cc
+-- src/lib.rt:203:1
+returns : tie.Need-returns Inv-loop μ-loop
+returns c =
+    let p = c .before .before .before .before .before .args .part .now in
+    let l = c .before .loop in
+    let e = c .before .before .slot-count .ensures .0 in
+    rest-end (l .set) (countedFor (getD p 3 0) p) (readbacksFor (getD p 3 0) p) (l .j) (l .inv .1)
+    (omega (arith, e, length-counted (getD p 3 0) p))
 
 pub readbacks-of-spec : {M : Type 1} → statement M
 readbacks-of-spec =
     tie.close
     (tie.spec
-    shared-slice-read-is-bridge
-    is-bridge-requires
+    Inv-loop
+    μ-loop
+    shared-slice-read-slot-count
+    slot-count-requires
+    loop-holds
+    mul-read-be32
+    add-read-be32
     read-be32-requires
-    cast-t6
-    read-be32-requires-2
-    cast-t8
-    returns
-    read-be32-requires-3
-    cast-t10
-    read-be32-requires-4
-    cast-t12
-    read-be32-requires-5
-    cast-t14
-    read-be32-requires-6
-    cast-t16
-    read-be32-requires-7
-    cast-t18
-    read-be32-requires-8
-    cast-t20
-    returns-2)
+    cast-set
+    mul-set
+    array-write-set
+    add-j
+    loop-less
+    loop-again
+    returns)

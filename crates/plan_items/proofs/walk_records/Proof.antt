@@ -1,12 +1,14 @@
 -- `plan_items::walk_records` meets its contract. The invariant is `Walked`: what is seen and what is still told come to the whole. The
 -- measure is the bytes left. Assumes nothing.
-use mathlib.Core.Path.{sym, _∙_}
+use mathlib.Core.Path.{refl, sym, ap, _∙_}
 use Prim.Native.Nat.{_-_}
 use native.Mathlib.Numerals.{add-one}
 use native.Mathlib.Omega.{arith}
 use lib.ListN.{length}
 use borrow.Author.Needs.{needs}
 use Rattle.records.specs.RecordsLaws.{fits-at}
+use Rattle.board_record.specs.declared.Function.{Function}
+use Rattle.plan_pass.specs.Step.{cursorsNext}
 use Rattle.plan_items.specs.Loop.{Walked}
 use Rattle.plan_items.specs.LoopLaws.{walked-start, below-most, header-right, turn-seeable, turn-placeable, turn-bridged, walked-turn}
 use Rattle.plan_items.specs.LoopLaws.{finished-end, finished-broken}
@@ -74,15 +76,14 @@ see-next-requires c κs =
     let e = sym (next-at .ensures) ∙ at-n .n .given .1 in
     turn-seeable pre (loop .inv) _ e (c .before .function-at .ensures)
 
-place-record-requires : tie.Need-place-record-requires Inv-loop μ-loop
-place-record-requires c κs =
+pass-over-requires : tie.Need-pass-over-requires Inv-loop μ-loop
+pass-over-requires c κs =
     let at-n = c .before .before .before .before .before in
     let next-at = at-n .before .before .next-at in
     let loop = at-n .before .before .before .loop in
     let pre = at-n .before .before .before .before .before .before .before .before .before .pre in
     let e = sym (next-at .ensures) ∙ at-n .n .given .1 in
-    let read = c .before .before .before .function-at .ensures in
-    (turn-placeable pre (loop .inv) _ e read, turn-bridged pre (loop .inv) _ e read)
+    ((e, header-right pre (loop .inv) _ e), (turn-placeable pre (loop .inv) _ e refl, turn-bridged pre (loop .inv) _ e refl))
 
 add-at : tie.Need-add-at Inv-loop μ-loop
 add-at c =
@@ -129,10 +130,11 @@ loop-again c =
     let e = sym (next-at .ensures) ∙ at-n .n .given .1 in
     let read = c .before .before .before .before .before .before .function-at .ensures in
     let saw = c .before .before .before .before .see-next .ensures in
-    let place-record = c .before .before .place-record in
+    let pass-over = c .before .before .pass-over in
     rw (add-one (loop .i))
-    (walked-turn (at-args .pre) (loop .inv) _ e read saw (place-record .ensures .1)
-    (omega (arith, place-record .kept .1 .1 .1 .1 .1 .0)))
+    (walked-turn (at-args .pre) (loop .inv) _ e read saw
+    (pass-over .ensures ∙ ap (λ (f : Function). cursorsNext (at-args .args .memo .now) (loop .cursors) (loop .i) f) (sym read))
+    (omega (arith, pass-over .kept .1 .1 .1 .1 .1 .1 .1 .0)))
 
 pub walk-records-spec : {M : Type 1} → statement M
 walk-records-spec =
@@ -152,7 +154,7 @@ walk-records-spec =
     enum-known-n
     function-at-requires
     see-next-requires
-    place-record-requires
+    pass-over-requires
     add-at
     add-at-2
     add-i
