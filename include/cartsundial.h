@@ -382,20 +382,25 @@ enum cartsundial_plan_who {
     CARTSUNDIAL_NEEDS_LOW = 5,              /* bytes of the low pool, the high pool, the I/O pool */
     CARTSUNDIAL_NEEDS_HIGH = 6,
     CARTSUNDIAL_NEEDS_IO = 7,
-    CARTSUNDIAL_PLAN_WHO_NUMBERS = 8        /* how many numbers the answer has */
+    CARTSUNDIAL_NEEDS_LOW_ALIGN = 8,        /* from any multiple of this these bytes are enough, where the pool is closed */
+    CARTSUNDIAL_NEEDS_HIGH_ALIGN = 9,
+    CARTSUNDIAL_NEEDS_IO_ALIGN = 10,
+    CARTSUNDIAL_PLAN_WHO_NUMBERS = 11       /* how many numbers the answer has */
 };
 
 /*
  * Judges a board as cartsundial_plan does, without a sheet: returns its number, but for the sheet's room, and says whom that is about and
- * what the board needs. who: eight numbers, at the places of cartsundial_plan_who.
+ * what the board needs. who: eleven numbers, at the places of cartsundial_plan_who.
  * Record and place: for 24, 23 and 25 the first record that fails that check, at CARTSUNDIAL_PLACE_ID, for 25 at its first wrong slot; for
  * 31, 32 and 33 the first item of the root bus that ends past its pool, in record order, a BAR or a window. Room lost, for 31, 32 and 33:
  * the item of that pool, on any bus, before which most addresses stay empty, the first of those. All are 0 where there is none.
  * Needs: the root bus's number and those of bridges and their spares; of each pool the bytes from its base to the edge of a granule after
- * the last item of the root bus, 0 where there is none. A closed pool is counted from 0. An end past 2^62 is told as 2^62. They are there
- * for 0 and for 30 to 33, and all 0 where the board fails its own checks. So a host short of room is told how much it has to have.
- * A refused board has its answer: this call, and cartsundial_audit_where, write where they do not return 0. With room for fewer than eight
- * numbers who stays as it was, and 0 becomes 11.
+ * the last item of the root bus, 0 where there is none; of a closed pool the bytes from any multiple of its alignment, which is the
+ * largest among the items of the root bus there, and no less than the granule. From another base it can take more. An end past 2^62 is
+ * told as 2^62. They are there for 0 and for 30 to 33, and all 0 where the board fails its own checks. So a host short of room is told how
+ * much it has to have, and where.
+ * A refused board has its answer: this call, and cartsundial_audit_where, write where they do not return 0. With room for eight to ten
+ * numbers, as an older caller has, it writes the first eight and no other; with room for fewer who stays as it was, and 0 becomes 11.
  */
 CARTSUNDIAL_CHECKED uint32_t cartsundial_plan_where(const uint8_t *board, size_t board_len,
                                                     uint64_t *CARTSUNDIAL_RESTRICT who, size_t who_len)

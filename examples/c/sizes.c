@@ -130,7 +130,7 @@ static void ask_plan(void)
     expect("a plan without its last byte", cartsundial_plan(board, board_len, sheet, sizeof sheet - 1, written, 1), SHORT);
     expect("a plan of 512 functions", cartsundial_plan(board, board_len, sheet, sizeof sheet, written, 1), CARTSUNDIAL_ACCEPTED);
     expect("what it needs", cartsundial_plan_where(board, board_len, answer, CARTSUNDIAL_PLAN_WHO_NUMBERS), CARTSUNDIAL_ACCEPTED);
-    expect("what it needs, too short", cartsundial_plan_where(board, board_len, answer, CARTSUNDIAL_PLAN_WHO_NUMBERS - 1), SHORT);
+    expect("what it needs, too short", cartsundial_plan_where(board, board_len, answer, CARTSUNDIAL_NEEDS_IO), SHORT);
     expect("the sheet's length", written[0], CARTSUNDIAL_SHEET_BYTES);
     expect("a script without its last byte", cartsundial_script(board, board_len, 0, 0, script, sizeof script - 1, written, 1), SHORT);
     expect("its script", cartsundial_script(board, board_len, 0, 0, script, sizeof script, written, 1), CARTSUNDIAL_ACCEPTED);

@@ -33,16 +33,23 @@ whoNumber f = toldNumber 4 (f .number)
 abbrev pub whoFilled : Finding → List ℕ → List ℕ
 whoFilled f = toldFilled (whoNumbers f)
 
--- ## What does not fit of a board: the same, then what is needed
+-- ## What does not fit of a board: the same, then what is needed, then the alignments; a slice with room for what is needed and not for
+-- these gets what it has room for
 
 abbrev pub needNumbers : Needs → List ℕ
 needNumbers n = n .buses ∷ n .low ∷ n .high ∷ n .io ∷ []
 
+abbrev pub alignNumbers : Needs → List ℕ
+alignNumbers n = n .«low_align» ∷ n .«high_align» ∷ n .«io_align» ∷ []
+
 abbrev pub planNumbers : PlanFinding → List ℕ
 planNumbers f = partyNumbers (f .party) ++ partyNumbers (f .other) ++ needNumbers (f .needs)
+
+abbrev pub allNumbers : PlanFinding → List ℕ
+allNumbers f = planNumbers f ++ alignNumbers (f .needs)
 
 abbrev pub planNumber : PlanFinding → List ℕ → ℕ
 planNumber f = toldNumber 8 (f .number)
 
 abbrev pub planFilled : PlanFinding → List ℕ → List ℕ
-planFilled f = toldFilled (planNumbers f)
+planFilled f slice = cond (ltb (length slice) 11) (toldFilled (planNumbers f) slice) (toldFilled (allNumbers f) slice)

@@ -12,7 +12,7 @@ use borrow.Author.Tests.{lt-ltb, le-ltb}
 use Rattle.finding.specs.declared.Finding.{Finding}
 use Rattle.plan_where.specs.declared.PlanFinding.{PlanFinding}
 use Rattle.capi_where.specs.Calls.{toldNumber, toldFilled, partyNumbers, whoNumbers, whoNumber, whoFilled}
-use Rattle.capi_where.specs.Calls.{needNumbers, planNumbers, planNumber, planFilled}
+use Rattle.capi_where.specs.Calls.{needNumbers, alignNumbers, planNumbers, allNumbers, planNumber, planFilled}
 
 -- ## A number, and numbers in the slice
 
@@ -23,9 +23,13 @@ module _ (numbers slice : List ℕ) (number : ℕ) where
   short : length slice < length numbers → (r : ℕ) → r ≡ cond (eqb number 0) 11 number → Told r slice
   short h r e = rw (lt-ltb (length slice) (length numbers) h) (e, refl)
 
+  stored : length numbers ≤ length slice → (after : List ℕ) → after ≡ sets slice 0 numbers
+      → after ≡ numbers ++ drop (length numbers) slice
+  stored h after e =
+      e ∙ sets-eq numbers slice 0 (omega (arith, h)) ∙ ap (λ (n : ℕ). numbers ++ drop n slice) (zero-add (length numbers))
+
   whole : length numbers ≤ length slice → (after : List ℕ) → after ≡ sets slice 0 numbers → Told number after
-  whole h after e = rw (le-ltb (length slice) (length numbers) h)
-      (refl, e ∙ sets-eq numbers slice 0 (omega (arith, h)) ∙ ap (λ (n : ℕ). numbers ++ drop n slice) (zero-add (length numbers)))
+  whole h after e = rw (le-ltb (length slice) (length numbers) h) (refl, stored h after e)
 
 -- ## Who fails an audit
 
@@ -49,13 +53,27 @@ PlanAnswered f slice r after = (r ≡ planNumber f slice) × (after ≡ planFill
 
 module _ (f g : PlanFinding) (is : f ≡ g) (slice : List ℕ) where
   pub plan-short : length slice < 8 → (r : ℕ) → r ≡ cond (eqb (f .number) 0) 11 (f .number) → PlanAnswered g slice r slice
-  plan-short h r e = rw (← is) (short (planNumbers f) slice (f .number) h r e)
+  plan-short h r e =
+      let less : length slice < 11 = omega (arith, h) in
+      rw (← is) (rw (lt-ltb (length slice) 11 less) (short (planNumbers f) slice (f .number) h r e))
 
-  pub plan-whole : 8 ≤ length slice → (one two three : List ℕ) → one ≡ sets slice 0 (partyNumbers (f .party))
-      → two ≡ sets one 2 (partyNumbers (f .other)) → three ≡ sets two 4 (needNumbers (f .needs)) → PlanAnswered g slice (f .number) three
-  plan-whole h one two three d e k =
-      rw (← is)
-      (whole (planNumbers f) slice (f .number) h three
-      (k
-      ∙ ap (λ (s : List ℕ). sets s 4 (needNumbers (f .needs))) e
-      ∙ ap (λ (s : List ℕ). sets (sets s 2 (partyNumbers (f .other))) 4 (needNumbers (f .needs))) d))
+  -- room for what is needed only
+  pub plan-eight : 8 ≤ length slice → length slice < 11 → (eight : List ℕ) → eight ≡ sets slice 0 (planNumbers f)
+      → PlanAnswered g slice (f .number) eight
+  plan-eight h l eight e = rw (← is) (rw (lt-ltb (length slice) 11 l) (whole (planNumbers f) slice (f .number) h eight e))
+
+  -- and for the alignments
+  pub plan-whole : 11 ≤ length slice → (eight eleven : List ℕ) → eight ≡ sets slice 0 (planNumbers f)
+      → eleven ≡ sets eight 8 (alignNumbers (f .needs)) → PlanAnswered g slice (f .number) eleven
+  plan-whole h eight eleven d e =
+      let eights : 8 ≤ length slice = omega (arith, h) in
+      let fills = stored (allNumbers f) slice (f .number) h eleven (e ∙ ap (λ (s : List ℕ). sets s 8 (alignNumbers (f .needs))) d) in
+      rw (← is) (rw (le-ltb (length slice) 11 h, le-ltb (length slice) 8 eights) (refl, fills))
+
+-- the eight, by three stores
+pub plan-put : (f : PlanFinding) (slice one two three : List ℕ) → one ≡ sets slice 0 (partyNumbers (f .party))
+    → two ≡ sets one 2 (partyNumbers (f .other)) → three ≡ sets two 4 (needNumbers (f .needs)) → three ≡ sets slice 0 (planNumbers f)
+plan-put f slice one two three d e k =
+    k
+    ∙ ap (λ (s : List ℕ). sets s 4 (needNumbers (f .needs))) e
+    ∙ ap (λ (s : List ℕ). sets (sets s 2 (partyNumbers (f .other))) 4 (needNumbers (f .needs))) d

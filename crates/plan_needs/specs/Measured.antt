@@ -5,7 +5,7 @@ use lib.Dec.{eqb}
 use Rattle.pools.specs.declared.Pool.{Pool}
 use Rattle.pools.specs.declared.Pool.the-variants.{Low, High, Io}
 use Rattle.plan_rule.specs.declared.Extent.{Extent}
-use Rattle.plan_rule.specs.Pieces.{windowSize}
+use Rattle.plan_rule.specs.Pieces.{windowSize, windowAlign}
 use Rattle.plan_rule.specs.Cap.{cap}
 use Rattle.board_record.specs.declared.Host.{Host}
 use Rattle.board_record.specs.Host.{spanOf}
@@ -25,6 +25,9 @@ needsBy laid bridges root =
       low = bytesBy Low (laid .low .base) (root .low);
       high = bytesBy High (laid .high .base) (root .high);
       io = bytesBy Io (laid .io .base) (root .io);
+      «low_align» = windowAlign Low (root .low .align);
+      «high_align» = windowAlign High (root .high .align);
+      «io_align» = windowAlign Io (root .io .align);
     }
 
 -- the root bus ends at or past the bases that it was laid out from

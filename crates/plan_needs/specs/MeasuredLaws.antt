@@ -19,7 +19,7 @@ use Rattle.plan_rule.specs.Records as placing
 use Rattle.plan_rule.specs.Records.{Lawful}
 use Rattle.plan_rule.specs.Layout.{Piece, isOn, select, layoutEnd, largestAlign}
 use Rattle.plan_rule.specs.LayoutLaws.{HasAlign, le-layout-end}
-use Rattle.plan_rule.specs.Pieces.{pieces, windowSize}
+use Rattle.plan_rule.specs.Pieces.{pieces, windowSize, windowAlign}
 use Rattle.plan_rule.specs.PieceLaws.{Shaped, has-align, pieces-shaped}
 use Rattle.plan_rule.specs.Numbering.{bridges}
 use Rattle.plan_rule.specs.declared.Extent.{Extent}
@@ -33,7 +33,7 @@ use Rattle.plan_sizing.specs.declared.Laid.{Laid}
 use Rattle.plan_sizing.specs.Cut.{extentIn, cut}
 use Rattle.plan_needs.specs.Bases.{layoutBase, laidHostOf}
 use Rattle.plan_needs.specs.BasesLaws.{laid-base}
-use Rattle.plan_needs.specs.Needs.{lengthFrom, bytesNeeded, needsOf}
+use Rattle.plan_needs.specs.Needs.{lengthFrom, bytesNeeded, alignNeeded, needsOf}
 use Rattle.plan_needs.specs.Measured.{bytesBy, needsBy, PastBases}
 
 -- 2^62 is on every granule's edge, so an end up to 2^62 is rounded up to one up to 2^62
@@ -107,9 +107,25 @@ module _ (h : Host) (fs : List placing.Function) (lawful : Lawful fs) (root : La
       ∙ bytes-by-is q (toHost (laidHostOf h) .base q) (content q) (content-shaped q)
       ∙ ap (λ (n : ℕ). lengthFrom n q (content q)) (laid-base h q)
 
+  align-is : (q : Pool) → windowAlign q (extentIn root q .align) ≡ alignNeeded fs q
+  unfolding alignNeeded
+  align-is q =
+      let from : Extent = record { end = toHost (laidHostOf h) .base q; align = 0 } in
+      let largest : extend from (content q) .align ≡ largestAlign (content q) = extend-align from (content q) ∙ omega arith in
+      ap (λ (x : Extent). windowAlign q (x .align)) (extent-is q) ∙ ap (windowAlign q) largest
+
   pub needs-by-is : (n : ℕ) → n ≡ bridges fs → needsBy (laidHostOf h) n root ≡ needsOf (toHost h) fs
   unfolding needsBy needsOf
-  needs-by-is n e = λ i. record { buses = suc (e i); low = bytes-are Low i; high = bytes-are High i; io = bytes-are Io i }
+  needs-by-is n e =
+      λ i. record {
+        buses = suc (e i);
+        low = bytes-are Low i;
+        high = bytes-are High i;
+        io = bytes-are Io i;
+        «low_align» = align-is Low i;
+        «high_align» = align-is High i;
+        «io_align» = align-is Io i;
+      }
 
   -- what the call asks
   pub past-bases : ((q : Pool) → layoutBase (toHost h) q ≤ limit) → PastBases (laidHostOf h) root

@@ -1,4 +1,4 @@
-// What a lawful board needs of its host: bus numbers, and bytes of each pool from its base.
+// What a lawful board needs of its host: bus numbers, and of each pool bytes and a base.
 ghost use mathlib.Core.Path.{_≡_};
 ghost use Prim.Native.Nat.{_≤_, _<_};
 ghost use Rattle.plan_rule.specs.Cap.{cap};
@@ -10,12 +10,16 @@ use plan_rule::Extent;
 use plan_sizing::Laid;
 use pools::Pool;
 
-// So many bus numbers, the root bus's among them, and so many bytes of each pool, told up to 2^62.
+// So many bus numbers, the root bus's among them, and so many bytes of each pool, told up to 2^62: of an open pool from its own base, of a
+// closed one from any multiple of its alignment, which is the root bus's largest in that pool and no less than the granule.
 pub struct Needs {
     pub buses: u32,
     pub low: u64,
     pub high: u64,
     pub io: u64,
+    pub low_align: u64,
+    pub high_align: u64,
+    pub io_align: u64,
 }
 
 // The host with each closed pool at 0, where it is laid out from.
@@ -54,11 +58,17 @@ pub fn needs_of(laid: Host, bridges: u32, root: Laid) -> Needs
     let low = laid.low;
     let high = laid.high;
     let io = laid.io;
+    let in_low = root.low;
+    let in_high = root.high;
+    let in_io = root.io;
     Needs {
         buses: bridges + 1,
-        low: bytes_of(Pool::Low, low.base, root.low),
-        high: bytes_of(Pool::High, high.base, root.high),
-        io: bytes_of(Pool::Io, io.base, root.io),
+        low: bytes_of(Pool::Low, low.base, in_low),
+        high: bytes_of(Pool::High, high.base, in_high),
+        io: bytes_of(Pool::Io, io.base, in_io),
+        low_align: plan_rule::window_align(Pool::Low, in_low.align),
+        high_align: plan_rule::window_align(Pool::High, in_high.align),
+        io_align: plan_rule::window_align(Pool::Io, in_io.align),
     }
 }
 

@@ -33,6 +33,9 @@ const NO_NEEDS: Needs = Needs {
     low: 0,
     high: 0,
     io: 0,
+    low_align: 0,
+    high_align: 0,
+    io_align: 0,
 };
 
 pub fn plan_where(board: &[u8]) -> PlanFinding

@@ -32,8 +32,9 @@ pub const LEDGER: usize = 256;
 pub const WHO: usize = 4;
 
 /// How many numbers [`plan_where`] answers with: as [`WHO`], then how many bus numbers the board needs, and how many bytes of the
-/// low, the high and the I/O pool.
-pub const PLAN_WHO: usize = 8;
+/// low, the high and the I/O pool; then for each of these an alignment: where the pool is closed, the bytes are enough from any
+/// multiple of it. A slice for 8 to 10 numbers gets the first 8.
+pub const PLAN_WHO: usize = 11;
 
 pub use crate::version::VERSION;
 

@@ -12,8 +12,8 @@ const PAST_POOLS: u64 = 1 << 52;
 ///
 /// A pool's bytes are counted from its base to the edge of a granule after the last item of the root bus: 1 MiB for memory, 4 KiB
 /// for I/O. With pools of that size from the same bases on the board is not refused with 31 to 33, with a granule less in one of
-/// them it is. They are 0 where the root bus has nothing of that pool. A closed pool has no base, and is counted from 0. An end
-/// past 2^62 is counted as 2^62, which is past every pool.
+/// them it is. They are 0 where the root bus has nothing of that pool. A closed pool has no base: its bytes are enough from any
+/// multiple of its alignment. An end past 2^62 is counted as 2^62, which is past every pool.
 #[derive(Clone, Copy, Debug, Default, PartialEq, Eq, Hash)]
 pub struct Needs {
     /// Bus numbers: the root bus's, and those that the bridges and their spares take.
@@ -24,6 +24,12 @@ pub struct Needs {
     pub high: u64,
     /// Bytes of the I/O pool.
     pub io: u64,
+    /// The largest alignment of the root bus in the low pool, and no less than its granule.
+    pub low_align: u64,
+    /// The same of the high pool.
+    pub high_align: u64,
+    /// The same of the I/O pool.
+    pub io_align: u64,
 }
 
 impl Needs {
@@ -33,6 +39,15 @@ impl Needs {
             Pool::Low => self.low,
             Pool::High => self.high,
             Pool::Io => self.io,
+        }
+    }
+
+    /// Where this pool is closed, its bytes are enough from any multiple of this.
+    pub const fn align(&self, pool: Pool) -> u64 {
+        match pool {
+            Pool::Low => self.low_align,
+            Pool::High => self.high_align,
+            Pool::Io => self.io_align,
         }
     }
 }
@@ -96,8 +111,8 @@ pub struct PlanFinding {
 pub fn plan_where(board: &[u8]) -> Result<Needs, PlanFinding> {
     let mut who = [0; calls::PLAN_WHO];
     let number = calls::plan_where(board, &mut who);
-    let [record, place, other, other_place, buses, low, high, io] = who;
-    let needs = Needs { buses: buses as u32, low, high, io };
+    let [record, place, other, other_place, buses, low, high, io, low_align, high_align, io_align] = who;
+    let needs = Needs { buses: buses as u32, low, high, io, low_align, high_align, io_align };
     if number == 0 {
         return Ok(needs);
     }
@@ -164,11 +179,14 @@ impl PlanFinding {
         self.host.map_or(0, |host| host.room(pool))
     }
 
-    /// `; needs 33 MiB, has 32 MiB`.
-    fn write_room(&self, f: &mut fmt::Formatter<'_>, needs: u64, has: u64) -> fmt::Result {
+    /// `; needs 33 MiB, has 32 MiB`; of a closed pool `; needs 8 GiB at a multiple of 8 GiB, has none`.
+    fn write_room(&self, f: &mut fmt::Formatter<'_>, needs: u64, align: u64, has: u64) -> fmt::Result {
         match needs {
             PAST_POOLS.. => f.write_str("; needs more than any pool has")?,
             _ => write!(f, "; needs {:#}", Size(needs))?,
+        }
+        if has == 0 && needs < PAST_POOLS {
+            write!(f, " at a multiple of {:#}", Size(align))?;
         }
         match has {
             0 => f.write_str(", has none"),
@@ -193,7 +211,7 @@ impl fmt::Display for PlanFinding {
         match (short, self.needs, self.host) {
             (Some(pool), Some(needs), _) => {
                 f.write_str(if is_closed { " finds no room" } else { " ends past it" })?;
-                self.write_room(f, needs.of(pool), self.room(pool))?;
+                self.write_room(f, needs.of(pool), needs.align(pool), self.room(pool))?;
             }
             (None, Some(needs), Some(host)) => write!(f, ": needs {}, has {}", needs.buses, host.bus_numbers())?,
             _ => {}

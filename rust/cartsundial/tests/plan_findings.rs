@@ -53,7 +53,7 @@ fn in_words() {
     board.io = CLOSED_IO;
     assert_eq!(
         words(&board),
-        "33 I/O pool closed: record 4 (00:03.0) I/O window finds no room; needs 4 KiB, has none; \
+        "33 I/O pool closed: record 4 (00:03.0) I/O window finds no room; needs 4 KiB at a multiple of 4 KiB, has none; \
          most room is lost to alignment before record 5 (00.0 below record 4) BAR 1"
     );
     board.buses = (4, 4);
@@ -91,7 +91,7 @@ fn several_pools_short() {
     board.end(0, 0x00, &high(20));
     board.end(0, 0x08, &[memory(20), io(4)]);
     board.end(0, 0x10, &[memory(20)]);
-    let needs = Needs { buses: 1, low: 2 * MIB, high: MIB, io: 4096 };
+    let needs = Needs { buses: 1, low: 2 * MIB, high: MIB, io: 4096, low_align: MIB, high_align: MIB, io_align: 4096 };
     for (refusal, record) in [(Refusal::NoLowRoom, 3), (Refusal::NoHighRoom, 1), (Refusal::NoIoRoom, 2)] {
         let finding = what_does_not_fit(&board.bytes()).unwrap();
         assert_eq!((finding.refusal, finding.needs), (refusal, Some(needs)));

@@ -92,8 +92,10 @@ impl<'a> Unfit<'a> {
     /// Nothing for a board that fails its own checks.
     fn rooms(&self) -> Vec<Room> {
         let (Some(needs), Some(host)) = (self.finding.needs, self.finding.host) else { return Vec::new() };
-        let buses = Room { pool: None, needs: needs.buses.into(), has: host.bus_numbers().into() };
-        let pools = Pool::ALL.map(|pool| Room { pool: Some(pool), needs: needs.of(pool), has: host.room(pool) });
+        let buses = Room { pool: None, needs: needs.buses.into(), align: 1, has: host.bus_numbers().into() };
+        let room =
+            |pool| Room { pool: Some(pool), needs: needs.of(pool), align: needs.align(pool), has: host.room(pool) };
+        let pools = Pool::ALL.map(room);
         [buses].into_iter().chain(pools).collect()
     }
 }
@@ -102,11 +104,12 @@ impl<'a> Unfit<'a> {
 struct Room {
     pool: Option<Pool>,
     needs: u64,
+    align: u64,
     has: u64,
 }
 
 impl Room {
-    /// `low pool: needs 65M, has 64M: too little`.
+    /// `low pool: needs 65M, has 64M: too little`; `high pool: needs 8G at a multiple of 8G, is closed: too little`.
     fn line(&self) -> String {
         let Some(pool) = self.pool else {
             return format!("bus numbers: needs {}, has {}{}", self.needs, self.has, self.verdict());
@@ -114,6 +117,7 @@ impl Room {
         let needs = match self.needs {
             0 => "nothing".to_string(),
             PAST_POOLS.. => "more than any pool has".to_string(),
+            bytes if self.has == 0 => format!("{} at a multiple of {}", Size(bytes), Size(self.align)),
             bytes => Size(bytes).to_string(),
         };
         let has = match self.has {

@@ -16,8 +16,10 @@ const TOLD: u128 = 1 << 62;
 pub struct Needs {
     /// Bus numbers: the root bus, and those of the bridges and their spares.
     pub buses: u64,
-    /// Bytes of the low, the high and the I/O pool from its base, of a closed one from 0.
+    /// Bytes of the low, the high and the I/O pool from its base, of a closed one from a multiple of its alignment.
     pub bytes: [u64; 3],
+    /// The largest alignment of the root bus in each, at least the granule.
+    pub aligns: [u64; 3],
 }
 
 #[derive(Clone, Copy, Debug, Default, PartialEq, Eq)]
@@ -38,7 +40,11 @@ pub fn plan_where(bytes: &[u8]) -> Fit {
     };
     let number = plan(bytes, &mut []).err().filter(|&number| number != 11).unwrap_or(0);
     let items = placed(&board);
-    let needs = Needs { buses: buses(board.functions()), bytes: Pool::ALL.map(|pool| bytes_of(&board, &items, pool)) };
+    let needs = Needs {
+        buses: buses(board.functions()),
+        bytes: Pool::ALL.map(|pool| bytes_of(&board, &items, pool)),
+        aligns: Pool::ALL.map(|pool| align_of(&items, pool)),
+    };
     let pool = Pool::ALL.into_iter().find(|pool| pool.refusal() == number);
     let (party, other) = pool.map_or(Default::default(), |pool| {
         (first_out(&items, pool, &board.host.pools[pool as usize]), most_lost(&items, pool))
@@ -169,6 +175,12 @@ fn bytes_of(board: &Board, items: &[Placed], pool: Pool) -> u64 {
         end.min(TOLD) - base(&board.host.pools[pool as usize])
     });
     length as u64
+}
+
+/// From any multiple of this the root bus is laid out as from 0.
+fn align_of(items: &[Placed], pool: Pool) -> u64 {
+    let there = items.iter().filter(|one| one.on_root && one.item.pool == pool);
+    there.map(|one| one.item.align as u64).fold(pool.granule().into(), u64::max)
 }
 
 /// The first item of the root bus whose last byte lies above the pool's last; of a closed pool the first item.

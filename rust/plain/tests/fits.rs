@@ -41,12 +41,15 @@ fn who(board: &Board) -> (u8, Party, Party) {
 #[test]
 fn planned() {
     let mut board = small();
-    assert_eq!(fit(&board), Fit { needs: Needs { buses: 1, bytes: [0; 3] }, ..Fit::default() });
+    assert_eq!(
+        fit(&board),
+        Fit { needs: Needs { buses: 1, bytes: [0; 3], aligns: [MIB, MIB, 4096] }, ..Fit::default() }
+    );
     let bridge = board.bridge(0, 0x00);
     board.end(bridge, 0x00, &[memory(12), io(4)]);
     board.end(0, 0x08, &high(12));
     // A window is rounded already; of the BAR on the root bus the granule is needed.
-    assert_eq!(fit(&board).needs, Needs { buses: 2, bytes: [MIB, MIB, 4096] });
+    assert_eq!(fit(&board).needs, Needs { buses: 2, bytes: [MIB, MIB, 4096], aligns: [MIB, MIB, 4096] });
     assert_eq!(who(&board), (0, NOBODY, NOBODY));
 }
 
@@ -108,9 +111,23 @@ fn buses() {
     board.spare_bridge(0, 0x00, 2, 1);
     let second = board.spare_bridge(0, 0x08, 0, 0);
     board.end(second, 0x00, &[memory(12)]);
-    assert_eq!(fit(&board), Fit { number: 30, needs: Needs { buses: 5, bytes: [2 * MIB, 0, 0] }, ..Fit::default() });
+    assert_eq!(
+        fit(&board),
+        Fit {
+            number: 30,
+            needs: Needs { buses: 5, bytes: [2 * MIB, 0, 0], aligns: [MIB, MIB, 4096] },
+            ..Fit::default()
+        }
+    );
     board.buses = (5, 9);
-    assert_eq!(fit(&board), Fit { number: 0, needs: Needs { buses: 5, bytes: [2 * MIB, 0, 0] }, ..Fit::default() });
+    assert_eq!(
+        fit(&board),
+        Fit {
+            number: 0,
+            needs: Needs { buses: 5, bytes: [2 * MIB, 0, 0], aligns: [MIB, MIB, 4096] },
+            ..Fit::default()
+        }
+    );
 }
 
 /// 1 MiB, 16 MiB and 4 KiB: before the second 15 MiB stay empty, and the third ends past 32 MiB.
@@ -119,7 +136,10 @@ fn a_gap_before_another() {
     let mut board = small();
     board.end(0, 0x00, &[memory(20)]);
     board.end(0, 0x08, &[memory(24)]);
-    assert_eq!(fit(&board), Fit { needs: Needs { buses: 1, bytes: [32 * MIB, 0, 0] }, ..Fit::default() });
+    assert_eq!(
+        fit(&board),
+        Fit { needs: Needs { buses: 1, bytes: [32 * MIB, 0, 0], aligns: [16 * MIB, MIB, 4096] }, ..Fit::default() }
+    );
     board.end(0, 0x10, &[memory(12)]);
     board.end(0, 0x18, &[memory(12)]);
     assert_eq!(who(&board), (31, at(3, 0), at(2, 0)));
@@ -134,7 +154,10 @@ fn the_example_of_the_formats() {
     let bridge = board.bridge(0, 0x08);
     board.end(bridge, 0x00, &[memory(16), memory(21)]);
     board.end(0, 0x10, &[memory(12)]);
-    assert_eq!(fit(&board), Fit { needs: Needs { buses: 2, bytes: [7 * MIB, 0, 0] }, ..Fit::default() });
+    assert_eq!(
+        fit(&board),
+        Fit { needs: Needs { buses: 2, bytes: [7 * MIB, 0, 0], aligns: [2 * MIB, MIB, 4096] }, ..Fit::default() }
+    );
     board.low.1 = 0xF86F_FFFF;
     assert_eq!(who(&board).0, 0);
     board.low.1 = 0xF85F_FFFF;
@@ -188,7 +211,12 @@ fn closed_pools() {
     board.end(0, 0x08, &[io(5)]);
     assert_eq!(
         fit(&board),
-        Fit { number: 33, party: at(1, IO), other: at(2, 1), needs: Needs { buses: 2, bytes: [0, 0, 8192] } }
+        Fit {
+            number: 33,
+            party: at(1, IO),
+            other: at(2, 1),
+            needs: Needs { buses: 2, bytes: [0, 0, 8192], aligns: [MIB, MIB, 4096] }
+        }
     );
     board.functions[1].read_backs[2..4].copy_from_slice(&high(20));
     assert_eq!(who(&board), (32, at(1, HIGH), NOBODY));
@@ -247,6 +275,48 @@ fn planted_faults() {
             }
         }
     }
+}
+
+/// A closed pool opened at a multiple of its alignment, with the bytes that are needed, is not what the board is refused for; with a
+/// granule less it is, if nothing before it is.
+#[test]
+fn needs_of_closed_pools_are_exact() {
+    let mut random = Random::new(34);
+    let mut opened = [0; 3];
+    for turn in 0..6_000 {
+        let mut board = trees::lawful(&mut random);
+        let pool = turn % 3;
+        let close = |board: &mut Board| match pool {
+            0 => board.low = (u32::MAX, 0),
+            1 => board.high = CLOSED_HIGH,
+            _ => board.io = CLOSED_IO,
+        };
+        close(&mut board);
+        let Needs { bytes, aligns, .. } = fit(&board).needs;
+        let (bytes, align) = (bytes[pool], aligns[pool]);
+        let (from, to) = [(0, 1 << 32), (1 << 32, 1 << 52), (0, 1 << 16)][pool];
+        let (least, most) = (u64::div_ceil(from, align), (to - bytes.min(to)) / align);
+        if bytes == 0 || bytes > to || most < least {
+            continue;
+        }
+        let base = (least + random.below(most - least + 1)) * align;
+        let with = |bytes: u64| {
+            let mut board = board.clone();
+            let last = (base + bytes).wrapping_sub(1);
+            match pool {
+                _ if bytes == 0 => close(&mut board),
+                0 => board.low = (base as u32, last as u32),
+                1 => board.high = (base, last),
+                _ => board.io = (base as u16, last as u16),
+            }
+            usize::from(number(&board))
+        };
+        let granule = if pool == 2 { 4096 } else { MIB };
+        assert_ne!(with(bytes), 31 + pool);
+        assert!((30..=31 + pool).contains(&with(bytes - granule)));
+        opened[pool] += 1;
+    }
+    assert!(opened.iter().all(|&count| count > 100), "{opened:?}");
 }
 
 /// With pools of the size that is needed the board is not refused for them; with a granule less it is, and for that pool.

@@ -1,7 +1,6 @@
--- `capi_where::plan_where` meets its contract: what was found, and eight stores where the slice has room. Assumes nothing.
-use native.Mathlib.Omega.{arith}
+-- `capi_where::plan_where` meets its contract: what was found, and eight stores or eleven, where the slice has room. Assumes nothing.
 use borrow.Author.Needs.{needs}
-use Rattle.capi_where.specs.CallsLaws.{plan-short, plan-whole}
+use Rattle.capi_where.specs.CallsLaws.{plan-short, plan-eight, plan-whole}
 use Rattle.capi_where.proofs.plan_where.Statement.{statement}
 use Rattle.capi_where.proofs.plan_where.Tie as tie
 
@@ -16,14 +15,8 @@ returns c =
     let at-plan-where = c .before .before in
     plan-short _ _ (at-plan-where .plan-where .ensures) _ (c .before .if1 .taken) _ (c .short-number .ensures)
 
-put-party-requires : tie.Need-put-party-requires
-put-party-requires c κs = search needs
-
-put-party-requires-2 : tie.Need-put-party-requires-2
-put-party-requires-2 c κs = search needs
-
-put-needs-requires : tie.Need-put-needs-requires
-put-needs-requires c κs = search needs
+put-plan-requires : tie.Need-put-plan-requires
+put-plan-requires c κs = search needs
 
 cast-result : tie.Need-cast-result
 cast-result c = search needs
@@ -33,14 +26,30 @@ same-length c = search needs
 
 returns-2 : tie.Need-returns-2
 returns-2 c =
-    let third = c .before .before .before in
-    let second = third .before .before .before .before in
-    let first = second .before .before .before .before in
-    let at-if1 = first .before .before .before .before .before in
+    let at-put-plan = c .before .before .before .before in
+    let at-if1 = at-put-plan .before .before in
     let at-plan-where = at-if1 .before in
     let who = at-plan-where .before .before .before .args .who .now in
-    plan-whole _ _ (at-plan-where .plan-where .ensures) who (at-if1 .if1 .left) _ _ _ (first .put-party .ensures)
-    (second .put-party2 .ensures) (third .put-needs .ensures)
+    plan-eight _ _ (at-plan-where .plan-where .ensures) who (at-if1 .if1 .left) (c .before .if2 .taken) _ (at-put-plan .put-plan .ensures)
+
+put-aligns-requires : tie.Need-put-aligns-requires
+put-aligns-requires c κs = search needs
+
+cast-result-2 : tie.Need-cast-result-2
+cast-result-2 c = search needs
+
+same-length-2 : tie.Need-same-length-2
+same-length-2 c = search needs
+
+returns-3 : tie.Need-returns-3
+returns-3 c =
+    let at-put-aligns = c .before .before .before in
+    let at-if2 = at-put-aligns .before .before .before in
+    let at-put-plan = at-if2 .before .before .before in
+    let at-plan-where = at-put-plan .before .before .before in
+    let who = at-plan-where .before .before .before .args .who .now in
+    plan-whole _ _ (at-plan-where .plan-where .ensures) who (at-if2 .if2 .left) _ _ (at-put-plan .put-plan .ensures)
+    (at-put-aligns .put-aligns .ensures)
 
 pub plan-where-spec : {M : Type 1} → statement M
 plan-where-spec =
@@ -49,9 +58,11 @@ plan-where-spec =
     plan-where-requires
     short-number-requires
     returns
-    put-party-requires
-    put-party-requires-2
-    put-needs-requires
+    put-plan-requires
     cast-result
     same-length
-    returns-2)
+    returns-2
+    put-aligns-requires
+    cast-result-2
+    same-length-2
+    returns-3)

@@ -79,17 +79,18 @@ pub fn plan(board: &[u8], random: &mut Random, tally: &mut Tally) {
 /// What does not fit, by both, in a slice of any length; returns plain Rust's answer.
 fn fit(board: &[u8], random: &mut Random, tally: &mut Tally) -> plain::Fit {
     let fit = plain::plan_where(board);
-    let plain::Fit { number, party, other, needs: plain::Needs { buses, bytes: [low, high, io] } } = fit;
-    let found =
-        [party.record as u64, party.place.into(), other.record as u64, other.place.into(), buses, low, high, io];
+    let plain::Fit { number, party, other, needs } = fit;
+    let plain::Needs { buses, bytes: [low, high, io], aligns: [low_align, high_align, io_align] } = needs;
+    let parties = [party.record as u64, party.place.into(), other.record as u64, other.place.into()];
+    let found = [&parties[..], &[buses, low, high, io, low_align, high_align, io_align]].concat();
     let mut given = Lent::holding(board, random);
     let given_before = given.clone();
     let mut who = Lent::answer(calls::PLAN_WHO, random);
-    let has_room = who.slice().len() >= calls::PLAN_WHO;
-    let (expected, who_then) = match (has_room, number) {
-        (true, _) => (number.into(), who.with(&found)),
-        (false, 0) => (calls::SHORT, who.clone()),
-        (false, _) => (number.into(), who.clone()),
+    let (expected, who_then) = match (who.slice().len(), number) {
+        (calls::PLAN_WHO.., _) => (number.into(), who.with(&found)),
+        (8.., _) => (number.into(), who.with(&found[..8])),
+        (_, 0) => (calls::SHORT, who.clone()),
+        (_, _) => (number.into(), who.clone()),
     };
     let returned = calls::plan_where(given.slice(), who.slice());
     tally.count(Call::PlanWhere, returned);
@@ -108,7 +109,8 @@ fn fit(board: &[u8], random: &mut Random, tally: &mut Tally) -> plain::Fit {
             }
         };
         assert_eq!((refusal, both.concat()), (number, found[..4].to_vec()), "what does not fit: {}", hex(board));
-        assert_eq!(needs, Needs { buses: buses as u32, low, high, io }, "what is needed: {}", hex(board));
+        let expected = Needs { buses: buses as u32, low, high, io, low_align, high_align, io_align };
+        assert_eq!(needs, expected, "what is needed: {}", hex(board));
     }
     fit
 }
