@@ -7,7 +7,8 @@ ghost use Rattle.audit_rule.specs.Audit.{auditNumber, soundNumber};
 ghost use Rattle.audit_finding.specs.Finding.{findingOf};
 ghost use Rattle.plan_where.specs.Finding.{planFindingOf};
 ghost use Rattle.capi_where.specs.Calls.{whoNumber, whoFilled, planNumber, planFilled};
-ghost use Rattle.index_build.specs.Build.{buildNumber, indexAfter};
+ghost use Rattle.index_build.specs.Build.{buildNumber, soundBuildNumber, indexAfter, soundIndexAfter};
+ghost use Rattle.index_alone.specs.Alone.{aloneNumber, aloneBuildNumber, aloneIndexAfter};
 ghost use Rattle.trace_line.specs.declared.Engine.the-variants.{Index};
 ghost use Rattle.trace_line.specs.Line.{lineOver};
 ghost use Rattle.trace_line.specs.Engine.{lineBy};
@@ -200,6 +201,32 @@ pub extern "C" fn cartsundial_index(host: &[u8], sheet: &[u8], index: &mut [u8])
     ensures { λ _. ⌜ now (index .exit) ≡ indexAfter (now (host .entry)) (now (sheet .entry)) (now (index .entry)) ⌝ }
 {
     index_build::build(host, sheet, index) as u32
+}
+
+// The same by the second verdict's number: the index of a sheet on which every address has one owner.
+#[no_mangle]
+pub extern "C" fn cartsundial_index_sound(host: &[u8], sheet: &[u8], index: &mut [u8]) -> u32
+    ensures { λ r. ⌜ r ≡ soundBuildNumber (now (host .entry)) (now (sheet .entry)) (length (now (index .entry))) ⌝ }
+    ensures { λ _. ⌜ now (index .exit) ≡ soundIndexAfter (now (host .entry)) (now (sheet .entry)) (now (index .entry)) ⌝ }
+{
+    index_build::build_sound(host, sheet, index) as u32
+}
+
+// The second verdict of a sheet of which no host is told: its own number first, and 0 where every address has one owner under some host.
+#[no_mangle]
+pub extern "C" fn cartsundial_sound_alone(sheet: &[u8]) -> u32
+    ensures { λ r. ⌜ r ≡ aloneNumber (now (sheet .entry)) ⌝ }
+{
+    index_alone::sound_alone(sheet) as u32
+}
+
+// The index of such a sheet, by that number.
+#[no_mangle]
+pub extern "C" fn cartsundial_index_alone(sheet: &[u8], index: &mut [u8]) -> u32
+    ensures { λ r. ⌜ r ≡ aloneBuildNumber (now (sheet .entry)) (length (now (index .entry))) ⌝ }
+    ensures { λ _. ⌜ now (index .exit) ≡ aloneIndexAfter (now (sheet .entry)) (now (index .entry)) ⌝ }
+{
+    index_alone::build_alone(sheet, index) as u32
 }
 
 // Searches an index for a header: the answer is that of a route over the sheet that the index was built from. Any bytes may be given as an

@@ -15,11 +15,14 @@ use Rattle.tlp.specs.declared.Writing.the-variants.{Written, Refused as NotWrit
 use Rattle.tlp.specs.Writing.{writeOf, roomAs, roomAfter}
 use Rattle.sheet.specs.declared.Lookup.{Lookup}
 use Rattle.sheet.specs.declared.Lookup.the-variants.{Registers, Refused as NotFound}
+use Rattle.sheet.specs.Sheet.{sheetNumber}
 use Rattle.sheet.specs.Lookup.{lookupOf, lookupNumber, withCommand}
 use Rattle.plan_answer.specs.declared.Planning.{Planning}
 use Rattle.plan_answer.specs.declared.Planning.the-variants.{Planned, Refused as NotPlanned}
 use Rattle.plan_answer.specs.Plan.{planning, sheetAs, sheetAfter}
-use Rattle.index_build.specs.Build.{buildNumber, indexAfter}
+use Rattle.any_host.specs.AnyHost.{hostAlone}
+use Rattle.index_build.specs.Build.{buildNumber, soundBuildNumber, indexAfter, soundIndexAfter}
+use Rattle.index_alone.specs.Alone.{aloneBuildNumber, aloneIndexAfter}
 use Rattle.capi_answers.specs.Answers.{Answer, returned, filled}
 use Rattle.capi_answers.specs.AnswersLaws.{one-given, refused-keeps-slice}
 use Rattle.capi_trace.specs.Calls.{pieceAnswer, stateLeft, linesLeft, endAnswer, endLeft}
@@ -46,8 +49,11 @@ pub record RefusedKeeps : Type 0 where
       → ¬ (returned (scriptAnswer board requester tag (length room)) written ≡ 0) → scriptLeft board requester tag room written ≡ room
   -- the sheet of a command word
   pub commanded-sheet : (sheet : List ℕ) (id command : ℕ) → ¬ (commandNumber sheet id command ≡ 0) → commandLeft sheet id command ≡ sheet
-  -- the slice of an index
+  -- the slice of an index, by the audit and by the second verdict
   pub index-slice : (host sheet slice : List ℕ) → ¬ (buildNumber host sheet (length slice) ≡ 0) → indexAfter host sheet slice ≡ slice
+  pub sound-index-slice : (host sheet slice : List ℕ) → ¬ (soundBuildNumber host sheet (length slice) ≡ 0)
+      → soundIndexAfter host sheet slice ≡ slice
+  pub alone-index-slice : (sheet slice : List ℕ) → ¬ (aloneBuildNumber sheet (length slice) ≡ 0) → aloneIndexAfter sheet slice ≡ slice
   -- the state and the lines of a trace, over a sheet or by an index, and the line of its end
   pub trace-state : (line : ℕ → List ℕ → List ℕ) (state piece written : List ℕ) (room : ℕ)
       → ¬ (returned (pieceAnswer line state piece room) written ≡ 0) → stateLeft line state piece room written ≡ state
@@ -109,6 +115,20 @@ keeps-index : (host sheet slice : List ℕ) → ¬ (buildNumber host sheet (leng
 unfolding indexAfter
 keeps-index host sheet slice h = rw (ne-eqb (buildNumber host sheet (length slice)) 0 h)
 
+keeps-sound-index : (host sheet slice : List ℕ) → ¬ (soundBuildNumber host sheet (length slice) ≡ 0)
+    → soundIndexAfter host sheet slice ≡ slice
+unfolding soundIndexAfter
+keeps-sound-index host sheet slice h = rw (ne-eqb (soundBuildNumber host sheet (length slice)) 0 h)
+
+keeps-alone-index : (sheet slice : List ℕ) → ¬ (aloneBuildNumber sheet (length slice) ≡ 0) → aloneIndexAfter sheet slice ≡ slice
+unfolding aloneBuildNumber aloneIndexAfter
+keeps-alone-index sheet slice = go (eqb (sheetNumber sheet) 0)
+  where
+    go : (t : Bool) → ¬ (cond t (soundBuildNumber (hostAlone sheet) sheet (length slice)) (sheetNumber sheet) ≡ 0)
+        → cond t (soundIndexAfter (hostAlone sheet) sheet slice) slice ≡ slice
+    go true h = keeps-sound-index (hostAlone sheet) sheet slice h
+    go false h = refl
+
 pub refused-keeps : RefusedKeeps
 refused-keeps =
     record {
@@ -118,6 +138,8 @@ refused-keeps =
       script-room = refused-keeps-script;
       commanded-sheet = keeps-sheet;
       index-slice = keeps-index;
+      sound-index-slice = keeps-sound-index;
+      alone-index-slice = keeps-alone-index;
       trace-state = refused-keeps-state;
       trace-lines = refused-keeps-lines;
       end-lines = refused-keeps-last;

@@ -21,7 +21,8 @@ use Rattle.route_answer.specs.Listed.{onRoom, listedAfter}
 use Rattle.route.specs.Listed.{listAfter}
 use Rattle.trace.specs.declared.Trace.{Trace}
 use Rattle.trace.specs.Feed.{fedOf, fedPut, finishedOf, finishedPut}
-use Rattle.index_build.specs.Build.{buildNumber, indexAfter}
+use Rattle.index_build.specs.Build.{buildNumber, soundBuildNumber, indexAfter, soundIndexAfter}
+use Rattle.index_alone.specs.Alone.{aloneBuildNumber, aloneIndexAfter}
 use Rattle.index_search.specs.Search.{searchOf}
 use Rattle.ledger.specs.Ledger.{openNumber, openAfter, completeNumber, completeAfter}
 use Rattle.scripter.specs.declared.Scripting.the-variants.{Refused as NotScripted}
@@ -49,8 +50,11 @@ pub record Demand1 : Type 0 where
       r ≡ Refused n → listAfter r s list ≡ list
   pub search-keeps-list : (header index list : List ℕ) (n : ℕ) → let r = onRoom (searchOf header index) (length list) in
       r ≡ Refused n → listedAfter r list ≡ list
-  -- `index_build::build`: the slice for the index
+  -- `index_build::build` and `build_sound`, `index_alone::build_alone`: the slice for the index
   pub build-keeps-slice : (host s slice : List ℕ) → ¬ (buildNumber host s (length slice) ≡ 0) → indexAfter host s slice ≡ slice
+  pub build-sound-keeps-slice : (host s slice : List ℕ) → ¬ (soundBuildNumber host s (length slice) ≡ 0)
+      → soundIndexAfter host s slice ≡ slice
+  pub build-alone-keeps-slice : (s slice : List ℕ) → ¬ (aloneBuildNumber s (length slice) ≡ 0) → aloneIndexAfter s slice ≡ slice
   -- `trace_feed::feed` and `feed_by`, over a sheet or by an index, and `trace::finish`: the room for lines; and the state goes on as it was
   pub feed-keeps-room : (line : ℕ → List ℕ → List ℕ) (t : Trace) (piece room : List ℕ)
       → let fed = fedOf line t piece (length room) in

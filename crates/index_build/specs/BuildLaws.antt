@@ -1,5 +1,5 @@
--- The build in the words of the code: one law for each answer. Assumes nothing.
-use mathlib.Core.Path.{_≡_, refl, sym, _∙_}
+-- The build in the words of the code: one law for each answer, whichever verdict was asked. Assumes nothing.
+use mathlib.Core.Path.{_≡_, refl, sym, ap, _∙_}
 use mathlib.Core.List.{List}
 use Prim.Native.Nat.{ℕ, _≤_, _<_}
 use lib.ListN.{length}
@@ -13,15 +13,16 @@ use Rattle.sheet.specs.SheetLaws.{Checked, checked-of-zero, passes-of-zero}
 use Rattle.sheet_above.specs.Table.{Leads}
 use Rattle.sheet_above.specs.Bridges.{BusTree}
 use Rattle.audit_rule.specs.Host.{hostFor}
-use Rattle.audit_rule.specs.Audit.{auditNumber}
-use Rattle.audit_rule.specs.Accepted.{Accepted}
-use Rattle.audit_rule.specs.AuditLaws.{audit-iff}
+use Rattle.audit_rule.specs.Audit.{auditNumber, soundNumber}
+use Rattle.audit_rule.specs.Accepted.{OneOwner}
+use Rattle.audit_rule.specs.AcceptedLaws.{one-owner-of-accepted}
+use Rattle.audit_rule.specs.AuditLaws.{audit-iff, sound-iff}
 use Rattle.index_layout.specs.Places.{indexSize}
 use Rattle.index_slots.specs.Slots.{Slot, placed}
 use Rattle.index_slots.specs.Cleared.{cleared}
 use Rattle.index_table.specs.Table.{finished, built}
 use Rattle.index_pass.specs.Pass.{slotsBelow}
-use Rattle.index_build.specs.Build.{from11, buildNumber, rootOf, indexAfter}
+use Rattle.index_build.specs.Build.{from11, numberAfter, buildNumber, soundBuildNumber, rootOf, leftBy, indexAfter, soundIndexAfter}
 
 -- a checked sheet whose buses are a tree below the root bus
 pub record Rooted (s : List ℕ) (root : ℕ) : Type 0 where
@@ -35,61 +36,87 @@ pub filled : (n root : ℕ) (xs : List Slot) (o o₁ o₂ o₃ : List ℕ) (coun
 unfolding built
 filled n root xs o o₁ o₂ o₃ count e (f, c) g = g ∙ rw (c, f, e)
 
--- ## The answers: a is the audit's number
+-- ## What a verdict of 0 says of a sheet
 
-module _ (host s o : List ℕ) (a : ℕ) (audit : a ≡ auditNumber host s) where
-  pub audit-refused : (a ≡ 0 → ⊥) → buildNumber host s (length o) ≡ a
-  unfolding buildNumber
-  audit-refused d = rw (← audit, ne-eqb a 0 d)
+pub owned-of-audit : (host s : List ℕ) → Bytes s → (v : ℕ) → v ≡ auditNumber host s → v ≡ 0 → OneOwner host s
+owned-of-audit host s bytes v is zero = one-owner-of-accepted host s (audit-iff host s bytes .0 (rw is at zero))
 
-  pub refused-stays : (a ≡ 0 → ⊥) → indexAfter host s o ≡ o
-  unfolding indexAfter
-  refused-stays d = let e : buildNumber host s (length o) ≡ a = audit-refused d in rw (e, ne-eqb a 0 d)
+pub owned-of-sound : (host s : List ℕ) → Bytes s → (v : ℕ) → v ≡ soundNumber host s → v ≡ 0 → OneOwner host s
+owned-of-sound host s bytes v is zero = sound-iff host s bytes .0 (rw is at zero)
 
-  module _ (zero : a ≡ 0) (bytes : Bytes s) where
-    pub accepted : Accepted host s
-    accepted = audit-iff host s bytes .0 (sym audit ∙ zero)
+-- ## The answers: v is a verdict's number
 
+pub verdict-refused : (s o : List ℕ) (v : ℕ) → (v ≡ 0 → ⊥) → numberAfter v s (length o) ≡ v
+verdict-refused s o v d = rw (ne-eqb v 0 d)
+
+module _ (host s o : List ℕ) (v : ℕ) where
+  pub refused-stays : (v ≡ 0 → ⊥) → leftBy (numberAfter v s (length o)) host s o ≡ o
+  refused-stays d = rw (ne-eqb v 0 d, ne-eqb v 0 d)
+
+  module _ (zero : v ≡ 0) (bytes : Bytes s) (a : OneOwner host s) where
     pub framed : Framed 1 s
-    framed = checked-of-zero s (accepted .passes) .framed
+    framed = checked-of-zero s (a .passes) .framed
 
     pub few : length (entriesOf s) ≤ mostFunctions
-    few = checked-of-zero s (accepted .passes) .count
+    few = checked-of-zero s (a .passes) .count
 
     pub rooted : (root : ℕ) → root ≡ rootOf host → Rooted s root
     rooted root e =
         rw e
         (record {
-          checked = checked-of-zero s (accepted .passes);
+          checked = checked-of-zero s (a .passes);
           tree = λ table leads.
               record {
-                checked = checked-of-zero s (accepted .passes);
-                rise = passes-of-zero s bytes (accepted .passes) .bridges-rise;
+                checked = checked-of-zero s (a .passes);
+                rise = passes-of-zero s bytes (a .passes) .bridges-rise;
                 leads = leads;
                 host = hostFor Memory (hostOfPart host);
                 root-is = refl;
-                tree = accepted .tree Memory;
+                tree = a .tree Memory;
               };
         })
 
-    past-audit : buildNumber host s (length o) ≡ from11 s (length o)
-    unfolding buildNumber
-    past-audit = rw (← audit, eq-eqb a 0 zero)
+    past-verdict : numberAfter v s (length o) ≡ from11 s (length o)
+    past-verdict = rw (eq-eqb v 0 zero)
 
     module _ (n : ℕ) (count : n ≡ length (entriesOf s)) where
-      pub too-short : length o < indexSize n → buildNumber host s (length o) ≡ 11
+      pub too-short : length o < indexSize n → numberAfter v s (length o) ≡ 11
       unfolding from11
-      too-short h = past-audit ∙ rw (← count, lt-ltb (length o) (indexSize n) h)
+      too-short h = past-verdict ∙ rw (← count, lt-ltb (length o) (indexSize n) h)
 
-      pub short-stays : length o < indexSize n → indexAfter host s o ≡ o
-      unfolding indexAfter
-      short-stays h = rw (too-short h)
+      pub short-stays : length o < indexSize n → leftBy (numberAfter v s (length o)) host s o ≡ o
+      short-stays h = ap (λ (m : ℕ). leftBy m host s o) (too-short h)
 
-      pub built-number : indexSize n ≤ length o → buildNumber host s (length o) ≡ 0
+      pub built-number : indexSize n ≤ length o → numberAfter v s (length o) ≡ 0
       unfolding from11
-      built-number h = past-audit ∙ rw (← count, le-ltb (length o) (indexSize n) h)
+      built-number h = past-verdict ∙ rw (← count, le-ltb (length o) (indexSize n) h)
 
       pub built-bytes : indexSize n ≤ length o → (root : ℕ) → root ≡ rootOf host → (o₁ : List ℕ)
-          → o₁ ≡ built n root (slotsBelow root s) o → o₁ ≡ indexAfter host s o
-      unfolding indexAfter
-      built-bytes h root e o₁ f = f ∙ rw (built-number h, e, count)
+          → o₁ ≡ built n root (slotsBelow root s) o → o₁ ≡ leftBy (numberAfter v s (length o)) host s o
+      built-bytes h root e o₁ f = f ∙ rw (e, count) refl ∙ ap (λ (m : ℕ). leftBy m host s o) (sym (built-number h))
+
+-- ## By the audit, and by the second verdict: r and o₁ are what the build gives back and leaves
+
+module _ (host s o : List ℕ) (v r : ℕ) (o₁ : List ℕ)
+    (built : (r ≡ numberAfter v s (length o)) × (o₁ ≡ leftBy (numberAfter v s (length o)) host s o)) where
+  pub by-audit : v ≡ auditNumber host s → (r ≡ buildNumber host s (length o)) × (o₁ ≡ indexAfter host s o)
+  unfolding buildNumber indexAfter
+  by-audit is = rw is at built
+
+  pub by-sound : v ≡ soundNumber host s → (r ≡ soundBuildNumber host s (length o)) × (o₁ ≡ soundIndexAfter host s o)
+  unfolding soundBuildNumber soundIndexAfter
+  by-sound is = rw is at built
+
+-- For an accepted sheet both builds give one number and leave the same bytes.
+module _ (host s o : List ℕ) (bytes : Bytes s) (zero : auditNumber host s ≡ 0) where
+  verdicts-agree : soundNumber host s ≡ auditNumber host s
+  verdicts-agree =
+      sound-iff host s bytes .1 (one-owner-of-accepted host s (audit-iff host s bytes .0 zero)) ∙ sym zero
+
+  pub builds-agree : soundBuildNumber host s (length o) ≡ buildNumber host s (length o)
+  unfolding buildNumber soundBuildNumber
+  builds-agree = ap (λ (v : ℕ). numberAfter v s (length o)) verdicts-agree
+
+  pub indexes-agree : soundIndexAfter host s o ≡ indexAfter host s o
+  unfolding indexAfter soundIndexAfter
+  indexes-agree = ap (λ (n : ℕ). leftBy n host s o) builds-agree

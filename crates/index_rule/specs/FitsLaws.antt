@@ -1,4 +1,4 @@
--- The owners of an accepted sheet fit an index, wherever they stand among its keys: each ends with its space, and its word can hold it.
+-- The owners of a sound sheet fit an index, wherever they stand among its keys: each ends with its space, and its word can hold it.
 -- Assumes nothing.
 use mathlib.Core.Path.{_≡_, ap, ap₂, subst}
 use mathlib.Core.Logic.{_⊎_, inl, inr}
@@ -18,20 +18,20 @@ use Rattle.walk.specs.Registers.{Node, Registers, barItem}
 use Rattle.walk.specs.RegistersLaws.{item-of-bar, node-mem}
 use Rattle.walk.specs.Above.{above}
 use Rattle.walk.specs.AboveLaws.{above-is, above-at-most-255}
-use Rattle.walk.specs.Good.{Host, Good}
+use Rattle.walk.specs.Good.{Host, Sound}
 use Rattle.sheet_record.specs.Entry.{Entry}
 use Rattle.sheet_record.specs.Spaces.{functionOf}
 use Rattle.sheet.specs.Sheet.{entriesOf}
 use Rattle.sheet.specs.Spaces.{functionsFrom, registersOf, nodesOf, enabledOf}
 use Rattle.sheet.specs.SheetLaws.{checked-of-zero, Passes, passes-of-zero}
 use Rattle.audit_rule.specs.Host.{hostFor}
-use Rattle.audit_rule.specs.Accepted.{Accepted}
-use Rattle.audit_rule.specs.AcceptedLaws.{good-of-accepted}
+use Rattle.audit_rule.specs.Accepted.{OneOwner}
+use Rattle.audit_rule.specs.AcceptedLaws.{sound-of-one-owner}
 use Rattle.index_layout.specs.Keys.{idSize, noKey}
 use Rattle.index_rule.specs.Owners.{Owner, ownedIn, idOwner, endOf}
 use Rattle.index_rule.specs.Owners.{moved}
 use Rattle.index_rule.specs.OwnedLaws.{Comes, owned-elim}
-use Rattle.index_rule.specs.PoolsLaws.{in-host-pool, ends-in-space}
+use Rattle.index_rule.specs.PoolsLaws.{within-host-pool, ends-in-space}
 use Rattle.index_rule.specs.BarsLaws.{Powered, powered-bars, filled}
 use Rattle.index_rule.specs.CountLaws.{Listed, listed}
 use Rattle.index_rule.specs.WordLaws.{Fits}
@@ -82,7 +82,7 @@ fits-moved base end x i room =
       bridges-small = i .bridges-small;
     }
 
-module _ (host s : List ℕ) (host-bytes : Bytes host) (bytes : Bytes s) (a : Accepted host s) where
+module _ (host s : List ℕ) (host-bytes : Bytes host) (bytes : Bytes s) (a : OneOwner host s) where
   abbrev top : ℕ
   top = hostOfPart host .«first_bus»
 
@@ -92,8 +92,8 @@ module _ (host s : List ℕ) (host-bytes : Bytes host) (bytes : Bytes s) (a : Ac
   passed : Passes s
   passed = passes-of-zero s bytes (a .passes)
 
-  good : (sp : Space) → Good (walkHost sp) (registersOf sp s)
-  good sp = good-of-accepted host s bytes a sp
+  sound : (sp : Space) → Sound (walkHost sp) (registersOf sp s)
+  sound sp = sound-of-one-owner host s bytes a sp
 
   -- ## Every owner fits
 
@@ -123,7 +123,8 @@ module _ (host s : List ℕ) (host-bytes : Bytes host) (bytes : Bytes s) (a : Ac
           arith,
           stop-is,
           ends-in-space host host-bytes (a .host-edges) sp (c .range)
-              (in-host-pool (good sp) (barItem f (c .range)) (item-of-bar (registersOf sp s) (c .in-sheet) (c .in-bars))),
+              (within-host-pool (sound sp .bridges-rise) (sound sp .tree) (a .nested sp) (barItem f (c .range))
+              (item-of-bar (registersOf sp s) (c .in-sheet) (c .in-bars))),
         );
         number-from-1 = omega (arith, number-is, l .from-first);
         number-small = omega (arith, number-is, l .to-last, few);

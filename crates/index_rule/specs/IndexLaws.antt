@@ -1,5 +1,5 @@
--- Document 02, E8: on an accepted sheet a search among the sorted owners, by the key of what the packet is looked for by, comes to what the
--- router's walk comes to. Assumes nothing.
+-- Document 02, E8, over every sheet that has one owner for every address, as an accepted one has: a search among the sorted owners, by the
+-- key of what the packet is looked for by, comes to what the router's walk comes to. Assumes nothing.
 use mathlib.Core.Path.{_≡_, refl, sym, ap, _∙_}
 use mathlib.Core.Bool.{Bool, true, false, cond}
 use mathlib.Core.List.{List, [], _∷_}
@@ -26,8 +26,8 @@ use Rattle.claims.specs.declared.Aim.{Aim}
 use Rattle.claims.specs.declared.Aim.the-variants.{Address, Id}
 use Rattle.route.specs.Route.{walked, root}
 use Rattle.audit_rule.specs.Host.{hostFor}
-use Rattle.audit_rule.specs.Accepted.{Accepted}
-use Rattle.audit_rule.specs.AcceptedLaws.{good-of-accepted}
+use Rattle.audit_rule.specs.Accepted.{OneOwner}
+use Rattle.audit_rule.specs.AcceptedLaws.{sound-of-one-owner}
 use Rattle.index_layout.specs.Keys.{memoryEnd, ioSize, idSize, ioBase, idBase, noKey}
 use Rattle.index_rule.specs.Owners.{Owner, endOf, keyOf, inReach, ownersOf}
 use Rattle.index_rule.specs.Search.{sortedOwners, keyAt, wordAt, Last, answerAt}
@@ -52,13 +52,13 @@ by-id-from-first first [] on id =
     walk-none _ _ 0 (tally-of-none (id / 256) (id % 256) 0) ∙ sym (walk-none _ _ 0 (tally-of-none (id / 256) (id % 256) first))
 by-id-from-first first (n ∷ ns) on id = ap (λ (b : ℕ). walkFrom (tallyById (n ∷ ns) (id / 256) (id % 256)) b 0) on
 
-module _ (host s : List ℕ) (host-bytes : Bytes host) (bytes : Bytes s) (a : Accepted host s) where
+module _ (host s : List ℕ) (host-bytes : Bytes host) (bytes : Bytes s) (a : OneOwner host s) where
   abbrev top : ℕ
   top = hostOfPart host .«first_bus»
 
   -- the root bus is the host's first, if there is a function
-  pub root-of-accepted : 0 < length (nodesOf s) → root s ≡ top
-  root-of-accepted some = root-is-first top (nodesOf s) (a .tree Memory .first-on-root) some
+  pub root-of-sound : 0 < length (nodesOf s) → root s ≡ top
+  root-of-sound some = root-is-first top (nodesOf s) (a .tree Memory .first-on-root) some
 
   -- ## The router's walk, by space and by ID
 
@@ -67,7 +67,7 @@ module _ (host s : List ℕ) (host-bytes : Bytes host) (bytes : Bytes s) (a : Ac
   walk-of-address sp address =
       ap (λ (ns : List Node). walkFrom (tallyOn (enabledOf sp s) (registersOf sp s) address) (rootOf ns) 0)
       (sym (passes-of-zero s bytes (a .passes) .nodes-are sp))
-      ∙ outcome-from-first (registersOf sp s) (good-of-accepted host s bytes a sp .tree) (enabledOf sp s) address
+      ∙ outcome-from-first (registersOf sp s) (sound-of-one-owner host s bytes a sp .tree) (enabledOf sp s) address
 
   walk-of-id : (id : ℕ) → walked (Id id) s (root s) 0 ≡ outcomeById top (nodesOf s) id
   walk-of-id id = by-id-from-first top (nodesOf s) (a .tree Memory .first-on-root) id

@@ -1,4 +1,4 @@
--- The owners of an accepted sheet: in whatever order, they are those of memory, of I/O and the IDs on one line of keys, and answer as the
+-- The owners of a sound sheet: in whatever order, they are those of memory, of I/O and the IDs on one line of keys, and answer as the
 -- walk does. Assumes nothing.
 use mathlib.Core.Path.{_≡_, refl, sym, ap, subst, _∙_}
 use mathlib.Core.Logic.{_⊎_, inl, inr}
@@ -17,13 +17,12 @@ use Rattle.pools.specs.declared.Space.the-variants.{Memory, Io as Ports}
 use Rattle.board_record.specs.Host.{hostOfPart}
 use Rattle.walk.specs.Registers.{Node}
 use Rattle.walk.specs.Walk.{Outcome, refused, noOwner}
-use Rattle.walk.specs.Good.{sound-of-good}
 use Rattle.walk.specs.Delivery.{outcomeOf}
 use Rattle.sheet.specs.Spaces.{registersOf, nodesOf, enabledOf}
 use Rattle.sheet.specs.SheetLaws.{Passes, passes-of-zero}
 use Rattle.audit_rule.specs.Host.{hostFor}
-use Rattle.audit_rule.specs.Accepted.{Accepted}
-use Rattle.audit_rule.specs.AcceptedLaws.{good-of-accepted}
+use Rattle.audit_rule.specs.Accepted.{OneOwner}
+use Rattle.audit_rule.specs.AcceptedLaws.{sound-of-one-owner}
 use Rattle.index_layout.specs.Keys.{lowEnd, memoryEnd, ioSize, idSize, ioBase, idBase}
 use Rattle.index_rule.specs.Owners.{Owner, owned, ownedIn, idOwner, endOf}
 use Rattle.index_rule.specs.Owners.{moved, Segment, lowMemory, highMemory, ports, startsIn}
@@ -34,7 +33,7 @@ use Rattle.index_rule.specs.IdsLaws.{outcomeById, ids-answered}
 use Rattle.index_rule.specs.WordLaws.{Fits}
 use Rattle.index_rule.specs.FitsLaws.{InSpace, starts-before, moved-zero, fits-moved, listed-node, in-space, id-in-space}
 
-module _ (host s : List ℕ) (host-bytes : Bytes host) (bytes : Bytes s) (a : Accepted host s) where
+module _ (host s : List ℕ) (host-bytes : Bytes host) (bytes : Bytes s) (a : OneOwner host s) where
   abbrev top : ℕ
   top = hostOfPart host .«first_bus»
 
@@ -190,7 +189,7 @@ module _ (host s : List ℕ) (host-bytes : Bytes host) (bytes : Bytes s) (a : Ac
   pub space-answered : (sp : Space) → Answered (owners sp) (bySpace sp)
   space-answered sp =
       subst (λ (ns : List Node). Answered (owned top ns (enabledOf sp s) (registersOf sp s)) (bySpace sp)) (passed .nodes-are sp)
-      (owned-answered (sound-of-good (good-of-accepted host s bytes a sp)) (passed .numbered sp) (enabledOf sp s))
+      (owned-answered (sound-of-one-owner host s bytes a sp) (passed .numbered sp) (enabledOf sp s))
 
   pub id-answered : Answered ids (outcomeById top (nodesOf s))
   id-answered =

@@ -1,4 +1,5 @@
--- On a good sheet every BAR and open window lies in a pool of the host, and check 26 bounds those pools. Assumes nothing.
+-- On a sheet whose ranges are nested, by kind or by space alone, every BAR and open window lies in a pool of the host, and check 26 bounds
+-- those pools. Assumes nothing.
 use mathlib.Core.Path.{_≡_, ap}
 use mathlib.Core.Logic.{_⊎_, inl, inr}
 use mathlib.Core.Bool.{true, false, _||_}
@@ -19,11 +20,11 @@ use Rattle.pools.specs.declared.Space.the-variants.{Memory, Io as Ports}
 use Rattle.pools.specs.Pools.{granule}
 use Rattle.board_record.specs.declared.Span.{Span}
 use Rattle.board_record.specs.Host.{hostOfPart, isOpen, outside, offEdges, poolWrong, hostWrong}
-use Rattle.walk.specs.Ranges.{Range, Inside, inside-trans}
+use Rattle.walk.specs.Ranges.{Range, Inside, Within, inside-trans}
 use Rattle.walk.specs.Registers.{Node, Registers, nodes, Item, items}
 use Rattle.walk.specs.RegistersLaws.{BarOf, WindowOf, item-elim, node-mem}
 use Rattle.walk.specs.AboveLaws.{only-bridge-elim, window-above}
-use Rattle.walk.specs.Good.{Host, OneWayUp, Good}
+use Rattle.walk.specs.Good.{Host, BridgesRise, OneWayUp, Tree, NestedBy, Good}
 use Rattle.sheet_record.specs.Spaces.{poolOf}
 use Rattle.index_layout.specs.Keys.{lowEnd, memoryEnd, ioSize}
 use Rattle.index_rule.specs.Owners.{endOf}
@@ -31,33 +32,45 @@ use Rattle.sheet_ranges.specs.Ranges.{openPool, poolsOf}
 
 -- ## In a pool
 
-module _ {host : Host} {fs : List Registers} (good : Good host fs) where
+module _ (Lies : Range → Range → Type 0) (trans : (r s t : Range) → Lies r s → Lies s t → Lies r t) {host : Host} {fs : List Registers}
+    (rise : BridgesRise (nodes fs)) (tree : Tree host (nodes fs)) (nested : NestedBy Lies host fs) where
   owner-in : (i : Item) → BarOf fs i ⊎ WindowOf fs i → i .owner ∈ fs
   owner-in i (inl b) = b .in-sheet
   owner-in i (inr w) = w .in-sheet
 
-  widen : (i : Item) (w : Range) → Inside (i .range) w → Some (Inside w) (host .pools) → Some (Inside (i .range)) (host .pools)
+  widen : (i : Item) (w : Range) → Lies (i .range) w → Some (Lies w) (host .pools) → Some (Lies (i .range)) (host .pools)
   widen i w inside some =
       let (pool, in-pools, k) = member-of-some _ (host .pools) some in
-      some-of-member _ (host .pools) in-pools (inside-trans inside k)
+      some-of-member _ (host .pools) in-pools (trans (i .range) w pool inside k)
 
-  in-pool-over : (n : ℕ) (i : Item) → i ∈ items fs → i .owner .node .bus < n → Some (Inside (i .range)) (host .pools)
+  in-pool-over : (n : ℕ) (i : Item) → i ∈ items fs → i .owner .node .bus < n → Some (Lies (i .range)) (host .pools)
   in-pool-over zero i m h = absurd (omega arith)
   in-pool-over (suc n) i m h =
-      step (all-elim _ (nodes fs) (good .tree .one-way-up) (node-mem (owner-in i (item-elim fs m)))) (λ j. in-pool-over n j)
+      step (all-elim _ (nodes fs) (tree .one-way-up) (node-mem (owner-in i (item-elim fs m)))) (λ j. in-pool-over n j)
     where
       step : OneWayUp (host .first) (nodes fs) (i .owner .node)
-          → ((j : Item) → j ∈ items fs → j .owner .node .bus < n → Some (Inside (j .range)) (host .pools))
-          → Some (Inside (i .range)) (host .pools)
-      step (inl e) up = all-elim _ (items fs) (good .nested .in-pool) m e
+          → ((j : Item) → j ∈ items fs → j .owner .node .bus < n → Some (Lies (j .range)) (host .pools))
+          → Some (Lies (i .range)) (host .pools)
+      step (inl e) up = all-elim _ (items fs) (nested .in-pool) m e
       step (inr (b, only)) up =
           let l = only-bridge-elim (i .owner .node .bus) (nodes fs) only in
-          let r = all-elim _ (nodes fs) (good .bridges-rise) (l .in-sheet) (l .is-bridge) in
-          let (w, in-items, inside, is-b, claim-is) = window-above Inside fs (good .nested .in-window-above) i m b l in
+          let r = all-elim _ (nodes fs) (rise) (l .in-sheet) (l .is-bridge) in
+          let (w, in-items, inside, is-b, claim-is) = window-above Lies fs (nested .in-window-above) i m b l in
           widen i (w .range) inside (up w in-items (omega (arith, h, r .own-below, l .leads, ap (λ (x : Node). x .bus) is-b)))
 
-  pub in-host-pool : (i : Item) → i ∈ items fs → Some (Inside (i .range)) (host .pools)
-  in-host-pool i m = in-pool-over (suc (i .owner .node .bus)) i m (omega arith)
+  pub in-pool-of : (i : Item) → i ∈ items fs → Some (Lies (i .range)) (host .pools)
+  in-pool-of i m = in-pool-over (suc (i .owner .node .bus)) i m (omega arith)
+
+within-trans : (r s t : Range) → Within r s → Within s t → Within r t
+within-trans r s t i j = record { start-inside = omega arith; stop-inside = omega arith }
+
+-- of its kind on a good sheet, and of its space wherever ranges are nested by space
+pub in-host-pool : {host : Host} {fs : List Registers} → Good host fs → (i : Item) → i ∈ items fs → Some (Inside (i .range)) (host .pools)
+in-host-pool good = in-pool-of Inside (λ r s t i j. inside-trans i j) (good .bridges-rise) (good .tree) (good .nested)
+
+pub within-host-pool : {host : Host} {fs : List Registers} → BridgesRise (nodes fs) → Tree host (nodes fs) → NestedBy Within host fs
+    → (i : Item) → i ∈ items fs → Some (Within (i .range)) (host .pools)
+within-host-pool rise tree nested = in-pool-of Within within-trans rise tree nested
 
 -- ## Where the pools end
 
@@ -102,7 +115,7 @@ module _ (host : List ℕ) (bytes : Bytes host) (right : hostWrong (hostOfPart h
   pools-end Ports r m = open-pool-end Io (hostOfPart host .io) ioSize r (λ o. io-last) m
 
   -- what lies in a pool ends where the keys of its space do
-  pub ends-in-space : (sp : Space) (r : Range) → Some (Inside r) (poolsOf sp (hostOfPart host)) → r .stop ≤ endOf sp
+  pub ends-in-space : (sp : Space) (r : Range) → Some (Within r) (poolsOf sp (hostOfPart host)) → r .stop ≤ endOf sp
   ends-in-space sp r some =
       let (pool, in-pools, inside) = member-of-some _ (poolsOf sp (hostOfPart host)) some in
       omega (arith, pools-end sp pool in-pools, inside .stop-inside)

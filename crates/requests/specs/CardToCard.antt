@@ -23,7 +23,7 @@ use Rattle.plan_good.specs.Registers.{planHost}
 use Rattle.plan_answer.specs.declared.Planning.the-variants.{Planned}
 use Rattle.plan_answer.specs.Plan.{planning, sheetAfter}
 use Rattle.audit_rule.specs.Host.{hostFor}
-use Rattle.audit_rule.specs.Accepted.{Accepted}
+use Rattle.audit_rule.specs.Accepted.{Accepted, OneOwner}
 use Rattle.claims.specs.declared.Aim.the-variants.{Address}
 use Rattle.claims.specs.Claims.{tallyFor}
 use Rattle.route.specs.Route.{root}
@@ -56,9 +56,9 @@ plannedBoard b t sp address =
     boardOver (planHost sp (planned.host b)) (registersOf sp t) (enabledOf sp t) (masterOf t) address (planned.HasBarOver b sp address)
     (planned.bridgesAbove b)
 
--- over t, an accepted sheet s with its command words as they were or rewritten since, by the registers and bus numbers
-abbrev pub acceptedBoard : List ℕ → List ℕ → List ℕ → Space → ℕ → Board
-acceptedBoard host s t sp address =
+-- over t, a sheet s that some firmware left with its command words as they were or rewritten since, by the registers and bus numbers
+abbrev pub boardOfSheet : List ℕ → List ℕ → List ℕ → Space → ℕ → Board
+boardOfSheet host s t sp address =
     boardOver (hostFor sp (hostOfPart host)) (registersOf sp t) (enabledOf sp t) (masterOf t) address (audited.HasBarOver s sp address)
     (audited.bridgesAbove host s)
 
@@ -127,4 +127,10 @@ pub record CardToCard : Type 0 where
       → (t : List ℕ) → SameButCommands s t
       → (header : List ℕ) (p : Packet) → readOf header ≡ Read p
       → (sp : Space) (address : ℕ) → IsCardRequest p sp address
-      → (k : ℕ) → IsType0 t k → CardRouted (acceptedBoard host s t sp address) 510 t header p sp address k
+      → (k : ℕ) → IsType0 t k → CardRouted (boardOfSheet host s t sp address) 510 t header p sp address k
+  -- and of any sheet that has one owner for every address: no field needs the kinds
+  pub sound-routed : (host s : List ℕ) → Bytes s → OneOwner host s
+      → (t : List ℕ) → SameButCommands s t
+      → (header : List ℕ) (p : Packet) → readOf header ≡ Read p
+      → (sp : Space) (address : ℕ) → IsCardRequest p sp address
+      → (k : ℕ) → IsType0 t k → CardRouted (boardOfSheet host s t sp address) 510 t header p sp address k

@@ -1,5 +1,5 @@
--- Document 02, E11, is proved: from what a request from a card comes to on good registers, what is answered on bytes, over a planned sheet
--- and over an accepted one. Assumes nothing.
+-- Document 02, E11, is proved: from what a request from a card comes to on sound registers, what is answered on bytes, over a planned sheet
+-- and over one with one owner for every address, which every accepted one is. Assumes nothing.
 use mathlib.Core.Path.{_≡_, refl, sym, ap, subst, _∙_}
 use mathlib.Core.Logic.{_⊎_, inl, inr, _↔_}
 use mathlib.Core.Bool.{Bool, true}
@@ -46,8 +46,8 @@ use Rattle.plan_sheet.specs.Accepted.{fits-of-accepted}
 use Rattle.plan_sheet.specs.Delivery.{PlannedSheet}
 use Rattle.plan_sheet.specs.Answer.{AnswersPlanned, planned-of-answer, planned-sheet-of-answer}
 use Rattle.audit_rule.specs.Host.{hostFor}
-use Rattle.audit_rule.specs.Accepted.{Accepted}
-use Rattle.audit_rule.specs.AcceptedLaws.{good-of-accepted, one-owner-of-accepted, accepted-delivers}
+use Rattle.audit_rule.specs.Accepted.{OneOwner}
+use Rattle.audit_rule.specs.AcceptedLaws.{one-owner-of-accepted, sound-of-one-owner, one-owner-delivers}
 use Rattle.claims.specs.declared.Aim.the-variants.{Address}
 use Rattle.claims.specs.Claims.{tallyFor}
 use Rattle.route.specs.Route.{root}
@@ -61,7 +61,7 @@ use Rattle.route_cards.specs.RequestLaws.{header-first, sheet-next, other-45, n
 use Rattle.demands.specs.Demand3 as planned
 use Rattle.requests.specs.Audit as audited
 use Rattle.requests.specs.AuditLaws.{above-agree as audited-above}
-use Rattle.requests.specs.CardToCard.{IsCardRequest, MayStart, plannedBoard, acceptedBoard, sendNumber, SentTo, SentToHost}
+use Rattle.requests.specs.CardToCard.{IsCardRequest, MayStart, plannedBoard, boardOfSheet, sendNumber, SentTo, SentToHost}
 use Rattle.requests.specs.CardToCard.{CardRouted}
 use Rattle.requests.specs.CardToCard.{CardCrosses, CardToCard}
 
@@ -301,31 +301,28 @@ module _ (b room : List ℕ) (n : ℕ) (bytes : Bytes b) (answered : planning b 
       (planned.HasBarOver b sp address)
       (planned.bridgesAbove b) tells mostAbove 64 (λ f m. sheet .not-too-deep (f .node .number)) (omega arith)
 
--- ## An accepted sheet
+-- ## A sheet with one owner for every address, which every accepted one is
 
-module _ (host s : List ℕ) (bytes : Bytes s) (a : Accepted host s) (sp : Space) (address : ℕ) where
+module _ (host s : List ℕ) (bytes : Bytes s) (a : OneOwner host s) (sp : Space) (address : ℕ) where
   abbrev walkHost : WalkHost
   walkHost = hostFor sp (hostOfPart host)
 
-  sound-accepted : Sound (hostFor sp (hostOfPart host)) (registersOf sp s)
-  sound-accepted = sound-of-good (good-of-accepted host s bytes a sp)
-
-  tells-accepted : Tells (hostFor sp (hostOfPart host)) (registersOf sp s) address (audited.HasBarOver s sp address)
+  tells-owner : Tells (hostFor sp (hostOfPart host)) (registersOf sp s) address (audited.HasBarOver s sp address)
       (audited.bridgesAbove host s)
-  tells-accepted =
+  tells-owner =
       record {
         bar-of = λ f m held. record { function = f; in-sheet = m; number-is = refl; bar-holds = held };
         of-bar = λ j h. (h .function, h .in-sheet, h .number-is, h .bar-holds);
-        above-agree = audited-above host s bytes (one-owner-of-accepted host s a) sp;
+        above-agree = audited-above host s bytes a sp;
       }
 
-  few-accepted : (f : Registers) → f ∈ registersOf sp s → length (audited.bridgesAbove host s (f .node .number)) ≤ 255
-  few-accepted f m =
+  few-above-owner : (f : Registers) → f ∈ registersOf sp s → length (audited.bridgesAbove host s (f .node .number)) ≤ 255
+  few-above-owner f m =
       omega (
         arith,
-        accepted-delivers host s bytes a sp address .at-most-255 f m,
+        one-owner-delivers host s bytes a sp address .at-most-255 f m,
         length-map (walking.bridgesAbove walkHost (registersOf sp s) f) (λ (b : Node). b .number),
-        ap (λ (l : List ℕ). length l) (audited-above host s bytes (one-owner-of-accepted host s a) sp f m),
+        ap (λ (l : List ℕ). length l) (audited-above host s bytes a sp f m),
       )
 
   -- over the sheet with these command words
@@ -333,15 +330,15 @@ module _ (host s : List ℕ) (bytes : Bytes s) (a : Accepted host s) (sp : Space
     registers-are : registersOf sp s ≡ registersOf sp t
     registers-are = sym (registers-same same (checked-of-zero s (a .passes) .framed) sp)
 
-    accepted-routed : (header : List ℕ) (p : Packet) → readOf header ≡ Read p → IsCardRequest p sp address
-        → (k : ℕ) → IsType0 t k → CardRouted (acceptedBoard host s t sp address) 510 t header p sp address k
-    accepted-routed header p read is k type-0 =
+    owner-routed : (header : List ℕ) (p : Packet) → readOf header ≡ Read p → IsCardRequest p sp address
+        → (k : ℕ) → IsType0 t k → CardRouted (boardOfSheet host s t sp address) 510 t header p sp address k
+    owner-routed header p read is k type-0 =
         routed-over t header p read (number-same same ∙ a .passes) sp address is k type-0 (hostFor sp (hostOfPart host))
-        (subst (Sound (hostFor sp (hostOfPart host))) registers-are sound-accepted)
+        (subst (Sound (hostFor sp (hostOfPart host))) registers-are (sound-of-one-owner host s bytes a sp))
         (audited.HasBarOver s sp address) (audited.bridgesAbove host s)
         (subst (λ (rs : List Registers). Tells (hostFor sp (hostOfPart host)) rs address (audited.HasBarOver s sp address)
-        (audited.bridgesAbove host s)) registers-are tells-accepted)
-        255 510 (λ f m. few-accepted f (subst (λ (rs : List Registers). f ∈ rs) (sym registers-are) m)) (omega arith)
+        (audited.bridgesAbove host s)) registers-are tells-owner)
+        255 510 (λ f m. few-above-owner f (subst (λ (rs : List Registers). f ∈ rs) (sym registers-are) m)) (omega arith)
 
 pub card-to-card : CardToCard
 card-to-card =
@@ -352,5 +349,7 @@ card-to-card =
       planned-routed = λ b room n bytes answered t same header p read sp address is k type-0.
           planned-routed b room n bytes answered t same sp address header p read is k type-0;
       accepted-routed = λ host s bytes a t same header p read sp address is k type-0.
-          accepted-routed host s bytes a sp address t same header p read is k type-0;
+          owner-routed host s bytes (one-owner-of-accepted host s a) sp address t same header p read is k type-0;
+      sound-routed = λ host s bytes a t same header p read sp address is k type-0.
+          owner-routed host s bytes a sp address t same header p read is k type-0;
     }

@@ -45,29 +45,35 @@ FedAlike index s t piece out =
     (fedOf (lineBy Index index) t piece (length out) ≡ fedOf (lineOver s) t piece (length out))
     × (fedPut (lineBy Index index) t piece out ≡ fedPut (lineOver s) t piece out)
 
-pub record FastLabels : Type 0 where
+-- The sentences, over what an index is built by: a verdict's number, what its 0 says, the number of the build and the bytes that it leaves
+pub record LabelsBy (verdict : List ℕ → List ℕ → ℕ) (Yes : List ℕ → List ℕ → Type 0) (number : List ℕ → List ℕ → ℕ → ℕ)
+    (after : List ℕ → List ℕ → List ℕ → List ℕ) : Type 0 where
   -- "an index in a lent slice, built once from a host record and a sheet that E6 accepts": exactly then, in room enough
-  pub built-exactly : (host s room : List ℕ) → Bytes s → IsBuilt host s room ↔ (Accepted host s × (indexBytes s ≤ length room))
+  pub built-exactly : (host s room : List ℕ) → Bytes s → (number host s (length room) ≡ 0) ↔ (Yes host s × (indexBytes s ≤ length room))
   -- "For such a sheet and every header its whole answer equals the router's, number, record, bridge count, packet ..": one equation
-  pub answers-equal : (host s room : List ℕ) → Bytes host → Bytes s → IsBuilt host s room
-      → (header : List ℕ) → searchOf header (indexAfter host s room) ≡ routeOf header s
+  pub answers-equal : (host s room : List ℕ) → Bytes host → Bytes s → number host s (length room) ≡ 0
+      → (header : List ℕ) → searchOf header (after host s room) ≡ routeOf header s
   -- ".. and list together."
-  pub lists-equal : (host s room : List ℕ) → Bytes host → Bytes s → IsBuilt host s room
-      → (header list : List ℕ) → ListedAlike header (indexAfter host s room) s list
+  pub lists-equal : (host s room : List ℕ) → Bytes host → Bytes s → number host s (length room) ≡ 0
+      → (header list : List ℕ) → ListedAlike header (after host s room) s list
   -- So a trace is labelled alike, E4's sentences and all: from a fresh state, "wherever the cuts fall", with the end's line ..
-  pub traces-equal : (host s room : List ℕ) → Bytes host → Bytes s → IsBuilt host s room
-      → (pieces : List (List ℕ)) → told (lineBy Index (indexAfter host s room)) pieces ≡ told (lineOver s) pieces
+  pub traces-equal : (host s room : List ℕ) → Bytes host → Bytes s → number host s (length room) ≡ 0
+      → (pieces : List (List ℕ)) → told (lineBy Index (after host s room)) pieces ≡ told (lineOver s) pieces
   -- .. and each piece, fed in any state and any room
-  pub pieces-equal : (host s room : List ℕ) → Bytes host → Bytes s → IsBuilt host s room
-      → (t : Trace) (piece out : List ℕ) → FedAlike (indexAfter host s room) s t piece out
+  pub pieces-equal : (host s room : List ℕ) → Bytes host → Bytes s → number host s (length room) ≡ 0
+      → (t : Trace) (piece out : List ℕ) → FedAlike (after host s room) s t piece out
   -- "A sheet that E6 refuses gets E6's number and no index."
-  pub refused-by-audit : (host s room : List ℕ) → ¬ (auditNumber host s ≡ 0)
-      → (buildNumber host s (length room) ≡ auditNumber host s) × (indexAfter host s room ≡ room)
+  pub refused-by-verdict : (host s room : List ℕ) → ¬ (verdict host s ≡ 0)
+      → (number host s (length room) ≡ verdict host s) × (after host s room ≡ room)
   -- "only a shorter slice gets 11, tried last", and stays as it was
-  pub short-exactly : (host s room : List ℕ) → auditNumber host s ≡ 0
-      → (buildNumber host s (length room) ≡ 11) ↔ (length room < indexBytes s)
-  pub short-stays : (host s room : List ℕ) → buildNumber host s (length room) ≡ 11 → indexAfter host s room ≡ room
+  pub short-exactly : (host s room : List ℕ) → verdict host s ≡ 0
+      → (number host s (length room) ≡ 11) ↔ (length room < indexBytes s)
+  pub short-stays : (host s room : List ℕ) → number host s (length room) ≡ 11 → after host s room ≡ room
   -- what is past the index stays, and the slice is as long as before
   pub past-stays : (host s room : List ℕ) → Bytes host → Bytes s
-      → (length (indexAfter host s room) ≡ length room)
-      × ((k : ℕ) → indexBytes s ≤ k → getD (indexAfter host s room) k 0 ≡ getD room k 0)
+      → (length (after host s room) ≡ length room)
+      × ((k : ℕ) → indexBytes s ≤ k → getD (after host s room) k 0 ≡ getD room k 0)
+
+-- by the audit
+abbrev pub FastLabels : Type 0
+FastLabels = LabelsBy auditNumber Accepted buildNumber indexAfter
