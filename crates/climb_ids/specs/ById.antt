@@ -57,14 +57,18 @@ climbById ns root number own id =
     climbBeside (tallyById ns (id / 256) (id % 256)) (upUnless (busesHold (id / 256)) ns root)
     (tallyBesideById ns (id / 256) (id % 256) number) (suc (own / 256)) 0 (own / 256) 0
 
--- "A completion for the sender's own ID is 40.", and so is a message: no other function has that ID
-unfoldable pub sentById : List Node → ℕ → ℕ → ℕ → ℕ → Sent
-sentById ns root number own id = cond (eqb id own) (stops noOwner) (climbById ns root number own id)
+-- "For the sender's own ID they are 40. Else on each bus from the sender's on, .."
+unfoldable pub sentToOther : List Node → ℕ → ℕ → ℕ → ℕ → Sent
+sentToOther ns root number own id = cond (eqb id own) (stops noOwner) (climbById ns root number own id)
 
 -- on no bus does anything claim
 abbrev pub nothing : ℕ → Tally
 nothing bus = none
 
--- "Messages 000 and 101 go up to the host, .., past all bridges above the sender"
+-- "Messages 000 and 101 go up to the host, .., past all bridges above the sender (a bus with no bridge above 40, with two 41)"
 unfoldable pub sentUp : List Node → ℕ → ℕ → Sent
 sentUp ns root own = climbFrom nothing (upUnless never ns root) (own / 256) 0
+
+-- "A completion, and a message 010, go by ID. For the host's own ID they go up to the host as 000 does.", whoever else has that ID
+unfoldable pub sentById : ℕ → List Node → ℕ → ℕ → ℕ → ℕ → Sent
+sentById hostId ns root number own id = cond (eqb id hostId) (sentUp ns root own) (sentToOther ns root number own id)

@@ -25,7 +25,7 @@ use Rattle.walk.specs.IdsLaws.{has-id-elim, leads-toward-elim, never-both-ids}
 use Rattle.walk.specs.Climb.{Up, toHost, across, halts, windowHolds, upThrough, upFrom, stops, settleUp, goUp}
 use Rattle.walk.specs.Climb.{climbOver, climbFrom, climbBeside}
 use Rattle.walk.specs.ClimbLaws.{Falling}
-use Rattle.climb_ids.specs.ById.{functionMayClaim, bridgeMayClaim, tallyBesideById, upPast, upUnless, busesHold, climbById, sentById}
+use Rattle.climb_ids.specs.ById.{functionMayClaim, bridgeMayClaim, tallyBesideById, upPast, upUnless, busesHold, climbById, sentToOther}
 
 -- two tests that pass together
 same-test : (a b : Bool) → (a ≡ true → b ≡ true) → (b ≡ true → a ≡ true) → a ≡ b
@@ -224,14 +224,14 @@ module _ (ns : List Node) (rise : BridgesRise ns) (distinct : DistinctIds ns) (r
       same-id p q = omega arith
 
   pub sent-climb : ¬ (id ≡ own)
-      → sentById ns root number own id
+      → sentToOther ns root number own id
       ≡ climbFrom (tallyById ns (id / 256) (id % 256)) (upUnless (busesHold (id / 256)) ns root) (own / 256) 0
-  unfolding sentById climbById climbFrom
+  unfolding sentToOther climbById climbFrom
   sent-climb other =
       rw (ne-eqb id own other)
       (climb-agree ns rise distinct (id / 256) (id % 256) number (lacks-id other) (sender .numbers) root (suc (own / 256)) 0 (own / 256) 0
       (λ n m none. absurd (omega (arith, sender .from-1 n m, none))))
 
-  pub sent-own : id ≡ own → sentById ns root number own id ≡ stops noOwner
-  unfolding sentById
+  pub sent-own : id ≡ own → sentToOther ns root number own id ≡ stops noOwner
+  unfolding sentToOther
   sent-own same = rw (eq-eqb id own same)

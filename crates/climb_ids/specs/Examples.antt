@@ -10,7 +10,7 @@ use Rattle.walk.specs.Tally.{join}
 use Rattle.walk.specs.Walk.{walkOver, walkFrom}
 use Rattle.walk.specs.Ids.{tallyById}
 use Rattle.walk.specs.Climb.{Sent, arrives, leaves, stops, climbOver, climbFrom, climbBeside}
-use Rattle.climb_ids.specs.ById.{tallyBesideById, upUnless, climbById, sentById, sentUp}
+use Rattle.climb_ids.specs.ById.{tallyBesideById, upUnless, climbById, sentToOther, sentUp, sentById}
 
 abbrev endpoint : ℕ → ℕ → ℕ → Node
 endpoint n bus d = record { number = n; bus = bus; devfn = d; bridge = false; secondary = 0; subordinate = 0 }
@@ -26,8 +26,9 @@ sheet = bridgeAt 1 0 8 1 3 ∷ endpoint 2 1 0 ∷ bridgeAt 3 1 8 2 3 ∷ endpoin
 abbrev torn : List Node
 torn = bridgeAt 1 0 8 1 1 ∷ bridgeAt 2 0 16 1 1 ∷ endpoint 3 1 0 ∷ endpoint 4 4 0 ∷ []
 
+-- below a host with the ID FFFFh
 abbrev send : ℕ → ℕ → ℕ → Sent
-send number own id = sentById sheet 0 number own id
+send number own id = sentById 0xFFFF sheet 0 number own id
 
 pub record Worked : Type 0 where
   pub to-the-host : send 4 0x200 0 ≡ leaves 2
@@ -43,16 +44,22 @@ pub record Worked : Type 0 where
   pub from-a-bridge-down : send 3 0x108 0x200 ≡ arrives 4 1
   pub from-a-bridge-beside : send 3 0x108 0x100 ≡ arrives 2 0
   pub from-a-bridge-up : send 3 0x108 0x4000 ≡ leaves 1
+  -- the host's own ID, which no function has; which one has, on the sender's bus and above; and from no tree
+  pub to-the-host-by-its-id : send 4 0x200 0xFFFF ≡ leaves 2
+  pub to-the-host-not-beside : sentById 0x100 sheet 0 3 0x108 0x100 ≡ leaves 1
+  pub to-the-host-past-a-bridge : sentById 8 sheet 0 4 0x200 8 ≡ leaves 2
+  pub to-the-host-two-above : sentById 0x10 torn 0 3 0x100 0x10 ≡ stops 41
+  pub to-the-host-none-above : sentById 0x10 torn 0 4 0x400 0x10 ≡ stops 40
   pub a-message-up : sentUp sheet 0 0x200 ≡ leaves 2
   pub a-message-up-from-the-root-bus : sentUp sheet 0 0x10 ≡ leaves 0
-  pub two-above : sentById torn 0 3 0x100 0x10 ≡ stops 41
-  pub none-above : sentById torn 0 4 0x400 0x10 ≡ stops 40
-  pub two-claims : sentById torn 0 2 0x10 0x100 ≡ stops 41
+  pub two-above : sentById 0xFFFF torn 0 3 0x100 0x10 ≡ stops 41
+  pub none-above : sentById 0xFFFF torn 0 4 0x400 0x10 ≡ stops 40
+  pub two-claims : sentById 0xFFFF torn 0 2 0x10 0x100 ≡ stops 41
   pub a-message-two-above : sentUp torn 0 0x100 ≡ stops 41
   pub a-message-none-above : sentUp torn 0 0x400 ≡ stops 40
 
 pub examples : Worked
-unfolding sentById climbById sentUp climbBeside climbFrom climbOver tallyBesideById tallyById upUnless walkFrom walkOver join keep
+unfolding sentById sentToOther climbById sentUp climbBeside climbFrom climbOver tallyBesideById tallyById upUnless walkFrom walkOver join keep
 examples =
     record {
       to-the-host = refl;
@@ -68,6 +75,11 @@ examples =
       from-a-bridge-down = refl;
       from-a-bridge-beside = refl;
       from-a-bridge-up = refl;
+      to-the-host-by-its-id = refl;
+      to-the-host-not-beside = refl;
+      to-the-host-past-a-bridge = refl;
+      to-the-host-two-above = refl;
+      to-the-host-none-above = refl;
       a-message-up = refl;
       a-message-up-from-the-root-bus = refl;
       two-above = refl;

@@ -13,7 +13,7 @@ use Rattle.walk.specs.Above.{bridgesTo}
 use Rattle.walk.specs.Ids.{tallyById}
 use Rattle.walk.specs.Climb.{Up, toHost, across, halts, Sent, stops, settleUp, goUp, climbOver, climbFrom, climbBeside}
 use Rattle.walk.specs.NumberLaws.{NumberedSent, numbered-walk}
-use Rattle.climb_ids.specs.ById.{tallyBesideById, upPast, upUnless, busesHold, never, nothing, climbById, sentById, sentUp}
+use Rattle.climb_ids.specs.ById.{tallyBesideById, upPast, upUnless, busesHold, never, nothing, climbById, sentToOther, sentUp, sentById}
 
 abbrev NumberedUp : Up → Type 0
 NumberedUp toHost = Unit {0}
@@ -59,9 +59,9 @@ module _ (tally : ℕ → Tally) (up : ℕ → Up) (numbered : (bus : ℕ) → N
       numbered-bus tally crossed (λ number b. climbOver tally up n b (crossed + 1)) (λ number b. numbered-over n b (crossed + 1)) (tally bus)
       (up bus) (numbered bus)
 
-pub numbered-by-id : (ns : List Node) (root number own id : ℕ) → NumberedSent (sentById ns root number own id)
-unfolding sentById climbById
-numbered-by-id ns root number own id =
+numbered-to-other : (ns : List Node) (root number own id : ℕ) → NumberedSent (sentToOther ns root number own id)
+unfolding sentToOther climbById
+numbered-to-other ns root number own id =
     let tally = tallyById ns (id / 256) (id % 256) in
     let up = upUnless (busesHold (id / 256)) ns root in
     let beside = tallyBesideById ns (id / 256) (id % 256) number in
@@ -72,3 +72,9 @@ pub numbered-up : (ns : List Node) (root own : ℕ) → NumberedSent (sentUp ns 
 unfolding sentUp climbFrom
 numbered-up ns root own =
     numbered-over nothing (upUnless never ns root) (numbered-unless never ns root) (suc (own / 256)) (own / 256) 0
+
+pub numbered-by-id : (hostId : ℕ) (ns : List Node) (root number own id : ℕ) → NumberedSent (sentById hostId ns root number own id)
+unfolding sentById
+numbered-by-id hostId ns root number own id =
+    either NumberedSent (eqb id hostId) (sentUp ns root own) (sentToOther ns root number own id) (numbered-up ns root own)
+    (numbered-to-other ns root number own id)

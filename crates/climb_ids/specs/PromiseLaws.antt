@@ -37,7 +37,7 @@ use Rattle.walk.specs.Cards.{without}
 use Rattle.walk.specs.CardWays.{Way, Comes, to-owner, to-host, unmastered, nobody, climb-comes, arrives-of-way, leaves-of-way}
 use Rattle.walk.specs.CardWays.{trail-of-way}
 use Rattle.walk.specs.MeetingLaws.{Meeting, meeting, up-is, down-is}
-use Rattle.climb_ids.specs.ById.{upPast, upUnless, busesHold, never, nothing, sentById, sentUp}
+use Rattle.climb_ids.specs.ById.{upPast, upUnless, busesHold, never, nothing, sentToOther, sentUp}
 use Rattle.climb_ids.specs.ByIdLaws.{falling-unless, up-agree, Sender, sent-climb, sent-own}
 use Rattle.climb_ids.specs.Promise.{RootLeads, GoesTo, GoesToHost, crossedUp, crossedDown, AnswersById}
 
@@ -457,10 +457,10 @@ module _ {host : Host} {ns : List Node} (rise : BridgesRise ns) (tree : Tree hos
       ap (λ (b : ℕ). climbFrom (tallyById ns (id / 256) (id % 256)) (upUnless (busesHold (id / 256)) ns (host .first)) b 0)
       (is-x .bus-is)
 
-  pub sent-answers : AnswersById Has aboveOf Leading (x .number) (sentById ns (host .first) (x .number) own id)
+  pub sent-answers : AnswersById Has aboveOf Leading (x .number) (sentToOther ns (host .first) (x .number) own id)
   sent-answers = go (eqb id own) refl
     where
-      go : (t : Bool) → eqb id own ≡ t → AnswersById Has aboveOf Leading (x .number) (sentById ns (host .first) (x .number) own id)
+      go : (t : Bool) → eqb id own ≡ t → AnswersById Has aboveOf Leading (x .number) (sentToOther ns (host .first) (x .number) own id)
       go true e =
           let same : id ≡ own = eqb-true _ _ e in
           subst (AnswersById Has aboveOf Leading (x .number))

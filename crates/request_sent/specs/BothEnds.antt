@@ -36,7 +36,7 @@ use Rattle.route_cards.specs.Search.{IsType0}
 use Rattle.route_sent.specs.declared.Fate.{Fate}
 use Rattle.route_sent.specs.declared.Fate.the-variants.{Delivered, Host, Port, Refused}
 use Rattle.route_sent.specs.declared.BothEnds.the-variants.{FromHost, FromFunction, Refused as NotSent}
-use Rattle.route_sent.specs.Sender.{namedBy, startsAtHost}
+use Rattle.route_sender.specs.Sender.{namedBy, startsAtHost}
 use Rattle.route_sent.specs.BothEnds.{fateOf, bothEndsOf, numberOf}
 use Rattle.demands.specs.Demand3 as planned
 use Rattle.demands.specs.ById as plannedIds
@@ -95,7 +95,7 @@ module _ (Has : ℕ → Type 0) (above : ℕ → List ℕ) (most hostId : ℕ) (
   SentTo j = (d : Arrival) × Becomes (Delivered d) × (d .owner ≡ j)
 
   pub record RoutedFrom : Type 0 where
-    -- "a packet by ID from function k is delivered to function j exactly when j has the ID and is not k"
+    -- "a packet by ID from function k, for an ID that is not the host's, is delivered to function j exactly when j has the ID and is not k"
     pub delivered-exactly : (j : ℕ) → SentTo j ↔ GoesTo j
     pub one-receiver : (i j : ℕ) → GoesTo i → GoesTo j → i ≡ j
     -- "it goes to the host exactly when ..", past the bridges above the sender, all of them crossed, and as it was
@@ -139,7 +139,7 @@ pub record BothEnds : Type 0 where
   pub bridge-45 : (hostId : ℕ) (header t : List ℕ) (p : Packet) → readOf header ≡ Read p → sheetNumber t ≡ 0 → Bytes t
       → (k : ℕ) → StartsAt hostId p t k → (sp : Space) (address : ℕ) → IsCardRequest p sp address → ¬ IsType0 t k
       → bothEndsOf hostId header t ≡ FromFunction k (Refused 45)
-  -- "001 and 011 from a function are 45": of the two only 001 can start at a function
+  -- "001 from a function is 45"
   pub by-address-45 : (hostId : ℕ) (header t : List ℕ) (kind : MessageKind) (h : Head) (code tail : ℕ)
       → readOf header ≡ Read (Message kind h ByAddress code tail) → sheetNumber t ≡ 0 → Bytes t
       → (k : ℕ) → StartsAt hostId (Message kind h ByAddress code tail) t k
@@ -152,14 +152,25 @@ pub record BothEnds : Type 0 where
   pub planned-by-id : (b room : List ℕ) (n : ℕ) → Bytes b → planning b (length room) ≡ Planned n
       → (t : List ℕ) → SameButCommands (take n (sheetAfter b room)) t
       → (hostId : ℕ) (header : List ℕ) (p : Packet) → readOf header ≡ Read p
-      → (k : ℕ) → StartsAt hostId p t k → (id : ℕ) → GoesById p id
+      → (k : ℕ) → StartsAt hostId p t k → (id : ℕ) → GoesById p id → ¬ (id ≡ hostId)
       → RoutedFrom (plannedIds.HasId b id) (planned.bridgesAbove b) 64 hostId t header p id k
   -- "and over any sheet that E6 accepts", where a way up and a way down have at most 255 bridges each
   pub accepted-by-id : (host s : List ℕ) → Bytes s → Accepted host s
       → (t : List ℕ) → SameButCommands s t
       → (hostId : ℕ) (header : List ℕ) (p : Packet) → readOf header ≡ Read p
-      → (k : ℕ) → StartsAt hostId p t k → (id : ℕ) → GoesById p id
+      → (k : ℕ) → StartsAt hostId p t k → (id : ℕ) → GoesById p id → ¬ (id ≡ hostId)
       → RoutedFrom (HasIdOver s id) (audited.bridgesAbove host s) 510 hostId t header p id k
+  -- "For the host's ID it goes to the host, always.", past all bridges above the sender, as it was, also where a function has that ID
+  pub planned-host-id : (b room : List ℕ) (n : ℕ) → Bytes b → planning b (length room) ≡ Planned n
+      → (t : List ℕ) → SameButCommands (take n (sheetAfter b room)) t
+      → (hostId : ℕ) (header : List ℕ) (p : Packet) → readOf header ≡ Read p
+      → (k : ℕ) → StartsAt hostId p t k → GoesById p hostId
+      → bothEndsOf hostId header t ≡ FromFunction k (Host (length (planned.bridgesAbove b k)) p)
+  pub accepted-host-id : (host s : List ℕ) → Bytes s → Accepted host s
+      → (t : List ℕ) → SameButCommands s t
+      → (hostId : ℕ) (header : List ℕ) (p : Packet) → readOf header ≡ Read p
+      → (k : ℕ) → StartsAt hostId p t k → GoesById p hostId
+      → bothEndsOf hostId header t ≡ FromFunction k (Host (length (audited.bridgesAbove host s k)) p)
   -- "Messages 000 and 101 go up to the host, a named answer, past all bridges above the sender"
   pub planned-up : (b room : List ℕ) (n : ℕ) → Bytes b → planning b (length room) ≡ Planned n
       → (t : List ℕ) → SameButCommands (take n (sheetAfter b room)) t

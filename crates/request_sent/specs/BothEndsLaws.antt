@@ -9,7 +9,7 @@ use native.Mathlib.Nat.{suc-ne-zero}
 use native.Mathlib.Omega.{arith}
 use lib.Dec.{eqb}
 use lib.ListN.{length, take, length-map}
-use borrow.Author.Tests.{eqb-true, eqb-false, eq-eqb}
+use borrow.Author.Tests.{eqb-true, eqb-false, eq-eqb, ne-eqb}
 use Rattle.lists.specs.Lists.{_∈_, keep}
 use Rattle.lists.specs.KeepLaws.{keep-elim, keep-intro}
 use Rattle.endian.specs.Endian.{Bytes}
@@ -37,7 +37,7 @@ use Rattle.walk.specs.IdsLaws.{has-id-elim}
 use Rattle.walk.specs.IdsDelivery.{delivered-by-id, has-id-of-delivered}
 use Rattle.walk.specs.Climb.{Sent, arrives, leaves, stops, CardTrail}
 use Rattle.walk.specs.MeetingLaws.{without-le}
-use Rattle.climb_ids.specs.ById.{upUnless, busesHold, sentById, sentUp}
+use Rattle.climb_ids.specs.ById.{upUnless, busesHold, sentToOther, sentUp, sentById}
 use Rattle.climb_ids.specs.ByIdLaws.{Sender}
 use Rattle.climb_ids.specs.Promise as promise
 use Rattle.climb_ids.specs.Promise.{RootLeads, AnswersById}
@@ -75,12 +75,12 @@ use Rattle.route_cards.specs.RequestLaws.{other-45, no-start-45}
 use Rattle.route_sent.specs.declared.Fate.{Fate}
 use Rattle.route_sent.specs.declared.Fate.the-variants.{Delivered, Host, Refused}
 use Rattle.route_sent.specs.declared.BothEnds.the-variants.{FromFunction}
-use Rattle.route_sent.specs.declared.sender.Sender.the-variants.{Host as HostSends, Function}
-use Rattle.route_sent.specs.Sender.{namedBy, startsAtHost, senderOf}
+use Rattle.route_sender.specs.declared.Sender.the-variants.{Host as HostSends, Function}
+use Rattle.route_sender.specs.Sender.{namedBy, startsAtHost, senderOf}
 use Rattle.route_sent.specs.BothEnds.{fateOf, answer, onHeading, bothEndsOf, fateNumber, numberOf}
-use Rattle.route_sent.specs.SenderLaws.{is-sender}
-use Rattle.route_sent.specs.RequestLaws.{host-only, host-named, nobody-named, function-named, header-first, sheet-next, from-host}
-use Rattle.route_sent.specs.RequestLaws.{from-function, sent-as-request}
+use Rattle.route_sent.specs.FunctionLaws.{is-sender}
+use Rattle.route_sender.specs.NamedLaws.{host-only, host-named, nobody-named, function-named}
+use Rattle.route_sent.specs.RequestLaws.{header-first, sheet-next, from-host, from-function, sent-as-request}
 use Rattle.demands.specs.Demand3 as planned
 use Rattle.demands.specs.ById as plannedIds
 use Rattle.demands.specs.ById.{GoesById}
@@ -318,15 +318,27 @@ module _ (t header : List ℕ) (p : Packet) (read : readOf header ≡ Read p) (p
   root-first : root t ≡ host .first
   root-first = root-is-first (host .first) (nodesOf t) (tree .first-on-root) (some-node (nodesOf t) (is-x .in-sheet))
 
-  pub by-id-over : (id : ℕ) → GoesById p id → (Has : ℕ → Type 0) (aboveOf : ℕ → List ℕ)
+  -- by an ID that is not the host's, and by the host's
+  to-other : (id : ℕ) → ¬ (id ≡ hostId)
+      → sentById hostId (nodesOf t) (root t) (start .has-id .function .number) (namedBy p) id
+      ≡ sentToOther (nodesOf t) (root t) (start .has-id .function .number) (namedBy p) id
+  unfolding sentById
+  to-other id other = rw (ne-eqb id hostId other)
+
+  to-host : sentById hostId (nodesOf t) (root t) k (namedBy p) hostId ≡ sentUp (nodesOf t) (root t) (namedBy p)
+  unfolding sentById
+  to-host = rw (eq-eqb hostId hostId refl)
+
+  pub by-id-over : (id : ℕ) → GoesById p id → ¬ (id ≡ hostId) → (Has : ℕ → Type 0) (aboveOf : ℕ → List ℕ)
       → TellsIds host (nodesOf t) (id / 256) (id % 256) Has aboveOf
       → (depth most : ℕ) → ((n : Node) → n ∈ nodesOf t → length (aboveOf (n .number)) ≤ depth) → depth + depth ≤ most
       → RoutedFrom Has aboveOf most hostId t header p id k
-  by-id-over id by Has aboveOf tells depth most few twice =
+  by-id-over id by other Has aboveOf tells depth most few twice =
       subst (RoutedFrom Has aboveOf most hostId t header p id) (start .has-id .number-is)
-      (routed-from Has aboveOf depth most hostId t header p id number (sentById (nodesOf t) (root t) number (namedBy p) id)
-      (from-function hostId header t p read passes number sends (Aimed (Id id)) (aim-by-id p id by))
-      (subst (λ (r : ℕ). AnswersById Has aboveOf (RootLeads r (id / 256) (nodesOf t)) number (sentById (nodesOf t) r number (namedBy p) id))
+      (routed-from Has aboveOf depth most hostId t header p id number (sentToOther (nodesOf t) (root t) number (namedBy p) id)
+      (from-function hostId header t p read passes number sends (Aimed (Id id)) (aim-by-id p id by)
+      ∙ ap (λ (o : Sent). FromFunction number (answer p o)) (to-other id other))
+      (subst (λ (r : ℕ). AnswersById Has aboveOf (RootLeads r (id / 256) (nodesOf t)) number (sentToOther (nodesOf t) r number (namedBy p) id))
       (sym root-first)
       (sent-answers rise tree distinct id (namedBy p) (numbered-nodes (id % 256) t) Has aboveOf tells (start .has-id .function) is-x sender))
       crosses
@@ -349,14 +361,24 @@ module _ (t header : List ℕ) (p : Packet) (read : readOf header ≡ Read p) (p
           (sent-crosses rise tree distinct id (namedBy p) (numbered-nodes (id % 256) t) Has aboveOf tells (start .has-id .function) is-x sender
           j has us ds)
 
-  pub up-over : headingOf p ≡ Up → (count : ℕ) → length (above (host .first) (nodesOf t) (start .has-id .function .bus)) ≡ count
-      → bothEndsOf hostId header t ≡ FromFunction k (Host count p)
-  up-over e count is =
-      from-function hostId header t p read passes k (sends ∙ ap Function (start .has-id .number-is)) Up e
-      ∙ ap (λ (o : Sent). FromFunction k (answer p o))
-      (ap (λ (r : ℕ). sentUp (nodesOf t) r (namedBy p)) root-first
-      ∙ sent-up rise tree (namedBy p) (start .has-id .function) (is-x .in-sheet) (is-x .bus-is)
-      ∙ ap leaves is)
+  -- up to the host, past this many bridges above the sender
+  module _ (count : ℕ) (is : length (above (host .first) (nodesOf t) (start .has-id .function .bus)) ≡ count) where
+    leaves-up : sentUp (nodesOf t) (root t) (namedBy p) ≡ leaves count
+    leaves-up =
+        ap (λ (r : ℕ). sentUp (nodesOf t) r (namedBy p)) root-first
+        ∙ sent-up rise tree (namedBy p) (start .has-id .function) (is-x .in-sheet) (is-x .bus-is)
+        ∙ ap leaves is
+
+    headed : (h : Heading) → headingOf p ≡ h → bothEndsOf hostId header t ≡ FromFunction k (onHeading hostId k (namedBy p) p t h)
+    headed h e = from-function hostId header t p read passes k (sends ∙ ap Function (start .has-id .number-is)) h e
+
+    pub up-over : headingOf p ≡ Up → bothEndsOf hostId header t ≡ FromFunction k (Host count p)
+    up-over e = headed Up e ∙ ap (λ (o : Sent). FromFunction k (answer p o)) leaves-up
+
+    pub host-id-over : GoesById p hostId → bothEndsOf hostId header t ≡ FromFunction k (Host count p)
+    host-id-over by =
+        headed (Aimed (Id hostId)) (aim-by-id p hostId by)
+        ∙ ap (λ (o : Sent). FromFunction k (answer p o)) (to-host ∙ leaves-up)
 
 -- ## Never 41
 
@@ -370,12 +392,14 @@ module _ (hostId : ℕ) (header t : List ℕ) (passes : sheetNumber t ≡ 0) (di
     (from-the-host : (q : Packet) → readOf header ≡ Read q → ¬ (routeNumber header t ≡ 41))
     (requests : (q : Packet) → readOf header ≡ Read q → (k : ℕ) → IsType0 t k → (sp : Space) (address : ℕ) → IsCardRequest q sp address
     → ¬ (sendNumber k header t ≡ 41))
-    (ids : (q : Packet) → readOf header ≡ Read q → (k : ℕ) → StartsAt hostId q t k → (id : ℕ) → GoesById q id
+    (ids : (q : Packet) → readOf header ≡ Read q → (k : ℕ) → StartsAt hostId q t k → (id : ℕ) → GoesById q id → ¬ (id ≡ hostId)
     → ¬ (numberOf (bothEndsOf hostId header t) ≡ 41))
+    (host-id : (q : Packet) → readOf header ≡ Read q → (k : ℕ) → StartsAt hostId q t k → GoesById q hostId
+    → numberOf (bothEndsOf hostId header t) ≡ 0)
     (up : (q : Packet) → readOf header ≡ Read q → (k : ℕ) → StartsAt hostId q t k → headingOf q ≡ Up
     → numberOf (bothEndsOf hostId header t) ≡ 0) where
   module _ (q : Packet) (read : readOf header ≡ Read q) (k : ℕ) (start : StartsAt hostId q t k) where
-    goes-as : (h : Heading) → headingOf q ≡ h → bothEndsOf hostId header t ≡ FromFunction k (onHeading k (namedBy q) q t h)
+    goes-as : (h : Heading) → headingOf q ≡ h → bothEndsOf hostId header t ≡ FromFunction k (onHeading hostId k (namedBy q) q t h)
     goes-as h e = from-function hostId header t q read passes k (function-sends hostId q t distinct k start) h e
 
     as-E11 : (sp : Space) (address : ℕ) → headingOf q ≡ Aimed (Address sp address)
@@ -396,6 +420,14 @@ module _ (hostId : ℕ) (header t : List ℕ) (passes : sheetNumber t ≡ 0) (di
         no-type-0 : sendNumber k header t ≡ 41 → ¬ IsType0 t k → ⊥
         no-type-0 sent h = let e = ap sendingNumber (no-start-45 k header t q read passes h) in omega (arith, sent, e)
 
+  by-id-not-41 : (q : Packet) → readOf header ≡ Read q → (k : ℕ) → StartsAt hostId q t k → (id : ℕ) → GoesById q id
+      → ¬ (numberOf (bothEndsOf hostId header t) ≡ 41)
+  by-id-not-41 q read k start id by = go (eqb id hostId) refl
+    where
+      go : (b : Bool) → eqb id hostId ≡ b → ¬ (numberOf (bothEndsOf hostId header t) ≡ 41)
+      go true e n = let z = host-id q read k start (subst (GoesById q) (eqb-true id hostId e) by) in omega (arith, n, z)
+      go false e n = ids q read k start id by (eqb-false id hostId e) n
+
   other-not-41 : (q : Packet) → readOf header ≡ Read q → (k : ℕ) → StartsAt hostId q t k
       → ¬ (numberOf (bothEndsOf hostId header t) ≡ 41)
   other-not-41 (Memory kind h e a) read k start =
@@ -403,7 +435,7 @@ module _ (hostId : ℕ) (header t : List ℕ) (passes : sheetNumber t ≡ 0) (di
   other-not-41 (Io kind h e a) read k start =
       request-not-41 (Io kind h e a) read k start ioSpace a (refl, refl)
   other-not-41 (Config kind h e c) read k start = absurd (true≢false (start .not-hosts-own))
-  other-not-41 (Completion kind h o) read k start = ids (Completion kind h o) read k start (h .requester) refl
+  other-not-41 (Completion kind h o) read k start = by-id-not-41 (Completion kind h o) read k start (h .requester) refl
   other-not-41 (Message kind h ToRoot code tail) read k start =
       λ n. let z = up (Message kind h ToRoot code tail) read k start refl in omega (arith, n, z)
   other-not-41 (Message kind h ByAddress code tail) read k start =
@@ -411,7 +443,7 @@ module _ (hostId : ℕ) (header t : List ℕ) (passes : sheetNumber t ≡ 0) (di
       λ n. let sent = number-E11 q read k start memorySpace tail refl in
       let e = ap sendingNumber (other-45 k header t q read passes refl) in omega (arith, n, sent, e)
   other-not-41 (Message kind h ById code tail) read k start =
-      ids (Message kind h ById code tail) read k start (tail / 2 ^ 48) refl
+      by-id-not-41 (Message kind h ById code tail) read k start (tail / 2 ^ 48) refl
   other-not-41 (Message kind h Broadcast code tail) read k start = absurd (true≢false (start .not-hosts-own))
   other-not-41 (Message kind h Local code tail) read k start =
       λ n. let z = ap numberOf (goes-as (Message kind h Local code tail) read k start ToPort refl) in omega (arith, n, z)
@@ -483,18 +515,27 @@ module _ (b room : List ℕ) (n : ℕ) (bytes : Bytes b) (answered : planning b 
       }
 
   module _ (hostId : ℕ) (header : List ℕ) (p : Packet) (read : readOf header ≡ Read p) (k : ℕ) (start : StartsAt hostId p t k) where
-    planned-by-id : (id : ℕ) → GoesById p id
+    planned-by-id : (id : ℕ) → GoesById p id → ¬ (id ≡ hostId)
         → RoutedFrom (plannedIds.HasId b id) (planned.bridgesAbove b) 64 hostId t header p id k
-    planned-by-id id by =
-        by-id-over t header p read (sheet .passes) (planHost memorySpace (planned.host b)) rise tree distinct hostId k start id by
+    planned-by-id id by other =
+        by-id-over t header p read (sheet .passes) (planHost memorySpace (planned.host b)) rise tree distinct hostId k start id by other
         (plannedIds.HasId b id) (planned.bridgesAbove b) (tells id) mostAbove 64 (λ m mm. sheet .not-too-deep (m .number)) (omega arith)
+
+    count-above : length (above (planHost memorySpace (planned.host b) .first) (nodesOf t) (start .has-id .function .bus))
+        ≡ length (planned.bridgesAbove b k)
+    count-above =
+        let m = start .has-id .function in
+        sym (length-map (above (planHost memorySpace (planned.host b) .first) (nodesOf t) (m .bus)) (λ (z : Node). z .number))
+        ∙ ap length (numbers-above m (start .has-id .has-id .in-sheet) ∙ ap (planned.bridgesAbove b) (start .has-id .number-is))
 
     planned-up : headingOf p ≡ Up → bothEndsOf hostId header t ≡ FromFunction k (Host (length (planned.bridgesAbove b k)) p)
     planned-up e =
-        let m = start .has-id .function in
-        up-over t header p read (sheet .passes) (planHost memorySpace (planned.host b)) rise tree distinct hostId k start e _
-        (sym (length-map (above (planHost memorySpace (planned.host b) .first) (nodesOf t) (m .bus)) (λ (z : Node). z .number))
-        ∙ ap length (numbers-above m (start .has-id .has-id .in-sheet) ∙ ap (planned.bridgesAbove b) (start .has-id .number-is)))
+        up-over t header p read (sheet .passes) (planHost memorySpace (planned.host b)) rise tree distinct hostId k start _ count-above e
+
+    planned-host-id : GoesById p hostId → bothEndsOf hostId header t ≡ FromFunction k (Host (length (planned.bridgesAbove b k)) p)
+    planned-host-id by =
+        host-id-over t header p read (sheet .passes) (planHost memorySpace (planned.host b)) rise tree distinct hostId k start _ count-above
+        by
 
   planned-not-41 : (hostId : ℕ) (header : List ℕ) (p : Packet) → readOf header ≡ Read p
       → ¬ (numberOf (bothEndsOf hostId header t) ≡ 41)
@@ -503,7 +544,8 @@ module _ (b room : List ℕ) (n : ℕ) (bytes : Bytes b) (answered : planning b 
       (λ q read. planned-never b room n bytes answered t same header q read)
       (λ q read k type-0 sp address is.
       card-to-card .planned-routed b room n bytes answered t same header q read sp address is k type-0 .never-contested)
-      (λ q read k start id by. planned-by-id hostId header q read k start id by .never-contested)
+      (λ q read k start id by other. planned-by-id hostId header q read k start id by other .never-contested)
+      (λ q read k start by. ap numberOf (planned-host-id hostId header q read k start by))
       (λ q read k start e. ap numberOf (planned-up hostId header q read k start e))
 
 -- ## An accepted sheet
@@ -558,25 +600,35 @@ module _ (host s : List ℕ) (bytes : Bytes s) (a : Accepted host s) where
     back {m} mm = subst (λ (ms : List Node). m ∈ ms) (sym nodes-kept) mm
 
     module _ (hostId : ℕ) (header : List ℕ) (p : Packet) (read : readOf header ≡ Read p) (k : ℕ) (start : StartsAt hostId p t k) where
-      accepted-by-id : (id : ℕ) → GoesById p id
+      accepted-by-id : (id : ℕ) → GoesById p id → ¬ (id ≡ hostId)
           → RoutedFrom (HasIdOver s id) (audited.bridgesAbove host s) 510 hostId t header p id k
-      accepted-by-id id by =
+      accepted-by-id id by other =
           by-id-over t header p read (number-same same ∙ a .passes) (hostFor memorySpace (hostOfPart host))
           (subst BridgesRise nodes-kept rise-s) (subst (Tree (hostFor memorySpace (hostOfPart host))) nodes-kept (a .tree memorySpace))
-          (subst DistinctIds nodes-kept (passes-of-zero s bytes (a .passes) .distinct-ids)) hostId k start id by (HasIdOver s id)
+          (subst DistinctIds nodes-kept (passes-of-zero s bytes (a .passes) .distinct-ids)) hostId k start id by other (HasIdOver s id)
           (audited.bridgesAbove host s)
           (subst (λ (ms : List Node). TellsIds (hostFor memorySpace (hostOfPart host)) ms (id / 256) (id % 256) (HasIdOver s id)
           (audited.bridgesAbove host s)) nodes-kept (tells-s id)) 255 510 (λ m mm. few-s m (back mm)) (omega arith)
 
+      count-t : length (above (hostFor memorySpace (hostOfPart host) .first) (nodesOf t) (start .has-id .function .bus))
+          ≡ length (audited.bridgesAbove host s k)
+      count-t =
+          let m = start .has-id .function in
+          ap (λ (ms : List Node). length (above (hostFor memorySpace (hostOfPart host) .first) ms (m .bus))) (sym nodes-kept)
+          ∙ count-s m (back (start .has-id .has-id .in-sheet))
+          ∙ ap (λ (j : ℕ). length (audited.bridgesAbove host s j)) (start .has-id .number-is)
+
       accepted-up : headingOf p ≡ Up → bothEndsOf hostId header t ≡ FromFunction k (Host (length (audited.bridgesAbove host s k)) p)
       accepted-up e =
-          let m = start .has-id .function in
           up-over t header p read (number-same same ∙ a .passes) (hostFor memorySpace (hostOfPart host))
           (subst BridgesRise nodes-kept rise-s) (subst (Tree (hostFor memorySpace (hostOfPart host))) nodes-kept (a .tree memorySpace))
-          (subst DistinctIds nodes-kept (passes-of-zero s bytes (a .passes) .distinct-ids)) hostId k start e _
-          (ap (λ (ms : List Node). length (above (hostFor memorySpace (hostOfPart host) .first) ms (m .bus))) (sym nodes-kept)
-          ∙ count-s m (back (start .has-id .has-id .in-sheet))
-          ∙ ap (λ (j : ℕ). length (audited.bridgesAbove host s j)) (start .has-id .number-is))
+          (subst DistinctIds nodes-kept (passes-of-zero s bytes (a .passes) .distinct-ids)) hostId k start _ count-t e
+
+      accepted-host-id : GoesById p hostId → bothEndsOf hostId header t ≡ FromFunction k (Host (length (audited.bridgesAbove host s k)) p)
+      accepted-host-id by =
+          host-id-over t header p read (number-same same ∙ a .passes) (hostFor memorySpace (hostOfPart host))
+          (subst BridgesRise nodes-kept rise-s) (subst (Tree (hostFor memorySpace (hostOfPart host))) nodes-kept (a .tree memorySpace))
+          (subst DistinctIds nodes-kept (passes-of-zero s bytes (a .passes) .distinct-ids)) hostId k start _ count-t by
 
     accepted-not-41 : (hostId : ℕ) (header : List ℕ) (p : Packet) → readOf header ≡ Read p
         → ¬ (numberOf (bothEndsOf hostId header t) ≡ 41)
@@ -586,7 +638,8 @@ module _ (host s : List ℕ) (bytes : Bytes s) (a : Accepted host s) where
         (λ q read. audits .never-contested host s bytes a t same header q read)
         (λ q read k type-0 sp address is.
         card-to-card .accepted-routed host s bytes a t same header q read sp address is k type-0 .never-contested)
-        (λ q read k start id by. accepted-by-id hostId header q read k start id by .never-contested)
+        (λ q read k start id by other. accepted-by-id hostId header q read k start id by other .never-contested)
+        (λ q read k start by. ap numberOf (accepted-host-id hostId header q read k start by))
         (λ q read k start e. ap numberOf (accepted-up hostId header q read k start e))
 
 -- ## The request
@@ -606,7 +659,7 @@ both-ends =
       sheet-next = sheet-next;
       from-host = λ hostId header t p read passes starts. from-host hostId header t p read passes (host-sends hostId p t starts);
       from-function = λ hostId header t p read passes bytes k start. (
-        onHeading k (namedBy p) p t (headingOf p),
+        onHeading hostId k (namedBy p) p t (headingOf p),
         from-function hostId header t p read passes k
             (function-sends hostId p t (passes-of-zero t bytes passes .distinct-ids) k start) (headingOf p) refl,
       );
@@ -625,10 +678,14 @@ both-ends =
       ends-at-port = λ hostId header t p read passes bytes k start e.
           from-function hostId header t p read passes k
           (function-sends hostId p t (passes-of-zero t bytes passes .distinct-ids) k start) ToPort e;
-      planned-by-id = λ b room n bytes answered t same hostId header p read k start id by.
-          planned-by-id b room n bytes answered t same hostId header p read k start id by;
-      accepted-by-id = λ host s bytes a t same hostId header p read k start id by.
-          accepted-by-id host s bytes a t same hostId header p read k start id by;
+      planned-by-id = λ b room n bytes answered t same hostId header p read k start id by other.
+          planned-by-id b room n bytes answered t same hostId header p read k start id by other;
+      accepted-by-id = λ host s bytes a t same hostId header p read k start id by other.
+          accepted-by-id host s bytes a t same hostId header p read k start id by other;
+      planned-host-id = λ b room n bytes answered t same hostId header p read k start by.
+          planned-host-id b room n bytes answered t same hostId header p read k start by;
+      accepted-host-id = λ host s bytes a t same hostId header p read k start by.
+          accepted-host-id host s bytes a t same hostId header p read k start by;
       planned-up = λ b room n bytes answered t same hostId header p read k start e.
           planned-up b room n bytes answered t same hostId header p read k start e;
       accepted-up = λ host s bytes a t same hostId header p read k start e.

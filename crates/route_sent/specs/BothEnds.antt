@@ -26,9 +26,9 @@ use Rattle.route_sent.specs.declared.Fate.{Fate}
 use Rattle.route_sent.specs.declared.Fate.the-variants.{Delivered, Host, Port, Refused}
 use Rattle.route_sent.specs.declared.BothEnds.{BothEnds}
 use Rattle.route_sent.specs.declared.BothEnds.the-variants.{FromHost, FromFunction, Refused as NotSent}
-use Rattle.route_sent.specs.declared.sender.Sender.{Sender}
-use Rattle.route_sent.specs.declared.sender.Sender.the-variants.{Host as HostSends, Function as FunctionSends}
-use Rattle.route_sent.specs.Sender.{namedBy, senderOf}
+use Rattle.route_sender.specs.declared.Sender.{Sender}
+use Rattle.route_sender.specs.declared.Sender.the-variants.{Host as HostSends, Function as FunctionSends}
+use Rattle.route_sender.specs.Sender.{namedBy, senderOf}
 
 -- ## From a function
 
@@ -44,28 +44,28 @@ answer p (arrives number count) = Delivered (record { owner = number; bridges = 
 answer p (leaves count) = Host count p
 answer p (stops n) = Refused n
 
--- By where it is headed, from the record with this number and this ID. "A memory or I/O request goes as E11 has it, with E11's numbers";
--- so does a message 001, which is 45 there. "A completion, and a message 010, go by ID"; "000 and 101 go up to the host"; "100 ends at
--- the port"; 011 "from a function" is 45.
-abbrev pub onHeading : ℕ → ℕ → Packet → List ℕ → Heading → Fate
-onHeading number own p s (Aimed (Address space address)) = fateOf (sendPacket number p s)
-onHeading number own p s (Aimed (Id id)) = answer p (sentById (nodesOf s) (root s) number own id)
-onHeading number own p s Up = answer p (sentUp (nodesOf s) (root s) own)
-onHeading number own p s Every = Refused noStart
-onHeading number own p s ToPort = Port p
+-- By where it is headed, below a host with this ID, from the record with this number and this ID. "A memory or I/O request goes as E11 has
+-- it, with E11's numbers"; so does a message 001, which is 45 there. "Messages 000 and 101 go up to the host"; "100 ends at the port"; "A
+-- completion, and a message 010, go by ID." No message 011 starts at a function.
+abbrev pub onHeading : ℕ → ℕ → ℕ → Packet → List ℕ → Heading → Fate
+onHeading hostId number own p s (Aimed (Address space address)) = fateOf (sendPacket number p s)
+onHeading hostId number own p s Up = answer p (sentUp (nodesOf s) (root s) own)
+onHeading hostId number own p s ToPort = Port p
+onHeading hostId number own p s (Aimed (Id id)) = answer p (sentById hostId (nodesOf s) (root s) number own id)
+onHeading hostId number own p s Every = Refused noStart
 
-unfoldable pub fromFunction : ℕ → ℕ → Packet → List ℕ → Fate
-fromFunction number own p s = onHeading number own p s (headingOf p)
+unfoldable pub fromFunction : ℕ → ℕ → ℕ → Packet → List ℕ → Fate
+fromFunction hostId number own p s = onHeading hostId number own p s (headingOf p)
 
 -- ## A packet over a sheet that passes its checks
 
 -- "From the host the answer is the router's"; else "that record is named in the answer"
-abbrev pub fromSender : Packet → List ℕ → Sender → BothEnds
-fromSender p s HostSends = FromHost (routePacket p s)
-fromSender p s (FunctionSends number) = FromFunction number (fromFunction number (namedBy p) p s)
+abbrev pub fromSender : ℕ → Packet → List ℕ → Sender → BothEnds
+fromSender hostId p s HostSends = FromHost (routePacket p s)
+fromSender hostId p s (FunctionSends number) = FromFunction number (fromFunction hostId number (namedBy p) p s)
 
 unfoldable pub endsOf : ℕ → Packet → List ℕ → BothEnds
-endsOf hostId p s = fromSender p s (senderOf hostId p s)
+endsOf hostId p s = fromSender hostId p s (senderOf hostId p s)
 
 -- ## A header over a sheet: "Numbers: the reader's, then the sheet's checks, then those below."
 

@@ -23,7 +23,7 @@ use Rattle.walk.specs.Tally.{join, tallyOn}
 use Rattle.walk.specs.Walk.{walkOver, walkFrom}
 use Rattle.walk.specs.Ids.{tallyById}
 use Rattle.walk.specs.Climb.{upFrom, climbOver, climbFrom, climbBeside, tallyBeside, fromBus, sendFrom, startAt}
-use Rattle.climb_ids.specs.ById.{tallyBesideById, upUnless, climbById, sentById, sentUp}
+use Rattle.climb_ids.specs.ById.{tallyBesideById, upUnless, climbById, sentToOther, sentUp, sentById}
 use Rattle.sheet_record.specs.Spaces.{barsFrom}
 use Rattle.sheet_record.specs.Entry.{dwords, windowOf, entryOf}
 use Rattle.sheet.specs.Sheet.{allSized, isFramed, entriesFrom, commandsOf, allZero, readBacksWrong, breaks, anyBreaks, hasId, idTwice}
@@ -38,7 +38,7 @@ use Rattle.route_cards.specs.Sending.{sendPacket}
 use Rattle.route_sent.specs.declared.Fate.the-variants.{Delivered, Host, Port, Refused}
 use Rattle.route_sent.specs.declared.BothEnds.{BothEnds}
 use Rattle.route_sent.specs.declared.BothEnds.the-variants.{FromHost, FromFunction, Refused as NotSent}
-use Rattle.route_sent.specs.Sender.{senderOf}
+use Rattle.route_sender.specs.Sender.{senderOf}
 use Rattle.route_sent.specs.BothEnds.{fromFunction, endsOf, fromSheet, bothEndsOf}
 
 -- ## P10's sheet: the bridge at 0000h, its function at 0100h; and a third record, a function at 0008h, its low BAR at FB000000
@@ -90,9 +90,12 @@ arrives k h s number bridges =
       ends = with (λ p. FromFunction k (Delivered (record { owner = number; bridges = bridges; packet = p }))) (readOf h);
     }
 
+abbrev reaches-host : ℕ → ℕ → List ℕ → List ℕ → ℕ → Claim
+reaches-host id k h s bridges =
+    record { hostId = id; header = h; sheet = s; ends = with (λ p. FromFunction k (Host bridges p)) (readOf h) }
+
 abbrev leaves : ℕ → List ℕ → List ℕ → ℕ → Claim
-leaves k h s bridges =
-    record { hostId = 0xFFFF; header = h; sheet = s; ends = with (λ p. FromFunction k (Host bridges p)) (readOf h) }
+leaves k h s bridges = reaches-host 0xFFFF k h s bridges
 
 abbrev ends-at-port : ℕ → List ℕ → List ℕ → Claim
 ends-at-port k h s = record { hostId = 0xFFFF; header = h; sheet = s; ends = with (λ p. FromFunction k (Port p)) (readOf h) }
@@ -108,8 +111,14 @@ not-sent h s n = record { hostId = 0xFFFF; header = h; sheet = s; ends = NotSent
 
 abbrev pub by-id : List Claim
 by-id =
-    -- to the host, which no function's ID names; no command bit is asked for
-    leaves 2 (sentBy 1 0 (completion 0xFF 0)) none 1
+    -- for the host's own ID, also where a function beside or a bridge above has it; no command bit is asked for
+    leaves 2 (sentBy 1 0 (completion 0xFF 0xFF)) none 1
+    ∷ leaves 2 (sentBy 1 0 (Msg 0b010 (toId 0xFF 0xFF))) none 1
+    ∷ reaches-host 0x0008 2 (sentBy 1 0 (completion 0 8)) none 1
+    ∷ reaches-host 0x0008 1 (sentBy 0 0 (completion 0 8)) none 0
+    ∷ reaches-host 0x0000 2 (sentBy 1 0 (completion 0 0)) none 1
+    -- for an ID that nobody has, on no bus of the root bus's bridges
+    ∷ leaves 2 (sentBy 1 0 (completion 0xFF 0)) none 1
     ∷ leaves 3 (sentBy 0 8 (completion 0xFF 0)) none 0
     -- up and beside, down, and to the bridge come through
     ∷ arrives 2 (sentBy 1 0 (completion 0 8)) none 3 1
@@ -161,15 +170,72 @@ senders =
     ∷ []
 
 pub examples-hold : All Holds by-id × All Holds others × All Holds senders
-unfolding flatMap bothEndsOf fromSheet endsOf senderOf fromFunction sentById climbById sentUp climbFrom climbOver tallyBesideById tallyById
-    upUnless routePacket from42 sendPacket startAt sendFrom fromBus climbBeside tallyBeside upFrom any readOf pairOf findPair first
+unfolding flatMap bothEndsOf fromSheet endsOf senderOf fromFunction sentById sentToOther climbById sentUp climbFrom climbOver tallyBesideById
+    tallyById upUnless routePacket from42 sendPacket startAt sendFrom fromBus climbBeside tallyBeside upFrom any readOf pairOf findPair first
     table judged headAt enablesAt addressAt targetAt outcomeAt unnamed unnamedTarget unnamedLower ruleNumber fromRule5 fromRule6 fromRule7
     fromRule8 fromRule9 reservedSet fixedWrong upperZero enablesWrong crossesPage statusWrong walkFrom walkOver tallyOn join keep itemsOf
     items enabledIn sheetNumber from21 from20 from22 from24 from27 from28 from25 from29 isFramed allSized entriesFrom commandsOf breaks
     anyBreaks allZero readBacksWrong hasId idTwice entryOf dwords windowOf barsFrom functionsFrom nodesFrom be le nextOf partsOver partsOf
     closed start stop isNibbled isBarValue valuesFit slots slotHere wideSlot narrowSlot ioSlot sized sizeFrom
 examples-hold = (
-  (refl, (refl, (refl, (refl, (refl, (refl, (refl, (refl, (refl, (refl, (refl, (refl, (refl, (refl, tt)))))))))))))),
+  (
+    refl,
+    (
+      refl,
+      (
+        refl,
+        (
+          refl,
+          (
+            refl,
+            (
+              refl,
+              (
+                refl,
+                (
+                  refl,
+                  (
+                    refl,
+                    (
+                      refl,
+                      (
+                        refl,
+                        (
+                          refl,
+                          (
+                            refl,
+                            (
+                              refl,
+                              (
+                                refl,
+                                (
+                                  refl,
+                                  (
+                                    refl,
+                                    (
+                                      refl,
+                                      (
+                                        refl,
+                                        tt,
+                                      ),
+                                    ),
+                                  ),
+                                ),
+                              ),
+                            ),
+                          ),
+                        ),
+                      ),
+                    ),
+                  ),
+                ),
+              ),
+            ),
+          ),
+        ),
+      ),
+    ),
+  ),
   (refl, (refl, (refl, (refl, (refl, (refl, (refl, (refl, tt)))))))),
   (refl, (refl, (refl, (refl, (refl, (refl, (refl, (refl, tt)))))))),
 )

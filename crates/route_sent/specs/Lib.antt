@@ -1,8 +1,7 @@
--- Document 03, E15: who sends a packet, and what becomes of it; then what the code asks of a sheet, and the laws of each step.
-pub mod Sender
+-- Document 03, E15: what becomes of a packet from its sender; then what the code asks of a sheet, and the laws of each step.
 pub mod BothEnds
 pub mod Going
-pub mod SenderLaws
+pub mod FunctionLaws
 pub mod AboveLaws
 pub mod StepLaws
 pub mod RequestLaws

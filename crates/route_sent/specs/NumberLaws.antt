@@ -35,9 +35,9 @@ use Rattle.route_sent.specs.declared.Fate.{Fate}
 use Rattle.route_sent.specs.declared.Fate.the-variants.{Delivered, Host, Port, Refused}
 use Rattle.route_sent.specs.declared.BothEnds.{BothEnds}
 use Rattle.route_sent.specs.declared.BothEnds.the-variants.{FromHost, FromFunction, Refused as NotSent}
-use Rattle.route_sent.specs.declared.sender.Sender.{Sender}
-use Rattle.route_sent.specs.declared.sender.Sender.the-variants.{Host as HostSends, Function as FunctionSends}
-use Rattle.route_sent.specs.Sender.{namedBy, senderOf}
+use Rattle.route_sender.specs.declared.Sender.{Sender}
+use Rattle.route_sender.specs.declared.Sender.the-variants.{Host as HostSends, Function as FunctionSends}
+use Rattle.route_sender.specs.Sender.{namedBy, senderOf}
 use Rattle.route_sent.specs.BothEnds.{fateOf, answer, onHeading, fromFunction, fromSender, endsOf, fromSheet, fromReading, bothEndsOf}
 use Rattle.route_sent.specs.RequestLaws.{routed, sent-as-request}
 
@@ -63,17 +63,18 @@ numbered-fate (CardHost bridges p) h = tt
 numbered-fate (CardRefused n) h = h
 
 module _ (hostId : ℕ) (header s : List ℕ) (p : Packet) (read : readOf header ≡ Accepted p) (passes : sheetNumber s ≡ 0) where
-  numbered-heading : (number own : ℕ) (h : Heading) → NumberedFate (onHeading number own p s h)
+  numbered-heading : (number own : ℕ) (h : Heading) → NumberedFate (onHeading hostId number own p s h)
   numbered-heading number own (Aimed (Address space address)) =
       numbered-fate (sendPacket number p s)
       (subst NumberedSending (sym (sent-as-request hostId header s p read passes number)) (numbered-sending number header s))
   numbered-heading number own (Aimed (Id id)) =
-      numbered-answer p (sentById (nodesOf s) (root s) number own id) (numbered-by-id (nodesOf s) (root s) number own id)
+      numbered-answer p (sentById hostId (nodesOf s) (root s) number own id)
+      (numbered-by-id hostId (nodesOf s) (root s) number own id)
   numbered-heading number own Up = numbered-answer p (sentUp (nodesOf s) (root s) own) (numbered-up (nodesOf s) (root s) own)
   numbered-heading number own Every = refusal 45 refl
   numbered-heading number own ToPort = tt
 
-  numbered-from : (x : Sender) → Numbered (fromSender p s x)
+  numbered-from : (x : Sender) → Numbered (fromSender hostId p s x)
   unfolding fromFunction
   numbered-from HostSends = subst NumberedRouting (sym (routed hostId header s p read passes)) (numbered-route header s)
   numbered-from (FunctionSends number) = numbered-heading number (namedBy p) (headingOf p)
@@ -83,7 +84,7 @@ unfolding bothEndsOf fromSheet endsOf
 numbered-ends hostId header s = go (readOf header) refl (numbered-read header)
   where
     by-sheet : (p : Packet) → readOf header ≡ Accepted p → (b : Bool) → eqb (sheetNumber s) 0 ≡ b
-        → Numbered (cond b (fromSender p s (senderOf hostId p s)) (NotSent (sheetNumber s)))
+        → Numbered (cond b (fromSender hostId p s (senderOf hostId p s)) (NotSent (sheetNumber s)))
     by-sheet p e true q = numbered-from hostId header s p e (eqb-true (sheetNumber s) 0 q) (senderOf hostId p s)
     by-sheet p e false q = (omega (arith, eqb-false (sheetNumber s) 0 q), sheet-number s)
 

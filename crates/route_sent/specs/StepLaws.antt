@@ -15,7 +15,7 @@ use Rattle.walk.specs.Climb as climb
 use Rattle.walk.specs.Climb.{Sent, arrives, leaves, stops, settleUp, goUp}
 use Rattle.walk.specs.Climb.{sentOf as outcomeSent}
 use Rattle.walk.specs.ClimbLaws.{Falling, climb-step, further, walk-shift}
-use Rattle.climb_ids.specs.ById.{nothing, sentById, sentUp}
+use Rattle.climb_ids.specs.ById.{nothing, sentToOther, sentUp, sentById}
 use Rattle.climb_ids.specs.ByIdLaws.{falling-unless, sent-climb, sent-own}
 use Rattle.sheet.specs.Sheet.{sheetNumber}
 use Rattle.sheet.specs.Spaces.{nodesOf}
@@ -40,9 +40,9 @@ use Rattle.route_sent.specs.declared.Fate.{Fate}
 use Rattle.route_sent.specs.declared.Fate.the-variants.{Refused}
 use Rattle.route_sent.specs.declared.BothEnds.{BothEnds}
 use Rattle.route_sent.specs.declared.BothEnds.the-variants.{FromHost, FromFunction, Refused as NotSent}
-use Rattle.route_sent.specs.declared.sender.Sender.{Sender}
-use Rattle.route_sent.specs.declared.sender.Sender.the-variants.{Host as HostSends, Function as FunctionSends}
-use Rattle.route_sent.specs.Sender.{namedBy, senderOf}
+use Rattle.route_sender.specs.declared.Sender.{Sender}
+use Rattle.route_sender.specs.declared.Sender.the-variants.{Host as HostSends, Function as FunctionSends}
+use Rattle.route_sender.specs.Sender.{namedBy, senderOf}
 use Rattle.route_sent.specs.BothEnds.{answer, onHeading, fromFunction, fromSender, endsOf, fromSheet, fromReading, bothEndsOf}
 use Rattle.route_sent.specs.BothEnds.{onRoom, listedAfter}
 use Rattle.route_sent.specs.Going.{tallyGoing, staysGoing, upGoing, climbed, IsSender, upOf, sentOf}
@@ -106,15 +106,26 @@ module _ (going : Going) (s : List ℕ) (bytes : Bytes s) (c : Checked s) (top :
 
 -- ## From a function
 
+module _ (hostId : ℕ) (p : Packet) (s : List ℕ) (number own id : ℕ) where
+  pub hosts-id : id ≡ hostId → (f : Fate) → f ≡ answer p (sentUp (nodesOf s) (root s) own)
+      → f ≡ answer p (sentById hostId (nodesOf s) (root s) number own id)
+  unfolding sentById
+  hosts-id e f is = rw (eq-eqb id hostId e) is
+
+  pub not-hosts-id : ¬ (id ≡ hostId) → (f : Fate) → f ≡ answer p (sentToOther (nodesOf s) (root s) number own id)
+      → f ≡ answer p (sentById hostId (nodesOf s) (root s) number own id)
+  unfolding sentById
+  not-hosts-id e f is = rw (ne-eqb id hostId e) is
+
 module _ (p : Packet) (s : List ℕ) (bytes : Bytes s) (zero : sheetNumber s ≡ 0) (number own id : ℕ) (sender : IsSender s number own) where
-  pub own-id : id ≡ own → Refused noOwner ≡ answer p (sentById (nodesOf s) (root s) number own id)
+  pub own-id : id ≡ own → Refused noOwner ≡ answer p (sentToOther (nodesOf s) (root s) number own id)
   own-id e =
       let ps = passes-of-zero s bytes zero in
       ap (answer p) (sym (sent-own (nodesOf s) (ps .bridges-rise) (ps .distinct-ids) (root s) number own id sender e))
 
   pub climbed-by-id : ¬ (id ≡ own) → (top bus : ℕ) → top ≡ root s → bus ≡ own / 256
       → (r : Climbed) → sentOf r ≡ climbed (ById id) s top bus 0 → (f : Fate) → f ≡ answer p (sentOf r)
-      → f ≡ answer p (sentById (nodesOf s) (root s) number own id)
+      → f ≡ answer p (sentToOther (nodesOf s) (root s) number own id)
   climbed-by-id other top bus at on r done f is =
       let ps = passes-of-zero s bytes zero in
       is
@@ -129,25 +140,25 @@ unfolding sentUp
 climbed-up p s own top bus at on r done f is =
     is ∙ ap (answer p) (done ∙ ap₂ (λ (t b : ℕ). climbed OnlyUp s t b 0) at on)
 
-module _ (number own : ℕ) (p : Packet) (s : List ℕ) (h : Heading) (e : h ≡ headingOf p) where
-  pub headed-as : (x : Heading) → h ≡ x → onHeading number own p s x ≡ fromFunction number own p s
+module _ (hostId number own : ℕ) (p : Packet) (s : List ℕ) (h : Heading) (e : h ≡ headingOf p) where
+  pub headed-as : (x : Heading) → h ≡ x → onHeading hostId number own p s x ≡ fromFunction hostId number own p s
   unfolding fromFunction
-  headed-as x q = ap (onHeading number own p s) (sym q ∙ e)
+  headed-as x q = ap (onHeading hostId number own p s) (sym q ∙ e)
 
 -- ## A packet over a sheet that passes its checks
 
 module _ (hostId : ℕ) (p : Packet) (s : List ℕ) (r : Sender) (e : r ≡ senderOf hostId p s) where
-  sent-as : (x : Sender) → r ≡ x → fromSender p s x ≡ endsOf hostId p s
+  sent-as : (x : Sender) → r ≡ x → fromSender hostId p s x ≡ endsOf hostId p s
   unfolding endsOf
-  sent-as x q = ap (fromSender p s) (sym q ∙ e)
+  sent-as x q = ap (fromSender hostId p s) (sym q ∙ e)
 
   pub sent-by-host : r ≡ HostSends → (x : Routing) → x ≡ routePacket p s → FromHost x ≡ endsOf hostId p s
   sent-by-host q x f = ap FromHost f ∙ sent-as HostSends q
 
   pub sent-by-function : (number : ℕ) → r ≡ FunctionSends number → (own : ℕ) → own ≡ namedBy p
-      → (x : Fate) → x ≡ fromFunction number own p s → FromFunction number x ≡ endsOf hostId p s
+      → (x : Fate) → x ≡ fromFunction hostId number own p s → FromFunction number x ≡ endsOf hostId p s
   sent-by-function number q own named x f =
-      ap (FromFunction number) (f ∙ ap (λ (n : ℕ). fromFunction number n p s) named) ∙ sent-as (FunctionSends number) q
+      ap (FromFunction number) (f ∙ ap (λ (n : ℕ). fromFunction hostId number n p s) named) ∙ sent-as (FunctionSends number) q
 
 -- ## A header over a sheet
 

@@ -1,13 +1,12 @@
 // Both ends of a packet: a header and a register sheet to who sends it, the host or a function, and to who gets it. Any bytes may be given
 // as header and sheet, and any number as the host's ID.
 mod climb;
-mod sender;
 
 ghost use mathlib.Core.Path.{_≡_};
 ghost use lib.ListN.{length};
 ghost use Rattle.sheet.specs.Sheet.{sheetNumber};
 ghost use Rattle.route.specs.Route.{root};
-ghost use Rattle.climb_ids.specs.ById.{sentById, sentUp};
+ghost use Rattle.climb_ids.specs.ById.{sentToOther, sentUp, sentById};
 ghost use Rattle.sheet.specs.Spaces.{nodesOf};
 ghost use Rattle.route_sent.specs.BothEnds.{fateOf as fateOfSending, answer, fromFunction, endsOf, bothEndsOf, fateNumber, numberOf};
 ghost use Rattle.route_sent.specs.BothEnds.{onRoom, listedAfter};
@@ -20,7 +19,7 @@ use route_answer::Routing;
 use route_arrival::Heading;
 use route_cards::Arrival;
 use route_cards::Sending;
-use sender::Sender;
+use route_sender::Sender;
 use tlp::Reading;
 
 // What becomes of a packet from a function: delivered to another one; gone up to the host, past so many bridges; ended at the port; or
@@ -101,11 +100,11 @@ pub fn packet_sent(host_id: u16, p: Packet, sheet: &[u8]) -> BothEnds
     requires { ⌜ sheetNumber (now sheet) ≡ 0 ⌝ }
     ensures { λ r. ⌜ r ≡ endsOf «host_id» p (now (sheet .entry)) ⌝ }
 {
-    match sender::sender_of(host_id, p, sheet) {
+    match route_sender::sender_of(host_id, p, sheet) {
         Sender::Host => BothEnds::FromHost(route::route_packet(p, sheet)),
         Sender::Function(number) => BothEnds::FromFunction(
             number,
-            from_function(number, sender::named_by(p), p, sheet),
+            from_function(host_id, number, route_sender::named_by(p), p, sheet),
         ),
     }
 }
@@ -113,14 +112,14 @@ pub fn packet_sent(host_id: u16, p: Packet, sheet: &[u8]) -> BothEnds
 // ---- from a function
 
 // By where the packet is headed, from the record with this number and this ID. 45 for what no function may send.
-fn from_function(number: u16, own: u16, p: Packet, sheet: &[u8]) -> Fate
+fn from_function(host_id: u16, number: u16, own: u16, p: Packet, sheet: &[u8]) -> Fate
     requires { ⌜ (sheetNumber (now sheet) ≡ 0) × IsSender (now sheet) number own ⌝ }
-    ensures { λ r. ⌜ r ≡ fromFunction number own p (now (sheet .entry)) ⌝ }
+    ensures { λ r. ⌜ r ≡ fromFunction «host_id» number own p (now (sheet .entry)) ⌝ }
 {
     match route_arrival::heading_of(p) {
         Heading::Aimed(aim) => match aim {
             Aim::Address(_, _) => fate_of(route_cards::send_packet(number, p, sheet)),
-            Aim::Id(id) => send_by_id(number, own, id, p, sheet),
+            Aim::Id(id) => send_by_id(host_id, number, own, id, p, sheet),
         },
         Heading::Up => send_up(own, p, sheet),
         Heading::Every => Fate::Refused(45),
@@ -128,10 +127,21 @@ fn from_function(number: u16, own: u16, p: Packet, sheet: &[u8]) -> Fate
     }
 }
 
-// By ID: 40 for the sender's own, and else from its bus on.
-fn send_by_id(number: u16, own: u16, id: u16, p: Packet, sheet: &[u8]) -> Fate
+// By ID: the host's own goes up to it, the sender's own is 40.
+fn send_by_id(host_id: u16, number: u16, own: u16, id: u16, p: Packet, sheet: &[u8]) -> Fate
     requires { ⌜ (sheetNumber (now sheet) ≡ 0) × IsSender (now sheet) number own ⌝ }
-    ensures { λ r. ⌜ r ≡ answer p (sentById (nodesOf (now (sheet .entry))) (root (now (sheet .entry))) number own id) ⌝ }
+    ensures { λ r. ⌜ r ≡ answer p (sentById «host_id» (nodesOf (now (sheet .entry))) (root (now (sheet .entry))) number own id) ⌝ }
+{
+    if id == host_id {
+        return send_up(own, p, sheet);
+    }
+    send_to_other(number, own, id, p, sheet)
+}
+
+// By an ID that is not the host's: from the sender's bus on.
+fn send_to_other(number: u16, own: u16, id: u16, p: Packet, sheet: &[u8]) -> Fate
+    requires { ⌜ (sheetNumber (now sheet) ≡ 0) × IsSender (now sheet) number own ⌝ }
+    ensures { λ r. ⌜ r ≡ answer p (sentToOther (nodesOf (now (sheet .entry))) (root (now (sheet .entry))) number own id) ⌝ }
 {
     if id == own {
         return Fate::Refused(40);

@@ -41,19 +41,19 @@ enum-told-4 : tie.Need-enum-told-4
 enum-told-4 c = search needs
 
 returns : tie.Need-returns
-returns c = c .fate-of .ensures ∙ ap fateOf (c .before .send-packet .ensures) ∙ headed-as (c .before .before .before .before .before .before .before .before .before .args .number) (c .before .before .before .before .before .before .before .before .before .args .own) (c .before .before .before .before .before .before .before .before .before .args .p) _ (c .before .before .before .before .before .before .before .heading-of .result) (c .before .before .before .before .before .before .before .heading-of .ensures) _ (c .before .before .before .before .before .aim .given .1 ∙ ap Aimed (c .before .before .enum-told .given .1))
+returns c = c .fate-of .ensures ∙ ap fateOf (c .before .send-packet .ensures) ∙ headed-as (c .before .before .before .before .before .before .before .before .before .args .host-id) (c .before .before .before .before .before .before .before .before .before .args .number) (c .before .before .before .before .before .before .before .before .before .args .own) (c .before .before .before .before .before .before .before .before .before .args .p) _ (c .before .before .before .before .before .before .before .heading-of .result) (c .before .before .before .before .before .before .before .heading-of .ensures) _ (c .before .before .before .before .before .aim .given .1 ∙ ap Aimed (c .before .before .enum-told .given .1))
 
 returns-2 : tie.Need-returns-2
-returns-2 c = c .send-by-id .ensures ∙ headed-as (c .before .before .before .before .before .before .before .before .before .args .number) (c .before .before .before .before .before .before .before .before .before .args .own) (c .before .before .before .before .before .before .before .before .before .args .p) _ (c .before .before .before .before .before .before .before .heading-of .result) (c .before .before .before .before .before .before .before .heading-of .ensures) _ (c .before .before .before .before .before .aim .given .1 ∙ ap Aimed (c .before .before .aim2 .given .1))
+returns-2 c = c .send-by-id .ensures ∙ headed-as (c .before .before .before .before .before .before .before .before .before .args .host-id) (c .before .before .before .before .before .before .before .before .before .args .number) (c .before .before .before .before .before .before .before .before .before .args .own) (c .before .before .before .before .before .before .before .before .before .args .p) _ (c .before .before .before .before .before .before .before .heading-of .result) (c .before .before .before .before .before .before .before .heading-of .ensures) _ (c .before .before .before .before .before .aim .given .1 ∙ ap Aimed (c .before .before .aim2 .given .1))
 
 returns-3 : tie.Need-returns-3
-returns-3 c = c .send-up .ensures ∙ headed-as (c .before .before .before .before .before .args .number) (c .before .before .before .before .before .args .own) (c .before .before .before .before .before .args .p) _ (c .before .before .before .heading-of .result) (c .before .before .before .heading-of .ensures) Up (c .before .enum-told2 .given .1)
+returns-3 c = c .send-up .ensures ∙ headed-as (c .before .before .before .before .before .args .host-id) (c .before .before .before .before .before .args .number) (c .before .before .before .before .before .args .own) (c .before .before .before .before .before .args .p) _ (c .before .before .before .heading-of .result) (c .before .before .before .heading-of .ensures) Up (c .before .enum-told2 .given .1)
 
 returns-4 : tie.Need-returns-4
-returns-4 c = headed-as (c .before .before .before .before .args .number) (c .before .before .before .before .args .own) (c .before .before .before .before .args .p) _ (c .before .before .heading-of .result) (c .before .before .heading-of .ensures) Every (c .enum-told3 .given .1)
+returns-4 c = headed-as (c .before .before .before .before .args .host-id) (c .before .before .before .before .args .number) (c .before .before .before .before .args .own) (c .before .before .before .before .args .p) _ (c .before .before .heading-of .result) (c .before .before .heading-of .ensures) Every (c .enum-told3 .given .1)
 
 returns-5 : tie.Need-returns-5
-returns-5 c = headed-as (c .before .before .before .before .args .number) (c .before .before .before .before .args .own) (c .before .before .before .before .args .p) _ (c .before .before .heading-of .result) (c .before .before .heading-of .ensures) Port (c .enum-told4 .given .1)
+returns-5 c = headed-as (c .before .before .before .before .args .host-id) (c .before .before .before .before .args .number) (c .before .before .before .before .args .own) (c .before .before .before .before .args .p) _ (c .before .before .heading-of .result) (c .before .before .heading-of .ensures) Port (c .enum-told4 .given .1)
 
 pub from-function-spec : {M : Type 1} → statement M
 from-function-spec =

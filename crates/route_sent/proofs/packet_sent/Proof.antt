@@ -3,7 +3,7 @@ use borrow.Author.Needs.{needs}
 use Rattle.route_sent.proofs.packet_sent.Statement.{statement}
 use Rattle.route_sent.proofs.packet_sent.Tie as tie
 use mathlib.Core.Path.{sym, _∙_}
-use Rattle.route_sent.specs.SenderLaws.{sender-is}
+use Rattle.route_sent.specs.FunctionLaws.{sender-is}
 use Rattle.route_sent.specs.StepLaws.{sent-by-host, sent-by-function}
 
 sender-of-requires : tie.Need-sender-of-requires

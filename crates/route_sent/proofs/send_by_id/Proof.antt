@@ -1,31 +1,24 @@
--- `route_sent::send_by_id`: 40 for the sender's own ID, else the climb from its bus. Assumes nothing.
+-- `route_sent::send_by_id`: up for the host's own ID, else from the sender's bus on. Assumes nothing.
 use borrow.Author.Needs.{needs}
 use Rattle.route_sent.proofs.send_by_id.Statement.{statement}
 use Rattle.route_sent.proofs.send_by_id.Tie as tie
-use mathlib.Core.Path.{refl}
-use native.Mathlib.Omega.{arith}
-use Rattle.sheet.specs.SheetLaws.{checked-of-zero}
-use Rattle.route_sent.specs.StepLaws.{own-id, climbed-by-id}
+use Rattle.route_sent.specs.StepLaws.{hosts-id, not-hosts-id}
+
+send-up-requires : tie.Need-send-up-requires
+send-up-requires c κs = search needs
 
 returns : tie.Need-returns
-returns c = own-id (c .before .before .args .p) _ (λ i. c .before .shared-slice-known .given i .fits) (c .before .before .pre .0) (c .before .before .args .number) (c .before .before .args .own) (c .before .before .args .id) (c .before .before .pre .1) (c .if1 .taken)
+returns c =
+    let a = c .before .before .before .args in
+    hosts-id (a .host-id) (a .p) _ (a .number) (a .own) (a .id) (c .before .if1 .taken) _ (c .send-up .ensures)
 
-root-of-requires : tie.Need-root-of-requires
-root-of-requires c κs = checked-of-zero _ (c .before .before .pre .0)
-
-cast-climb : tie.Need-cast-climb
-cast-climb c = search needs
-
-climb-requires : tie.Need-climb-requires
-climb-requires c κs = (checked-of-zero _ (c .before .before .before .pre .0), omega arith)
-
-arrived-requires : tie.Need-arrived-requires
-arrived-requires c κs = search needs
+send-to-other-requires : tie.Need-send-to-other-requires
+send-to-other-requires c κs = search needs
 
 returns-2 : tie.Need-returns-2
-returns-2 c = climbed-by-id (c .before .before .before .before .before .args .p) _ (λ i. c .before .before .before .before .shared-slice-known .given i .fits) (c .before .before .before .before .before .pre .0) (c .before .before .before .before .before .args .number) (c .before .before .before .before .before .args .own) (c .before .before .before .before .before .args .id) (c .before .before .before .before .before .pre .1) (c .before .before .before .if1 .left) _ _ (c .before .before .root-of .ensures) refl (c .before .climb .result) (c .before .climb .ensures) _ (c .arrived .ensures)
+returns-2 c =
+    let a = c .before .before .before .args in
+    not-hosts-id (a .host-id) (a .p) _ (a .number) (a .own) (a .id) (c .before .if1 .left) _ (c .send-to-other .ensures)
 
 pub send-by-id-spec : {M : Type 1} → statement M
-send-by-id-spec =
-    tie.close
-    (tie.spec returns root-of-requires cast-climb climb-requires arrived-requires returns-2)
+send-by-id-spec = tie.close (tie.spec send-up-requires returns send-to-other-requires returns-2)

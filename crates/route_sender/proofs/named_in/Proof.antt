@@ -1,10 +1,10 @@
--- `route_sent::sender::named_in`: by the tally of the ID's own bus. Assumes nothing.
+-- `route_sender::named_in`: by the tally of the ID's own bus. Assumes nothing.
 use borrow.Author.Needs.{needs}
-use Rattle.route_sent.proofs.sender.named_in.Statement.{statement}
-use Rattle.route_sent.proofs.sender.named_in.Tie as tie
+use Rattle.route_sender.proofs.named_in.Statement.{statement}
+use Rattle.route_sender.proofs.named_in.Tie as tie
 use mathlib.Core.Path.{refl, ap, _∙_}
 use Rattle.sheet.specs.SheetLaws.{checked-of-zero}
-use Rattle.route_sent.specs.SenderLaws.{named-as}
+use Rattle.route_sender.specs.SenderLaws.{named-as}
 use Rattle.claims.specs.declared.Tally.the-variants.{Nothing, One, Several}
 
 cast-tally-on : tie.Need-cast-tally-on

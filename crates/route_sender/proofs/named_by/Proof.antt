@@ -1,7 +1,7 @@
--- `route_sent::sender::named_by`: one case each. Assumes nothing.
+-- `route_sender::named_by`: one case each. Assumes nothing.
 use borrow.Author.Needs.{needs}
-use Rattle.route_sent.proofs.sender.named_by.Statement.{statement}
-use Rattle.route_sent.proofs.sender.named_by.Tie as tie
+use Rattle.route_sender.proofs.named_by.Statement.{statement}
+use Rattle.route_sender.proofs.named_by.Tie as tie
 
 enum-known-p : tie.Need-enum-known-p
 enum-known-p c = search needs

@@ -1,8 +1,8 @@
--- `route_sent::sender::sender_of`: the host's own, else who is named. Assumes nothing.
+-- `route_sender::sender_of`: the host's own, else who is named. Assumes nothing.
 use borrow.Author.Needs.{needs}
-use Rattle.route_sent.proofs.sender.sender_of.Statement.{statement}
-use Rattle.route_sent.proofs.sender.sender_of.Tie as tie
-use Rattle.route_sent.specs.SenderLaws.{sender-host, sender-named}
+use Rattle.route_sender.proofs.sender_of.Statement.{statement}
+use Rattle.route_sender.proofs.sender_of.Tie as tie
+use Rattle.route_sender.specs.SenderLaws.{sender-host, sender-named}
 
 named-by-requires : tie.Need-named-by-requires
 named-by-requires c κs = search needs

@@ -1,7 +1,7 @@
--- `route_sent::sender::starts_at_host`: one case each. Assumes nothing.
+-- `route_sender::starts_at_host`: one case each. Assumes nothing.
 use borrow.Author.Needs.{needs}
-use Rattle.route_sent.proofs.sender.starts_at_host.Statement.{statement}
-use Rattle.route_sent.proofs.sender.starts_at_host.Tie as tie
+use Rattle.route_sender.proofs.starts_at_host.Statement.{statement}
+use Rattle.route_sender.proofs.starts_at_host.Tie as tie
 
 enum-told : tie.Need-enum-told
 enum-told c = search needs

@@ -1,34 +1,33 @@
 -- Who sends a packet, one step each in the words of the code. Assumes nothing.
-use mathlib.Core.Path.{_≡_, refl, sym, ap, subst, _∙_}
+use mathlib.Core.Path.{_≡_, refl, sym, ap, _∙_}
 use mathlib.Core.Bool.{Bool, true, false, cond, _||_}
 use mathlib.Core.List.{List, [], _∷_, List·Memᴰ·head}
-use Prim.Native.Nat.{ℕ, _/_, _%_, _<_}
+use Prim.Native.Nat.{ℕ, _/_, _%_}
 use native.Mathlib.Nat.{suc-ne-zero}
-use native.Mathlib.Omega.{arith}
 use lib.Dec.{eqb}
-use borrow.Author.Tests.{eq-eqb}
+use borrow.Author.Tests.{eq-eqb, ne-eqb}
 use Rattle.lists.specs.Lists.{_∈_, keep}
 use Rattle.lists.specs.KeepLaws.{keep-elim}
 use Rattle.packet.specs.declared.Packet.{Packet}
-use Rattle.pools.specs.declared.Space.the-variants.{Memory}
+use Rattle.tlp.specs.declared.Reading.{Reading}
+use Rattle.tlp.specs.declared.Reading.the-variants.{Accepted, Refused as NotRead}
+use Rattle.tlp.specs.Reading.{numberOf as readingNumber, readOf}
 use Rattle.walk.specs.Registers as registers
-use Rattle.walk.specs.Registers.{Node, Registers}
-use Rattle.walk.specs.RegistersLaws.{nodes-elim, number-ge, number-unique}
+use Rattle.walk.specs.Registers.{Node}
 use Rattle.walk.specs.Tally as tallies
 use Rattle.walk.specs.Ids.{hasId, firstOf, tallyById}
-use Rattle.walk.specs.IdsLaws.{has-id-elim}
-use Rattle.sheet.specs.Sheet.{entriesOf}
-use Rattle.sheet.specs.Spaces.{registersOf, nodesOf}
-use Rattle.sheet.specs.SheetLaws.{numbered-functions, nodes-functions}
+use Rattle.sheet.specs.Sheet.{sheetNumber}
+use Rattle.sheet.specs.Spaces.{nodesOf}
 use Rattle.claims.specs.declared.Aim.the-variants.{Id}
 use Rattle.claims.specs.declared.Claim.the-variants.{Bar, Window}
 use Rattle.claims.specs.declared.Tally.{Tally}
 use Rattle.claims.specs.declared.Tally.the-variants.{Nothing, One, Several}
 use Rattle.claims.specs.Claims.{tallyOf, tallyFor}
-use Rattle.route_sent.specs.declared.sender.Sender.{Sender}
-use Rattle.route_sent.specs.declared.sender.Sender.the-variants.{Host, Function}
-use Rattle.route_sent.specs.Sender.{namedBy, startsAtHost, firstNamed, namedIn, senderOf}
-use Rattle.route_sent.specs.Going.{IsSender}
+use Rattle.route_sender.specs.declared.Sender.{Sender}
+use Rattle.route_sender.specs.declared.Sender.the-variants.{Host, Function}
+use Rattle.route_sender.specs.declared.SentBy.{SentBy}
+use Rattle.route_sender.specs.declared.SentBy.the-variants.{Told, Refused}
+use Rattle.route_sender.specs.Sender.{namedBy, startsAtHost, firstNamed, namedIn, senderOf, fromSheet, fromReading, sentByOf}
 
 -- ## By the tally of the ID's own bus
 
@@ -74,42 +73,6 @@ module _ (hostId : ℕ) (p : Packet) (s : List ℕ) (id : ℕ) (named : id ≡ n
   unfolding senderOf
   sender-named t r q = q ∙ rw (← named, ← own, t)
 
--- ## The function that sends has the ID
-
-pub is-sender : (s : List ℕ) (number id : ℕ) (n : Node) → n ∈ nodesOf s → n .number ≡ number → hasId (id / 256) (id % 256) n ≡ true
-    → IsSender s number id
-is-sender s number id n m is h =
-    record {
-      from-1 = from-1;
-      numbers = numbers;
-      has-own = λ k mk same. subst (λ (j : Node). (j .bus ≡ id / 256) × (j .devfn ≡ id % 256)) (numbers n k m mk (is ∙ sym same))
-          (has-id-elim (id / 256) (id % 256) n h);
-    }
-  where
-    found : (k : Node) → k ∈ nodesOf s → (f : Registers) × (f ∈ registersOf Memory s) × (f .node ≡ k)
-    found k mk =
-        nodes-elim (registersOf Memory s) (subst (λ (ns : List Node). k ∈ ns) (sym (nodes-functions Memory 1 (entriesOf s))) mk)
-
-    from-1 : (k : Node) → k ∈ nodesOf s → 0 < k .number
-    from-1 k mk =
-        let (f, mf, same) = found k mk in
-        omega (
-          arith,
-          number-ge 1 (registersOf Memory s) f (numbered-functions Memory 1 (entriesOf s)) mf,
-          ap (λ (j : Node). j .number) same,
-        )
-
-    numbers : (k j : Node) → k ∈ nodesOf s → j ∈ nodesOf s → k .number ≡ j .number → k ≡ j
-    numbers k j mk mj e =
-        let (f, mf, is-k) = found k mk in
-        let (g, mg, is-j) = found j mj in
-        let same : f .node .number ≡ g .node .number =
-        ap (λ (i : Node). i .number) is-k ∙ e ∙ sym (ap (λ (i : Node). i .number) is-j) in
-        sym is-k
-        ∙ ap (λ (z : Registers). z .node)
-        (number-unique 1 (registersOf Memory s) f g (numbered-functions Memory 1 (entriesOf s)) mf mg same)
-        ∙ is-j
-
 -- a sender that is a function is in the sheet and has the ID that the packet names
 pub record Named (s : List ℕ) (number id : ℕ) : Type 0 where
   pub function : Node
@@ -132,6 +95,29 @@ named-elim hostId p s number e =
         let number-is : n .number ≡ number = cc in
         record { function = n; in-sheet = inside; number-is = number-is; has-id = has }
 
-pub sender-is : (hostId : ℕ) (p : Packet) (s : List ℕ) (number : ℕ) → senderOf hostId p s ≡ Function number → IsSender s number (namedBy p)
-sender-is hostId p s number e =
-    let n = named-elim hostId p s number e in is-sender s number (namedBy p) (n .function) (n .in-sheet) (n .number-is) (n .has-id)
+-- ## A header over a sheet
+
+module _ (hostId : ℕ) (header s : List ℕ) (reading : Reading) (e : reading ≡ readOf header) where
+  pub header-refused : (n m : ℕ) → reading ≡ NotRead n → m ≡ readingNumber reading → Refused m ≡ sentByOf hostId header s
+  unfolding sentByOf
+  header-refused n m f g = ap Refused (g ∙ ap readingNumber f) ∙ ap (λ (r : Reading). fromReading hostId r s) (sym f ∙ e)
+
+  -- n is the sheet's number
+  module _ (p : Packet) (f : reading ≡ Accepted p) (n : ℕ) (g : n ≡ sheetNumber s) where
+    header-accepted : fromSheet hostId p s ≡ sentByOf hostId header s
+    unfolding sentByOf
+    header-accepted = ap (λ (x : Reading). fromReading hostId x s) (sym f ∙ e)
+
+    refused-by-sheet : ¬ (n ≡ 0) → Refused n ≡ fromSheet hostId p s
+    unfolding fromSheet
+    refused-by-sheet h = rw (← g, ne-eqb n 0 h)
+
+    passed-by-sheet : n ≡ 0 → Told (senderOf hostId p s) ≡ fromSheet hostId p s
+    unfolding fromSheet
+    passed-by-sheet z = rw (← g, eq-eqb n 0 z)
+
+    pub sheet-refused : ¬ (n ≡ 0) → Refused n ≡ sentByOf hostId header s
+    sheet-refused h = refused-by-sheet h ∙ header-accepted
+
+    pub sender-told : n ≡ 0 → (x : Sender) → x ≡ senderOf hostId p s → Told x ≡ sentByOf hostId header s
+    sender-told z x q = ap Told q ∙ passed-by-sheet z ∙ header-accepted
