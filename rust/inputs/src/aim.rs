@@ -39,7 +39,8 @@ pub fn id(sheet: &[u8], random: &mut Random) -> u16 {
     near(&sheet[1 + RECORD * random.below(count as u64) as usize..][..RECORD], random)
 }
 
-fn near(record: &[u8], random: &mut Random) -> u16 {
+/// The ID of the record, or one like it.
+pub(crate) fn near(record: &[u8], random: &mut Random) -> u16 {
     let id = u16::from_be_bytes([record[2], record[3]]);
     match random.below(12) {
         0 => id ^ 1 << random.below(8),
@@ -123,7 +124,8 @@ fn bar(record: &[u8], random: &mut Random) -> Option<Range> {
     Some((false, first, first | ((1u64 << mask.trailing_zeros().min(63)) - 1)))
 }
 
-fn at_edge((is_io, first, last): Range, random: &mut Random) -> Numbers {
+/// A request, or a message by address, for an edge of the range, for what lies inside it or next to it.
+pub(crate) fn at_edge((is_io, first, last): Range, random: &mut Random) -> Numbers {
     let address = match random.below(9) {
         0 => first.wrapping_sub(4),
         1 => last.wrapping_add(1),

@@ -5,6 +5,7 @@ pub mod audit;
 pub mod board;
 pub mod cards;
 pub mod damage;
+pub mod ends;
 pub mod foreign;
 pub mod header;
 pub mod labels;

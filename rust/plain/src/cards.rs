@@ -1,50 +1,20 @@
 //! Card to card (E11): a request that starts at a function, named by its record, and climbs until somebody claims it.
 
-use std::fmt;
-
 use crate::packet::{self, Family, Packet};
-use crate::route::{bars_that_hold, windows_that_hold, Claim, Owners, Space};
+use crate::route::{bars_that_hold, windows_that_hold, Arrival, Claim, Owners, Space};
 use crate::sheet::{Record, Sheet};
 
 /// The command bit of a bus master.
 const BUS_MASTER: u16 = 4;
 
-/// Where a request from a function goes, the bridges that it crosses up and down, and the request as it arrives.
-#[derive(Clone, Copy, Debug, PartialEq, Eq)]
-pub enum Sending {
-    /// Another function, by its record number.
-    Function { record: u16, bridges: u16, packet: Packet },
-    /// The host, above the root bus.
-    Host { bridges: u16, packet: Packet },
-}
-
-impl Sending {
-    /// As the C boundary gives it: record (0 for the host) and bridges, the packet's twenty.
-    pub fn numbers(&self) -> Vec<u64> {
-        let (record, bridges, packet) = match self {
-            Sending::Function { record, bridges, packet } => (*record, *bridges, packet),
-            Sending::Host { bridges, packet } => (0, *bridges, packet),
-        };
-        let mut numbers = vec![record.into(), bridges.into()];
-        numbers.extend(packet::to_numbers(packet));
-        numbers
-    }
-}
-
-/// One line: `record 2 bridges 1 MRd ...` or `host bridges 1 MRd ...`.
-impl fmt::Display for Sending {
-    fn fmt(&self, f: &mut fmt::Formatter<'_>) -> fmt::Result {
-        match self {
-            Sending::Function { record, bridges, packet } => write!(f, "record {record} bridges {bridges} {packet}"),
-            Sending::Host { bridges, packet } => write!(f, "host bridges {bridges} {packet}"),
-        }
-    }
-}
-
-/// Routes the header from the function with this record number, from 1.
-pub fn route_from(record: u32, header: &[u8], sheet: &[u8]) -> Result<Sending, u8> {
+/// Routes the header from the function with this record number, from 1: to another function, or to the host.
+pub fn route_from(record: u32, header: &[u8], sheet: &[u8]) -> Result<Arrival, u8> {
     let packet = packet::read(header)?;
-    let sheet = Sheet::new(sheet)?;
+    from_record(&Sheet::new(sheet)?, record, packet)
+}
+
+/// Routes an accepted packet over a sheet that passed its checks.
+pub(crate) fn from_record(sheet: &Sheet<'_>, record: u32, packet: Packet) -> Result<Arrival, u8> {
     let space = match packet.kind.family() {
         Family::Memory => Space::Memory,
         Family::Io => Space::Io,
@@ -52,12 +22,12 @@ pub fn route_from(record: u32, header: &[u8], sheet: &[u8]) -> Result<Sending, u
     };
     let index = (record as usize).checked_sub(1).ok_or(45)?;
     let start = sheet.records().nth(index).filter(|start| !start.is_bridge()).ok_or(45)?;
-    let climb = Climb { sheet: &sheet, start: index, space, address: packet.address };
+    let climb = Climb { sheet, start: index, space, address: packet.address };
     let (owner, bridges) = climb.from(start)?;
     Ok(match owner {
         // A sheet has at most 512 records.
-        Some(index) => Sending::Function { record: index as u16 + 1, bridges, packet },
-        None => Sending::Host { bridges, packet },
+        Some(index) => Arrival::Function { record: index as u16 + 1, bridges, packet },
+        None => Arrival::Host { bridges, packet },
     })
 }
 
@@ -91,7 +61,7 @@ impl Climb<'_> {
                 None if bus == root => return Ok((None, crossed)),
                 None => {}
             }
-            let (index, bridge) = self.bridge_above(bus)?;
+            let (index, bridge) = self.sheet.bridge_above(bus)?;
             if windows_that_hold(bridge, self.space, self.address).next().is_some() {
                 return Err(40);
             }
@@ -125,11 +95,13 @@ impl Climb<'_> {
         }
         Ok(claim)
     }
+}
 
+impl<'a> Sheet<'a> {
     /// The one bridge whose secondary bus this is, with its index: none is 40, two are 41.
-    fn bridge_above(&self, bus: u8) -> Result<(usize, Record<'_>), u8> {
+    pub(crate) fn bridge_above(&self, bus: u8) -> Result<(usize, Record<'a>), u8> {
         let leads = |&(_, record): &(usize, Record<'_>)| record.is_bridge() && record.secondary() == bus;
-        let mut above = self.sheet.records().enumerate().filter(leads);
+        let mut above = self.records().enumerate().filter(leads);
         let bridge = above.next().ok_or(40)?;
         match above.next() {
             Some(_) => Err(41),

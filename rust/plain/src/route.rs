@@ -10,8 +10,10 @@ use crate::sheet::{Record, Sheet};
 /// Where a packet goes, and the packet as it arrives there.
 #[derive(Clone, Copy, Debug, PartialEq, Eq)]
 pub enum Arrival {
-    /// One function, by its record number, and the bridges crossed.
-    Function { record: u16, bridges: u8, packet: Packet },
+    /// One function, by its record number, and the bridges crossed, up and down.
+    Function { record: u16, bridges: u16, packet: Packet },
+    /// The host, above the root bus, and the bridges crossed. Only what starts at a function goes there.
+    Host { bridges: u16, packet: Packet },
     /// Every function of the sheet, of which there are so many: records 1 and up.
     Every { functions: u16, packet: Packet },
     /// The port that receives it, and nothing beyond.
@@ -19,10 +21,12 @@ pub enum Arrival {
 }
 
 impl Arrival {
-    /// As the C boundary gives it: record and bridges, the packet's twenty, and for every function their records.
+    /// As the C boundary gives it: record (0 for the host) and bridges, the packet's twenty, and for every function their
+    /// records.
     pub fn numbers(&self) -> Vec<u64> {
         let (record, bridges, packet, records) = match *self {
-            Arrival::Function { record, bridges, ref packet } => (record, bridges.into(), packet, 0),
+            Arrival::Function { record, bridges, ref packet } => (record, bridges, packet, 0),
+            Arrival::Host { bridges, ref packet } => (0, bridges, packet, 0),
             Arrival::Every { functions, ref packet } => (0, functions, packet, functions),
             Arrival::Port { ref packet } => (0, 0, packet, 0),
         };
@@ -33,11 +37,12 @@ impl Arrival {
     }
 }
 
-/// One line: `record 2 bridges 1 MRd ...`, `all 2 Msg ...` or `port Msg ...`.
+/// One line: `record 2 bridges 1 MRd ...`, `host bridges 1 MRd ...`, `all 2 Msg ...` or `port Msg ...`.
 impl fmt::Display for Arrival {
     fn fmt(&self, f: &mut fmt::Formatter<'_>) -> fmt::Result {
         match self {
             Arrival::Function { record, bridges, packet } => write!(f, "record {record} bridges {bridges} {packet}"),
+            Arrival::Host { bridges, packet } => write!(f, "host bridges {bridges} {packet}"),
             Arrival::Every { functions, packet } => write!(f, "all {functions} {packet}"),
             Arrival::Port { packet } => write!(f, "port {packet}"),
         }
@@ -125,7 +130,7 @@ pub(crate) trait Owners {
             },
         };
         // A sheet has at most 512 records.
-        Ok(Arrival::Function { record: index as u16 + 1, bridges, packet })
+        Ok(Arrival::Function { record: index as u16 + 1, bridges: bridges.into(), packet })
     }
 }
 

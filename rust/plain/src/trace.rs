@@ -1,13 +1,14 @@
 //! The trace annotator (request E4 of document 02): a line for each header of a trace, whole or fed in pieces, over a sheet
-//! or by an index (E8).
+//! or by an index (E8); or with both ends of each packet (E15 of document 03).
 //!
 //! A trace is version byte 1, then records of a two-byte length and as many header bytes.
 
-use std::mem;
+use std::{fmt, mem};
 
 use crate::index::Index;
-use crate::packet;
+use crate::packet::{self, Packet};
 use crate::route::{Arrival, Owners};
+use crate::sent::{self, Ends};
 use crate::sheet::Sheet;
 
 const VERSION: u8 = 1;
@@ -16,16 +17,22 @@ const FRONT: usize = 16;
 
 /// The lines of a whole trace over a sheet.
 pub fn annotate(sheet: &[u8], trace: &[u8]) -> String {
-    whole(Sheet::new(sheet), trace)
+    whole(owner_line(Sheet::new(sheet)), trace)
 }
 
 /// The lines of a whole trace by an index that was built, or by any bytes.
 pub fn label(index: &[u8], trace: &[u8]) -> String {
-    whole(Ok(Index::new(index)), trace)
+    whole(owner_line(Ok(Index::new(index))), trace)
 }
 
-/// By what answers for a header, or with the number that refuses all of them.
-fn whole(owners: Result<impl Owners + Copy, u8>, trace: &[u8]) -> String {
+/// The lines of a whole trace with both ends, where the host's own ID is `host_id`: up to FFFFh, else 10.
+pub fn follow(host_id: u64, sheet: &[u8], trace: &[u8]) -> Result<String, u8> {
+    let host_id = sent::id(host_id)?;
+    Ok(whole(ends_line(host_id, Sheet::new(sheet)), trace))
+}
+
+/// With what writes the line of a record whose header was read.
+fn whole(line_of: impl Fn(u64, Packet) -> String, trace: &[u8]) -> String {
     let Some((&version, mut rest)) = trace.split_first() else { return refused(20) };
     if version != VERSION {
         return refused(21);
@@ -34,7 +41,7 @@ fn whole(owners: Result<impl Owners + Copy, u8>, trace: &[u8]) -> String {
     let mut number: u64 = 1;
     while let Some((&length, after)) = rest.split_first_chunk() {
         let Some((header, after)) = after.split_at_checked(u16::from_be_bytes(length).into()) else { break };
-        lines += &line(number, header, owners);
+        lines += &line(number, header, &line_of);
         number = number.wrapping_add(1);
         rest = after;
     }
@@ -50,19 +57,65 @@ pub(crate) fn refused(number: u8) -> String {
     format!("refused {number}\n")
 }
 
-/// A record's line: `1 MRd owner 2`, `2 IOWr refused 40`, `3 - refused 4`, `4 Msg owner all` or `5 Msg owner port`.
-fn line(number: u64, header: &[u8], owners: Result<impl Owners, u8>) -> String {
-    let packet = match packet::read(header) {
-        Ok(packet) => packet,
-        Err(refusal) => return format!("{number} - refused {refusal}\n"),
-    };
-    // As read: a configuration request of type 1 arrives as type 0.
-    let kind = packet.kind;
-    match owners.and_then(|owners| owners.route(packet)) {
-        Ok(Arrival::Function { record, .. }) => format!("{number} {kind:?} owner {record}\n"),
-        Ok(Arrival::Every { .. }) => format!("{number} {kind:?} owner all\n"),
-        Ok(Arrival::Port { .. }) => format!("{number} {kind:?} owner port\n"),
-        Err(refusal) => format!("{number} {kind:?} refused {refusal}\n"),
+/// A record's line: `3 - refused 4` where its header is not read.
+fn line(number: u64, header: &[u8], line_of: impl Fn(u64, Packet) -> String) -> String {
+    match packet::read(header) {
+        Ok(packet) => line_of(number, packet),
+        Err(refusal) => format!("{number} - refused {refusal}\n"),
+    }
+}
+
+/// `1 MRd owner 2`, `2 IOWr refused 40`, `4 Msg owner all` or `5 Msg owner port`: by what answers for a packet, or with the
+/// number that refuses all of them.
+fn owner_line(owners: Result<impl Owners, u8>) -> impl Fn(u64, Packet) -> String {
+    move |number, packet| {
+        // As read: a configuration request of type 1 arrives as type 0.
+        let kind = packet.kind;
+        match owners.as_ref().map_err(|&number| number).and_then(|owners| owners.route(packet)) {
+            Ok(arrival) => format!("{number} {kind:?} owner {}\n", place(&arrival)),
+            Err(refusal) => format!("{number} {kind:?} refused {refusal}\n"),
+        }
+    }
+}
+
+/// `4 MWr from 3 to host`, `6 MRd from host to 4` or `7 MWr from 3 refused 44`; over a sheet that fails its checks, which has no
+/// senders, `1 MRd refused 27`.
+fn ends_line(host_id: u16, sheet: Result<Sheet<'_>, u8>) -> impl Fn(u64, Packet) -> String + '_ {
+    move |number, packet| {
+        let kind = packet.kind;
+        let ends = match sheet {
+            Ok(sheet) => Ends { host_id, sheet },
+            Err(refusal) => return format!("{number} {kind:?} refused {refusal}\n"),
+        };
+        let sender = ends.sender(&packet);
+        match ends.arrival(sender, packet) {
+            Ok(arrival) => format!("{number} {kind:?} from {sender} to {}\n", place(&arrival)),
+            Err(refusal) => format!("{number} {kind:?} from {sender} refused {refusal}\n"),
+        }
+    }
+}
+
+/// Where a packet goes, in one word: a record number, `host`, `all` or `port`.
+fn place(arrival: &Arrival) -> Place {
+    match *arrival {
+        Arrival::Function { record, .. } => Place::Record(record),
+        Arrival::Host { .. } => Place::Word("host"),
+        Arrival::Every { .. } => Place::Word("all"),
+        Arrival::Port { .. } => Place::Word("port"),
+    }
+}
+
+enum Place {
+    Record(u16),
+    Word(&'static str),
+}
+
+impl fmt::Display for Place {
+    fn fmt(&self, f: &mut fmt::Formatter<'_>) -> fmt::Result {
+        match self {
+            Place::Record(record) => write!(f, "{record}"),
+            Place::Word(word) => f.write_str(word),
+        }
     }
 }
 
@@ -108,19 +161,25 @@ impl Annotator {
     /// Reads the trace's next piece and writes its lines at the start of `room`; how many bytes they are. In short room
     /// (11) the piece is not taken and nothing is written.
     pub fn feed(&mut self, sheet: &[u8], piece: &[u8], room: &mut [u8]) -> Result<usize, u8> {
-        self.feed_by(Sheet::new(sheet), piece, room)
+        self.feed_by(owner_line(Sheet::new(sheet)), piece, room)
     }
 
     /// The same by an index that was built, or by any bytes.
     pub fn feed_index(&mut self, index: &[u8], piece: &[u8], room: &mut [u8]) -> Result<usize, u8> {
-        self.feed_by(Ok(Index::new(index)), piece, room)
+        self.feed_by(owner_line(Ok(Index::new(index))), piece, room)
     }
 
-    fn feed_by(&mut self, owners: Result<impl Owners + Copy, u8>, piece: &[u8], room: &mut [u8]) -> Result<usize, u8> {
+    /// The same with both ends, where the host's own ID is `host_id`: up to FFFFh, else 10.
+    pub fn feed_ends(&mut self, host_id: u64, sheet: &[u8], piece: &[u8], room: &mut [u8]) -> Result<usize, u8> {
+        let host_id = sent::id(host_id)?;
+        self.feed_by(ends_line(host_id, Sheet::new(sheet)), piece, room)
+    }
+
+    fn feed_by(&mut self, line_of: impl Fn(u64, Packet) -> String, piece: &[u8], room: &mut [u8]) -> Result<usize, u8> {
         let mut then = self.clone();
         let mut lines = String::new();
         for &byte in piece {
-            then.take(byte, owners, &mut lines);
+            then.take(byte, &line_of, &mut lines);
         }
         let length = put(&lines, room)?;
         *self = then;
@@ -136,7 +195,7 @@ impl Annotator {
         }
     }
 
-    fn take(&mut self, byte: u8, owners: Result<impl Owners, u8>, lines: &mut String) {
+    fn take(&mut self, byte: u8, line_of: impl Fn(u64, Packet) -> String, lines: &mut String) {
         self.stage = match mem::replace(&mut self.stage, Stage::Between) {
             Stage::Fresh if byte == VERSION => Stage::Between,
             Stage::Fresh => {
@@ -145,23 +204,29 @@ impl Annotator {
             }
             Stage::OtherVersion => Stage::OtherVersion,
             Stage::Between => Stage::HalfLength(byte),
-            Stage::HalfLength(high) => self.inside(u16::from_be_bytes([high, byte]), Vec::new(), owners, lines),
+            Stage::HalfLength(high) => self.inside(u16::from_be_bytes([high, byte]), Vec::new(), line_of, lines),
             Stage::Inside { left, mut front } => {
                 if front.len() < FRONT {
                     front.push(byte);
                 }
-                self.inside(left - 1, front, owners, lines)
+                self.inside(left - 1, front, line_of, lines)
             }
         };
     }
 
     /// A record of which so many bytes are to come. With none left it is whole, and its line is written.
-    fn inside(&mut self, left: u16, front: Vec<u8>, owners: Result<impl Owners, u8>, lines: &mut String) -> Stage {
+    fn inside(
+        &mut self,
+        left: u16,
+        front: Vec<u8>,
+        line_of: impl Fn(u64, Packet) -> String,
+        lines: &mut String,
+    ) -> Stage {
         if left > 0 {
             return Stage::Inside { left, front };
         }
         self.records = self.records.wrapping_add(1);
-        *lines += &line(self.records, &front, owners);
+        *lines += &line(self.records, &front, line_of);
         Stage::Between
     }
 }

@@ -232,7 +232,7 @@ fn delivery() {
                 let owner = &functions[index];
                 let bridges = bridges_above(&functions, owner.bus(), host[0]);
                 if owner.enables(is_io) && bridges.iter().all(|bridge| bridge.enables(is_io)) {
-                    let (record, bridges) = (index as u16 + 1, bridges.len() as u8);
+                    let (record, bridges) = (index as u16 + 1, bridges.len() as u16);
                     expected = Ok(Arrival::Function { record, bridges, packet });
                     most = most.max(bridges);
                 }

@@ -7,7 +7,7 @@ use decoded::{functions, requests, Function};
 use inputs::board::{self, Board, Style};
 use inputs::foreign::{configuration, message, request, sheet, Record, CFGRD0, MRD, MSG};
 use inputs::random::Random;
-use plain::{Kind, Packet, Sending};
+use plain::{Arrival, Kind, Packet};
 
 /// A planned board, its functions with their command words as they now are, and a request for an address.
 struct Told<'a> {
@@ -54,7 +54,7 @@ impl Told<'_> {
         reached.then(|| (owner, (up.len() + down.len()) as u16))
     }
 
-    fn sending(&self, start: usize, packet: Packet) -> Result<Sending, u8> {
+    fn sending(&self, start: usize, packet: Packet) -> Result<Arrival, u8> {
         if !self.master(start) {
             return Err(44);
         }
@@ -62,7 +62,7 @@ impl Told<'_> {
             return Err(40);
         }
         if let Some((owner, bridges)) = self.owner(start) {
-            return Ok(Sending::Function { record: owner as u16 + 1, bridges, packet });
+            return Ok(Arrival::Function { record: owner as u16 + 1, bridges, packet });
         }
         for bridge in self.above(start) {
             if self.windows_hold(bridge) {
@@ -77,7 +77,7 @@ impl Told<'_> {
         if (0..self.functions.len()).filter(on_root).any(holds) {
             return Err(40);
         }
-        Ok(Sending::Host { bridges: self.above(start).len() as u16, packet })
+        Ok(Arrival::Host { bridges: self.above(start).len() as u16, packet })
     }
 }
 
@@ -119,8 +119,9 @@ fn over_planned_sheets() {
             let told = Told { board: &board, functions: &functions, is_io, address: packet.address.into() };
             assert_eq!(answer, told.sending(start, packet));
             match answer {
-                Ok(Sending::Function { .. }) => delivered += 1,
-                Ok(Sending::Host { .. }) => hosts += 1,
+                Ok(Arrival::Function { .. }) => delivered += 1,
+                Ok(Arrival::Host { .. }) => hosts += 1,
+                Ok(Arrival::Every { .. } | Arrival::Port { .. }) => panic!("no message has a start"),
                 Err(number) => refused[usize::from(number)] += 1,
             }
         }

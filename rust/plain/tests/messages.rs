@@ -251,7 +251,7 @@ fn planned(board: &Board) -> Vec<u8> {
 }
 
 /// A message by address or by ID: its record and bridges.
-fn owner(header: &[u8], sheet: &[u8]) -> Result<(u16, u8), u8> {
+fn owner(header: &[u8], sheet: &[u8]) -> Result<(u16, u16), u8> {
     match route(header, sheet)? {
         Arrival::Function { record, bridges, packet } => {
             assert_eq!(read(header), Ok(packet));
@@ -437,6 +437,7 @@ fn random_headers() {
                 Ok(Arrival::Function { .. }) => 0,
                 Ok(Arrival::Every { .. }) => 1,
                 Ok(Arrival::Port { .. }) => 2,
+                Ok(Arrival::Host { .. }) => panic!("the host has it already"),
                 Err(40) => 3,
                 Err(41) => 4,
                 Err(43) => 5,

@@ -35,7 +35,7 @@ fn walk(functions: &[Function], mut packet: Packet) -> Result<Arrival, u8> {
         Kind::CfgWr1 => Kind::CfgWr0,
         kind => kind,
     };
-    Ok(Arrival::Function { record, bridges, packet })
+    Ok(Arrival::Function { record, bridges: bridges.into(), packet })
 }
 
 fn by_address(functions: &[Function], bus: u8, is_io: bool, address: u128, crossed: u8) -> Result<(u16, u8), u8> {

@@ -8,7 +8,7 @@ use crate::audit::audit as audited;
 use crate::board::{Host, HOST};
 use crate::script::{script as written, RECORD};
 use crate::sheet::{listing, FULL_SHEET};
-use crate::trace::{annotate as annotated, refused};
+use crate::trace::{annotate as annotated, follow as followed, refused};
 
 /// `plan`: a board.
 pub fn plan(board: &[u8]) -> Vec<u8> {
@@ -35,6 +35,15 @@ pub fn audit(input: &[u8]) -> Vec<u8> {
 /// `label`: the 30 bytes of a host record, a sheet after its two-byte length, then a trace.
 pub fn label(input: &[u8]) -> Vec<u8> {
     labelled(input).unwrap_or_else(refused).into_bytes()
+}
+
+/// `follow`: the host's own ID, two bytes, a sheet after its two-byte length, then a trace.
+pub fn follow(input: &[u8]) -> Vec<u8> {
+    let lines = input.split_first_chunk().ok_or(20).and_then(|(&host_id, rest)| {
+        let (sheet, trace) = sheet_and_trace(rest)?;
+        followed(u16::from_be_bytes(host_id).into(), sheet, trace)
+    });
+    lines.unwrap_or_else(refused).into_bytes()
 }
 
 /// `script`: a requester ID, a tag, then a board.
