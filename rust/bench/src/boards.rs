@@ -123,7 +123,7 @@ fn route_from(backplane: &Backplane) -> Times {
     let first: u16 = first.expect("a board with cards").0;
     let sent = plain_calls::route_from(first, header, &sheet).expect("a request that is delivered").numbers();
     let proved = proved_calls::route_from(first, header, &sheet).expect("a request that is delivered");
-    assert_eq!(sent[..2], [proved.record().unwrap_or(0).into(), proved.bridges().into()]);
+    assert_eq!(sent[..2], [proved.record().unwrap_or(0).into(), proved.bridges().unwrap_or(0).into()]);
     compare(
         || plain_calls::route_from(first, black_box(header), black_box(&sheet)).is_ok(),
         || proved_calls::route_from(first, black_box(header), black_box(&sheet)).is_ok(),

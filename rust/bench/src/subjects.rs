@@ -75,14 +75,14 @@ pub mod plain_calls {
     }
 
     #[inline(never)]
-    pub fn route_from(record: u16, header: &[u8], sheet: &[u8]) -> Result<plain::Sending, u8> {
+    pub fn route_from(record: u16, header: &[u8], sheet: &[u8]) -> Result<plain::Arrival, u8> {
         plain::route_from(record.into(), header, sheet)
     }
 }
 
 /// The proved calls with Rust types, likewise.
 pub mod proved_calls {
-    use cartsundial::{calls, Arrival, Fields, Id, Packet, Refusal, Sending};
+    use cartsundial::{calls, Arrival, Fields, Id, Packet, Refusal};
 
     #[inline(never)]
     pub fn read(header: &[u8]) -> Result<Packet, Refusal> {
@@ -157,7 +157,7 @@ pub mod proved_calls {
     }
 
     #[inline(never)]
-    pub fn route_from(record: u16, header: &[u8], sheet: &[u8]) -> Result<Sending, Refusal> {
+    pub fn route_from(record: u16, header: &[u8], sheet: &[u8]) -> Result<Arrival, Refusal> {
         cartsundial::route_from(record, header, sheet)
     }
 }

@@ -3,13 +3,21 @@
 use crate::calls::{self, ANY_ROUTE, ROUTE, SHORT};
 use crate::{functions, refused, Id, Packet, Refusal};
 
-/// Where a packet that comes from the host arrives.
+/// Where a packet arrives: one that comes from the host ([`route`], [`Index::find`](crate::Index::find)), or one that a function
+/// sends ([`route_from`](crate::route_from)).
 #[derive(Clone, Copy, Debug, PartialEq, Eq, Hash)]
 #[non_exhaustive]
 pub enum Arrival {
     /// At one function.
     Function(Delivery),
-    /// At every function of the sheet: a message that is broadcast.
+    /// At the host, above the root bus. Only what a function sends goes there.
+    Host {
+        /// How many bridges the packet crosses on its way up.
+        bridges: u16,
+        /// The packet as it arrives, which is as it was sent.
+        packet: Packet,
+    },
+    /// At every function of the sheet: a message that is broadcast. Only the host sends it.
     Every {
         /// How many functions the sheet has. Each gets the packet once: records 1 to this one.
         functions: u16,
@@ -30,33 +38,57 @@ pub struct Delivery {
     pub record: u16,
     /// That function's ID.
     pub id: Id,
-    /// How many bridges the packet crosses.
-    pub bridges: u8,
+    /// How many bridges the packet crosses, those up and those down together. Over a planned sheet these are at most 32 from
+    /// the host, and 64 from a function.
+    pub bridges: u16,
     /// The packet as it arrives: configuration type 1 has become type 0, nothing else changes.
     pub packet: Packet,
 }
 
 impl Arrival {
-    /// The one function that gets the packet. `None` where every function does, or the port.
+    /// The one function that gets the packet. `None` where the host does, every function or the port.
     pub fn delivery(self) -> Option<Delivery> {
         match self {
             Arrival::Function(delivery) => Some(delivery),
-            Arrival::Every { .. } | Arrival::Port { .. } => None,
+            Arrival::Host { .. } | Arrival::Every { .. } | Arrival::Port { .. } => None,
+        }
+    }
+
+    /// The record of the one function that gets the packet, from 1.
+    pub fn record(&self) -> Option<u16> {
+        self.delivery().map(|delivery| delivery.record)
+    }
+
+    /// How many bridges the packet crosses to a function or to the host. Of a broadcast that is not told, and at the port there
+    /// are none.
+    pub fn bridges(&self) -> Option<u16> {
+        match *self {
+            Arrival::Function(Delivery { bridges, .. }) | Arrival::Host { bridges, .. } => Some(bridges),
+            Arrival::Port { .. } => Some(0),
+            Arrival::Every { .. } => None,
         }
     }
 
     /// The packet as it arrives.
     pub fn packet(&self) -> &Packet {
         match self {
-            Arrival::Function(Delivery { packet, .. }) | Arrival::Every { packet, .. } | Arrival::Port { packet } => {
-                packet
-            }
+            Arrival::Function(Delivery { packet, .. })
+            | Arrival::Host { packet, .. }
+            | Arrival::Every { packet, .. }
+            | Arrival::Port { packet } => packet,
         }
+    }
+
+    /// At the function with this record of the sheet.
+    #[inline]
+    pub(crate) fn function(record: u16, bridges: u64, packet: Packet, sheet: &[u8]) -> Arrival {
+        let id = functions::id_at(sheet, record);
+        Arrival::Function(Delivery { record, id, bridges: bridges as u16, packet })
     }
 }
 
 /// Routes the header from the host over the sheet. A header that is refused is refused before the sheet is read. Only a
-/// message can go to every function, or end at the port.
+/// message can go to every function, or end at the port; nothing goes to the host, which has it.
 pub fn route(header: &[u8], sheet: &[u8]) -> Result<Arrival, Refusal> {
     asked(header, sheet, |answer| calls::route(header, sheet, answer))
 }
@@ -92,9 +124,6 @@ fn arrival(header: &[u8], sheet: &[u8], numbers: &[u64]) -> Arrival {
     match (numbers[0] as u16, numbers[1]) {
         (0, 0) => Arrival::Port { packet },
         (0, functions) => Arrival::Every { functions: functions as u16, packet },
-        (record, bridges) => {
-            let id = functions::id_at(sheet, record);
-            Arrival::Function(Delivery { record, id, bridges: bridges as u8, packet })
-        }
+        (record, bridges) => Arrival::function(record, bridges, packet, sheet),
     }
 }

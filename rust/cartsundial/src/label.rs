@@ -1,29 +1,34 @@
 //! What a line of an annotated trace says.
 
-use crate::{Kind, Refusal};
+use crate::{Kind, Refusal, Sender};
 use core::error::Error;
 use core::fmt;
 use core::str::FromStr;
 
-/// What a line of an annotated trace says.
+/// What a line of an annotated trace says. With both ends a line names the sender too.
 #[derive(Clone, Copy, Debug, PartialEq, Eq, Hash)]
 #[non_exhaustive]
 pub enum Label {
-    /// `1 MRd owner 2`: a record whose packet has an owner.
+    /// `1 MRd owner 2`, or with both ends `1 MRd from host to 2`: a record whose packet has an owner.
     Owned {
         /// The record's number in the trace, from 1.
         number: u64,
         /// The header's kind, as it was read.
         kind: Kind,
+        /// From whom the packet comes, where the line says it.
+        sender: Option<Sender>,
         /// Where the packet goes.
         owner: Owner,
     },
-    /// `2 IOWr refused 40`, or `3 - refused 4`: a record that is refused.
+    /// `2 IOWr refused 40`, with both ends `2 IOWr from 3 refused 44`, or `3 - refused 4`: a record that is refused.
     Refused {
         /// The record's number in the trace, from 1.
         number: u64,
         /// The header's kind, where it was read. `None` where the reader refuses it.
         kind: Option<Kind>,
+        /// From whom the packet comes, where the line says it. `None` also with both ends where the header is not read, or the
+        /// sheet fails its checks.
+        sender: Option<Sender>,
         /// Why.
         refusal: Refusal,
     },
@@ -38,11 +43,19 @@ pub enum Label {
 pub enum Owner {
     /// `2`: to the function with this record of the sheet.
     Function(u16),
+    /// `host`: to the host. Only with both ends, of what a function sends.
+    Host,
     /// `all`: to every function.
     Every,
     /// `port`: to the port that receives it, and no further.
     Port,
 }
+
+/// The most words of a line: `2 IOWr from 3 refused 44`.
+const MOST_WORDS: usize = 6;
+
+/// The host, as sender and as owner.
+const HOST: &str = "host";
 
 /// The text is no line of an annotated trace.
 #[derive(Clone, Copy, Debug, PartialEq, Eq)]
@@ -61,17 +74,35 @@ impl FromStr for Label {
     type Err = NoLabel;
 
     fn from_str(line: &str) -> Result<Label, NoLabel> {
-        let mut words = line.split(' ');
-        let first = words.next().ok_or(NoLabel)?;
-        Ok(match (first, words.next(), words.next(), words.next(), words.next()) {
-            ("cut", None, None, None, None) => Label::Cut,
-            ("refused", Some(refusal), None, None, None) => Label::NoTrace(part(refusal)?),
-            (number, Some(kind), Some("owner"), Some(owner), None) => {
-                Label::Owned { number: part(number)?, kind: part(kind)?, owner: owner.parse()? }
+        let mut words = [""; MOST_WORDS];
+        let mut count = 0;
+        for word in line.split(' ') {
+            *words.get_mut(count).ok_or(NoLabel)? = word;
+            count += 1;
+        }
+        Ok(match words[..count] {
+            ["cut"] => Label::Cut,
+            ["refused", refusal] => Label::NoTrace(part(refusal)?),
+            // The host gets a packet only from a sender.
+            [number, kind, "owner", owner] if owner != HOST => {
+                Label::Owned { number: part(number)?, kind: part(kind)?, sender: None, owner: owner.parse()? }
             }
-            (number, Some(kind), Some("refused"), Some(refusal), None) => Label::Refused {
+            [number, kind, "from", sender, "to", owner] => Label::Owned {
+                number: part(number)?,
+                kind: part(kind)?,
+                sender: Some(sender.parse()?),
+                owner: owner.parse()?,
+            },
+            [number, kind, "refused", refusal] => Label::Refused {
                 number: part(number)?,
                 kind: if kind == "-" { None } else { Some(part(kind)?) },
+                sender: None,
+                refusal: part(refusal)?,
+            },
+            [number, kind, "from", sender, "refused", refusal] => Label::Refused {
+                number: part(number)?,
+                kind: Some(part(kind)?),
+                sender: Some(sender.parse()?),
                 refusal: part(refusal)?,
             },
             _ => return Err(NoLabel),
@@ -79,16 +110,26 @@ impl FromStr for Label {
     }
 }
 
-/// `2`, `all` or `port`.
+/// `2`, `host`, `all` or `port`.
 impl FromStr for Owner {
     type Err = NoLabel;
 
     fn from_str(word: &str) -> Result<Owner, NoLabel> {
         Ok(match word {
+            HOST => Owner::Host,
             "all" => Owner::Every,
             "port" => Owner::Port,
             record => Owner::Function(part(record)?),
         })
+    }
+}
+
+/// `host`, or a record.
+impl FromStr for Sender {
+    type Err = NoLabel;
+
+    fn from_str(word: &str) -> Result<Sender, NoLabel> {
+        Ok(if word == HOST { Sender::Host } else { Sender::Record(part(word)?) })
     }
 }
 
@@ -101,24 +142,45 @@ fn part<T: FromStr>(word: &str) -> Result<T, NoLabel> {
 impl fmt::Display for Label {
     fn fmt(&self, f: &mut fmt::Formatter<'_>) -> fmt::Result {
         match *self {
-            Label::Owned { number, kind, owner } => write!(f, "{number} {kind} owner {owner}"),
-            Label::Refused { number, kind: Some(kind), refusal } => {
-                write!(f, "{number} {kind} refused {}", refusal.number())
+            Label::Owned { number, kind, sender: None, owner } => write!(f, "{number} {kind} owner {owner}"),
+            Label::Owned { number, kind, sender: Some(sender), owner } => {
+                write!(f, "{number} {kind} from {sender} to {owner}")
             }
-            Label::Refused { number, kind: None, refusal } => write!(f, "{number} - refused {}", refusal.number()),
+            Label::Refused { number, kind, sender, refusal } => {
+                write!(f, "{number} ")?;
+                match kind {
+                    Some(kind) => write!(f, "{kind} ")?,
+                    None => f.write_str("- ")?,
+                }
+                if let Some(sender) = sender {
+                    write!(f, "from {sender} ")?;
+                }
+                write!(f, "refused {}", refusal.number())
+            }
             Label::NoTrace(refusal) => write!(f, "refused {}", refusal.number()),
             Label::Cut => f.write_str("cut"),
         }
     }
 }
 
-/// `2`, `all` or `port`.
+/// `2`, `host`, `all` or `port`.
 impl fmt::Display for Owner {
     fn fmt(&self, f: &mut fmt::Formatter<'_>) -> fmt::Result {
         match self {
             Owner::Function(record) => write!(f, "{record}"),
+            Owner::Host => f.write_str(HOST),
             Owner::Every => f.write_str("all"),
             Owner::Port => f.write_str("port"),
+        }
+    }
+}
+
+/// `host`, or a record.
+impl fmt::Display for Sender {
+    fn fmt(&self, f: &mut fmt::Formatter<'_>) -> fmt::Result {
+        match self {
+            Sender::Host => f.write_str(HOST),
+            Sender::Record(record) => write!(f, "{record}"),
         }
     }
 }

@@ -133,6 +133,7 @@ mod pool;
 mod refusal;
 mod requests;
 mod script;
+mod sent;
 mod sheet;
 mod size;
 mod trace;
@@ -146,7 +147,7 @@ pub use board::{bridges, Bridge, Spares};
 pub use board_text::BoardTextError;
 #[cfg(feature = "alloc")]
 pub use built::{Board, BoardFunction};
-pub use cards::{route_from, Sending};
+pub use cards::route_from;
 pub use engine::Engine;
 pub use fields::{Body, Enables, Fields};
 pub use finding::{audit_where, Finding, Party, Place};
@@ -165,6 +166,7 @@ pub use plan_finding::{plan_where, what_does_not_fit, Needs, PlanFinding, PlanPa
 pub use pool::Pool;
 pub use refusal::{NoRefusal, Refusal};
 pub use script::{write_script, writes, RegisterWrite, Writes, FULL_SCRIPT};
+pub use sent::Sender;
 pub use sheet::Sheet;
 pub use size::{NoSize, Size};
 #[cfg(feature = "alloc")]

@@ -29,8 +29,8 @@ fn headers() -> [Vec<u8>; 6] {
 
 #[test]
 fn labels() {
-    let owned = |number, kind, owner| Label::Owned { number, kind, owner };
-    let refused = |number, kind, refusal| Label::Refused { number, kind, refusal };
+    let owned = |number, kind, owner| Label::Owned { number, kind, sender: None, owner };
+    let refused = |number, kind, refusal| Label::Refused { number, kind, sender: None, refusal };
     let trace = trace::of(&headers());
     let labels: Vec<Label> = lines(&p10(), &trace[..trace.len() - 1]).map(|line| line.label()).collect();
     assert_eq!(

@@ -6,7 +6,7 @@ use crate::logged::headers_of;
 use crate::named::NamedSheet;
 use crate::source::{read_id, Source};
 use crate::words;
-use cartsundial::{read, route, route_from, Arrival, Function, Packet, Sending};
+use cartsundial::{read, route, route_from, Arrival, Delivery, Function, Packet};
 
 pub const OPTIONS: Options = Options { flags: &[], values: &["--from"] };
 
@@ -55,7 +55,7 @@ fn from_host(named: &NamedSheet, header: &[u8]) -> Result<String, String> {
             Arrival::Function(delivery) => {
                 let mut above = above(named, delivery.record);
                 above.reverse();
-                owner(named, delivery.record, &delivery.packet) + &over(named, delivery.bridges.into(), &above)
+                owner(named, delivery.record, &delivery.packet) + &over(named, delivery.bridges, &above)
             }
             Arrival::Every { functions, .. } => format!("every function, {functions} of them"),
             Arrival::Port { .. } => "the port that receives it".to_string(),
@@ -65,14 +65,15 @@ fn from_host(named: &NamedSheet, header: &[u8]) -> Result<String, String> {
 
 fn from_card(named: &NamedSheet, record: u16, header: &[u8]) -> Result<String, String> {
     let start = format!("{} from {}: ", title(header), named.title_of(record));
-    let sending = route_from(record, header, named.sheet.bytes()).map_err(|refusal| format!("{start}{refusal}"))?;
+    let arrival = route_from(record, header, named.sheet.bytes()).map_err(|refusal| format!("{start}{refusal}"))?;
     let up = above(named, record);
     Ok(start
-        + &match sending {
-            Sending::Host { bridges, .. } => "the host".to_string() + &over(named, bridges, &up),
-            Sending::Function { record: to, bridges, packet, .. } => {
+        + &match arrival {
+            Arrival::Host { bridges, .. } => "the host".to_string() + &over(named, bridges, &up),
+            Arrival::Function(Delivery { record: to, bridges, packet, .. }) => {
                 owner(named, to, &packet) + &over(named, bridges, &between(up, above(named, to)))
             }
+            other => format!("{other:?}"),
         })
 }
 

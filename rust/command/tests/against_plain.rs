@@ -5,7 +5,7 @@ mod run;
 use inputs::ledger::{History, Step};
 use inputs::random::Random;
 use inputs::{aim, board, cards, header, labels, trace};
-use plain::{Arrival, Kind, Packet, Sending};
+use plain::{Arrival, Kind, Packet};
 use run::{folder, repository, run};
 use std::fs;
 
@@ -205,12 +205,13 @@ fn routes() {
             let is_right = match plain::route(header, &sheet) {
                 Ok(Arrival::Function { record, bridges, packet }) => {
                     delivered += 1;
-                    arrived(&sheet, record, bridges.into(), &packet, &line)
+                    arrived(&sheet, record, bridges, &packet, &line)
                 }
                 Ok(Arrival::Every { functions, .. }) => {
                     line.ends_with(&format!(": every function, {functions} of them"))
                 }
                 Ok(Arrival::Port { .. }) => line.ends_with(": the port that receives it"),
+                Ok(Arrival::Host { .. }) => panic!("the host has it already"),
                 Err(number) => line.contains(&format!(": refused {number}: ")),
             };
             assert!(is_right, "{}: {line}", hex(header));
@@ -219,11 +220,12 @@ fn routes() {
             let from = id(u16::from_be_bytes([record[2], record[3]]));
             for (header, line) in headers.iter().zip(routed(&["route", &name, "--from", &from], &headers)) {
                 let is_right = match plain::route_from(number, header, &sheet) {
-                    Ok(Sending::Function { record, bridges, packet }) => {
+                    Ok(Arrival::Function { record, bridges, packet }) => {
                         sent += 1;
                         arrived(&sheet, record, bridges, &packet, &line)
                     }
-                    Ok(Sending::Host { bridges, .. }) => line.contains(": the host") && crossed(bridges, &line),
+                    Ok(Arrival::Host { bridges, .. }) => line.contains(": the host") && crossed(bridges, &line),
+                    Ok(Arrival::Every { .. } | Arrival::Port { .. }) => panic!("a message has no start"),
                     Err(number) => line.contains(&format!(": refused {number}: ")),
                 };
                 assert!(is_right, "{} from {from}: {line}", hex(header));

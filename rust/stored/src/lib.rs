@@ -1,10 +1,11 @@
 //! The programs' stored runs: chosen inputs, the same bytes at every run, and what plain says that each program prints.
 //!
-//! `plan`, `annotate`, `audit`, `label` and `script` have theirs in a folder of tests/, the test programs lines in their
+//! `plan`, `annotate`, `audit`, `label`, `follow` and `script` have theirs in a folder of tests/, the test programs lines in their
 //! crate's `stdin` and the answers in its `stdout`.
 
 mod audits;
 mod cards;
+mod follows;
 mod labels;
 mod lines;
 mod messages;
@@ -17,6 +18,7 @@ mod traces;
 mod writes;
 
 pub use audits::{runs as audits, CAPTURES};
+pub use follows::runs as follows;
 pub use labels::runs as labels;
 pub use planning::lines as boards;
 pub use plans::runs as plans;
@@ -31,8 +33,8 @@ use std::path::Path;
 use std::{fs, io};
 
 /// The programs that have stored runs.
-pub const PROGRAMS: [&str; 8] =
-    ["plan", "annotate", "audit", "label", "script", "test_boards", "test_routes", "test_headers"];
+pub const PROGRAMS: [&str; 9] =
+    ["plan", "annotate", "audit", "label", "follow", "script", "test_boards", "test_routes", "test_headers"];
 
 /// After a test program's chosen lines, and an empty one, come some that were written by hand.
 const BY_HAND: &str = "\n# How a line may be written";
@@ -55,6 +57,7 @@ pub fn files(program: &str, folder: &Path) -> io::Result<Files> {
             Ok(files)
         }
         "label" => Ok(runs(labels(), "in", programs::label)),
+        "follow" => Ok(runs(follows(), "in", programs::follow)),
         "script" => Ok(runs(writes(), "in", programs::script)),
         "test_boards" => answered(Some(boards()), folder, programs::test_boards),
         "test_routes" => answered(Some(routes()), folder, programs::test_routes),

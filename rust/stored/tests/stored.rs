@@ -64,6 +64,18 @@ fn names_of_labels() {
     }
 }
 
+/// A run whose name says a number is refused with it, any other has lines with both ends.
+#[test]
+fn names_of_follows() {
+    for (name, input) in stored::follows() {
+        let printed = String::from_utf8(programs::follow(&input)).unwrap();
+        match refusal(name) {
+            Some(line) => assert_eq!(printed, line, "{name}"),
+            None => assert!(!printed.starts_with("refused"), "{name}"),
+        }
+    }
+}
+
 /// A run whose name says a number is refused with it, any other is written; the longest is as long as a script can be.
 #[test]
 fn names_of_scripts() {

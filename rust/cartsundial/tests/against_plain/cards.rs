@@ -3,7 +3,8 @@
 use crate::lent::{hex, Lent};
 use crate::sheets;
 use crate::tally::{Call, Tally};
-use cartsundial::{calls, Sending};
+use crate::typed;
+use cartsundial::calls;
 use inputs::board::MOST_ABOVE;
 use inputs::random::Random;
 use inputs::{aim, cards, foreign, header};
@@ -28,7 +29,7 @@ pub fn chosen(random: &mut Random, tally: &mut Tally) {
         let length = plain::plan(&board.bytes(), &mut room).expect("a board with room");
         let request = foreign::request(foreign::MWR, board.low.0.into());
         let arrived = route(start.into(), &request, &room[..length], random, tally);
-        assert!(matches!(arrived, Ok(plain::Sending::Function { record, bridges: crossed, .. })
+        assert!(matches!(arrived, Ok(plain::Arrival::Function { record, bridges: crossed, .. })
             if record == owner && usize::from(crossed) == bridges));
     }
     let request = foreign::request(foreign::MWR, cards::FURTHEST);
@@ -42,9 +43,9 @@ pub fn route(
     sheet: &[u8],
     random: &mut Random,
     tally: &mut Tally,
-) -> Result<plain::Sending, u8> {
+) -> Result<plain::Arrival, u8> {
     let answer = plain::route_from(record, header, sheet);
-    let numbers = answer.map(|sending| sending.numbers());
+    let numbers = answer.map(|arrival| arrival.numbers());
     let mut given = Lent::answer(calls::ROUTE, random);
     let (number, given_then) = given.expected(&numbers);
     let mut lent_header = Lent::holding(header, random);
@@ -60,35 +61,13 @@ pub fn route(
     if let Ok(record) = u16::try_from(record) {
         let typed = cartsundial::route_from(record, header, sheet);
         assert!(
-            same_sending(&typed, &answer, sheet),
+            typed::same_answer(typed, answer, sheet),
             "from {record} {} over {}: {typed:?}, {answer:?}",
             hex(header),
             hex(sheet)
         );
         // The types lend room for the whole answer.
-        answer.iter().for_each(|sending| tally.sent(sending));
+        answer.iter().for_each(|arrival| tally.climbed(arrival));
     }
     answer
-}
-
-/// Whether both say the same.
-fn same_sending(
-    typed: &Result<Sending, cartsundial::Refusal>,
-    answer: &Result<plain::Sending, u8>,
-    sheet: &[u8],
-) -> bool {
-    let packet = match (typed, answer) {
-        (Err(refusal), Err(number)) => return refusal.number() == *number,
-        (
-            Ok(Sending::Function { record, id, bridges, .. }),
-            Ok(plain::Sending::Function { record: owner, bridges: crossed, packet }),
-        ) if record == owner && bridges == crossed && plain::id_of(sheet, (*record).into()) == Ok(id.0) => packet,
-        (Ok(Sending::Host { bridges, .. }), Ok(plain::Sending::Host { bridges: crossed, packet }))
-            if bridges == crossed =>
-        {
-            packet
-        }
-        _ => return false,
-    };
-    typed.is_ok_and(|sending| sending.packet().to_numbers() == plain::to_numbers(packet))
 }

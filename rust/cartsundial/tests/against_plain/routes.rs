@@ -40,12 +40,13 @@ pub fn route(header: &[u8], bytes: &[u8], random: &mut Random, tally: &mut Tally
     }
 
     if random.chance(1, 4) {
-        let typed = cartsundial::route(header, bytes).map_err(|refusal| refusal.number());
-        let same = match (typed, answer) {
-            (Ok(typed), Ok(answer)) => typed::same(&typed, &answer, bytes),
-            (typed, answer) => typed.err() == answer.err(),
-        };
-        assert!(same, "route {} over {}: {typed:?}, {answer:?}", hex(header), hex(bytes));
+        let typed = cartsundial::route(header, bytes);
+        assert!(
+            typed::same_answer(typed, answer, bytes),
+            "route {} over {}: {typed:?}, {answer:?}",
+            hex(header),
+            hex(bytes)
+        );
     }
 }
 

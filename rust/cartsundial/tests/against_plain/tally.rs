@@ -2,7 +2,7 @@
 
 use cartsundial::{Label, Owner, Refusal};
 use inputs::board::{MOST_ABOVE, MOST_FUNCTIONS};
-use plain::{Arrival, Sending};
+use plain::Arrival;
 use std::fmt;
 
 #[derive(Clone, Copy, Debug, PartialEq, Eq)]
@@ -160,13 +160,16 @@ impl Tally {
             Arrival::Function { bridges, .. } => self.bridges[usize::from(bridges)] += 1,
             Arrival::Every { functions, .. } => self.broadcasts[usize::from(functions)] += 1,
             Arrival::Port { .. } => self.ports += 1,
+            Arrival::Host { .. } => panic!("the host has it already"),
         }
     }
 
-    pub fn sent(&mut self, sending: &Sending) {
-        match *sending {
-            Sending::Function { bridges, .. } => self.cards[usize::from(bridges)] += 1,
-            Sending::Host { bridges, .. } => self.hosts[usize::from(bridges)] += 1,
+    /// Of what a function sends.
+    pub fn climbed(&mut self, arrival: &Arrival) {
+        match *arrival {
+            Arrival::Function { bridges, .. } => self.cards[usize::from(bridges)] += 1,
+            Arrival::Host { bridges, .. } => self.hosts[usize::from(bridges)] += 1,
+            Arrival::Every { .. } | Arrival::Port { .. } => panic!("a message has no start"),
         }
     }
 

@@ -22,6 +22,19 @@ pub fn common(packet: &Packet) -> [u64; 10] {
     ]
 }
 
+/// Whether both say the same of a packet that was routed over this sheet, or have the same number.
+pub fn same_answer(
+    typed: Result<Arrival, cartsundial::Refusal>,
+    answer: Result<plain::Arrival, u8>,
+    sheet: &[u8],
+) -> bool {
+    match (typed, answer) {
+        (Ok(arrival), Ok(answer)) => same(&arrival, &answer, sheet),
+        (Err(refusal), Err(number)) => refusal.number() == number,
+        _ => false,
+    }
+}
+
 /// Whether both say the same of a packet that was routed over this sheet.
 pub fn same(arrival: &Arrival, answer: &plain::Arrival, sheet: &[u8]) -> bool {
     let packet = match (*arrival, answer) {
@@ -31,6 +44,9 @@ pub fn same(arrival: &Arrival, answer: &plain::Arrival, sheet: &[u8]) -> bool {
         ) => {
             let same = (record, bridges) == (*owner, *crossed) && plain::id_of(sheet, record.into()) == Ok(id.0);
             same.then_some(packet)
+        }
+        (Arrival::Host { bridges, .. }, plain::Arrival::Host { bridges: crossed, packet }) => {
+            (bridges == *crossed).then_some(packet)
         }
         (Arrival::Every { functions, .. }, plain::Arrival::Every { functions: count, packet }) => {
             (functions == *count).then_some(packet)
