@@ -114,7 +114,7 @@ impl Ends<'_> {
                 routing::BY_ID => self.by_id(start, (packet.tail >> 48) as u16, packet),
                 routing::LOCAL => Ok(Arrival::Port { packet }),
                 // To the root complex, or gathered on the way there.
-                _ => self.to_host(start, packet),
+                _ => self.up(start, packet),
             },
             Family::Configuration => unreachable!("the host sends it"),
         }
@@ -125,7 +125,7 @@ impl Ends<'_> {
     }
 
     /// Up to the host, past all bridges above.
-    fn to_host(&self, start: Record<'_>, packet: Packet) -> Result<Arrival, u8> {
+    fn up(&self, start: Record<'_>, packet: Packet) -> Result<Arrival, u8> {
         let (mut bus, mut bridges) = (start.bus(), 0);
         while bus != self.root() {
             // Its own bus has a lower number, so this ends.
@@ -138,7 +138,7 @@ impl Ends<'_> {
     /// To the function with this ID, wherever it is but at the start, or to the host.
     fn by_id(&self, start: Record<'_>, id: u16, packet: Packet) -> Result<Arrival, u8> {
         if id == self.host_id {
-            return self.to_host(start, packet);
+            return self.up(start, packet);
         }
         if id == start.id() {
             return Err(40);
