@@ -382,7 +382,7 @@ enum cartsundial_plan_who {
     CARTSUNDIAL_NEEDS_LOW = 5,              /* bytes of the low pool, the high pool, the I/O pool */
     CARTSUNDIAL_NEEDS_HIGH = 6,
     CARTSUNDIAL_NEEDS_IO = 7,
-    CARTSUNDIAL_NEEDS_LOW_ALIGN = 8,        /* from any multiple of this these bytes are enough, where the pool is closed */
+    CARTSUNDIAL_NEEDS_LOW_ALIGN = 8,        /* the same pools: from any multiple of this the bytes are enough, where the pool is closed */
     CARTSUNDIAL_NEEDS_HIGH_ALIGN = 9,
     CARTSUNDIAL_NEEDS_IO_ALIGN = 10,
     CARTSUNDIAL_PLAN_WHO_NUMBERS = 11       /* how many numbers the answer has */
@@ -395,12 +395,13 @@ enum cartsundial_plan_who {
  * 31, 32 and 33 the first item of the root bus that ends past its pool, in record order, a BAR or a window. Room lost, for 31, 32 and 33:
  * the item of that pool, on any bus, before which most addresses stay empty, the first of those. All are 0 where there is none.
  * Needs: the root bus's number and those of bridges and their spares; of each pool the bytes from its base to the edge of a granule after
- * the last item of the root bus, 0 where there is none; of a closed pool the bytes from any multiple of its alignment, which is the
- * largest among the items of the root bus there, and no less than the granule. From another base it can take more. An end past 2^62 is
- * told as 2^62. They are there for 0 and for 30 to 33, and all 0 where the board fails its own checks. So a host short of room is told how
- * much it has to have, and where.
- * A refused board has its answer: this call, and cartsundial_audit_where, write where they do not return 0. With room for eight to ten
- * numbers, as an older caller has, it writes the first eight and no other; with room for fewer who stays as it was, and 0 becomes 11.
+ * the last item of the root bus, 0 where there is none, and the largest alignment among those items, no less than the granule. A closed
+ * pool has no base: its bytes are enough from any multiple of its alignment, and from another base it can take more. They are there for 0
+ * and for 30 to 33, and all 0 where the board fails its own checks. So a host short of room is told how much it has to have, and where.
+ * An address past 2^62, which is past every pool, counts as 2^62: in the bytes that are needed, and in the addresses that stay empty.
+ * A refused board has its answer: this call, and cartsundial_audit_where, write where they do not return 0. Before 0.31.0 the answer had the
+ * first eight numbers. With room for eight to ten, as a caller of that time has, the call writes those eight and no other; with room for
+ * fewer who stays as it was, and 0 becomes 11.
  */
 CARTSUNDIAL_CHECKED uint32_t cartsundial_plan_where(const uint8_t *board, size_t board_len,
                                                     uint64_t *CARTSUNDIAL_RESTRICT who, size_t who_len)
@@ -538,7 +539,8 @@ CARTSUNDIAL_CHECKED uint32_t cartsundial_find(const uint8_t *header, size_t head
  *     state[3]      how many bytes are kept of the record under way, at most 16
  *     state[4..5]   bytes 0 to 7, and 8 to 15, of those kept, each as one number, the first byte highest
  *
- * Of a record that is finished nothing is kept: from zeros on, all but state[0] and state[2] are 0 between records.
+ * Of a record that is finished nothing is kept: from zeros on, all but state[0] and state[2] are 0 between records. Any other number at
+ * state[0], at state[1] or at state[3] is no state; state[2] and state[4..5] may hold any.
  *
  * With the same sheet or index throughout, the lines of all pieces together, with that of the end, are those of the trace in one piece,
  * wherever the cuts fall; so is the state. That is proved.
@@ -619,7 +621,7 @@ enum cartsundial_place {
     CARTSUNDIAL_PLACE_HIGH_WINDOW = 7,
     CARTSUNDIAL_PLACE_IO_WINDOW = 8,
     CARTSUNDIAL_PLACE_BUS_REGISTERS = 9,
-    CARTSUNDIAL_PLACE_ID = 10,              /* and so the function as a whole */
+    CARTSUNDIAL_PLACE_ID = 10               /* and so the function as a whole */
 };
 
 /* How many numbers cartsundial_audit_where answers with. */
@@ -628,9 +630,9 @@ enum cartsundial_place {
 /*
  * Judges a sheet as cartsundial_audit does, with its number, and says whom the number is about. who: the record, from 1, and its place;
  * then the other record that it meets there and that one's place; each 0 where there is none.
- * For 24 to 29 and 50 to 52 it is the first record at which that check fails, in record order, at the first place that is wrong; the other
- * one has the same ID (28), leads to the same bus or shares one (50), or has an address in common (52), and no lesser one does. For 20 to
- * 22 and for 26 of the host all four are 0. All of this is proved.
+ * For 24, 25, 27 to 29 and 50 to 52 it is the first record at which that check fails, in record order, at the first place that is wrong,
+ * a 64-bit BAR at its lower slot; the other one has the same ID (28), is a bridge that leads to its bus or shares a bus with it (50), or has
+ * an address in common (52), and no lesser one does. For 20 to 22, and for 26, which is of the host, all four are 0. All of this is proved.
  * A refused sheet has its answer: this call, and cartsundial_plan_where, write where they do not return 0. With room for fewer than four
  * numbers who stays as it was, and 0 becomes 11.
  */

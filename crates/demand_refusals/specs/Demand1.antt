@@ -1,7 +1,8 @@
 -- Demand 1: "Any bytes may be given as a header, a board or a register sheet, with no duty on the caller beforehand. Each call ends with an
--- answer or a numbered refusal, and a refused call changes no lent byte." No public call has a `requires`, and the contract of each says
--- for any bytes what it answers and what every byte that it may write then holds, by the definitions named here. What is left is the last
--- clause, of each call that is lent something to write; what it is lent to read alone, no call can change. Assumes nothing.
+-- answer or a numbered refusal, and a refused call changes no lent byte." No call of docs/API.md has a `requires` (what one crate helps
+-- another with may), and the contract of each says for any bytes what it answers and what every byte that it may write then holds, by the
+-- definitions named here. What is left is the last clause, of each call that is lent something to write; what it is lent to read alone, no
+-- call can change. Assumes nothing.
 use mathlib.Core.Path.{_≡_}
 use mathlib.Core.List.{List}
 use Prim.Native.Nat.{ℕ}
@@ -55,7 +56,7 @@ pub record Demand1 : Type 0 where
   pub build-sound-keeps-slice : (host s slice : List ℕ) → ¬ (soundBuildNumber host s (length slice) ≡ 0)
       → soundIndexAfter host s slice ≡ slice
   pub build-alone-keeps-slice : (s slice : List ℕ) → ¬ (aloneBuildNumber s (length slice) ≡ 0) → aloneIndexAfter s slice ≡ slice
-  -- `trace_feed::feed` and `feed_by`, over a sheet or by an index, and `trace::finish`: the room for lines; and the state goes on as it was
+  -- `trace_feed::feed` over a sheet, `feed_index` by an index, and `trace::finish`: the room for lines; and the state goes on as it was
   pub feed-keeps-room : (line : ℕ → List ℕ → List ℕ) (t : Trace) (piece room : List ℕ)
       → let fed = fedOf line t piece (length room) in
       ¬ (fed .number ≡ 0) → (fedPut line t piece room ≡ room) × (fed .state ≡ t)

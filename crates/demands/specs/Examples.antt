@@ -77,6 +77,9 @@ pub data Claim : Type 0 where
   -- reading a header answers this number (0: accepted), or reports this Length
   reads : List ℕ → ℕ → Claim
   reads-length : List ℕ → ℕ → Claim
+  -- the checks of a board, or of a sheet, answer this number (0: accepted)
+  board-checks : List ℕ → ℕ → Claim
+  sheet-checks : List ℕ → ℕ → Claim
   -- planning a board answers this number (0: accepted), or leaves this sheet in room of its length
   plans : List ℕ → ℕ → Claim
   leaves : List ℕ → List ℕ → Claim
@@ -89,6 +92,8 @@ pub data Claim : Type 0 where
 abbrev pub Holds : Claim → Type 0
 Holds (reads s n) = readingNumber (readOf s) ≡ n
 Holds (reads-length s n) = lengthRead (readOf s) ≡ n
+Holds (board-checks b n) = boardNumber b ≡ n
+Holds (sheet-checks s n) = sheetNumber s ≡ n
 Holds (plans b n) = planningNumber (planning b fullSheet) ≡ n
 Holds (leaves b s) = (planning b (length s) ≡ Planned (length s)) × (sheetAfter b (replicate (length s) 0) ≡ s)
 Holds (prints b text) = boardText b fullSheet ≡ ascii text
@@ -136,6 +141,10 @@ spared-sheet = sheetAfter spared (replicate (sheetLength 3) 0)
 abbrev pub readIn : ℕ → List ℕ
 readIn mib = 0x00 ∷ 0 ∷ 0 ∷ 1 ∷ 0 ∷ 0 ∷ 0 ∷ 0x0F ∷ 0xF9 ∷ mib ∷ 0 ∷ 0 ∷ []
 
+-- a sheet of one function, all of its registers 0, with one read-back
+abbrev pub sheetWith : ℕ → List ℕ
+sheetWith readback = 1 ∷ 0 ∷ 90 ∷ 0 ∷ 0 ∷ replicate 64 0 ++ beBytes 4 readback ++ replicate 20 0
+
 abbrev pub MRd3 : ℕ
 MRd3 = 0x00
 
@@ -145,7 +154,7 @@ MRd4 = 0x20
 abbrev pub MWr3 : ℕ
 MWr3 = 0x40
 
--- ## The examples: P1 to P10, and empty slots
+-- ## The examples: P1 to P10, tiny BARs, and empty slots
 
 unfoldable pub examples : List Example
 examples =
@@ -182,6 +191,15 @@ examples =
     ∷ P 10 (refuses (readAt 0x10 0x00) p10-sheet 40)
     ∷ []
 
+unfoldable pub tinyBars : List Example
+tinyBars =
+    -- "FFFFFF80 is accepted, FFFFFFC0 refused.", "on boards and sheets alike"
+    E 9 (board-checks (1 ∷ host ++ card 0 0 0xFFFFFF80) 0)
+    ∷ E 9 (board-checks (1 ∷ host ++ card 0 0 0xFFFFFFC0) 25)
+    ∷ E 9 (sheet-checks (sheetWith 0xFFFFFF80) 0)
+    ∷ E 9 (sheet-checks (sheetWith 0xFFFFFFC0) 25)
+    ∷ []
+
 unfoldable pub spares : List Example
 spares =
     -- the first bridge's spares are buses 2 and 3 and the last 3 MiB of its window; the second bridge is numbered after them, and open
@@ -203,10 +221,11 @@ spares =
 -- all of them hold
 pub record Examples : Type 0 where
   pub P1-to-P10 : All examples
+  pub tiny-bars : All tinyBars
   pub empty-slots : All spares
 
 pub examples-hold : Examples
-unfolding examples spares ascii words windowText bridgeText endText lineOf countText planText boardText hexadecimal decimalOver decimal
+unfolding examples tinyBars spares ascii words windowText bridgeText endText lineOf countText planText boardText hexadecimal decimalOver decimal
     readOf pairOf findPair first table judged headAt enablesAt addressAt unnamed be ruleNumber fromRule5 fromRule6 fromRule7 fromRule8
     fromRule9 reservedSet fixedWrong upperZero enablesWrong crossesPage statusWrong row planning onBoard onRoom boardNumber fromVersion
     fromFrame fromCount fromHeaders fromEdges fromOrder fromReadbacks misframed above parents lastSibling misplaced anyMisplaced
@@ -254,5 +273,6 @@ examples-hold =
           ),
         ),
       );
+      tiny-bars = (refl, (refl, (refl, (refl, tt))));
       empty-slots = (refl, ((refl, refl), (refl, (refl, (refl, (refl, (refl, (refl, (refl, (refl, tt))))))))));
     }

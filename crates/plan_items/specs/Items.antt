@@ -57,6 +57,7 @@ firstOut h fs q = first (runsOut h q) partyOf nobody (itemsOf h fs)
 
 -- ## The item before which most room is lost to alignment, the first of those; nobody where none is
 
+-- from the end before it to its start, each up to 2^62: past that nothing counts as lost
 abbrev pub lostBefore : Item → ℕ
 lostBefore x = cap (x .start) - cap (x .before)
 

@@ -14,11 +14,9 @@ use Rattle.bar.specs.Bar.{isBad}
 use Rattle.plan_rule.specs.Pools.{Pool, low, high, io, granule, refusal, samePool}
 use Rattle.plan_rule.specs.PoolLaws.{On}
 use Rattle.plan_rule.specs.Records.{Host, Function}
-use Rattle.plan_rule.specs.Refusals.{outOfPool, refusalOf}
-use Rattle.plan_rule.specs.Cap.{limit}
 use Rattle.board_record.specs.declared.Host as boards
 use Rattle.board_record.specs.declared.Span.{Span}
-use Rattle.board_record.specs.Host.{hostLength, functionsAt, hostOfPart, poolWrong, hostWrong}
+use Rattle.board_record.specs.Host.{hostLength, functionsAt, hostOfPart, hostWrong}
 use Rattle.board_record.specs.Function.{wrongIn, readbacksWrong}
 use Rattle.board.specs.Board.{boardNumber, hostOf, functionsOf}
 use Rattle.board.specs.ToPlacing.{toHost, toPlacing}
@@ -31,8 +29,7 @@ use Rattle.finding.specs.FirstLaws.{FirstOf}
 use Rattle.board_where.specs.Where.{partyOf, slotsOf, functionParts}
 use Rattle.board_where.specs.WhereLaws.{FirstMisplaced}
 use Rattle.plan_needs.specs.declared.Needs.{Needs}
-use Rattle.plan_needs.specs.Bases.{layoutBase}
-use Rattle.plan_needs.specs.NeedsLaws.{HasBytes}
+use Rattle.plan_needs.specs.Bases.{isClosed}
 use Rattle.plan_items.specs.Items.{itemsOf, itemEnd, runsOut}
 use Rattle.plan_items.specs.Items.{partyOf as itemParty}
 use Rattle.plan_where.specs.Finding.{planFindingOf}
@@ -78,37 +75,46 @@ needed n low = n .low
 needed n high = n .high
 needed n io = n .io
 
--- the alignment of a base from which they are enough, where the board's own pool is closed
+-- what a base is to be a multiple of, so that these bytes are enough from it where the board's own pool is closed
 abbrev pub aligned : Needs → Pool → ℕ
 aligned n low = n .«low_align»
 aligned n high = n .«high_align»
 aligned n io = n .«io_align»
 
--- pool q of g has n bytes from where that of h is laid out from, or from a multiple of the alignment; a closed pool has none
-abbrev pub Has : Host → Host → List Function → Pool → ℕ → Type 0
-Has h g fs q n = ((g .last q < g .base q) × (n ≡ 0)) ⊎ HasBytes h g fs q n
+-- ## The same board with another host record
 
--- a host with pools of these sizes, each from where that of h is laid out from, closed where it has none
-abbrev pub withPools : Host → (Pool → ℕ) → Host
-withPools h n =
-    record {
-      firstBus = h .firstBus;
-      lastBus = h .lastBus;
-      base = λ q. cond (eqb (n q) 0) (suc (layoutBase h q)) (layoutBase h q);
-      last = λ q. layoutBase h q + n q - 1;
-    }
+-- lawful bytes with the functions of b; record 0 is its own
+pub record SameBoard (b c : List ℕ) : Type 0 where
+  pub bytes : Bytes c
+  pub lawful : boardNumber c ≡ 0
+  pub functions : functionsOf c ≡ functionsOf b
 
--- the same sizes, but that of pool q a granule less
-abbrev pub granuleLess : Pool → (Pool → ℕ) → Pool → ℕ
-granuleLess q n p = cond (samePool p q) (n p - granule p) (n p)
+-- the bytes of a pool: a closed one has none
+abbrev pub roomOf : Host → Pool → ℕ
+roomOf g q = suc (g .last q) - g .base q
 
--- what is needed is told whole: addresses are told up to 2^62, and no pool reaches 2^52
-abbrev pub ToldWhole : List ℕ → Type 0
-ToldWhole b = (q : Pool) → layoutBase (hostIn b) q + needed (planFindingOf b .needs) q < limit
+-- pool q of g is closed; or it starts where that of b does; or, that of b being closed or on a multiple of the alignment told, on such a
+-- multiple
+abbrev pub Suits : List ℕ → Host → Pool → Type 0
+Suits b g q =
+    (g .last q < g .base q)
+    ⊎ ((hostIn b .base q ≤ hostIn b .last q) × (g .base q ≡ hostIn b .base q))
+    ⊎ (((hostIn b .last q < hostIn b .base q) ⊎ Multiple (aligned (planFindingOf b .needs) q) (hostIn b .base q))
+    × Multiple (aligned (planFindingOf b .needs) q) (g .base q))
 
--- ## The same board's bytes with another host record
+-- it suits, and has the bytes told
+abbrev pub IsEnough : List ℕ → Host → Pool → Type 0
+IsEnough b g q = Suits b g q × (needed (planFindingOf b .needs) q ≤ roomOf g q)
 
--- a host record of 30 bytes that 26 does not refuse
+-- the two hosts differ in pool q only
+pub record OnlyPool (h g : Host) (q : Pool) : Type 0 where
+  pub first-bus : g .firstBus ≡ h .firstBus
+  pub last-bus : g .lastBus ≡ h .lastBus
+  pub others : (p : Pool) → samePool p q ≡ false → (g .base p ≡ h .base p) × (g .last p ≡ h .last p)
+
+-- ## A host record put in
+
+-- 30 bytes that 26 does not refuse
 pub record IsHostRecord (p : List ℕ) : Type 0 where
   pub bytes : Bytes p
   pub sized : length p ≡ hostLength
@@ -141,45 +147,36 @@ hostBytes x =
 abbrev pub onHost : List ℕ → List ℕ → List ℕ
 onHost p b = getD b 0 0 ∷ 0 ∷ hostLength ∷ p ++ drop functionsAt b
 
--- lawful bytes with the functions of b; record 0 is its own
-pub record SameBoard (b c : List ℕ) : Type 0 where
-  pub bytes : Bytes c
-  pub lawful : boardNumber c ≡ 0
-  pub functions : functionsOf c ≡ functionsOf b
+-- so many bytes from a base; without any the pool is closed
+abbrev pub spanFrom : ℕ → ℕ → Span
+spanFrom base n = cond (eqb n 0) (record { base = 1; last = 0 }) (record { base = base; last = base + n - 1 })
 
--- the bytes of a pool: a closed one has none
-abbrev pub roomOf : Host → Pool → ℕ
-roomOf g q = suc (g .last q) - g .base q
+abbrev pub withPool : boards.Host → Pool → Span → boards.Host
+withPool x low s =
+    record { «first_bus» = x .«first_bus»; «last_bus» = x .«last_bus»; low = s; high = x .high; io = x .io }
+withPool x high s =
+    record { «first_bus» = x .«first_bus»; «last_bus» = x .«last_bus»; low = x .low; high = s; io = x .io }
+withPool x io s =
+    record { «first_bus» = x .«first_bus»; «last_bus» = x .«last_bus»; low = x .low; high = x .high; io = s }
 
--- pool q of g starts where that of b does; or, where that of b is closed or starts on a multiple of the alignment told, on any such
--- multiple; or it is closed
-abbrev pub Suits : List ℕ → Host → Pool → Type 0
-Suits b g q =
-    (g .last q < g .base q)
-    ⊎ ((hostIn b .base q ≤ hostIn b .last q) × (g .base q ≡ hostIn b .base q))
-    ⊎ (((hostIn b .last q < hostIn b .base q) ⊎ Multiple (aligned (planFindingOf b .needs) q) (hostIn b .base q))
-    × Multiple (aligned (planFindingOf b .needs) q) (g .base q))
+-- a base that suits: the pool's own, of a closed one the first multiple of the alignment where a pool of its kind may start
+abbrev pub firstBase : ℕ → Pool → ℕ
+firstBase align low = 0
+firstBase align high = max align 4294967296
+firstBase align io = 0
 
--- a base that suits where the board's own pool is closed, and where the addresses of its kind end
-abbrev pub firstBase : List ℕ → Pool → ℕ
-firstBase b low = 0
-firstBase b high = max (aligned (planFindingOf b .needs) high) 4294967296
-firstBase b io = 0
+abbrev pub baseFor : List ℕ → Pool → ℕ
+baseFor b q = cond (isClosed (hostIn b) q) (firstBase (aligned (planFindingOf b .needs) q) q) (hostIn b .base q)
 
+-- where the addresses of a pool's kind end: 4 GiB, 2^52, 64 KiB
 abbrev pub kindEnd : Pool → ℕ
 kindEnd low = 4294967296
 kindEnd high = 4503599627370496
 kindEnd io = 65536
 
--- the two hosts differ in pool q only
-pub record OnlyPool (h g : Host) (q : Pool) : Type 0 where
-  pub first-bus : g .firstBus ≡ h .firstBus
-  pub last-bus : g .lastBus ≡ h .lastBus
-  pub others : (p : Pool) → samePool p q ≡ false → (g .base p ≡ h .base p) × (g .last p ≡ h .last p)
-
--- it suits, and is large enough
-abbrev pub Offers : List ℕ → Host → Pool → Type 0
-Offers b g q = Suits b g q × (needed (planFindingOf b .needs) q ≤ roomOf g q)
+-- b with pool q of so many bytes from that base
+abbrev pub resized : List ℕ → Pool → ℕ → List ℕ
+resized b q n = onHost (hostBytes (withPool (hostOf b) q (spanFrom (baseFor b q) n))) b
 
 -- ## The sentences
 
@@ -199,51 +196,36 @@ pub record WhatFits : Type 0 where
   -- 20 to 22, 26 and 30 are of the host or of the board as a whole; and where the board is planned
   pub nobody-else : (b : List ℕ) → (planFindingOf b .number < 23) ⊎ (planFindingOf b .number ≡ 26) ⊎ (planFindingOf b .number ≡ 30)
       → (planFindingOf b .party ≡ nobody) × (planFindingOf b .other ≡ nobody)
-  -- "for 30 how many buses are needed;" on any host
-  pub buses-needed : (b : List ℕ) → boardNumber b ≡ 0 → (g : Host)
-      → (refusalOf g (functionsIn b) ≡ 30) ↔ (suc (g .lastBus) < g .firstBus + planFindingOf b .needs .buses)
-  -- "what the pools need is exact:" on any host whose pool starts where the board's is laid out from
-  pub bytes-needed : (b : List ℕ) → Bytes b → boardNumber b ≡ 0 → (g : Host) (q : Pool) (n : ℕ) → Has (hostIn b) g (functionsIn b) q n
-      → (outOfPool g (functionsIn b) q ≡ false) ↔ (needed (planFindingOf b .needs) q ≤ n)
-  -- "with pools of that size the board is not refused by 31 to 33,"
-  pub enough : (b : List ℕ) → Bytes b → boardNumber b ≡ 0 → (g : Host) (n : Pool → ℕ)
-      → ((q : Pool) → Has (hostIn b) g (functionsIn b) q (n q)) → ((q : Pool) → needed (planFindingOf b .needs) q ≤ n q)
-      → (q : Pool) → ¬ (refusalOf g (functionsIn b) ≡ refusal q)
-  pub of-that-size : (b : List ℕ) → Bytes b → boardNumber b ≡ 0 → ToldWhole b
-      → (q : Pool) → ¬ (refusalOf (withPools (hostIn b) (needed (planFindingOf b .needs))) (functionsIn b) ≡ refusal q)
-  -- "with a granule less it is.": with fewer bytes in any pool, and by its number where it is the only one, with bus numbers enough
-  pub too-few : (b : List ℕ) → Bytes b → boardNumber b ≡ 0 → (g : Host) (q : Pool) (n : ℕ) → Has (hostIn b) g (functionsIn b) q n
-      → n < needed (planFindingOf b .needs) q → ¬ (refusalOf g (functionsIn b) ≡ 0)
-  pub granule-less : (b : List ℕ) → Bytes b → boardNumber b ≡ 0 → ToldWhole b
-      → hostIn b .firstBus + planFindingOf b .needs .buses ≤ suc (hostIn b .lastBus)
-      → (q : Pool) → 0 < needed (planFindingOf b .needs) q
-      → refusalOf (withPools (hostIn b) (granuleLess q (needed (planFindingOf b .needs)))) (functionsIn b) ≡ refusal q
+  -- "for 30 how many buses are needed;" with any host record: 30 is just where there are fewer
+  pub buses-needed : (b c : List ℕ) → boardNumber b ≡ 0 → SameBoard b c → (room : ℕ)
+      → (planning c room ≡ Refused 30) ↔ (suc (hostIn c .lastBus) < hostIn c .firstBus + planFindingOf b .needs .buses)
   -- "so that "needs 33 MiB, has 32" can be said,"
   pub has-less : (b : List ℕ) → Bytes b → (q : Pool) → planFindingOf b .number ≡ refusal q
-      → suc (hostIn b .last q) - hostIn b .base q < needed (planFindingOf b .needs) q
-  -- the same of the planner on the board's bytes with any host record that 26 does not refuse: every such host has one
+      → roomOf (hostIn b) q < needed (planFindingOf b .needs) q
+  -- "what the pools need is exact: with pools of that size the board is not refused by 31 to 33," nor by one of them for its own pool
+  pub enough : (b c : List ℕ) → Bytes b → boardNumber b ≡ 0 → SameBoard b c → (q : Pool) → IsEnough b (hostIn c) q
+      → (room : ℕ) → ¬ (planning c room ≡ Refused (refusal q))
+  -- "with a granule less it is.": with any fewer bytes, if it is not by a number before that pool's
+  pub too-few : (b c : List ℕ) → Bytes b → boardNumber b ≡ 0 → SameBoard b c → (q : Pool) → Suits b (hostIn c) q
+      → roomOf (hostIn c) q < needed (planFindingOf b .needs) q
+      → (room : ℕ) → ((m : ℕ) → 30 ≤ m → m < refusal q → ¬ (planning c room ≡ Refused m)) → planning c room ≡ Refused (refusal q)
+  -- so just with fewer, where there are bus numbers enough and the pools before it are,
+  pub refused-iff : (b c : List ℕ) → Bytes b → boardNumber b ≡ 0 → SameBoard b c
+      → hostIn c .firstBus + planFindingOf b .needs .buses ≤ suc (hostIn c .lastBus)
+      → (q : Pool) → ((p : Pool) → refusal p < refusal q → IsEnough b (hostIn c) p) → Suits b (hostIn c) q
+      → (room : ℕ) → (planning c room ≡ Refused (refusal q)) ↔ (roomOf (hostIn c) q < needed (planFindingOf b .needs) q)
+  -- and where the board is refused for a pool, closed or too small, and that pool alone is changed
+  pub changed-iff : (b c : List ℕ) → Bytes b → SameBoard b c → (q : Pool) → planFindingOf b .number ≡ refusal q
+      → OnlyPool (hostIn b) (hostIn c) q → Suits b (hostIn c) q
+      → (room : ℕ) → (planning c room ≡ Refused (refusal q)) ↔ (roomOf (hostIn c) q < needed (planFindingOf b .needs) q)
+  -- There are such boards. Every host that 26 does not refuse has a record, and any such record may be the record 0 of any lawful board;
   pub host-record : (x : boards.Host) → HostFits x → hostWrong x ≡ false → IsHostRecord (hostBytes x) × (hostOfPart (hostBytes x) ≡ x)
   pub on-host : (b p : List ℕ) → Bytes b → boardNumber b ≡ 0 → IsHostRecord p
       → SameBoard b (onHost p b) × (hostOf (onHost p b) ≡ hostOfPart p)
-  -- with so many bytes in a pool that suits, closed before or open, the board is not refused with that pool's number,
-  pub offered : (b c : List ℕ) → Bytes b → boardNumber b ≡ 0 → SameBoard b c → (q : Pool) → Offers b (hostIn c) q
-      → (room : ℕ) → ¬ (numberOf (planning c room) ≡ refusal q)
-  -- and with fewer it is, if it is not with one before it: 30, 31, 32
-  pub short-of : (b c : List ℕ) → Bytes b → boardNumber b ≡ 0 → SameBoard b c → (q : Pool) → Suits b (hostIn c) q
-      → roomOf (hostIn c) q < needed (planFindingOf b .needs) q
-      → (room : ℕ) → ((m : ℕ) → 30 ≤ m → m < refusal q → ¬ (numberOf (planning c room) ≡ m))
-      → planning c room ≡ Refused (refusal q)
-  -- so, with bus numbers enough and the pools before it large enough, just then
-  pub refused-iff : (b c : List ℕ) → Bytes b → boardNumber b ≡ 0 → SameBoard b c
-      → hostIn c .firstBus + planFindingOf b .needs .buses ≤ suc (hostIn c .lastBus)
-      → (q : Pool) → ((p : Pool) → refusal p < refusal q → Offers b (hostIn c) p) → Suits b (hostIn c) q
-      → (room : ℕ) → (planning c room ≡ Refused (refusal q)) ↔ (roomOf (hostIn c) q < needed (planFindingOf b .needs) q)
-  -- and where the board is refused with a pool's number, and only that pool is opened or changed, it is so again just with fewer bytes
-  pub opened-iff : (b c : List ℕ) → Bytes b → SameBoard b c → (q : Pool) → planFindingOf b .number ≡ refusal q
-      → OnlyPool (hostIn b) (hostIn c) q → Suits b (hostIn c) q
-      → (room : ℕ) → (planning c room ≡ Refused (refusal q)) ↔ (roomOf (hostIn c) q < needed (planFindingOf b .needs) q)
-  -- there is such a pool for a closed one: from the first base that suits it is lawful with the bytes told, if it ends with its kind
-  pub openable : (b : List ℕ) → Bytes b → boardNumber b ≡ 0 → (q : Pool) → hostIn b .last q < hostIn b .base q
-      → 0 < needed (planFindingOf b .needs) q → firstBase b q + needed (planFindingOf b .needs) q ≤ kindEnd q
-      → Multiple (aligned (planFindingOf b .needs) q) (firstBase b q)
-      × (poolWrong q (record { base = firstBase b q; last = firstBase b q + needed (planFindingOf b .needs) q - 1 }) ≡ false)
+  -- so that one pool can have any size on the granule's edges, up to where its kind of addresses ends, from a base that suits;
+  pub resized-is : (b : List ℕ) → Bytes b → boardNumber b ≡ 0 → (q : Pool) (n : ℕ) → Multiple (granule q) n → baseFor b q + n ≤ kindEnd q
+      → let c = resized b q n in
+      SameBoard b c × OnlyPool (hostIn b) (hostIn c) q × Suits b (hostIn c) q × (roomOf (hostIn c) q ≡ n)
+  -- the bytes told are such a size, and so is a granule less
+  pub needed-edge : (b : List ℕ) → Bytes b → boardNumber b ≡ 0 → (q : Pool) → baseFor b q + needed (planFindingOf b .needs) q ≤ kindEnd q
+      → Multiple (granule q) (needed (planFindingOf b .needs) q)

@@ -5,7 +5,7 @@ use mathlib.Core.Path.{_≡_}
 use mathlib.Core.Logic.{_↔_}
 use mathlib.Core.Bool.{true, false}
 use mathlib.Core.List.{List}
-use Prim.Native.Nat.{ℕ, suc, _+_, _<_}
+use Prim.Native.Nat.{ℕ, suc, _+_, _/_, _≤_, _<_}
 use lib.ListN.{length, getD, take}
 use Rattle.endian.specs.Endian.{Bytes, be}
 use Rattle.lists.specs.Lists.{_∈_, All}
@@ -31,6 +31,7 @@ use Rattle.plan_good.specs.SpareRoom.{LowWindow, OpenExactly, RoomKept, InSpare
 use Rattle.plan_answer.specs.declared.Planning.the-variants.{Planned}
 use Rattle.plan_answer.specs.Plan.{planning, sheetAfter}
 use Rattle.demands.specs.Demand3.{Lawful, host, functions, planNumber, IsRequest, routeNumber}
+use Rattle.demands.specs.ById.{GoesById, WrongType, rootBus, HasId}
 
 -- ## A board's version
 
@@ -53,6 +54,12 @@ pub record AsBefore (b : List ℕ) : Type 0 where
   -- what a window is sized by, opened by and aligned by is what lies on its bus
   pub windows : (f : Function) → f ∈ functions b → (k : ℕ) (q : Pool) (later : List Piece) → contentOf k (f .spareLow) q later
       ≡ select k q later
+
+-- one of the spare buses of the bridge f, record i + 1: so many numbers up to its subordinate, the last of all below it (`SparesLast`)
+abbrev pub IsSpareBus : List ℕ → ℕ → Function → ℕ → Type 0
+IsSpareBus b i f bus =
+    let last = subordinateOf (host b .firstBus) (functions b) (suc i) in
+    (bus ≤ last) × (last < bus + f .spareBuses)
 
 -- ## The request
 
@@ -95,3 +102,11 @@ pub record EmptySlots : Type 0 where
       → (i : ℕ) (f : Function) → BridgeAt (functions b) i f
       → (w : Placed) → w ∈ placed (host b) (functions b) → LowWindow (suc i) w → InSpareRoom f w a
       → routeNumber header t ≡ 40
+  -- nor is any function on a spare bus, so that a packet by an ID there is 40, where it is no configuration request of the wrong type
+  pub nobody-on-spare-bus : (b : List ℕ) → Bytes b → Lawful b → (i : ℕ) (f : Function) → BridgeAt (functions b) i f
+      → (id : ℕ) → IsSpareBus b i f (id / 256) → (k : ℕ) → ¬ HasId b id k
+  pub spare-bus-refused : (b room : List ℕ) (n : ℕ) → Bytes b → planning b (length room) ≡ Planned n
+      → (t : List ℕ) → SameButCommands (take n (sheetAfter b room)) t
+      → (header : List ℕ) (p : Packet) → readOf header ≡ Accepted p → (id : ℕ) → GoesById p id
+      → (i : ℕ) (f : Function) → BridgeAt (functions b) i f → IsSpareBus b i f (id / 256)
+      → ¬ WrongType (length (functions b)) (rootBus b) p → routeNumber header t ≡ 40

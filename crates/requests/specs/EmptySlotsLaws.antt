@@ -1,8 +1,9 @@
 -- Document 02's E10 holds: where a board's spares are, and that nobody is in them. Assumes nothing.
 use mathlib.Core.Path.{_≡_, refl, sym, ap, subst, _∙_}
+use mathlib.Core.Logic.{⊎-elim}
 use mathlib.Core.Bool.{Bool, true, false, cond}
 use mathlib.Core.List.{List, [], _∷_, map}
-use Prim.Native.Nat.{ℕ, zero, suc, _+_, _*_, _<_}
+use Prim.Native.Nat.{ℕ, zero, suc, _+_, _*_, _/_, _≤_, _<_}
 use native.Mathlib.Omega.{arith}
 use lib.Dec.{ltb}
 use lib.ListN.{length, getD, take, drop}
@@ -11,16 +12,18 @@ use Rattle.arith.specs.BoolLaws.{false-of-or}
 use Rattle.endian.specs.Endian.{Bytes, be}
 use Rattle.endian.specs.EndianLaws.{be-lt}
 use Rattle.lists.specs.Lists.{_∈_, All, any}
-use Rattle.lists.specs.ListLaws.{all-elim}
+use Rattle.lists.specs.ListLaws.{all-elim, drop-suc, member-of-some}
 use Rattle.pools.specs.declared.Space.the-variants.{Memory as memorySpace}
 use Rattle.records.specs.Records.{Parts, partsOf, partsFrom, anyPart}
 use Rattle.records.specs.Limits.{mostFunctions}
 use Rattle.bar.specs.Header.{isBridge as isBridgeHeader}
+use Rattle.plan_rule.specs.Records as placing
 use Rattle.plan_rule.specs.Records.{Function}
+use Rattle.plan_rule.specs.Preorder.{parentOf}
 use Rattle.plan_rule.specs.Layout.{Placed}
 use Rattle.plan_rule.specs.Pieces.{contentOf}
 use Rattle.plan_rule.specs.Placing.{placed}
-use Rattle.plan_rule.specs.Numbering.{bridges, bridgeCount}
+use Rattle.plan_rule.specs.Numbering.{bridges, bridgeCount, busNumber, subordinateOf, Numbered, numberedFrom, numbered}
 use Rattle.plan_rule.specs.NumberingLaws.{bridges-and-spares}
 use Rattle.plan_rule.specs.NoSpares.{NoSpare, NoSpares, bridges-counted, bus-number-counted, content-alone}
 use Rattle.board_record.specs.Host.{hostOfPart, hostWrong, functionsAt}
@@ -28,10 +31,12 @@ use Rattle.board_record.specs.Function.{functionOfPart, bridgeLength, wrongIn, 
 use Rattle.board_record.specs.FunctionLaws.{length-of-version, spares-none, spares-bytes, spares-of-bridge, spares-of-end}
 use Rattle.board_order.specs.Order.{anyMisplaced}
 use Rattle.board.specs.Board.{isVersion, misframed, fromReadbacks, fromOrder, fromEdges, fromHeaders, fromCount, fromFrame, fromVersion}
-use Rattle.board.specs.Board.{boardNumber, hostOf, functionsOf}
+use Rattle.board.specs.Board.{boardNumber, functionsOf}
 use Rattle.board.specs.BoardLaws.{accepted-of-zero, other-version}
 use Rattle.board.specs.ToPlacing.{toPlacing}
 use Rattle.board.specs.ToPlacingLaws.{lawful-of-accepted}
+use Rattle.plan_good.specs.Rows.{row-at, first-le-bus-number}
+use Rattle.plan_good.specs.BusRanges.{row-of, parent-row}
 use Rattle.plan_good.specs.SpareBuses.{BridgeAt}
 use Rattle.plan_good.specs.SpareBusesLaws.{spares-last, greatest-below}
 use Rattle.plan_good.specs.SpareRoom.{LowWindow, InSpareRoom, InGap, NobodyAt}
@@ -39,10 +44,13 @@ use Rattle.plan_good.specs.SpareRoomLaws.{room-kept, open-exactly, nobody-in-ga
 use Rattle.plan_answer.specs.declared.Planning.the-variants.{Planned}
 use Rattle.plan_answer.specs.Plan.{planning}
 use Rattle.plan_sheet.specs.Accepted.{fits-of-accepted}
+use Rattle.plan_sheet.specs.FitsLaws.{devfn-lt}
 use Rattle.plan_sheet.specs.Answer.{planned-of-answer}
 use Rattle.demands.specs.Demand3.{Lawful, host, functions}
 use Rattle.demands.specs.Demand3Laws.{demand-3}
-use Rattle.requests.specs.EmptySlots.{versionOf, Spares, AsBefore, EmptySlots}
+use Rattle.demands.specs.ById.{HasId}
+use Rattle.demands.specs.ByIdLaws.{by-id-routed}
+use Rattle.requests.specs.EmptySlots.{versionOf, Spares, AsBefore, IsSpareBus, EmptySlots}
 
 -- ## Records
 
@@ -135,6 +143,67 @@ as-before b lawful v =
           ap (λ (n : ℕ). contentOf k n q later) (all-elim NoSpare fs none m .no-room) ∙ content-alone k q later;
     }
 
+-- ## Spare buses
+
+-- a bridge's row is that of a record which is a bridge
+record RowBridge (first : ℕ) (fs : List Function) (y : Numbered) : Type 0 where
+  index : ℕ
+  function : Function
+  bridge : BridgeAt fs index function
+  secondary-is : y .secondary ≡ busNumber first fs (suc index)
+
+module _ (first : ℕ) (fs : List Function) where
+  bridges-from : (i : ℕ) (gs : List Function) → drop i fs ≡ gs
+      → All (λ y. y .bridge ≡ true → RowBridge first fs y) (numberedFrom first fs (suc i) gs)
+  unfolding numberedFrom
+  bridges-from i [] e = tt
+  bridges-from i (g ∷ gs) e =
+      let next = drop-suc i fs g gs e in (
+        λ is.
+            record {
+              index = i;
+              function = g;
+              bridge = record { stands = e ∙ ap (λ (hs : List Function). g ∷ hs) (sym next); is-bridge = is };
+              secondary-is = refl;
+            },
+        bridges-from (suc i) gs next,
+      )
+
+  row-bridge : (y : Numbered) → y ∈ numbered first fs → y .bridge ≡ true → RowBridge first fs y
+  row-bridge y m = all-elim _ (numbered first fs) (bridges-from 0 fs refl) m
+
+  -- no record's bus is one of a bridge's spares: the first bus comes before them, and a bridge's secondary does or comes after
+  module _ (lawful : placing.Lawful fs) (i : ℕ) (f : Function) (at : BridgeAt fs i f) (bus : ℕ)
+      (below : bus ≤ subordinateOf first fs (suc i)) (past : subordinateOf first fs (suc i) < bus + f .spareBuses) where
+    not-first : bus ≡ first → ⊥
+    not-first e =
+        omega (arith, e, past, spares-last first fs lawful i f at .after-all-below, first-le-bus-number first fs (suc i))
+
+    not-secondary : (j : ℕ) (g : Function) → BridgeAt fs j g → bus ≡ busNumber first fs (suc j) → ⊥
+    not-secondary j g b e =
+        ⊎-elim (λ l. omega (arith, e, past, l)) (λ l. omega (arith, e, below, l))
+        (spares-last first fs lawful i f at .no-bridge-there j g b)
+
+    not-of-row : (x : Numbered) → x ∈ numbered first fs → bus ≡ x .bus → ⊥
+    not-of-row x m e =
+        ⊎-elim (λ root. not-first (e ∙ root .1))
+        (λ up.
+        let y = row-bridge (up .row) (up .in-rows) (up .under .bridge) in
+        not-secondary (y .index) (y .function) (y .bridge) (e ∙ up .under .bus-is ∙ y .secondary-is))
+        (parent-row first fs lawful m)
+
+nobody-on-spare-bus : (b : List ℕ) → Bytes b → Lawful b → (i : ℕ) (f : Function) → BridgeAt (functions b) i f
+    → (id : ℕ) → IsSpareBus b i f (id / 256) → (k : ℕ) → HasId b id k → ⊥
+nobody-on-spare-bus b bytes lawful i f at id (below, past) k has =
+    let first = host b .firstBus in
+    let fs = functions b in
+    let orderly = lawful-of-accepted b lawful in
+    let (x, m, is) = member-of-some _ (numbered first fs) (row-at first fs k (has .from-1) (has .in-list)) in
+    let r = row-of first fs orderly m in
+    let up = r .bus-is ∙ ap (busNumber first fs) (r .parent-is ∙ ap (parentOf fs) is) in
+    let byte = devfn-lt (functionsOf b) (fits-of-accepted b bytes lawful .functions) k in
+    not-of-row first fs orderly i f at (id / 256) below past x m (omega (arith, has .id-is, up, byte))
+
 -- ## The request
 
 pub empty-slots : EmptySlots
@@ -159,6 +228,10 @@ empty-slots =
       spare-room-refused = λ b room n bytes planned t same header p read a is i f at w m v spare.
           demand-3 .requests-routed b room n bytes planned t same header p read memorySpace a is .else-no-owner .1
           (λ k o. in-spare-room b room n bytes planned i f at w m v a spare k (o .bar-holds));
+      nobody-on-spare-bus = nobody-on-spare-bus;
+      spare-bus-refused = λ b room n bytes planned t same header p read id by i f at spare right.
+          by-id-routed b room n bytes planned t same header p read id by .else-no-owner .1
+          (right, nobody-on-spare-bus b bytes (planned-of-answer b (length room) n planned .accepted) i f at id spare);
     }
   where
     gap : (b : List ℕ) → Lawful b → (i : ℕ) (f : Function) → BridgeAt (functions b) i f

@@ -8,6 +8,7 @@ ghost use Rattle.text.specs.Text.{Put};
 ghost use Rattle.trace.specs.Trace.{textOf, linesOf};
 ghost use Rattle.trace.specs.Feed.{fedOf, fedPut};
 ghost use Rattle.trace_line.specs.Line.{lineOver};
+ghost use Rattle.trace_line.specs.declared.Engine.the-variants.{Index};
 ghost use Rattle.trace_line.specs.Engine.{Knows, lineBy};
 use records::Next;
 use records::frame;
@@ -26,7 +27,17 @@ pub fn feed(t: Trace, sheet: &[u8], piece: &[u8], out: &mut [u8]) -> Fed
     feed_by(t, Engine::Sheet(sheet::check(sheet)), sheet, piece, out)
 }
 
-// The same by an engine, which has the number of its sheet already.
+// By an index, which is taken as it is.
+pub fn feed_index(t: Trace, index: &[u8], piece: &[u8], out: &mut [u8]) -> Fed
+    ensures { λ r. ⌜
+        (r ≡ fedOf (lineBy Index (now (index .entry))) t (now (piece .entry)) (length (now (out .entry))))
+        × (now (out .exit) ≡ fedPut (lineBy Index (now (index .entry))) t (now (piece .entry)) (now (out .entry)))
+        ⌝ }
+{
+    feed_by(t, Engine::Index, index, piece, out)
+}
+
+// For callers that look at a sheet once for many pieces: by an engine, which has the number of its sheet already.
 pub fn feed_by(t: Trace, engine: Engine, bytes: &[u8], piece: &[u8], out: &mut [u8]) -> Fed
     requires { ⌜ Knows engine (now bytes) ⌝ }
     ensures { λ r. ⌜
