@@ -227,8 +227,9 @@ pub fn plan(board: &[u8], sheet: &mut [u8], written: &mut [u64]) -> u32 {
 }
 
 /// The number that [`plan`] gives a board, but for the room of its sheet, and writes to `who` whom it is about and what the board
-/// needs: eight numbers. Record and place, and the other record and place, are 0 where there is none; what is needed is 0 where
-/// the board fails its own checks. A refusal leaves them too; where `who` has no room for all eight it stays, and 0 becomes 11.
+/// needs: [`PLAN_WHO`] numbers. Record and place, and the other record and place, are 0 where there is none; what is needed is 0
+/// where the board fails its own checks. A refusal leaves them too. Where `who` has room for eight to ten, it gets the first eight;
+/// where it has room for fewer it stays, and 0 becomes 11.
 pub fn plan_where(board: &[u8], who: &mut [u64]) -> u32 {
     unsafe { c::cartsundial_plan_where(board.as_ptr(), board.len(), who.as_mut_ptr(), who.len()) }
 }

@@ -11,9 +11,10 @@ const PAST_POOLS: u64 = 1 << 52;
 /// What a board that passes its own checks needs of its host, whether it is planned or not.
 ///
 /// A pool's bytes are counted from its base to the edge of a granule after the last item of the root bus: 1 MiB for memory, 4 KiB
-/// for I/O. With pools of that size from the same bases on the board is not refused with 31 to 33, with a granule less in one of
-/// them it is. They are 0 where the root bus has nothing of that pool. A closed pool has no base: its bytes are enough from any
-/// multiple of its alignment. An end past 2^62 is counted as 2^62, which is past every pool.
+/// for I/O. They are 0 where the root bus has nothing of that pool. A closed pool has no base: its bytes are enough from any
+/// multiple of its alignment, and from another base it can take more. With pools of that size, an open one from the same base on
+/// and a closed one from such a multiple, the board is not refused with 31 to 33; with a granule less in one of them it is. An
+/// end past 2^62 is counted as 2^62, which is past every pool.
 #[derive(Clone, Copy, Debug, Default, PartialEq, Eq, Hash)]
 pub struct Needs {
     /// Bus numbers: the root bus's, and those that the bridges and their spares take.
@@ -24,11 +25,11 @@ pub struct Needs {
     pub high: u64,
     /// Bytes of the I/O pool.
     pub io: u64,
-    /// The largest alignment of the root bus in the low pool, and no less than its granule.
+    /// The low pool's alignment: the largest among the root bus's items there, and no less than the granule.
     pub low_align: u64,
-    /// The same of the high pool.
+    /// The high pool's.
     pub high_align: u64,
-    /// The same of the I/O pool.
+    /// The I/O pool's.
     pub io_align: u64,
 }
 

@@ -38,9 +38,9 @@ impl<'a> Unfit<'a> {
     pub fn json(&self) -> Json {
         let PlanFinding { refusal, party, lost_before, .. } = &self.finding;
         let rooms = self.rooms();
-        let counts = |of: fn(&Room) -> u64| match rooms.len() {
+        let counts = |of: fn(&Room) -> Option<u64>| match rooms.len() {
             0 => Json::Null,
-            _ => Json::Object(rooms.iter().map(|room| (room.member(), Json::number(of(room)))).collect()),
+            _ => Json::Object(rooms.iter().filter_map(|room| Some((room.member(), Json::number(of(room)?)))).collect()),
         };
         let place = |party: &PlanParty| ("place", place(party).map_or(Json::Null, Json::text));
         let lost = lost_before.as_ref().map_or(Json::Null, |party| {
@@ -53,8 +53,9 @@ impl<'a> Unfit<'a> {
             ("record", party.map_or(Json::Null, |party| Json::number(party.record))),
             party.as_ref().map_or(("place", Json::Null), place),
             ("about", party.as_ref().map_or(Json::Null, |party| Json::text(self.about(party)))),
-            ("needs", counts(|room| room.needs)),
-            ("has", counts(|room| room.has)),
+            ("needs", counts(|room| Some(room.needs))),
+            ("align", counts(|room| room.align)),
+            ("has", counts(|room| Some(room.has))),
             ("lost_before", lost),
         ])
     }
@@ -92,10 +93,13 @@ impl<'a> Unfit<'a> {
     /// Nothing for a board that fails its own checks.
     fn rooms(&self) -> Vec<Room> {
         let (Some(needs), Some(host)) = (self.finding.needs, self.finding.host) else { return Vec::new() };
-        let buses = Room { pool: None, needs: needs.buses.into(), align: 1, has: host.bus_numbers().into() };
-        let room =
-            |pool| Room { pool: Some(pool), needs: needs.of(pool), align: needs.align(pool), has: host.room(pool) };
-        let pools = Pool::ALL.map(room);
+        let buses = Room { pool: None, needs: needs.buses.into(), align: None, has: host.bus_numbers().into() };
+        let pools = Pool::ALL.map(|pool| Room {
+            pool: Some(pool),
+            needs: needs.of(pool),
+            align: Some(needs.align(pool)),
+            has: host.room(pool),
+        });
         [buses].into_iter().chain(pools).collect()
     }
 }
@@ -104,7 +108,8 @@ impl<'a> Unfit<'a> {
 struct Room {
     pool: Option<Pool>,
     needs: u64,
-    align: u64,
+    /// Of a closed pool: its bytes are enough from any multiple of this.
+    align: Option<u64>,
     has: u64,
 }
 
@@ -114,11 +119,11 @@ impl Room {
         let Some(pool) = self.pool else {
             return format!("bus numbers: needs {}, has {}{}", self.needs, self.has, self.verdict());
         };
-        let needs = match self.needs {
-            0 => "nothing".to_string(),
-            PAST_POOLS.. => "more than any pool has".to_string(),
-            bytes if self.has == 0 => format!("{} at a multiple of {}", Size(bytes), Size(self.align)),
-            bytes => Size(bytes).to_string(),
+        let needs = match (self.needs, self.align) {
+            (0, _) => "nothing".to_string(),
+            (PAST_POOLS.., _) => "more than any pool has".to_string(),
+            (bytes, Some(align)) if self.has == 0 => format!("{} at a multiple of {}", Size(bytes), Size(align)),
+            (bytes, _) => Size(bytes).to_string(),
         };
         let has = match self.has {
             0 => "is closed".to_string(),

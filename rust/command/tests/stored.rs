@@ -7,7 +7,7 @@ use run::{repository, run, Ran};
 use std::{env, fs};
 
 /// Name, exit status, arguments. Files are named from the repository's root.
-const RUNS: [(&str, i32, &str); 42] = [
+const RUNS: [(&str, i32, &str); 44] = [
     ("plan", 0, "plan tests/command/recorder.txt"),
     ("plan-json", 0, "plan docs/example/board --json"),
     ("plan-lspci", 0, "plan tests/command/recorder.txt --lspci"),
@@ -16,6 +16,8 @@ const RUNS: [(&str, i32, &str); 42] = [
     ("plan-refused-31-gap", 1, "plan tests/command/gap.txt"),
     ("plan-refused-31-gap-json", 1, "plan tests/command/gap.txt --json"),
     ("plan-refused-31-closed", 1, "plan tests/plan/spares-closed-pool-refused-31.board"),
+    ("plan-refused-32-closed", 1, "plan tests/command/closed.txt"),
+    ("plan-refused-32-closed-json", 1, "plan tests/command/closed.txt --json"),
     ("plan-refused-23", 1, "plan tests/command/order.txt"),
     ("plan-refused-25", 1, "plan tests/command/small.txt"),
     ("plan-refused-30", 1, "plan tests/plan/refused-30.board"),

@@ -118,9 +118,12 @@ fn cut(board: &mut Board, pool: usize, random: &mut Random) {
     }
 }
 
-/// The last address of a pool with fewer granules of 2^`bits`, small numbers being likelier.
+/// The last address of a pool with fewer granules of 2^`bits`, small numbers being likelier. A closed pool has none, and stays so.
 fn fewer(base: u64, last: u64, bits: u32, random: &mut Random) -> u64 {
-    let granules = last.saturating_sub(base) >> bits;
+    if last < base {
+        return last;
+    }
+    let granules = (last - base) >> bits;
     let most = (granules >> random.below(u64::from(u64::BITS - granules.leading_zeros()) + 1)).max(1);
     base + ((1 + random.below(most)) << bits) - 1
 }
