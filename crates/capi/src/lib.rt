@@ -131,8 +131,8 @@ pub extern "C" fn cartsundial_audit_where(host: &[u8], sheet: &[u8], who: &mut [
 }
 
 // The planner's number, and whom it is about: the record and its place, the record and place before which most room is lost; then how many
-// buses the board needs, and how many bytes of the low, the high and the I/O pool. A refused board has them too; with room for fewer than
-// eight the slice stays, and 0 is 11.
+// buses the board needs, how many bytes of the low, the high and the I/O pool, and the alignment of a base of each. A refused board has them
+// too. Room for eight to ten gets all but the alignments; with room for fewer the slice stays, and 0 is 11.
 #[no_mangle]
 pub extern "C" fn cartsundial_plan_where(board: &[u8], who: &mut [u64]) -> u32
     ensures { λ r. ⌜ r ≡ planNumber (planFindingOf (now (board .entry))) (now (who .entry)) ⌝ }

@@ -33,8 +33,8 @@ whoNumber f = toldNumber 4 (f .number)
 abbrev pub whoFilled : Finding → List ℕ → List ℕ
 whoFilled f = toldFilled (whoNumbers f)
 
--- ## What does not fit of a board: the same, then what is needed, then the alignments; a slice with room for what is needed and not for
--- these gets what it has room for
+-- ## What does not fit of a board: the same, then what is needed, then the alignments. A slice with room for all but these gets all but
+-- these
 
 abbrev pub needNumbers : Needs → List ℕ
 needNumbers n = n .buses ∷ n .low ∷ n .high ∷ n .io ∷ []

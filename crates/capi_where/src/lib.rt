@@ -1,7 +1,7 @@
 // What the C boundary's calls do that tell who fails an audit, and what does not fit of a board. Each returns the number, and puts numbers
 // into the slice: the record and its place, the other record and its place; of a board also the buses and the bytes of each pool that it
-// needs, and with room for these the alignment of each pool's base. They are there where the number is a refusal's too. With room for fewer
-// the slice stays, and a number that is 0 becomes 11.
+// needs, and the alignment of a base of each, which a slice without room for it does without. They are there where the number is a refusal's
+// too. Otherwise a slice that is too short stays, and a number that is 0 becomes 11.
 ghost use mathlib.Core.Path.{_≡_};
 ghost use mathlib.Core.Bool.{cond};
 ghost use Prim.Native.Nat.{_+_, _≤_};
@@ -16,12 +16,12 @@ use finding::Party;
 use plan_needs::Needs;
 use plan_where::PlanFinding;
 
-// How many numbers the answers have.
+// How many numbers the answers have: of an audit; of a board, without the alignments and with them.
 pub const WHO: usize = 4;
 
 pub const WHO_OF_BOARD: usize = 8;
 
-pub const WHO_AND_BASES: usize = 11;
+pub const WITH_ALIGNMENTS: usize = 11;
 
 pub fn audit_where(host: &[u8], sheet: &[u8], who: &mut [u64]) -> u32
     ensures { λ r. ⌜ r ≡ whoNumber (findingOf (now (host .entry)) (now (sheet .entry))) (now (who .entry)) ⌝ }
@@ -48,7 +48,7 @@ pub fn plan_where(board: &[u8], who: &mut [u64]) -> u32
         return short_number(found.number);
     }
     put_plan(who, found);
-    if room < WHO_AND_BASES {
+    if room < WITH_ALIGNMENTS {
         return found.number as u32;
     }
     let needs = found.needs;

@@ -159,12 +159,13 @@ withPool x high s =
 withPool x io s =
     record { «first_bus» = x .«first_bus»; «last_bus» = x .«last_bus»; low = x .low; high = x .high; io = s }
 
--- a base that suits: the pool's own, of a closed one the first multiple of the alignment where a pool of its kind may start
+-- the first multiple of an alignment where a pool of this kind may start: the high one does from 4 GiB on
 abbrev pub firstBase : ℕ → Pool → ℕ
 firstBase align low = 0
 firstBase align high = max align 4294967296
 firstBase align io = 0
 
+-- a base that suits: the pool's own, of a closed one that first multiple
 abbrev pub baseFor : List ℕ → Pool → ℕ
 baseFor b q = cond (isClosed (hostIn b) q) (firstBase (aligned (planFindingOf b .needs) q) q) (hostIn b .base q)
 
@@ -202,14 +203,14 @@ pub record WhatFits : Type 0 where
   -- "so that "needs 33 MiB, has 32" can be said,"
   pub has-less : (b : List ℕ) → Bytes b → (q : Pool) → planFindingOf b .number ≡ refusal q
       → roomOf (hostIn b) q < needed (planFindingOf b .needs) q
-  -- "what the pools need is exact: with pools of that size the board is not refused by 31 to 33," nor by one of them for its own pool
+  -- "what the pools need is exact: with pools of that size the board is not refused by 31 to 33,": with one of them not by its number
   pub enough : (b c : List ℕ) → Bytes b → boardNumber b ≡ 0 → SameBoard b c → (q : Pool) → IsEnough b (hostIn c) q
       → (room : ℕ) → ¬ (planning c room ≡ Refused (refusal q))
   -- "with a granule less it is.": with any fewer bytes, if it is not by a number before that pool's
   pub too-few : (b c : List ℕ) → Bytes b → boardNumber b ≡ 0 → SameBoard b c → (q : Pool) → Suits b (hostIn c) q
       → roomOf (hostIn c) q < needed (planFindingOf b .needs) q
       → (room : ℕ) → ((m : ℕ) → 30 ≤ m → m < refusal q → ¬ (planning c room ≡ Refused m)) → planning c room ≡ Refused (refusal q)
-  -- so just with fewer, where there are bus numbers enough and the pools before it are,
+  -- so just with fewer, where there are bus numbers enough and the pools before it are enough,
   pub refused-iff : (b c : List ℕ) → Bytes b → boardNumber b ≡ 0 → SameBoard b c
       → hostIn c .firstBus + planFindingOf b .needs .buses ≤ suc (hostIn c .lastBus)
       → (q : Pool) → ((p : Pool) → refusal p < refusal q → IsEnough b (hostIn c) p) → Suits b (hostIn c) q
