@@ -60,6 +60,13 @@ pub claims-start : (space : Space) (s : List ℕ) (address bus : ℕ)
 unfolding tallyOn claimsFrom
 claims-start space s address bus = refl
 
+-- the next record from `from` on that is on the bus and enabled is r, or there is none and r is their count
+pub record NextLive (space : Space) (s : List ℕ) (bus from r : ℕ) : Type 0 where
+  pub later : from ≤ r
+  pub within : r ≤ length (entriesOf s)
+  pub live : r < length (entriesOf s) → true ≡ isLive space bus (partAt s r)
+  pub same : (address : ℕ) → claimsFrom space s address bus r ≡ claimsFrom space s address bus from
+
 -- the claims of the record with this number, from place i of its set on, and of those after it
 abbrev pub recordClaims : Space → ℕ → ℕ → List ℕ → ℕ → List ℕ → List ℕ → List ℕ → ℕ → List Claim
 recordClaims space address bus s number p rs vs i =
@@ -74,6 +81,17 @@ module _ (s : List ℕ) (c : Checked s) (n k : ℕ) (count : n ≡ length (entri
       sym (ap (λ (fs : List Registers). join t (claimsOn (enabledOf space s) fs address bus)) past
       ∙ ap (join t) (claims-nil (enabledOf space s) address bus)
       ∙ join-nil t)
+
+  pub live-none : (space : Space) (bus from : ℕ) → n ≤ k → k ≤ n → from ≤ k
+      → ((address : ℕ) → claimsFrom space s address bus k ≡ claimsFrom space s address bus from) → NextLive space s bus from n
+  live-none space bus from h g l same =
+      let i : k ≡ n = omega (arith, h, g) in
+      record {
+        later = omega (arith, h, l);
+        within = omega (arith, count);
+        live = λ m. absurd (omega (arith, count, m));
+        same = λ address. ap (claimsFrom space s address bus) (sym i) ∙ same address;
+      }
 
   module _ (h : k < n) where
     inside : k < length (entriesOf s)
@@ -96,7 +114,8 @@ module _ (s : List ℕ) (c : Checked s) (n k : ℕ) (count : n ≡ length (entri
       unfolding entryOf
       lawful-here set m r q = rw (r, q, e) (lawful-index s c k inside)
 
-      module _ (space : Space) (address bus : ℕ) (b : Bool) (live : b ≡ isLive space bus p) (t : Tally) where
+      -- b tells whether it is live
+      module _ (space : Space) (bus : ℕ) (b : Bool) (live : b ≡ isLive space bus p) where
         function : Registers
         function = functionOf space (k + 1) (entryOf p)
 
@@ -104,27 +123,37 @@ module _ (s : List ℕ) (c : Checked s) (n k : ℕ) (count : n ≡ length (entri
         unfolding function entryOf
         live-is = rw (enabled-index s (c .framed) space k inside, ← e) (sym live)
 
-        claims-step : claimsFrom space s address bus k
+        claims-step : (address : ℕ) → claimsFrom space s address bus k
             ≡ claimsOf (enabledOf space s) address bus function ++ claimsFrom space s address bus (k + 1)
         unfolding function claimsFrom
-        claims-step =
+        claims-step address =
             ap (λ (fs : List Registers). claimsOn (enabledOf space s) fs address bus) (functions-index s (c .framed) space k inside)
             ∙ rw (← e) (claims-cons (enabledOf space s) address bus function
             (functionsFrom space (k + 1 + 1) (entriesFrom s (recordAt (k + 1)))))
 
-        pub claims-other : b ≡ false → join t (claimsFrom space s address bus (k + 1)) ≡ join t (claimsFrom space s address bus k)
-        claims-other off =
+        pub claims-other : b ≡ false → (address : ℕ) → claimsFrom space s address bus (k + 1) ≡ claimsFrom space s address bus k
+        claims-other off address =
             let none = claims-of-other (enabledOf space s) address bus function (live-is ∙ off) in
-            sym (ap (join t) (claims-step ∙ ap (λ (cs : List Claim). cs ++ claimsFrom space s address bus (k + 1)) none))
+            sym (claims-step address ∙ ap (λ (cs : List Claim). cs ++ claimsFrom space s address bus (k + 1)) none)
 
-        pub claims-here : (set values : List ℕ) (m : ℕ)
+        pub live-found : (from : ℕ) → b ≡ true → from ≤ k
+            → ((address : ℕ) → claimsFrom space s address bus k ≡ claimsFrom space s address bus from) → NextLive space s bus from k
+        live-found from on l same =
+            record {
+              later = l;
+              within = omega (arith, inside);
+              live = λ h. sym on ∙ live ∙ ap (isLive space bus) e;
+              same = same;
+            }
+
+        pub claims-here : (address : ℕ) (t : Tally) (set values : List ℕ) (m : ℕ)
             → set ≡ dwords (be 4) 6 p readbacksAt → values ≡ dwords (le 4) 6 p valuesAt → m ≡ slotCount (headerOf p) → b ≡ true
             → join t (recordClaims space address bus s (k + 1) p (take m set) (take m values) 0) ≡ join t (claimsFrom space s address bus k)
         unfolding function
-        claims-here set values m r v q on =
+        claims-here address t set values m r v q on =
             let rest = claimsFrom space s address bus (k + 1) in
             let windows = windowClaims space address (k + 1) p in
-            sym (ap (join t) (claims-step
+            sym (ap (join t) (claims-step address
             ∙ ap (λ (cs : List Claim). cs ++ rest) (claims-of-here (enabledOf space s) address bus function (live-is ∙ on))
             ∙ append-assoc (hitsOf address (bar (k + 1)) (barsOf space (entryOf p))) windows rest
             ∙ ap (λ (rs : List Range). hitsOf address (bar (k + 1)) rs ++ (windows ++ rest)) (bars-entry p space ∙ rw (r, v, q))))

@@ -2,7 +2,7 @@
 // One definition (specs/Parents.antt) and two ways to it: who asks for every function has a table of all buses, filled by one pass over the
 // records; who asks for one bus has a search over them. By the table also all bridges above a bus: how many, and whether each is enabled.
 ghost use mathlib.Core.Path.{_≡_};
-ghost use Prim.Native.Nat.{_<_};
+ghost use Prim.Native.Nat.{_≤_, _<_};
 ghost use lib.ListN.{length, replicate};
 ghost use Rattle.sheet_record.specs.Places.{recordSize};
 ghost use Rattle.sheet_record.specs.Entry.{entryOf};
@@ -10,6 +10,7 @@ ghost use Rattle.sheet.specs.Sheet.{entriesOf};
 ghost use Rattle.sheet.specs.SheetLaws.{Checked};
 ghost use Rattle.sheet_above.specs.Parents.{leadsTo, joined as joinedOf, leaderOf};
 ghost use Rattle.sheet_above.specs.Table.{IsParent, toldBy, Leads, withRecord, Tells};
+ghost use Rattle.sheet_above.specs.SearchLaws.{NextLeader};
 ghost use Rattle.sheet_above.specs.Bridges.{BusTree, OnBus, bridgesOver};
 use pools::Space;
 
@@ -150,19 +151,37 @@ fn leads_to(part: &[u8], bus: u8) -> bool
 
 // ---- the search
 
+// The one bridge found first, unless there is a second. One loop over all records that counts them keeps its count from record to record,
+// which takes twice as long as two loops that end at what they find.
 fn leader_of(sheet: &[u8], bus: u8) -> u16
     requires { ⌜ Checked (now sheet) ⌝ }
     ensures { λ r. ⌜ r ≡ leaderOf (entriesOf (now (sheet .entry))) bus ⌝ }
 {
     let records = sheet::count(sheet);
-    let mut number: u16 = 0;
-    let mut k: usize = 0;
+    let first = next_leader(sheet, bus, 0);
+    if records <= first {
+        return 0;
+    }
+    let second = next_leader(sheet, bus, first + 1);
+    if second < records {
+        return SEVERAL;
+    }
+    (first + 1) as u16
+}
+
+// The next record from this one on that leads to the bus; where none does, as many as there are.
+fn next_leader(sheet: &[u8], bus: u8, from: usize) -> usize
+    requires { ⌜ Checked (now sheet) × (from ≤ length (entriesOf (now sheet))) ⌝ }
+    ensures { λ r. ⌜ NextLeader (now (sheet .entry)) bus from r ⌝ }
+{
+    let records = sheet::count(sheet);
+    let mut k = from;
     while k < records {
         let part = sheet::part(sheet, k);
-        k += 1;
         if leads_to(part, bus) {
-            number = joined(number, k as u16);
+            return k;
         }
+        k += 1;
     }
-    number
+    records
 }
