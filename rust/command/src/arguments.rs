@@ -54,6 +54,11 @@ impl Arguments {
         self.values.iter().rfind(|(given, _)| given == option).map(|(_, value)| &value[..])
     }
 
+    /// All values of an option that may be given more than once.
+    pub fn values(&self, option: &str) -> Vec<&str> {
+        self.values.iter().filter(|(given, _)| given == option).map(|(_, value)| &value[..]).collect()
+    }
+
     /// Exactly these files.
     pub fn exactly<const N: usize>(&self, names: [&str; N]) -> Result<[&str; N], Failure> {
         let files: Vec<&str> = self.files.iter().map(String::as_str).collect();

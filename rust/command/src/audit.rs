@@ -1,16 +1,17 @@
 //! `audit`: whether a sheet is in order for a host, and whether every address has one owner.
 
 use crate::arguments::{Arguments, Options};
+use crate::convert::functions;
 use crate::failure::{print, Answer, Failure, Verdict};
 use crate::faults::{self, Nesting};
 use crate::named::{NamedSheet, RECORD};
 use crate::source::Source;
 use cartsundial::{audit, audit_where, sound, HostRecord, Refusal};
 
-pub const OPTIONS: Options = Options { flags: &["--all"], values: &["--host"] };
+pub const OPTIONS: Options = Options { flags: &["--all", "--quiet"], values: &["--host"] };
 
 pub const HELP: &str = "\
-cartsundial audit SHEET --host HOST [--all]
+cartsundial audit SHEET --host HOST [--all] [--quiet]
 
 Judges a sheet, whoever wrote it, for a host: accepted, or the number of the first check that fails, with its words and the
 function that breaks it. On an accepted sheet no address has two owners. HOST is a host record's 30 bytes, or a board, of
@@ -19,12 +20,13 @@ which the host is taken; where SHEET is itself a board, its plan is judged, for 
 A second verdict, `one owner for every address`, asks 51 of the address space and not of the kind: memory may lie in any memory
 window of the bridge above, or memory pool of the host. Prefetchable windows below 4 GiB, which are 51 to the first verdict and
 which much firmware leaves, may pass it. Over a sheet that passes, packets from the host are delivered as over an accepted one.
-The exit status is the first verdict's.
+The exit status is 0 where both verdicts are yes, else 1: the first one's, since a sheet that it accepts passes the second.
 
 The verdicts are the proved library's, and so is the line `first`: the first record that fails the check, in record order, where,
 and the other one that it meets there. The lines after it are looked up beside them, and are not proved.
 
   --all               every fault, not only those of the first rule that is broken
+  --quiet             no word: the exit status is the answer
 ";
 
 pub fn run(arguments: &Arguments) -> Answer {
@@ -41,14 +43,17 @@ pub fn run(arguments: &Arguments) -> Answer {
         Some(board) => NamedSheet::planned(board).ok(),
         None => NamedSheet::new(sheet.clone(), &names).ok(),
     };
-    let verdict = audit(&host, &sheet);
+    let (verdict, one) = (audit(&host, &sheet), sound(&host, &sheet));
+    let answer = Verdict::of(verdict.is_ok() && one.is_ok());
+    if arguments.has("--quiet") {
+        return Ok(answer);
+    }
     let first = match verdict {
-        Ok(()) => format!("accepted: {} functions\n", sheet.len() / RECORD),
+        Ok(()) => format!("accepted: {}\n", functions(sheet.len() / RECORD)),
         Err(refusal) => refused(refusal, &sheet, named.as_ref(), &host, arguments.has("--all")),
     };
-    let second = one_owner(verdict, sound(&host, &sheet), named.as_ref(), &host);
-    print(first + &second)?;
-    Ok(Verdict::of(verdict.is_ok()))
+    print(first + &one_owner(verdict, one, named.as_ref(), &host))?;
+    Ok(answer)
 }
 
 /// The second verdict. Who breaks it is told where the first one has not said so.

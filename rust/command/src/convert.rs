@@ -77,9 +77,9 @@ pub fn named_text(named: &NamedSheet) -> String {
     sheet_text(named.sheet.bytes(), |record| named.name(record))
 }
 
-/// A sheet in hexadecimal, with its names.
+/// A sheet in hexadecimal, with its names. It says first how many functions there are, so that one that is cut is told from it.
 pub fn sheet_text<'a>(sheet: &[u8], name: impl Fn(u16) -> Option<&'a str>) -> String {
-    let mut text = "sheet\n01\n".to_string();
+    let mut text = format!("sheet of {}\n01\n", functions(sheet[1..].len() / RECORD));
     for (number, record) in (1..).zip(sheet[1..].chunks(RECORD)) {
         if let Some(name) = name(number) {
             let _ = writeln!(text, "\"{name}\"");
@@ -92,6 +92,11 @@ pub fn sheet_text<'a>(sheet: &[u8], name: impl Fn(u16) -> Option<&'a str>) -> St
         let _ = writeln!(text, "  {}    # read-backs", dwords(&record[68..]));
     }
     text
+}
+
+/// `1 function`, `8 functions`.
+pub fn functions(count: usize) -> String {
+    format!("{count} function{}", if count == 1 { "" } else { "s" })
 }
 
 /// A trace in hexadecimal, a record to a line. What is left of one that is cut stands on the last line.

@@ -1,5 +1,8 @@
 //! Bytes as hexadecimal text: `#` starts a comment, spaces and carriage returns do not matter, and a quoted name belongs to
-//! what starts at the next byte. A text may say first what it is: `sheet`, `trace` or `script`.
+//! what starts at the next byte. A text may say first what it is: `sheet`, `trace` or `script`; of a sheet also how much:
+//! `sheet of 8 functions`.
+
+use crate::named::RECORD;
 
 /// What a text says that it is.
 const WORDS: [&str; 3] = ["sheet", "trace", "script"];
@@ -10,16 +13,25 @@ pub struct HexText {
     pub bytes: Vec<u8>,
     /// Each with how many bytes stand before it.
     pub names: Vec<(usize, String)>,
+    /// How many functions a sheet's text says that it has.
+    functions: Option<usize>,
 }
 
 impl HexText {
     /// What is wrong comes with its line.
     pub fn read(text: &str) -> Result<HexText, String> {
-        let mut all = HexText { word: None, bytes: Vec::new(), names: Vec::new() };
+        let mut all = HexText { word: None, bytes: Vec::new(), names: Vec::new(), functions: None };
         for (number, line) in (1..).zip(text.lines()) {
             all.read_line(line.trim()).map_err(|what| format!("line {number}: {what}"))?;
         }
-        Ok(all)
+        match all.functions {
+            Some(count) if all.bytes.len() != 1 + RECORD * count => Err(format!(
+                "it says {count} functions, which are {} bytes, and has {}: it is cut, or was changed",
+                1 + RECORD * count,
+                all.bytes.len()
+            )),
+            _ => Ok(all),
+        }
     }
 
     fn read_line(&mut self, mut line: &str) -> Result<(), String> {
@@ -29,6 +41,12 @@ impl HexText {
             line = rest;
         }
         let line = line.split('#').next().unwrap_or("").trim();
+        if let Some(count) = line.strip_prefix("sheet of ").filter(|_| self.bytes.is_empty() && self.word.is_none()) {
+            let count = count.trim_end_matches(" functions").trim_end_matches(" function");
+            self.functions = Some(count.parse().map_err(|_| format!("`{line}`: a sheet is `of 8 functions`"))?);
+            self.word = Some("sheet");
+            return Ok(());
+        }
         match WORDS.into_iter().find(|word| *word == line) {
             Some(word) if self.bytes.is_empty() && self.word.is_none() => self.word = Some(word),
             _ => self.bytes.extend(bytes(line)?),
@@ -76,6 +94,11 @@ mod tests {
         let text = HexText::read("# a sheet\r\nsheet\r\n01\r\n\"a # b\" # its name\r\n005A # length\r\n").unwrap();
         assert_eq!((text.word, text.bytes), (Some("sheet"), vec![1, 0, 90]));
         assert_eq!(text.names, [(1, "a # b".to_string())]);
+        for (text, is_whole) in
+            [("sheet of 0 functions\n01", true), ("sheet of 1 function\n01", false), ("sheet of x\n01", false)]
+        {
+            assert_eq!(HexText::read(text).is_ok(), is_whole, "{text}");
+        }
         assert_eq!(HexText::read("01\n0q").err().unwrap(), "line 2: `0q` is not hexadecimal");
     }
 }

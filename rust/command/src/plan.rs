@@ -34,14 +34,16 @@ before whom most room of that pool is lost to alignment. Numbers, records, place
 
 pub fn run(arguments: &Arguments) -> Answer {
     let [name] = arguments.exactly(["BOARD"])?;
-    let board = Source::read(name)?.into_board_or_bytes()?;
+    let source = Source::read(name)?;
+    let host_comment = source.host_comment();
+    let board = source.into_board_or_bytes()?;
     let bytes = match &board {
         Ok(board) => board.bytes(),
         Err(bytes) => bytes.clone(),
     };
     let planned = board.as_ref().ok().and_then(|board| NamedSheet::planned(board).ok());
     let Some(named) = planned else {
-        let unfit = Unfit::new(&bytes, board.as_ref().ok());
+        let unfit = Unfit::new(&bytes, board.as_ref().ok(), host_comment);
         print(if arguments.has("--json") { format!("{}\n", unfit.json()) } else { unfit.text() })?;
         return Ok(Verdict::Refused);
     };
@@ -58,8 +60,7 @@ fn shown(arguments: &Arguments, named: &NamedSheet) -> String {
     } else if arguments.has("--lines") {
         listing::plan_lines(named)
     } else {
-        let functions = named.sheet.functions().len();
-        format!("planned: {functions} function{}\n{}", if functions == 1 { "" } else { "s" }, listing::table(named))
+        format!("planned: {}\n{}", convert::functions(named.sheet.functions().len()), listing::table(named))
     }
 }
 

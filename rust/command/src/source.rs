@@ -2,6 +2,7 @@
 
 use crate::failure::Failure;
 use crate::hexadecimal::HexText;
+use crate::import::is_lspci;
 use crate::named::NamedSheet;
 use cartsundial::{check, Board, HostRecord, Id};
 use std::fs::File;
@@ -19,6 +20,8 @@ pub struct Source {
     word: Option<&'static str>,
     names: Vec<(usize, String)>,
     pub is_text: bool,
+    /// The comment on a board's line `host`.
+    host_comment: Option<String>,
 }
 
 /// What bytes are, by their own frame.
@@ -69,15 +72,29 @@ impl Source {
     pub fn of(name: &str, bytes: Vec<u8>) -> Result<Source, Failure> {
         let name = called(name).to_string();
         let wrong = |what: String| Failure::Usage(format!("{name}: {what}"));
-        let empty = Source { name: name.clone(), bytes, board: None, word: None, names: Vec::new(), is_text: false };
+        let empty = Source {
+            name: name.clone(),
+            bytes,
+            board: None,
+            word: None,
+            names: Vec::new(),
+            is_text: false,
+            host_comment: None,
+        };
         let Some(text) = text_of(&empty.bytes) else { return Ok(empty) };
         if Board::is_text(text) {
             let board: Board = text.parse().map_err(|error: cartsundial::BoardTextError| wrong(error.to_string()))?;
-            return Ok(Source { bytes: board.bytes(), board: Some(board), is_text: true, ..empty });
+            let host_comment = host_comment(text);
+            return Ok(Source { bytes: board.bytes(), board: Some(board), is_text: true, host_comment, ..empty });
+        }
+        if is_lspci(text) {
+            return Err(wrong(
+                "it looks like what lspci prints: `cartsundial import` makes a sheet and a host of it".into(),
+            ));
         }
         let not_hexadecimal =
             |what| wrong(format!("{what}. A text is a board, which starts with `host`, or hexadecimal"));
-        let HexText { word, bytes, names } = HexText::read(text).map_err(not_hexadecimal)?;
+        let HexText { word, bytes, names, .. } = HexText::read(text).map_err(not_hexadecimal)?;
         Ok(Source { bytes, word, names, is_text: true, ..empty })
     }
 
@@ -164,6 +181,16 @@ impl Source {
     pub fn names(&self) -> &[(usize, String)] {
         &self.names
     }
+
+    /// The comment on a board's line `host`.
+    pub fn host_comment(&self) -> Option<String> {
+        self.host_comment.clone()
+    }
+}
+
+fn host_comment(text: &str) -> Option<String> {
+    let host = text.lines().find(|line| line.trim_start().starts_with("host"))?;
+    host.split_once('#').map(|(_, comment)| comment.trim().to_string())
 }
 
 /// A text has no control characters but tabs and line ends; no board, sheet or trace is one.

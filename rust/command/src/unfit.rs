@@ -12,13 +12,17 @@ pub struct Unfit<'a> {
     bytes: &'a [u8],
     /// With names and lines, where there are any.
     board: Option<&'a Board>,
+    /// What the board's text says beside its host.
+    host_comment: Option<String>,
 }
 
 impl<'a> Unfit<'a> {
     /// Of a board that is not planned.
-    pub fn new(bytes: &'a [u8], board: Option<&'a Board>) -> Unfit<'a> {
+    pub fn new(bytes: &'a [u8], board: Option<&'a Board>, host_comment: Option<String>) -> Unfit<'a> {
         let finding = plan_where(bytes).expect_err("a board that is not planned is refused");
-        Unfit { finding, bytes, board }
+        // It may say why a pool is as small as it is.
+        let host_comment = host_comment.filter(|_| Pool::short_by(finding.refusal).is_some());
+        Unfit { finding, bytes, board, host_comment }
     }
 
     pub fn text(&self) -> String {
@@ -31,6 +35,9 @@ impl<'a> Unfit<'a> {
         }
         if let Some(party) = &self.finding.lost_before {
             text += &format!("  most room is lost to alignment before {}\n", self.titled(party));
+        }
+        if let Some(comment) = &self.host_comment {
+            text += &format!("  the host's line says: {comment}\n");
         }
         text
     }
@@ -47,7 +54,7 @@ impl<'a> Unfit<'a> {
             let about = Json::text(self.titled(party));
             Json::Object(vec![("record", Json::number(party.record)), place(party), ("about", about)])
         });
-        Json::Object(vec![
+        let mut members = vec![
             ("refused", Json::number(refusal.number())),
             ("meaning", Json::text(refusal.meaning())),
             ("record", party.map_or(Json::Null, |party| Json::number(party.record))),
@@ -57,7 +64,9 @@ impl<'a> Unfit<'a> {
             ("align", counts(|room| room.align)),
             ("has", counts(|room| Some(room.has))),
             ("lost_before", lost),
-        ])
+        ];
+        members.extend(self.host_comment.as_ref().map(|comment| ("host_comment", Json::text(comment))));
+        Json::Object(members)
     }
 
     /// Whom the number is about, and where it does not fit.

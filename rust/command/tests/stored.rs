@@ -7,7 +7,7 @@ use run::{repository, run, Ran};
 use std::{env, fs};
 
 /// Name, exit status, arguments. Files are named from the repository's root.
-const RUNS: [(&str, i32, &str); 44] = [
+const RUNS: [(&str, i32, &str); 46] = [
     ("plan", 0, "plan tests/command/recorder.txt"),
     ("plan-json", 0, "plan docs/example/board --json"),
     ("plan-lspci", 0, "plan tests/command/recorder.txt --lspci"),
@@ -52,8 +52,10 @@ const RUNS: [(&str, i32, &str); 44] = [
     ("convert-trace", 0, "convert docs/example/trace"),
     ("convert-sheet", 0, "convert tests/audit/ovmf-one-bridge.sheet"),
     ("export", 0, "export tests/audit/ovmf-one-bridge.sheet"),
+    ("import-not-read", 1, "import tests/command/linux/spellings.lspci"),
     ("help", 0, "--help"),
     ("help-audit", 0, "audit --help"),
+    ("help-import", 0, "import --help"),
     ("help-label", 0, "label --help"),
     ("no-subcommand", 2, "lable x y"),
 ];

@@ -3,6 +3,8 @@
 
 use super::found::{Found, Window, BUSES, HEADER_TYPE};
 use super::Notes;
+use cartsundial::Pool;
+use std::ops::RangeInclusive;
 
 const IO: usize = 0x1C;
 const LOW: usize = 0x20;
@@ -16,8 +18,7 @@ const OTHER_BARS: std::ops::Range<usize> = 0x18..0x28;
 pub fn normalise(found: &mut Found, notes: &mut Notes) {
     let title = found.title();
     let mut tell = |note: &str| notes.push(format!("{title}: {note}"));
-    let is_closed = [io_closed(found), low_closed(found), high_closed(found)] == [true; 3];
-    if is_closed && found.registers[BUSES..BUSES + 3] == [0; 3] {
+    if windows(found).is_empty() && found.registers[BUSES..BUSES + 3] == [0; 3] {
         found.registers[HEADER_TYPE] &= 0x80;
         found.registers[OTHER_BARS].fill(0);
         tell("a bridge without buses and windows: taken for a card");
@@ -37,7 +38,7 @@ pub fn normalise(found: &mut Found, notes: &mut Notes) {
     if normalise_io(found) {
         tell("the I/O window's registers: the same range as of 16 bits");
     }
-    if low_closed(found) && set(found, LOW, &[0xF0, 0xFF, 0, 0]) {
+    if low(found).is_empty() && set(found, LOW, &[0xF0, 0xFF, 0, 0]) {
         tell("the closed memory window in the sheet's spelling");
     }
     if normalise_high(found) {
@@ -58,7 +59,7 @@ fn zeros(found: &Found) -> Vec<(usize, &'static str)> {
 }
 
 fn normalise_io(found: &mut Found) -> bool {
-    if io_closed(found) {
+    if io(found).is_empty() {
         return set(found, IO, &[0xF0, 0]);
     }
     let [base, limit] = [found.registers[IO], found.registers[IO + 1]];
@@ -67,7 +68,7 @@ fn normalise_io(found: &mut Found) -> bool {
 }
 
 fn normalise_high(found: &mut Found) -> bool {
-    if high_closed(found) {
+    if high(found).is_empty() {
         let is_changed = set(found, HIGH, &[0xF1, 0xFF, 1, 0]);
         return set(found, UPPERS, &[0; 8]) || is_changed;
     }
@@ -81,34 +82,40 @@ fn normalise_high(found: &mut Found) -> bool {
     true
 }
 
-fn io_closed(found: &Found) -> bool {
-    let upper = |at: usize| u32::from(word(found, at)) << 16;
+/// The ranges that a bridge decodes, as far as they are open.
+pub fn windows(found: &Found) -> Vec<(Pool, RangeInclusive<u64>)> {
+    let all = [(Pool::Io, io(found)), (Pool::Low, low(found)), (Pool::High, high(found))];
+    all.into_iter().filter(|(_, range)| found.is_bridge() && !range.is_empty()).collect()
+}
+
+fn io(found: &Found) -> RangeInclusive<u64> {
     let address = |at: usize, up: usize| {
-        let low = u32::from(found.registers[at] >> 4) << 12;
+        let low = u64::from(found.registers[at] >> 4) << 12;
         if found.registers[at] & 0xF == 1 {
-            upper(up) | low
+            u64::from(word(found, up)) << 16 | low
         } else {
             low
         }
     };
-    address(IO, IO_UPPERS) > address(IO + 1, IO_UPPERS + 2)
+    address(IO, IO_UPPERS)..=address(IO + 1, IO_UPPERS + 2) | 0xFFF
 }
 
-fn low_closed(found: &Found) -> bool {
-    word(found, LOW) >> 4 > word(found, LOW + 2) >> 4
+fn low(found: &Found) -> RangeInclusive<u64> {
+    let address = |at: usize| u64::from(word(found, at) >> 4) << 20;
+    address(LOW)..=address(LOW + 2) | 0xF_FFFF
 }
 
-fn high_closed(found: &Found) -> bool {
+fn high(found: &Found) -> RangeInclusive<u64> {
     let address = |at: usize, up: usize| {
         let upper = u64::from(word(found, up + 2)) << 16 | u64::from(word(found, up));
-        let low = u64::from(word(found, at) >> 4);
+        let low = u64::from(word(found, at) >> 4) << 20;
         if found.registers[at] & 0xF == 1 {
-            upper << 12 | low
+            upper << 32 | low
         } else {
             low
         }
     };
-    address(HIGH, UPPERS) > address(HIGH + 2, UPPERS + 4)
+    address(HIGH, UPPERS)..=address(HIGH + 2, UPPERS + 4) | 0xF_FFFF
 }
 
 fn word(found: &Found, at: usize) -> u16 {

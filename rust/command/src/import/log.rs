@@ -10,6 +10,8 @@ pub struct Log {
     logged: Vec<Window>,
     claims: Vec<Claim>,
     buses: Vec<((u32, u8), u8)>,
+    /// Lines of iomem or ioports that are zeros: who is not root sees them so.
+    zeros: usize,
     /// Of each function and slot, as the boot log has them first.
     sizes: Vec<((u32, Id), usize, u64)>,
 }
@@ -29,16 +31,36 @@ struct Claim {
 }
 
 impl Log {
-    pub fn read(&mut self, text: &str) {
+    /// Returns whether the text has anything of it.
+    pub fn read(&mut self, text: &str) -> bool {
+        let before = self.lines();
         for line in text.lines() {
             if let Some((before, resource)) = line.split_once(": root bus resource [") {
                 self.read_logged(before, resource);
             } else if let Some(claim) = Claim::of_line(line) {
-                self.claims.push(claim);
+                match claim.range == (0..=0) {
+                    true => self.zeros += 1,
+                    false => self.claims.push(claim),
+                }
             } else {
                 self.sizes.extend(read_size(line));
             }
         }
+        self.lines() > before
+    }
+
+    fn lines(&self) -> usize {
+        self.logged.len() + self.claims.len() + self.buses.len() + self.zeros + self.sizes.len()
+    }
+
+    /// iomem and ioports were read by somebody who is not root, and say nothing.
+    pub fn is_hidden(&self) -> bool {
+        self.zeros > 0 && self.claims.is_empty()
+    }
+
+    /// Whether the boot log names it as a root bus.
+    pub fn is_root(&self, bus: (u32, u8)) -> bool {
+        self.last_bus(bus).is_some() || self.logged.iter().any(|window| window.root == bus)
     }
 
     /// `pci_bus 0000:00`, and `mem 0x20000000-0xafffffff window]` or `bus 00-ff]`.
@@ -63,6 +85,11 @@ impl Log {
         let of_root = |claim: &&Claim| claim.name.strip_prefix("PCI Bus ").and_then(read_root) == Some(root);
         let window = |claim: &Claim| Window { root, is_io: claim.is_io, range: claim.range.clone() };
         self.claims.iter().filter(of_root).map(window).collect()
+    }
+
+    /// Whether it is a boot log that says what BARs were found.
+    pub fn has_sizes(&self) -> bool {
+        !self.sizes.is_empty()
     }
 
     /// The size of a function's BAR, where the log says it.
@@ -90,11 +117,11 @@ impl Log {
 }
 
 impl Claim {
-    /// `  fe200000-fe200fff : 0000:00:02.0`; ports have four digits. Who is not root sees zeros, which are none.
+    /// `  fe200000-fe200fff : 0000:00:02.0`; ports have four digits.
     fn of_line(line: &str) -> Option<Claim> {
         let (range, name) = line.split_once(" : ")?;
         let is_io = range.trim().len() == "0000-0000".len();
-        let range = read_range(range.trim()).filter(|range| *range != (0..=0))?;
+        let range = read_range(range.trim())?;
         Some(Claim { is_io, range, name: name.trim().to_string() })
     }
 

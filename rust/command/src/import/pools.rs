@@ -2,8 +2,7 @@
 
 use super::log::{Log, Window};
 use super::Notes;
-use crate::listing::{pool_of, windows};
-use cartsundial::{Function, HostRecord, Pool};
+use cartsundial::{HostRecord, Pool};
 use std::ops::RangeInclusive;
 
 const FOUR_GIB: u64 = 1 << 32;
@@ -31,19 +30,26 @@ fn granule(pool: Pool) -> u64 {
     }
 }
 
+/// A BAR or an open window of the root bus.
+pub struct Item {
+    pub title: String,
+    pub is_io: bool,
+    pub range: RangeInclusive<u64>,
+}
+
 /// For a sheet: each pool is the hull of those root windows in which something of the root bus lies, widened to the granule.
 /// As that is too wide, each BAR and window of the root bus is held against the windows themselves, and told.
-pub fn used(buses: (u8, u8), on_root: &[Function], known: &[Window], notes: &mut Notes) -> HostRecord {
+pub fn used(buses: (u8, u8), on_root: &[Item], known: &[Window], notes: &mut Notes) -> HostRecord {
     let mut host = HostRecord { buses, ..HostRecord::CLOSED };
     for pool in POOLS {
         let windows = of_pool(pool, known);
         let mut hull: Option<(u64, u64)> = None;
-        for (title, item) in items(pool, on_root) {
-            let window = windows.iter().find(|window| window.contains(item.start()) && window.contains(item.end()));
-            if window.is_none() && !known.is_empty() {
-                notes.push(format!("{title} at {:x}-{:x} lies in no root window", item.start(), item.end()));
+        for Item { title, range, .. } in on_root.iter().filter(|item| is_of(pool, item)) {
+            let window = windows.iter().find(|window| window.contains(range.start()) && window.contains(range.end()));
+            if window.is_none() && is_known(pool, known) {
+                notes.push(format!("{title} at {:x}-{:x} lies in no root window", range.start(), range.end()));
             }
-            let (first, last) = window.unwrap_or(&item).clone().into_inner();
+            let (first, last) = window.unwrap_or(range).clone().into_inner();
             hull = Some(hull.map_or((first, last), |(low, high)| (low.min(first), high.max(last))));
         }
         if let Some((first, last)) = hull {
@@ -54,8 +60,8 @@ pub fn used(buses: (u8, u8), on_root: &[Function], known: &[Window], notes: &mut
     host
 }
 
-/// For a plan: the largest stretch of the root windows in which nothing fixed lies. Where no windows are known, the pools are
-/// those of the sheet.
+/// For a plan: the largest stretch of the root windows in which nothing fixed lies. Where no windows of a space are known, the
+/// pools are those of the sheet.
 pub fn free(used: &HostRecord, known: &[Window], log: &Log) -> HostRecord {
     let mut host = HostRecord { buses: used.buses, ..HostRecord::CLOSED };
     for pool in POOLS {
@@ -66,10 +72,18 @@ pub fn free(used: &HostRecord, known: &[Window], log: &Log) -> HostRecord {
             set(&mut host, pool, first, last);
         }
     }
-    if known.is_empty() {
-        return *used;
+    if !is_known(Pool::Low, known) {
+        (host.low, host.high) = (used.low, used.high);
+    }
+    if !is_known(Pool::Io, known) {
+        host.io = used.io;
     }
     host
+}
+
+/// Whether a root window is known in the space of a pool.
+pub fn is_known(pool: Pool, known: &[Window]) -> bool {
+    known.iter().any(|window| window.is_io == (pool == Pool::Io))
 }
 
 fn set(host: &mut HostRecord, pool: Pool, first: u64, last: u64) {
@@ -88,21 +102,9 @@ fn of_pool(pool: Pool, known: &[Window]) -> Vec<RangeInclusive<u64>> {
     cut.filter(|range| !range.is_empty()).collect()
 }
 
-/// BARs and open windows of the root bus that start where the pool is, whatever their kind.
-fn items(pool: Pool, on_root: &[Function]) -> Vec<(String, RangeInclusive<u64>)> {
-    let mut items = Vec::new();
-    for function in on_root {
-        let bars = function.bars().map(|placed| (pool_of(&placed), placed.range(), format!("BAR {}", placed.slot)));
-        let windows = windows(function).into_iter().map(|(pool, range)| (pool, range, "window".to_string()));
-        for (kind, range, what) in bars.chain(windows) {
-            let is_here =
-                (kind == Pool::Io) == (pool == Pool::Io) && (limits(pool).0..=limits(pool).1).contains(range.start());
-            if is_here {
-                items.push((format!("{} {what}", function.id), range));
-            }
-        }
-    }
-    items
+/// Whether it starts where the pool is, whatever its kind.
+fn is_of(pool: Pool, item: &Item) -> bool {
+    item.is_io == (pool == Pool::Io) && (limits(pool).0..=limits(pool).1).contains(item.range.start())
 }
 
 /// What is left of a window around what is fixed in it.

@@ -1,11 +1,14 @@
-//! One sheet, host record and board for each domain and root bus: a root bus has functions and is no bridge's secondary bus.
+//! One sheet, host record and board for each domain and root bus: a root bus has functions and is no bridge's secondary bus. A
+//! root bus with a function that was not read has none of them.
 
-use super::found::{Found, BUSES, COMMAND};
+use super::found::{Found, BUSES, COMMAND, REGIONS};
+use super::left_out::LeftOut;
 use super::log::Log;
-use super::slots::Bars;
+use super::pools::{is_known, Item};
+use super::slots::{Bars, Placed};
 use super::{bridges, pools, slots, Notes};
 use crate::named::RECORD;
-use cartsundial::{Bar, Board, Function, HostRecord, Sheet, Spares};
+use cartsundial::{audit_where, Bar, Board, HostRecord, Pool, Sheet, Spares};
 use std::collections::BTreeSet;
 
 pub struct Root {
@@ -14,6 +17,8 @@ pub struct Root {
     pub sheet: Vec<u8>,
     pub host: HostRecord,
     pub board: Board,
+    /// The spaces without a known root window, in which the pools are what is used.
+    pub tight: Vec<Pool>,
     names: Vec<String>,
 }
 
@@ -21,12 +26,13 @@ pub struct Root {
 struct Made {
     found: Found,
     bars: Bars,
+    notes: Notes,
 }
 
 impl Root {
     /// `0000:00`.
     pub fn title(&self) -> String {
-        format!("{:04x}:{:02x}", self.domain, self.bus)
+        title((self.domain, self.bus))
     }
 
     pub fn name(&self, record: u16) -> Option<&str> {
@@ -38,70 +44,187 @@ impl Root {
     }
 }
 
-pub fn all(functions: &[Found], log: &Log, notes: &mut Notes) -> Vec<Root> {
-    let mut made: Vec<Made> = functions.iter().map(|found| make(found.clone(), notes)).collect();
-    made.sort_by_key(|one| (one.found.domain, one.found.id));
-    // A function may be in two files.
-    made.dedup_by_key(|one| (one.found.domain, one.found.id));
-    let mut roots: BTreeSet<(u32, u8)> = made.iter().map(|one| (one.found.domain, one.found.id.bus())).collect();
-    for one in &made {
-        if let Some(bus) = one.found.secondary() {
-            roots.remove(&(one.found.domain, bus));
+fn title(root: (u32, u8)) -> String {
+    format!("{:04x}:{:02x}", root.0, root.1)
+}
+
+/// A root bus, and what was made of it; in words where it is not taken.
+pub type Taken = ((u32, u8), Result<Root, String>);
+
+/// Each function once, by its ID. What they lack is told.
+pub fn all(functions: Vec<Found>, left_out: &[LeftOut], log: &Log, notes: &mut Notes) -> Vec<Taken> {
+    let tops: Vec<(u32, u8)> = functions.iter().map(|found| root_of(found, &functions)).collect();
+    let leads_round: Vec<bool> = tops
+        .iter()
+        .map(|top| functions.iter().any(|found| (found.domain, found.secondary()) == (top.0, Some(top.1))))
+        .collect();
+    let roots: Vec<(u32, u8)> = tops.iter().copied().collect::<BTreeSet<_>>().into_iter().collect();
+    let hazards: Vec<(u32, u8, String)> = functions
+        .iter()
+        .chain(left_out.iter().map(|one| &one.found))
+        .filter(|found| found.may_lead())
+        .map(|found| (found.domain, found.id.bus(), found.title()))
+        .collect();
+    let mut made = Vec::new();
+    for ((mut found, top), leads_round) in functions.into_iter().zip(tops).zip(leads_round) {
+        if leads_round {
+            found.lacks("the bridges above it lead round in a circle, and to no root bus");
         }
+        made.push((top, make(found)));
     }
-    let roots: Vec<(u32, u8)> = roots.into_iter().collect();
+    for root in &roots {
+        compare_places(made.iter_mut().filter(|(top, _)| top == root).map(|(_, one)| one).collect(), &title(*root));
+    }
     let next = |index: usize| roots.get(index + 1).filter(|next| next.0 == roots[index].0).map(|next| next.1 - 1);
     let last = |index: usize| log.last_bus(roots[index]).or(next(index)).unwrap_or(0xFF);
-    roots.iter().enumerate().map(|(index, root)| of(*root, last(index), &made, log, notes)).collect()
+    let mut taken = Vec::new();
+    for (index, root) in roots.iter().enumerate() {
+        let below: Vec<&Made> = made.iter().filter(|(top, _)| top == root).map(|(_, made)| made).collect();
+        let hazard = hazards.iter().find(|one| one.0 == root.0 && one.1 < root.1 && !log.is_root(*root));
+        taken.push((*root, of(*root, last(index), &below, hazard.map(|one| &one.2[..]), log, notes)));
+    }
+    taken
 }
 
-fn make(mut found: Found, notes: &mut Notes) -> Made {
+fn make(mut found: Found) -> Made {
+    let mut notes = Notes::new();
+    let empty = Bars { read_backs: [0; REGIONS], placed: Vec::new(), all: Vec::new() };
+    if let Some(lack) = missing(&found) {
+        found.lacks(lack);
+        return Made { found, bars: empty, notes };
+    }
+    if let Some((at, ..)) = found.said.iter().find(|(at, mask, value)| found.registers[*at] & mask != *value) {
+        found.lacks(format!("its text and its bytes do not agree at {at:02x}h: they are not of one function"));
+        return Made { found, bars: empty, notes };
+    }
+    if found.is_bare {
+        found.lacks("its lines of -vv are missing, which have the sizes of BARs");
+        return Made { found, bars: empty, notes };
+    }
     if found.is_bridge() {
-        bridges::normalise(&mut found, notes);
+        bridges::normalise(&mut found, &mut notes);
     }
-    let bars = slots::bars(&mut found, notes);
-    Made { found, bars }
+    let bars = slots::bars(&mut found, &mut notes);
+    Made { found, bars, notes }
 }
 
-fn of(root: (u32, u8), last: u8, made: &[Made], log: &Log, notes: &mut Notes) -> Root {
-    let below: Vec<&Made> = made.iter().filter(|one| root_of(&one.found, made) == root).collect();
-    let sheet = sheet(&below);
-    let known = log.windows(root);
-    let checked = Sheet::new(&sheet[..]);
-    let on_root: Vec<Function> = match &checked {
-        Ok(checked) => checked.functions().filter(|function| function.id.bus() == root.1).collect(),
-        Err(refusal) => {
-            notes.push(format!("{:04x}:{:02x}: the sheet is {refusal}", root.0, root.1));
-            Vec::new()
+/// The kernel has BARs where their registers have them, or, behind a host bridge that translates, all of a space by one number
+/// further. One that it has elsewhere is of another time or of another function.
+fn compare_places(mut below: Vec<&mut Made>, root: &str) {
+    for (is_io, is_high) in [(true, false), (false, false), (false, true)] {
+        let further = |placed: &Placed| {
+            let is_here = (placed.is_io, *placed.range.start() >> 32 != 0) == (is_io, is_high);
+            placed.kernel.filter(|_| is_here).map(|kernel| kernel.wrapping_sub(*placed.range.start()))
+        };
+        let mut all: Vec<u64> = below.iter().flat_map(|one| one.bars.placed.iter().filter_map(further)).collect();
+        all.sort_unstable();
+        let usual = all.get(all.len() / 2).copied().unwrap_or(0);
+        let is_usual = 2 * all.iter().filter(|one| **one == usual).count() > all.len();
+        let usual = if is_usual { usual } else { 0 };
+        for Made { found, bars, .. } in &mut below {
+            for placed in bars.placed.iter().filter(|placed| further(placed).is_some_and(|one| one != usual)) {
+                let (start, kernel) = (placed.range.start(), placed.kernel.unwrap_or(0));
+                found.lacks(format!("BAR {}: its register has it at {start:x}, the kernel at {kernel:x}", placed.slot));
+            }
         }
-    };
-    if known.is_empty() {
-        notes.push(format!("{:04x}:{:02x}: no root windows are known: the pools are what is used", root.0, root.1));
+        if let Some(first) = below.first_mut().filter(|_| usual != 0) {
+            let space = if is_io { "I/O" } else { "memory" };
+            first.notes.push(format!(
+                "{root}: the kernel has {space} {usual:x} further than the registers, which the sheet has"
+            ));
+        }
     }
-    let host = pools::used((root.1, last), &on_root, &known, notes);
+}
+
+/// What there is not of its 64 bytes.
+fn missing(found: &Found) -> Option<String> {
+    if found.is_gone() {
+        return Some("it does not answer, all of its registers read ff (header type 7f): it is gone, or asleep".into());
+    }
+    let rows: Vec<String> = (0..4).filter(|row| !found.rows[*row]).map(|row| format!("`{row}0:`")).collect();
+    match rows.len() {
+        0 => None,
+        4 => Some("none of its 64 bytes is there: -x shows them".into()),
+        1 => Some(format!("48 of its 64 bytes are there: the line {} is missing, or cut", rows[0])),
+        count => Some(format!(
+            "{} of its 64 bytes are there: the lines {} are missing, or cut",
+            64 - 16 * count,
+            rows.join(", ")
+        )),
+    }
+}
+
+fn of(
+    root: (u32, u8),
+    last: u8,
+    below: &[&Made],
+    hazard: Option<&str>,
+    log: &Log,
+    notes: &mut Notes,
+) -> Result<Root, String> {
+    let lacking: Vec<&Made> = below.iter().copied().filter(|one| !one.found.lacks.is_empty()).collect();
+    for found in lacking.iter().map(|one| &one.found) {
+        notes.extend(found.lacks.iter().map(|lack| format!("{}: {lack}", found.title())));
+    }
+    if !lacking.is_empty() {
+        return Err(format!("functions not read: {} of {}", lacking.len(), below.len()));
+    }
+    if let Some(function) = hazard {
+        return Err(format!("it may be below {function}, which is not read"));
+    }
+    notes.extend(below.iter().flat_map(|one| one.notes.clone()));
+    let (sheet, known) = (sheet(below), log.windows(root));
+    let host = pools::used((root.1, last), &items(root.1, below), &known, notes);
+    if let Err(refusal) = Sheet::new(&sheet[..]) {
+        let finding = audit_where(&host, &sheet).err().filter(|finding| finding.party.is_some());
+        let who = finding.map_or(String::new(), |finding| format!(": {finding}"));
+        notes.push(format!("{}: the sheet is {refusal}{who}", title(root)));
+    }
+    let tight: Vec<Pool> = [Pool::Low, Pool::Io].into_iter().filter(|pool| !is_known(*pool, &known)).collect();
     let mut board = Board::host(pools::free(&host, &known, log));
-    add_bus(&mut board, 0, root.1, &below, notes);
+    add_bus(&mut board, 0, root.1, below, notes);
+    if board.functions().len() < below.len() {
+        let count = below.len() - board.functions().len();
+        notes.push(format!("{}: {count} of {} functions are missing on the board", title(root), below.len()));
+    }
     let names = below.iter().map(|one| one.found.name.clone()).collect();
-    Root { domain: root.0, bus: root.1, sheet, host, board, names }
+    Ok(Root { domain: root.0, bus: root.1, sheet, host, board, tight, names })
+}
+
+/// BARs of the sheet and open windows, of the functions of a bus.
+fn items(bus: u8, below: &[&Made]) -> Vec<Item> {
+    let mut items = Vec::new();
+    for Made { found, bars, .. } in below.iter().filter(|one| one.found.id.bus() == bus) {
+        let mut add = |what: &str, is_io: bool, range: &std::ops::RangeInclusive<u64>| {
+            items.push(Item { title: format!("{} {what}", found.id), is_io, range: range.clone() });
+        };
+        for placed in &bars.placed {
+            add(&format!("BAR {}", placed.slot), placed.is_io, &placed.range);
+        }
+        for (pool, range) in &bridges::windows(found) {
+            add("window", *pool == Pool::Io, range);
+        }
+    }
+    items
 }
 
 /// The bus that the bridges above a function start from.
-fn root_of(found: &Found, made: &[Made]) -> (u32, u8) {
-    let mut bus = found.id.bus();
-    // A bridge's bus is below its secondary bus, unless the registers are wrong.
-    for _ in 0..=u8::MAX {
-        let leads = |one: &&Made| one.found.domain == found.domain && one.found.secondary() == Some(bus);
-        match made.iter().find(leads) {
-            Some(bridge) => bus = bridge.found.id.bus(),
-            None => break,
-        }
-    }
+pub fn root_of(found: &Found, functions: &[Found]) -> (u32, u8) {
+    let bus = above(found, functions).last().map_or(found.id.bus(), |bridge| bridge.id.bus());
     (found.domain, bus)
+}
+
+/// The bridges above a function, the next one first. There are at most so many as buses, unless the registers are wrong.
+pub fn above<'a>(found: &Found, functions: &'a [Found]) -> impl Iterator<Item = &'a Found> {
+    let leads =
+        |domain: u32, bus: u8| functions.iter().find(move |one| one.domain == domain && one.secondary() == Some(bus));
+    let first = leads(found.domain, found.id.bus());
+    std::iter::successors(first, move |bridge| leads(bridge.domain, bridge.id.bus())).take(1 << 8)
 }
 
 fn sheet(functions: &[&Made]) -> Vec<u8> {
     let mut sheet = vec![1];
-    for Made { found, bars } in functions {
+    for Made { found, bars, .. } in functions {
         sheet.extend((RECORD as u16 - 2).to_be_bytes());
         sheet.extend(found.id.0.to_be_bytes());
         sheet.extend(found.registers);

@@ -1,6 +1,6 @@
 //! /sys/bus/pci/devices, or a copy of it: of each function its `config` and its `resource`. Neither asks for root.
 
-use super::found::{read_address, Found, Region, Window, REGIONS};
+use super::found::{read_address, Found, Region, Window, REGIONS, ROW};
 use crate::failure::Failure;
 use cartsundial::REGISTERS;
 use std::fs;
@@ -27,11 +27,11 @@ fn read_config(path: &Path, found: &mut Found) -> Result<(), Failure> {
     let file = path.join("config");
     let called = file.display().to_string();
     let bytes = fs::read(&file).map_err(Failure::stream(&called))?;
-    let short = || Failure::Usage(format!("{called}: fewer than {REGISTERS} bytes"));
-    found.registers = *bytes.first_chunk().ok_or_else(short)?;
-    let class = u16::from_le_bytes([bytes[0x0A], bytes[0x0B]]);
-    let word = |at: usize| u16::from_le_bytes([bytes[at], bytes[at + 1]]);
-    found.name = format!("{class:04x}: {:04x}:{:04x}", word(0), word(2));
+    let length = bytes.len().min(REGISTERS) / ROW * ROW;
+    found.registers[..length].copy_from_slice(&bytes[..length]);
+    found.rows[..length / ROW].fill(true);
+    let word = |at: usize| u16::from_le_bytes([found.registers[at], found.registers[at + 1]]);
+    found.name = format!("{:04x}: {:04x}:{:04x}", word(0x0A), word(0), word(2));
     Ok(())
 }
 
@@ -39,15 +39,18 @@ fn read_config(path: &Path, found: &mut Found) -> Result<(), Failure> {
 fn read_resource(path: &Path, found: &mut Found) -> Result<(), Failure> {
     let file = path.join("resource");
     let text = fs::read_to_string(&file).map_err(Failure::stream(&file.display().to_string()))?;
-    let number = |word: &str| u64::from_str_radix(word.strip_prefix("0x")?, 16).ok();
-    let numbers = |line: &str| line.split_whitespace().filter_map(number).collect();
-    let lines: Vec<Vec<u64>> = text.lines().map(numbers).collect();
-    for (region, line) in found.regions.iter_mut().zip(&lines).take(REGIONS) {
-        *region = match line[..] {
-            [0, 0, ..] => None,
-            [first, last, ..] if first <= last => Some(Region {
+    let lines: Vec<Option<[u64; 3]>> = text.lines().map(read_numbers).collect();
+    if lines.len() < REGIONS || lines.contains(&None) {
+        found.lacks(format!("`resource` has not three numbers on each of its lines, at least {REGIONS}"));
+    }
+    let lines: Vec<[u64; 3]> = lines.into_iter().flatten().collect();
+    for (region, line) in found.regions.iter_mut().zip(&lines) {
+        *region = match *line {
+            [0, 0, _] => None,
+            [first, last, _] if first <= last => Some(Region {
                 size: (last - first).saturating_add(1),
                 address: Some(first).filter(|first| *first != 0),
+                kind: None,
             }),
             _ => None,
         };
@@ -59,7 +62,12 @@ fn read_resource(path: &Path, found: &mut Found) -> Result<(), Failure> {
         _ => &[],
     };
     for (window, line) in found.windows.iter_mut().zip(windows) {
-        *window = if matches!(line[..], [0, 0, ..]) { Window::None } else { Window::Some };
+        *window = if matches!(line, [0, 0, _]) { Window::None } else { Window::Some };
     }
     Ok(())
+}
+
+fn read_numbers(line: &str) -> Option<[u64; 3]> {
+    let number = |word: &str| u64::from_str_radix(word.strip_prefix("0x")?, 16).ok();
+    line.split_whitespace().map(number).collect::<Option<Vec<u64>>>()?.try_into().ok()
 }
