@@ -210,6 +210,7 @@ fn spelt_otherwise() {
         blocks.rotate_left(3);
         for (what, text) in [
             ("CRLF", text.replace('\n', "\r\n")),
+            ("spaces for tabs", text.replace('\t', "        ")),
             ("upper case", lines(&upper)),
             ("-xxx", lines(&|line| more(line, 15))),
             ("-xxxx", lines(&|line| more(line, 255))),

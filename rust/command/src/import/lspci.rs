@@ -31,6 +31,7 @@ struct Entry {
 pub fn read(called: &str, text: &str) -> Result<Vec<Found>, Failure> {
     let mut listing = Listing::default();
     for (number, line) in (1..).zip(text.lines()) {
+        let line = &with_tabs(line);
         let stray = |what: String| {
             Failure::Refused(format!("{called}, line {number}: {what}; give `lspci -vvx`, as root, whole"))
         };
@@ -42,6 +43,13 @@ pub fn read(called: &str, text: &str) -> Result<Vec<Found>, Failure> {
         return Err(Failure::Refused(format!("{called}: it is cut in its last line, `{line}`: give it whole")));
     }
     Ok(listing.finished())
+}
+
+/// A terminal or a letter may have made eight spaces of a tab.
+fn with_tabs(line: &str) -> String {
+    let text = line.trim_start_matches(' ');
+    let spaces = line.len() - text.len();
+    format!("{}{}{text}", "\t".repeat(spaces / 8), " ".repeat(spaces % 8))
 }
 
 impl Listing {
