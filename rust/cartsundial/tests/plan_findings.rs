@@ -1,9 +1,9 @@
-//! What does not fit of a board: in words, against the sheet of a roomier host, and with pools as large as is needed.
+//! What does not fit of a board: in words, against the sheet of a roomier host, and with pools as large as is needed, closed ones opened.
 
 use cartsundial::{
     plan, plan_where, what_does_not_fit, Function, Needs, Place, PlanParty, Pool, Refusal, Sheet, FULL_SHEET,
 };
-use inputs::board::{high, io, memory, wide, Board, CLOSED_HIGH, CLOSED_IO};
+use inputs::board::{high, io, memory, wide, Board, CLOSED_HIGH, CLOSED_IO, CLOSED_LOW};
 use inputs::random::Random;
 use inputs::trees;
 use std::ops::RangeInclusive;
@@ -197,6 +197,73 @@ fn against_a_roomier_sheet() {
             let finding = what_does_not_fit(&cut.bytes()).unwrap();
             assert_eq!((Pool::short_by(finding.refusal), finding.needs), (Some(pool), Some(needs)));
             cuts[pool as usize] += 1;
+        }
+    }
+}
+
+/// Opens a pool from a base, with so many bytes; with none it stays closed.
+fn opened(board: &Board, pool: Pool, base: u64, bytes: u64) -> Board {
+    let mut board = board.clone();
+    if bytes > 0 {
+        match pool {
+            Pool::Low => board.low.0 = base as u32,
+            Pool::High => board.high.0 = base,
+            Pool::Io => board.io.0 = base as u16,
+        }
+        set_size(&mut board, pool, bytes);
+    }
+    board
+}
+
+/// 8 GiB of prefetchable memory and no high pool: 8 GiB from 8 GiB on are enough, from 4 GiB on they are not.
+#[test]
+fn eight_gib_in_a_closed_pool() {
+    let mut board = Board { high: CLOSED_HIGH, ..small() };
+    board.end(0, 0x00, &high(33));
+    assert_eq!(
+        words(&board),
+        "32 high pool closed: record 1 (00:00.0) BAR 0 finds no room; needs 8 GiB at a multiple of 8 GiB, has none"
+    );
+    let needs = what_does_not_fit(&board.bytes()).unwrap().needs.unwrap();
+    assert_eq!((needs.high, needs.high_align), (8 << 30, 8 << 30));
+    assert!(planned(&opened(&board, Pool::High, 8 << 30, needs.high)).is_ok());
+    assert_eq!(planned(&opened(&board, Pool::High, 8 << 30, needs.high - MIB)), Err(Refusal::NoHighRoom));
+    assert_eq!(planned(&opened(&board, Pool::High, 4 << 30, needs.high)), Err(Refusal::NoHighRoom));
+}
+
+/// A board that is planned, with one pool closed: opened again at any multiple of its alignment with the bytes that are told it is
+/// planned, and with a granule less it is not.
+#[test]
+fn closed_pools_opened() {
+    const KINDS: [(u64, u64); 3] = [(0, 1 << 32), (1 << 32, 1 << 52), (0, 1 << 16)];
+    let mut random = Random::new(41);
+    let mut counts = [0; 3];
+    while counts.iter().any(|&count| count < 400) {
+        let board = trees::lawful(&mut random);
+        if planned(&board).is_err() {
+            continue;
+        }
+        for pool in Pool::ALL {
+            let mut closed = board.clone();
+            match pool {
+                Pool::Low => closed.low = CLOSED_LOW,
+                Pool::High => closed.high = CLOSED_HIGH,
+                Pool::Io => closed.io = CLOSED_IO,
+            }
+            let Some(finding) = what_does_not_fit(&closed.bytes()) else { continue };
+            assert_eq!(Pool::short_by(finding.refusal), Some(pool));
+            let needs = finding.needs.unwrap();
+            let (bytes, align) = (needs.of(pool), needs.align(pool));
+            let (first, end) = KINDS[pool as usize];
+            let (least, most) = (first.div_ceil(align), end.saturating_sub(bytes) / align);
+            if most < least || bytes > end {
+                continue;
+            }
+            let base = (least + random.below(most - least + 1)) * align;
+            assert!(planned(&opened(&closed, pool, base, bytes)).is_ok());
+            let short = opened(&closed, pool, base, bytes - GRANULES[pool as usize]);
+            assert_eq!(planned(&short), Err(finding.refusal));
+            counts[pool as usize] += 1;
         }
     }
 }
