@@ -399,9 +399,9 @@ enum cartsundial_plan_who {
  * pool has no base: its bytes are enough from any multiple of its alignment, and from another base it can take more. They are there for 0
  * and for 30 to 33, and all 0 where the board fails its own checks. So a host short of room is told how much it has to have, and where.
  * An address past 2^62, which is past every pool, counts as 2^62: in the bytes that are needed, and in the addresses that stay empty.
- * A refused board has its answer: this call, and cartsundial_audit_where, write where they do not return 0. Before 0.31.0 the answer had the
- * first eight numbers. With room for eight to ten, as a caller of that time has, the call writes those eight and no other; with room for
- * fewer who stays as it was, and 0 becomes 11.
+ * A refused board has its answer: this call, and cartsundial_audit_where, write where they do not return 0. Before 0.31.0 the answer had
+ * the first eight numbers. With room for eight to ten, as a caller of that time has, the call writes those eight and no other; with room
+ * for fewer who stays as it was, and 0 becomes 11.
  */
 CARTSUNDIAL_CHECKED uint32_t cartsundial_plan_where(const uint8_t *board, size_t board_len,
                                                     uint64_t *CARTSUNDIAL_RESTRICT who, size_t who_len)
@@ -631,8 +631,9 @@ enum cartsundial_place {
  * Judges a sheet as cartsundial_audit does, with its number, and says whom the number is about. who: the record, from 1, and its place;
  * then the other record that it meets there and that one's place; each 0 where there is none.
  * For 24, 25, 27 to 29 and 50 to 52 it is the first record at which that check fails, in record order, at the first place that is wrong,
- * a 64-bit BAR at its lower slot; the other one has the same ID (28), is a bridge that leads to its bus or shares a bus with it (50), or has
- * an address in common (52), and no lesser one does. For 20 to 22, and for 26, which is of the host, all four are 0. All of this is proved.
+ * a 64-bit BAR at its lower slot; the other one has the same ID (28), is a bridge that leads to its bus or shares a bus with it (50), or
+ * has an address in common (52), and no lesser one does. For 20 to 22, and for 26, which is of the host, all four are 0. All of this is
+ * proved.
  * A refused sheet has its answer: this call, and cartsundial_plan_where, write where they do not return 0. With room for fewer than four
  * numbers who stays as it was, and 0 becomes 11.
  */
