@@ -99,7 +99,7 @@ pub struct PlanFinding {
     /// in a closed pool the first item. `None` for the others.
     pub party: Option<PlanParty>,
     /// For 31 to 33 the item of that pool, on any bus, before which most room is lost to alignment, the first of those that lose
-    /// most. `None` where nothing is lost.
+    /// most. An address past 2^62 counts as 2^62 here too. `None` where nothing is lost.
     pub lost_before: Option<PlanParty>,
     /// For 30 to 33. `None` where the board fails its own checks, 20 to 26.
     pub needs: Option<Needs>,
