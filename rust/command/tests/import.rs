@@ -212,6 +212,35 @@ fn windows_of_zero() {
     );
 }
 
+/// What is cut of a copy of sysfs is told by ID.
+#[test]
+fn cut_sysfs() {
+    let devices = folder("devices-cut");
+    let whole = [("config", vec![0; 64]), ("resource", format!("{}\n", ["0x0 0x0 0x0"; 13].join("\n")).into_bytes())];
+    let device = devices.join("0000:00:01.0");
+    fs::create_dir_all(&device).unwrap();
+    let ran = |changed: &str, bytes: &[u8]| {
+        for (name, bytes) in &whole {
+            fs::write(device.join(name), bytes).unwrap();
+        }
+        fs::write(device.join(changed), bytes).unwrap();
+        run(&["import", devices.to_str().unwrap()], b"")
+    };
+    let all = ran("config", &whole[0].1);
+    assert_eq!(all.status, 0, "{}", all.error);
+    for (name, bytes, words) in [
+        ("config", &whole[0].1[..63], "0000:00:01.0: `config` has 63 of its 64 bytes"),
+        ("config", &[], "0000:00:01.0: `config` has 0 of its 64 bytes"),
+        ("config", &[0xFF; 64], "0000:00:01.0: it does not answer"),
+        ("resource", &whole[1].1[..40], "0000:00:01.0: `resource` has not"),
+        ("resource", &whole[1].1[..154], "0000:00:01.0: `resource` has not"),
+    ] {
+        let ran = ran(name, bytes);
+        assert_eq!((ran.status, ran.out.len()), (1, 0), "{words}");
+        assert!(ran.error.contains(words), "{words}: {}", ran.error);
+    }
+}
+
 /// The machine that this runs on, where it has PCI.
 #[test]
 fn a_live_machine() {

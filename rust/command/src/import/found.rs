@@ -26,6 +26,8 @@ pub struct Found {
     pub said: Vec<(usize, u8, u8)>,
     /// No line of -vv is there, of it or of another, which would say what BARs it has.
     pub is_bare: bool,
+    /// There is a boot log that says what BARs were found.
+    pub has_log: bool,
     /// Why it is not taken for read: what is missing, or cannot be.
     pub lacks: Vec<String>,
 }
@@ -75,6 +77,7 @@ impl Found {
             windows: [Window::Unknown; 3],
             said: Vec::new(),
             is_bare: false,
+            has_log: false,
             lacks: Vec::new(),
         }
     }

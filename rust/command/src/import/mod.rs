@@ -108,7 +108,7 @@ impl Inputs {
         }
         for found in &mut inputs.functions {
             found.logged = std::array::from_fn(|slot| inputs.log.size((found.domain, found.id), slot));
-            found.is_bare &= !inputs.log.has_sizes();
+            found.has_log = inputs.log.has_sizes();
         }
         Ok(inputs)
     }

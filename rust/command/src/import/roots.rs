@@ -90,14 +90,16 @@ fn make(mut found: Found) -> Made {
     let mut notes = Notes::new();
     let empty = Bars { read_backs: [0; REGIONS], placed: Vec::new(), all: Vec::new() };
     if let Some(lack) = missing(&found) {
-        found.lacks(lack);
+        if found.lacks.is_empty() {
+            found.lacks(lack);
+        }
         return Made { found, bars: empty, notes };
     }
     if let Some((at, ..)) = found.said.iter().find(|(at, mask, value)| found.registers[*at] & mask != *value) {
         found.lacks(format!("its text and its bytes do not agree at {at:02x}h: they are not of one function"));
         return Made { found, bars: empty, notes };
     }
-    if found.is_bare {
+    if found.is_bare && !found.has_log {
         found.lacks("its lines of -vv are missing, which have the sizes of BARs");
         return Made { found, bars: empty, notes };
     }

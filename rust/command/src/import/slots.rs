@@ -56,8 +56,8 @@ pub fn bars(found: &mut Found, notes: &mut Notes) -> Bars {
         let known = slot.size.map_or(Bar::UNUSED, |size| Bar::new(slot.kind, size));
         if slot.kind != BarKind::Unused && slot.kind != BarKind::Io && (1..LEAST_MEMORY).contains(&known.size) {
             notes.push(format!(
-                "{title}: {} bytes, and a memory BAR has at least {LEAST_MEMORY}: sheet and board are refused with 25 \
-                 unless --leave-out {} leaves the function out",
+                "{title}: {} bytes, and a memory BAR has at least {LEAST_MEMORY}: a sheet or board with it is refused with \
+                 25; --leave-out {} takes the rest without the function",
                 known.size,
                 found.title()
             ));
@@ -114,6 +114,9 @@ fn slot(found: &Found, number: usize) -> Slot {
 fn judge(found: &Found, slot: &Slot) -> Judged {
     let value = found.bar(slot.number);
     let is_on = found.registers[COMMAND] & if slot.kind == BarKind::Io { 1 } else { 2 } != 0;
+    if found.is_bare && is_open_question(found, slot, is_on) {
+        return Judged::Unread("without -vv it is not known whether the kernel has placed it".into());
+    }
     if slot.kind == BarKind::Unused {
         let address = slot.region.and_then(|region| region.address);
         let note = |address| format!("the kernel has it at {address:x}, the register has no BAR: left out");
@@ -138,6 +141,14 @@ fn judge(found: &Found, slot: &Slot) -> Judged {
             slot.number
         ))),
         _ => Judged::OnSheet(both),
+    }
+}
+
+/// By a boot log and registers alone: one that is placed and on, or neither, is the same whatever the kernel has of it now.
+fn is_open_question(found: &Found, slot: &Slot, is_on: bool) -> bool {
+    match slot.kind {
+        BarKind::Unused => found.logged[slot.number].is_some(),
+        _ => slot.size.is_some() && (slot.address != 0) != is_on,
     }
 }
 

@@ -27,6 +27,9 @@ fn read_config(path: &Path, found: &mut Found) -> Result<(), Failure> {
     let file = path.join("config");
     let called = file.display().to_string();
     let bytes = fs::read(&file).map_err(Failure::stream(&called))?;
+    if bytes.len() < REGISTERS {
+        found.lacks(format!("`config` has {} of its {REGISTERS} bytes", bytes.len()));
+    }
     let length = bytes.len().min(REGISTERS) / ROW * ROW;
     found.registers[..length].copy_from_slice(&bytes[..length]);
     found.rows[..length / ROW].fill(true);
