@@ -54,9 +54,10 @@ Exit status: 0 where every function is read and the audit accepts every sheet, 1
 ";
 
 /// How a function that is not read can be had.
-const ADVICE: &str =
-    "`lspci -vvx`, as root, shows what is missing; a boot log has the size of a BAR that Linux could not place; \
-                      --leave-out ID takes the rest without a function";
+const ADVICE: [&str; 2] = [
+    "`lspci -vvx`, as root, shows what is missing; a boot log, the size of a BAR that Linux could not place",
+    "--leave-out ID takes the rest without a function",
+];
 
 /// What was changed or left out, and of whom.
 pub type Notes = Vec<String>;
@@ -79,7 +80,7 @@ pub fn run(arguments: &Arguments) -> Answer {
     let taken = roots::all(functions, &left_out, &log, &mut notes);
     tell_tight(&taken, &log, &mut notes);
     if taken.iter().any(|(_, root)| root.is_err()) {
-        notes.push(ADVICE.into());
+        notes.extend(ADVICE.map(String::from));
     }
     let answer = write_out(arguments, &taken, &left_out, &mut notes)?;
     for note in notes.iter().filter(|_| !arguments.has("--quiet")) {
