@@ -122,9 +122,9 @@ impl Found {
         Some(self.registers[BUSES + 1]).filter(|bus| self.is_bridge() && *bus != 0)
     }
 
-    /// Whether it may be a bridge to a bus that was not read.
+    /// Whether it may be a bridge to a bus that was not read. Below one that does not answer nobody does.
     pub fn may_lead(&self) -> bool {
-        !self.rows[0] || self.is_bridge() && !self.rows[1] || self.is_gone()
+        !self.rows[0] || self.is_bridge() && !self.rows[1]
     }
 
     /// `0000:03:00.0`.

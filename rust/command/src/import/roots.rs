@@ -53,37 +53,40 @@ pub type Taken = ((u32, u8), Result<Root, String>);
 
 /// Each function once, by its ID. What they lack is told.
 pub fn all(functions: Vec<Found>, left_out: &[LeftOut], log: &Log, notes: &mut Notes) -> Vec<Taken> {
-    let tops: Vec<(u32, u8)> = functions.iter().map(|found| root_of(found, &functions)).collect();
-    let leads_round: Vec<bool> = tops
-        .iter()
-        .map(|top| functions.iter().any(|found| (found.domain, found.secondary()) == (top.0, Some(top.1))))
-        .collect();
-    let roots: Vec<(u32, u8)> = tops.iter().copied().collect::<BTreeSet<_>>().into_iter().collect();
-    let hazards: Vec<(u32, u8, String)> = functions
+    let unread: Vec<Found> = functions
         .iter()
         .chain(left_out.iter().map(|one| &one.found))
         .filter(|found| found.may_lead())
-        .map(|found| (found.domain, found.id.bus(), found.title()))
+        .cloned()
         .collect();
+    let mut made = by_root(functions);
+    let roots: Vec<(u32, u8)> = made.iter().map(|(root, _)| *root).collect::<BTreeSet<_>>().into_iter().collect();
+    let next = |index: usize| roots.get(index + 1).filter(|next| next.0 == roots[index].0).map(|next| next.1 - 1);
+    let mut taken = Vec::new();
+    for (index, root) in roots.iter().enumerate() {
+        let mut below: Vec<&mut Made> = made.iter_mut().filter(|(top, _)| top == root).map(|(_, made)| made).collect();
+        compare_places(&mut below, &title(*root));
+        let last = log.last_bus(*root).or(next(index)).unwrap_or(0xFF);
+        let leads_here = |found: &&Found| found.domain == root.0 && found.id.bus() < root.1 && !log.is_root(*root);
+        let below: Vec<&Made> = below.into_iter().map(|made| &*made).collect();
+        taken.push((*root, of(*root, last, &below, unread.iter().find(leads_here), log, notes)));
+    }
+    taken
+}
+
+/// Each function with the root bus that it is below.
+fn by_root(functions: Vec<Found>) -> Vec<((u32, u8), Made)> {
+    let tops: Vec<(u32, u8)> = functions.iter().map(|found| root_of(found, &functions)).collect();
+    let secondaries: BTreeSet<(u32, u8)> =
+        functions.iter().filter_map(|found| Some((found.domain, found.secondary()?))).collect();
     let mut made = Vec::new();
-    for ((mut found, top), leads_round) in functions.into_iter().zip(tops).zip(leads_round) {
-        if leads_round {
+    for (mut found, top) in functions.into_iter().zip(tops) {
+        if secondaries.contains(&top) {
             found.lacks("the bridges above it lead round in a circle, and to no root bus");
         }
         made.push((top, make(found)));
     }
-    for root in &roots {
-        compare_places(made.iter_mut().filter(|(top, _)| top == root).map(|(_, one)| one).collect(), &title(*root));
-    }
-    let next = |index: usize| roots.get(index + 1).filter(|next| next.0 == roots[index].0).map(|next| next.1 - 1);
-    let last = |index: usize| log.last_bus(roots[index]).or(next(index)).unwrap_or(0xFF);
-    let mut taken = Vec::new();
-    for (index, root) in roots.iter().enumerate() {
-        let below: Vec<&Made> = made.iter().filter(|(top, _)| top == root).map(|(_, made)| made).collect();
-        let hazard = hazards.iter().find(|one| one.0 == root.0 && one.1 < root.1 && !log.is_root(*root));
-        taken.push((*root, of(*root, last(index), &below, hazard.map(|one| &one.2[..]), log, notes)));
-    }
-    taken
+    made
 }
 
 fn make(mut found: Found) -> Made {
@@ -112,7 +115,7 @@ fn make(mut found: Found) -> Made {
 
 /// The kernel has BARs where their registers have them, or, behind a host bridge that translates, all of a space by one number
 /// further. One that it has elsewhere is of another time or of another function.
-fn compare_places(mut below: Vec<&mut Made>, root: &str) {
+fn compare_places(below: &mut [&mut Made], root: &str) {
     for (is_io, is_high) in [(true, false), (false, false), (false, true)] {
         let further = |placed: &Placed| {
             let is_here = (placed.is_io, *placed.range.start() >> 32 != 0) == (is_io, is_high);
@@ -123,7 +126,7 @@ fn compare_places(mut below: Vec<&mut Made>, root: &str) {
         let usual = all.get(all.len() / 2).copied().unwrap_or(0);
         let is_usual = 2 * all.iter().filter(|one| **one == usual).count() > all.len();
         let usual = if is_usual { usual } else { 0 };
-        for Made { found, bars, .. } in &mut below {
+        for Made { found, bars, .. } in below.iter_mut() {
             for placed in bars.placed.iter().filter(|placed| further(placed).is_some_and(|one| one != usual)) {
                 let (start, kernel) = (placed.range.start(), placed.kernel.unwrap_or(0));
                 found.lacks(format!("BAR {}: its register has it at {start:x}, the kernel at {kernel:x}", placed.slot));
@@ -160,7 +163,7 @@ fn of(
     root: (u32, u8),
     last: u8,
     below: &[&Made],
-    hazard: Option<&str>,
+    unread: Option<&Found>,
     log: &Log,
     notes: &mut Notes,
 ) -> Result<Root, String> {
@@ -171,8 +174,8 @@ fn of(
     if !lacking.is_empty() {
         return Err(format!("functions not read: {} of {}", lacking.len(), below.len()));
     }
-    if let Some(function) = hazard {
-        return Err(format!("it may be below {function}, which is not read"));
+    if let Some(found) = unread {
+        return Err(format!("it may be below {}, which is not read", found.title()));
     }
     notes.extend(below.iter().flat_map(|one| one.notes.clone()));
     let (sheet, known) = (sheet(below), log.windows(root));

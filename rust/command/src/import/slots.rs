@@ -54,14 +54,9 @@ pub fn bars(found: &mut Found, notes: &mut Notes) -> Bars {
         let slot = slot(found, number);
         let title = format!("{} BAR {number}", found.title());
         let known = slot.size.map_or(Bar::UNUSED, |size| Bar::new(slot.kind, size));
-        if slot.kind != BarKind::Unused && slot.kind != BarKind::Io && (1..LEAST_MEMORY).contains(&known.size) {
-            notes.push(format!(
-                "{title}: {} bytes, and a memory BAR has at least {LEAST_MEMORY}: a sheet or board with it is refused with \
-                 25; --leave-out {} takes the rest without the function",
-                known.size,
-                found.title()
-            ));
-        }
+        notes.extend(
+            too_small(known).map(|what| format!("{title}: {what}; --leave-out {} takes the rest", found.title())),
+        );
         match judge(found, &slot) {
             Judged::OnSheet(both) => {
                 bars.read_backs[number..number + slot.kind.slots()].copy_from_slice(&both[..slot.kind.slots()]);
@@ -87,6 +82,17 @@ pub fn bars(found: &mut Found, notes: &mut Notes) -> Bars {
         number += slot.kind.slots();
     }
     bars
+}
+
+/// It is read and stays: the verdict over a sheet or board with it is 25.
+fn too_small(bar: Bar) -> Option<String> {
+    let is_memory = !matches!(bar.kind, BarKind::Unused | BarKind::Io);
+    (is_memory && (1..LEAST_MEMORY).contains(&bar.size)).then(|| {
+        format!(
+            "{} bytes, and a memory BAR has at least {LEAST_MEMORY}: a sheet or board with it is refused with 25",
+            bar.size
+        )
+    })
 }
 
 /// By the register's type bits. A register of 0 is a BAR only where the kernel has a size for it and no address.
