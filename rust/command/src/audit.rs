@@ -79,6 +79,10 @@ fn refused(refusal: Refusal, sheet: &[u8], named: Option<&NamedSheet>, host: &Ho
     let mut text = format!("{refusal}\n");
     if let Some(finding) = audit_where(host, sheet).err().filter(|finding| finding.party.is_some()) {
         text += &format!("  first: {finding}\n");
+        let small = finding.party.as_ref().filter(|_| refusal == Refusal::ReadBack);
+        text += &small
+            .and_then(|party| faults::small_bar(party, sheet))
+            .map_or(String::new(), |what| format!("  25: {what}\n"));
     }
     // A sheet that fails its own checks has no functions to ask.
     let faults = named.map_or(Vec::new(), |named| faults::all(named, host, Nesting::OfKind));

@@ -2,14 +2,33 @@
 //! verdict is the proved library's; this list is found by the types, and is not proved.
 
 use crate::listing::{pool_of, windows, word};
-use crate::named::NamedSheet;
-use cartsundial::{Buses, Function, HostRecord, Pool, Refusal};
+use crate::named::{NamedSheet, RECORD};
+use cartsundial::{Bar, BarKind, Buses, Function, HostRecord, Party, Place, Pool, Refusal};
 use std::ops::RangeInclusive;
 
 pub struct Fault {
     pub refusal: Refusal,
     /// With the functions' IDs and names.
     pub what: String,
+}
+
+/// Document 02, E9: no memory BAR is smaller, or the number is 25.
+const LEAST_MEMORY: u64 = 128;
+
+/// What is said of a memory BAR that is too small.
+pub fn too_small(bar: Bar) -> Option<String> {
+    let is_memory = !matches!(bar.kind, BarKind::Unused | BarKind::Io | BarKind::Io16);
+    let is_small = is_memory && (1..LEAST_MEMORY).contains(&bar.size);
+    is_small.then(|| format!("{} bytes, and a memory BAR has at least {LEAST_MEMORY}", bar.size))
+}
+
+/// The same of a sheet, where 25 is about a BAR of it.
+pub fn small_bar(party: &Party, sheet: &[u8]) -> Option<String> {
+    let Place::Bar(slot) = party.place else { return None };
+    let record = sheet[1..].chunks(RECORD).nth(usize::from(party.record) - 1)?;
+    let read_back = |slot: u8| Some(u32::from_be_bytes(*record.get(68 + 4 * usize::from(slot)..)?.first_chunk()?));
+    let bar = Bar::of_read_backs(read_back(slot)?, read_back(slot + 1).unwrap_or(0))?;
+    too_small(bar).map(|what| format!("{} BAR {slot}: {what}", party.id))
 }
 
 /// What 51 asks a BAR or a window to lie in: a window or pool of its kind, as the audit does, or any of its address space.

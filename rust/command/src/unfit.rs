@@ -1,8 +1,9 @@
 //! Why a board is not planned: whom its number is about, what it needs of its host, and before whom most room is lost. That is the
 //! proved finding; IDs, names and lines are looked up beside it.
 
+use crate::faults::too_small;
 use crate::json::Json;
-use cartsundial::{plan_where, Board, Headers, Id, Place, PlanFinding, PlanParty, Pool, Sheet, Size, Spares};
+use cartsundial::{plan_where, Bar, Board, Headers, Id, Place, PlanFinding, PlanParty, Pool, Sheet, Size, Spares};
 
 /// No pool reaches so far, and what is needed is not counted on much further.
 const PAST_POOLS: u64 = 1 << 52;
@@ -75,8 +76,18 @@ impl<'a> Unfit<'a> {
         match (Pool::short_by(self.finding.refusal), self.finding.host) {
             (Some(pool), Some(host)) if host.room(pool) > 0 => format!("{titled} ends past the {} pool", word(pool)),
             (Some(pool), _) => format!("{titled} finds the {} pool closed", word(pool)),
-            (None, _) => titled,
+            (None, _) => self.bar(party).and_then(too_small).map_or(titled.clone(), |what| format!("{titled}: {what}")),
         }
+    }
+
+    /// The BAR that is meant.
+    fn bar(&self, party: &PlanParty) -> Option<Bar> {
+        let (Place::Bar(wanted), board) = (party.place, self.board?) else { return None };
+        let mut slot = 0;
+        board.function(party.record)?.bars().into_iter().find(|bar| {
+            slot += bar.kind.slots();
+            slot - bar.kind.slots() == usize::from(wanted)
+        })
     }
 
     /// `record 4, 03:00.0 "capture", line 5: BAR 0`.

@@ -181,8 +181,8 @@ fn of(
     let (sheet, known) = (sheet(below), log.windows(root));
     let host = pools::used((root.1, last), &items(root.1, below), &known, notes);
     if let Err(refusal) = Sheet::new(&sheet[..]) {
-        let finding = audit_where(&host, &sheet).err().filter(|finding| finding.party.is_some());
-        let who = finding.map_or(String::new(), |finding| format!(": {finding}"));
+        let party = audit_where(&host, &sheet).err().and_then(|finding| finding.party);
+        let who = party.map_or(String::new(), |party| format!(": {party}"));
         notes.push(format!("{}: the sheet is {refusal}{who}", title(root)));
     }
     let tight: Vec<Pool> = [Pool::Low, Pool::Io].into_iter().filter(|pool| !is_known(*pool, &known)).collect();

@@ -3,11 +3,9 @@
 
 use super::found::{Found, Region, BARS, COMMAND};
 use super::Notes;
+use crate::faults::too_small;
 use cartsundial::{Bar, BarKind, Size};
 use std::ops::RangeInclusive;
-
-/// Document 02, E9: no memory BAR is smaller.
-const LEAST_MEMORY: u64 = 128;
 
 /// What a slot holds.
 struct Slot {
@@ -54,9 +52,9 @@ pub fn bars(found: &mut Found, notes: &mut Notes) -> Bars {
         let slot = slot(found, number);
         let title = format!("{} BAR {number}", found.title());
         let known = slot.size.map_or(Bar::UNUSED, |size| Bar::new(slot.kind, size));
-        notes.extend(
-            too_small(known).map(|what| format!("{title}: {what}; --leave-out {} takes the rest", found.title())),
-        );
+        // It is read and stays: the verdict over a sheet or board with it is 25.
+        let rest = format!("a sheet or board with it is refused with 25; --leave-out {} takes the rest", found.title());
+        notes.extend(too_small(known).map(|what| format!("{title}: {what}: {rest}")));
         match judge(found, &slot) {
             Judged::OnSheet(both) => {
                 bars.read_backs[number..number + slot.kind.slots()].copy_from_slice(&both[..slot.kind.slots()]);
@@ -82,17 +80,6 @@ pub fn bars(found: &mut Found, notes: &mut Notes) -> Bars {
         number += slot.kind.slots();
     }
     bars
-}
-
-/// It is read and stays: the verdict over a sheet or board with it is 25.
-fn too_small(bar: Bar) -> Option<String> {
-    let is_memory = !matches!(bar.kind, BarKind::Unused | BarKind::Io);
-    (is_memory && (1..LEAST_MEMORY).contains(&bar.size)).then(|| {
-        format!(
-            "{} bytes, and a memory BAR has at least {LEAST_MEMORY}: a sheet or board with it is refused with 25",
-            bar.size
-        )
-    })
 }
 
 /// By the register's type bits. A register of 0 is a BAR only where the kernel has a size for it and no address.
