@@ -361,6 +361,27 @@ fn one_root_bus_of_two() {
     assert_eq!((ran.status, names.len()), (1, 3), "{}", ran.error);
 }
 
+/// Where a bridge is missing, what is below it looks like a root bus: iomem or a boot log tell that it is none.
+#[test]
+fn a_bridge_is_missing() {
+    let whole = text("ports-ovmf");
+    let port = whole.split("\n\n").find(|block| block.starts_with("00:02.0")).unwrap();
+    let missing = whole.replace(&format!("{port}\n\n"), "");
+    for windows in [&["iomem", "ioports"][..], &["dmesg"]] {
+        let files: Vec<String> = windows.iter().map(|ending| file("ports-ovmf", ending)).collect();
+        let (ran, names) = edited("no-bridge", &missing, &files.iter().map(String::as_str).collect::<Vec<_>>());
+        let line = String::from_utf8(ran.out).unwrap();
+        assert_eq!((ran.status, names.len()), (1, 0), "{line}{}", ran.error);
+        assert!(
+            line.contains("0000:01: refused: the bridge to bus 0000:01 is not there, which is no root bus"),
+            "{line}"
+        );
+    }
+    let (ran, names) = edited("no-bridge", &missing, &[]);
+    assert_eq!(names.len(), 6);
+    assert!(ran.error.contains("0000:01: taken for a root bus, since no bridge to it is there"), "{}", ran.error);
+}
+
 /// What the user leaves out is told in the line and in every file; with a bridge goes what is below it.
 #[test]
 fn left_out() {

@@ -58,6 +58,21 @@ impl Log {
         self.zeros > 0 && self.claims.is_empty()
     }
 
+    /// Whether it is below another bus: inside the buses that a boot log gives to a root bus, or with a window in iomem or ioports
+    /// that lies inside another bus's.
+    pub fn is_below(&self, bus: (u32, u8)) -> bool {
+        let holds = |root: (u32, u8), last: u8| root.0 == bus.0 && root.1 < bus.1 && bus.1 <= last;
+        let bus_of = |claim: &Claim| claim.name.strip_prefix("PCI Bus ").and_then(read_root);
+        let is_inside = |claim: &Claim, other: &Claim| {
+            let is_other = bus_of(other).is_some_and(|of| of.0 == bus.0 && of.1 < bus.1) && claim.is_io == other.is_io;
+            is_other && other.range.contains(claim.range.start()) && other.range.contains(claim.range.end())
+        };
+        let own = || self.claims.iter().filter(|claim| bus_of(claim) == Some(bus));
+        !self.is_root(bus)
+            && (self.buses.iter().any(|(root, last)| holds(*root, *last))
+                || own().any(|claim| self.claims.iter().any(|other| is_inside(claim, other))))
+    }
+
     /// Whether the boot log names it as a root bus.
     pub fn is_root(&self, bus: (u32, u8)) -> bool {
         self.last_bus(bus).is_some() || self.logged.iter().any(|window| window.root == bus)
@@ -176,6 +191,7 @@ mod tests {
              [    0.7] pci_bus 0000:00: root bus resource [bus 00-7f]\n",
         );
         assert_eq!((ranges(&log), log.last_bus((0, 0))), (vec![0xD00..=0xFFFF], Some(0x7F)));
+        assert!(log.is_below((0, 0x7F)) && !log.is_below((0, 0)) && !log.is_below((0, 0x80)) && !log.is_below((1, 1)));
     }
 
     #[test]

@@ -62,16 +62,30 @@ pub fn all(functions: Vec<Found>, left_out: &[LeftOut], log: &Log, notes: &mut N
     let mut made = by_root(functions);
     let roots: Vec<(u32, u8)> = made.iter().map(|(root, _)| *root).collect::<BTreeSet<_>>().into_iter().collect();
     let next = |index: usize| roots.get(index + 1).filter(|next| next.0 == roots[index].0).map(|next| next.1 - 1);
+    let lost: Vec<(u32, u8)> = roots.iter().copied().filter(|root| log.is_below(*root)).collect();
     let mut taken = Vec::new();
     for (index, root) in roots.iter().enumerate() {
         let mut below: Vec<&mut Made> = made.iter_mut().filter(|(top, _)| top == root).map(|(_, made)| made).collect();
         compare_places(&mut below, &title(*root));
-        let last = log.last_bus(*root).or(next(index)).unwrap_or(0xFF);
-        let leads_here = |found: &&Found| found.domain == root.0 && found.id.bus() < root.1 && !log.is_root(*root);
         let below: Vec<&Made> = below.into_iter().map(|made| &*made).collect();
-        taken.push((*root, of(*root, last, &below, unread.iter().find(leads_here), log, notes)));
+        let last = log.last_bus(*root).or(next(index)).unwrap_or(0xFF);
+        let held = held(*root, &unread, &lost, log);
+        let made = of(*root, last, &below, held, log, notes);
+        if made.is_ok() && index > 0 && roots[index - 1].0 == root.0 && !log.is_root(*root) {
+            notes.push(format!("{}: taken for a root bus, since no bridge to it is there", title(*root)));
+        }
+        taken.push((*root, made));
     }
     taken
+}
+
+/// Why it may be no root bus, or lack a bridge: one that may lead to it is not read, or one to a bus below it is not there.
+fn held(root: (u32, u8), unread: &[Found], lost: &[(u32, u8)], log: &Log) -> Option<String> {
+    let leads_here = |found: &&Found| found.domain == root.0 && found.id.bus() < root.1 && !log.is_root(root);
+    let unread =
+        unread.iter().find(leads_here).map(|found| format!("it may be below {}, which is not read", found.title()));
+    let lost = lost.iter().find(|lost| lost.0 == root.0 && root.1 <= lost.1);
+    unread.or(lost.map(|lost| format!("the bridge to bus {} is not there, which is no root bus", title(*lost))))
 }
 
 /// Each function with the root bus that it is below.
@@ -163,7 +177,7 @@ fn of(
     root: (u32, u8),
     last: u8,
     below: &[&Made],
-    unread: Option<&Found>,
+    held: Option<String>,
     log: &Log,
     notes: &mut Notes,
 ) -> Result<Root, String> {
@@ -174,8 +188,8 @@ fn of(
     if !lacking.is_empty() {
         return Err(format!("functions not read: {} of {}", lacking.len(), below.len()));
     }
-    if let Some(found) = unread {
-        return Err(format!("it may be below {}, which is not read", found.title()));
+    if let Some(why) = held {
+        return Err(why);
     }
     notes.extend(below.iter().flat_map(|one| one.notes.clone()));
     let (sheet, known) = (sheet(below), log.windows(root));
