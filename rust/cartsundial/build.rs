@@ -1,7 +1,9 @@
 //! Links the proved archive. It is looked for in this order: in the folder that `CARTSUNDIAL_LIB_DIR` names; in the repository,
-//! where `rt staticlib capi` writes it; where pkg-config finds `cartsundial` installed, of this crate's version.
+//! where `rt staticlib capi` writes it; where pkg-config finds `cartsundial` installed. Wherever it was found, it is then asked
+//! for its version, which has to be this crate's.
 
 use std::env;
+use std::fs;
 use std::path::{Path, PathBuf};
 use std::process::Command;
 
@@ -20,6 +22,12 @@ struct Archive {
     name: &'static str,
 }
 
+/// Asks an archive for its version.
+const ASKING: &str = "\
+extern \"C\" { fn cartsundial_version() -> u32; }
+fn main() { println!(\"{}\", unsafe { cartsundial_version() }); }
+";
+
 fn main() {
     for name in [VARIABLE, "PKG_CONFIG", "PKG_CONFIG_PATH", "PKG_CONFIG_LIBDIR"] {
         println!("cargo::rerun-if-env-changed={name}");
@@ -35,13 +43,60 @@ fn link() -> Result<(), String> {
     if !fits(&architecture, &width, &system) {
         return Err(format!("the proved archive is ELF code for x86-64, which {} is not", variable("TARGET")));
     }
-    let Archive { folder, name } = archive()?;
+    let archive = archive()?;
+    let Archive { folder, name } = &archive;
     // A new archive may be older than the last build, where it was copied with its time; putting it there is new.
     println!("cargo::rerun-if-changed={}", folder.join(file(name)).display());
     println!("cargo::rerun-if-changed={}", folder.display());
+    let path = folder.join(file(name));
+    match asked(&archive).map_err(|why| format!("{} does not tell its version: {why}", path.display()))? {
+        Some(found) => same(&path, found)?,
+        None => println!("cargo::warning=the version of {} is not asked for: no such code runs here", path.display()),
+    }
     println!("cargo::rustc-link-search=native={}", folder.display());
     println!("cargo::rustc-link-lib=static={name}");
     Ok(())
+}
+
+/// The archive's own version: what a program answers that is linked with it, where this machine runs its code.
+fn asked(Archive { folder, name }: &Archive) -> Result<Option<u32>, String> {
+    if !cfg!(all(target_arch = "x86_64", target_pointer_width = "64", target_os = "linux")) {
+        return Ok(None);
+    }
+    let program = Path::new(&variable("OUT_DIR")).join("version");
+    let source = program.with_extension("rs");
+    fs::write(&source, ASKING).map_err(|error| format!("{}: {error}", source.display()))?;
+    let mut compiler = Command::new(variable("RUSTC"));
+    compiler.arg("--edition=2021").arg("-o").arg(&program).arg(&source).arg(format!("-lstatic={name}"));
+    compiler.arg("-L").arg(folder);
+    // The linker of a build for this machine; that of another target is of no use here.
+    if let Some(linker) = env::var_os("RUSTC_LINKER").filter(|_| variable("TARGET") == variable("HOST")) {
+        compiler.arg("-C").arg(format!("linker={}", linker.to_string_lossy()));
+    }
+    let told = answer(&mut compiler).and_then(|_| answer(&mut Command::new(&program)))?;
+    told.parse().map(Some).map_err(|_| format!("it answers {told}"))
+}
+
+/// What a program prints, or what it says where it fails.
+fn answer(command: &mut Command) -> Result<String, String> {
+    let output = command.output().map_err(|error| format!("{}: {error}", command.get_program().to_string_lossy()))?;
+    match output.status.success() {
+        true => Ok(last_line(&output.stdout)),
+        false => Err(String::from_utf8_lossy(&output.stderr).trim().to_string()),
+    }
+}
+
+/// Whether an archive is of this crate's version.
+pub fn same(archive: &Path, found: u32) -> Result<(), String> {
+    let [found, own] = [found, version::VERSION].map(dotted);
+    match found == own {
+        true => Ok(()),
+        false => Err(format!(
+            "{} is of version {found}, and this crate of {own}: take both from one state of the repository, where `make` \
+             builds the archive",
+            archive.display()
+        )),
+    }
 }
 
 fn archive() -> Result<Archive, String> {
@@ -83,12 +138,8 @@ fn archive_in(folder: &Path, names: &[&'static str]) -> Option<Archive> {
 fn installed() -> Result<Archive, String> {
     let program = env::var("PKG_CONFIG").unwrap_or("pkg-config".into());
     let wanted = format!("{INSTALLED} = {}", dotted(version::VERSION));
-    let output = Command::new(&program).args(["--print-errors", "--variable=libdir", &wanted]).output();
-    let output = output.map_err(|error| format!("{program}: {error}"))?;
-    if !output.status.success() {
-        return Err(last_line(&output.stderr));
-    }
-    let folder = PathBuf::from(last_line(&output.stdout));
+    let told = answer(Command::new(&program).args(["--print-errors", "--variable=libdir", &wanted]));
+    let folder = PathBuf::from(told.map_err(|why| last_line(why.as_bytes()))?);
     archive_in(&folder, &[INSTALLED]).ok_or_else(|| format!("{} has no {}", folder.display(), file(INSTALLED)))
 }
 
@@ -104,7 +155,7 @@ fn file(name: &str) -> String {
     format!("lib{name}.a")
 }
 
-/// 2800 is 0.28.0.
+/// 3100 is 0.31.0.
 pub fn dotted(version: u32) -> String {
     format!("{}.{}.{}", version / 10_000, version / 100 % 100, version % 100)
 }

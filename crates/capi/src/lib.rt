@@ -26,12 +26,12 @@ ghost use Rattle.capi.specs.Calls.{versionNumber};
 ghost use Rattle.plan_answer.specs.Plan.{numberOf as planningNumber, planning};
 use plan_answer::Planning;
 
-// The version of these calls, which the C header and the Rust crate are held against: 0.30.0 is 3000.
+// The version of these calls, which the C header and the Rust crate are held against.
 #[no_mangle]
 pub extern "C" fn cartsundial_version() -> u32
     ensures { λ r. ⌜ r ≡ versionNumber ⌝ }
 {
-    3000
+    3100
 }
 
 // Reads a header's packet as twenty numbers.

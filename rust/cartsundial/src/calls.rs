@@ -183,8 +183,7 @@ mod c {
 // never null, not even of an empty one. The borrows last for the call: nobody changes what it reads, and a slice that is
 // written is borrowed alone. The library is proved to touch nothing else, for any contents and any lengths.
 
-/// The version of the archive: 10,000 times the major number, 100 times the minor one, and the patch. [`VERSION`] is the one
-/// that this crate is for.
+/// The version of the archive, as [`VERSION`] is that of this crate.
 pub fn version() -> u32 {
     unsafe { c::cartsundial_version() }
 }

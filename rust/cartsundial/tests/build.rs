@@ -4,7 +4,8 @@
 #[path = "../build.rs"]
 mod script;
 
-use script::{dotted, fits, in_repository, resolved};
+use cartsundial::calls::VERSION;
+use script::{dotted, fits, in_repository, resolved, same};
 use std::path::Path;
 
 #[test]
@@ -37,8 +38,14 @@ fn folders() {
     assert_eq!(in_repository(Path::new("/src/rust/cartsundial")), Path::new("/src/target/staticlib"));
 }
 
-/// As cartsundial.pc has it.
+/// As cartsundial.pc has it, and no other than this crate's.
 #[test]
 fn versions() {
-    assert_eq!((dotted(2800), dotted(10203)), ("0.28.0".to_string(), "1.2.3".to_string()));
+    assert_eq!((dotted(3100), dotted(10203)), ("0.31.0".to_string(), "1.2.3".to_string()));
+    assert_eq!(dotted(VERSION), env!("CARGO_PKG_VERSION"));
+    assert_eq!(same(Path::new("libcapi.a"), VERSION), Ok(()));
+    for other in [0, VERSION - 100, VERSION - 1, VERSION + 1] {
+        let told = format!("libcapi.a is of version {}, and this crate of {}:", dotted(other), dotted(VERSION));
+        assert!(same(Path::new("libcapi.a"), other).unwrap_err().starts_with(&told));
+    }
 }

@@ -5,11 +5,11 @@ use crate::failure::{print, Answer, Failure, Verdict};
 use crate::hexadecimal::dwords;
 use crate::listing;
 use crate::named::{NamedSheet, RECORD};
+use crate::output::Outputs;
 use crate::source::{Kind, Source};
 use crate::words;
 use cartsundial::{headers, read, writes, Board, HostRecord, Id, RegisterWrite};
 use std::fmt::Write;
-use std::fs;
 
 pub const SHOW_OPTIONS: Options = Options { flags: &[], values: &[] };
 pub const OPTIONS: Options = Options { flags: &["--text", "--bytes"], values: &["--out"] };
@@ -23,7 +23,8 @@ Shows a board, a sheet, a trace, a write script or a host record in words; what 
 pub const HELP: &str = "\
 cartsundial convert FILE [--text | --bytes] [--out FILE]
 
-From bytes to text, from text to bytes; --text and --bytes say which in any case. A board's text is a tree, with names; of a
+From bytes to text, from text to bytes, on standard output unless --out names a file; a terminal gets no bytes. --text and --bytes
+say which in any case. A board's text is a tree, with names; of a
 sheet, a trace and a script it is hexadecimal with comments, in which a quoted name belongs to the record after it. The same
 bytes come back from it.
 ";
@@ -51,10 +52,9 @@ pub fn run(arguments: &Arguments) -> Answer {
         (is_to_text, _) => is_to_text,
     };
     let converted = if is_to_text { text_of(source)?.into_bytes() } else { source.bytes };
-    match arguments.value("--out") {
-        Some(file) => fs::write(file, converted).map_err(Failure::stream(file))?,
-        None => print(converted)?,
-    }
+    let mut outputs = Outputs::new(&arguments.files);
+    outputs.add("--out", arguments.value("--out").unwrap_or("-"), converted);
+    outputs.prepare()?.commit()?;
     Ok(Verdict::Accepted)
 }
 

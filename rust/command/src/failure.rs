@@ -20,7 +20,7 @@ pub enum Failure {
     Usage(String),
     /// A stream or a file that cannot be read or written.
     Stream(String),
-    /// Nobody reads standard output any more.
+    /// Nobody reads standard output any more, and the rest of the input was not looked at.
     Closed,
 }
 
@@ -52,23 +52,27 @@ impl Failure {
 /// Says what failed, on standard error, and gives the exit status.
 pub fn finish(answer: Answer) -> ExitCode {
     let (status, message) = match answer {
-        Ok(Verdict::Accepted) => return ExitCode::SUCCESS,
+        // A reader that has seen enough, as head, is no failure.
+        Ok(Verdict::Accepted) | Err(Failure::Closed) => return ExitCode::SUCCESS,
         Ok(Verdict::Refused) => return ExitCode::from(1),
         Err(Failure::Refused(message)) => (1, message),
         Err(Failure::Usage(message) | Failure::Stream(message)) => (2, message),
-        Err(Failure::Closed) => return ExitCode::from(2),
     };
     // Where standard error cannot be written either, the status says it.
     let _ = writeln!(io::stderr(), "cartsundial: {message}");
     ExitCode::from(status)
 }
 
-/// Writes to standard output, all of it.
+/// Writes to standard output, all of it, or as much as its reader wants: the verdict stays what it is.
 pub fn print(bytes: impl AsRef<[u8]>) -> Result<(), Failure> {
     let mut out = io::stdout().lock();
-    out.write_all(bytes.as_ref()).and_then(|()| out.flush()).map_err(output_failed)
+    match out.write_all(bytes.as_ref()).and_then(|()| out.flush()).map_err(output_failed) {
+        Err(Failure::Closed) => Ok(()),
+        printed => printed,
+    }
 }
 
+/// For what is written while the input is read: where nobody reads it any more, the rest need not be read either.
 pub fn output_failed(error: io::Error) -> Failure {
     match error.kind() {
         ErrorKind::BrokenPipe => Failure::Closed,

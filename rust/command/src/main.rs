@@ -16,6 +16,7 @@ mod ledger;
 mod listing;
 mod logged;
 mod named;
+mod output;
 mod parts;
 mod plan;
 mod route;
@@ -25,6 +26,7 @@ mod unfit;
 mod words;
 
 use arguments::{Arguments, Options};
+use cartsundial::calls;
 use failure::{finish, print, Answer, Failure, Verdict};
 use std::env;
 use std::process::ExitCode;
@@ -63,8 +65,8 @@ cartsundial: PCI Express boards planned, sheets judged, packets routed and trace
   import FILE..             lspci -vvx, or /sys/bus/pci/devices, with iomem, ioports or a boot log: sheet, host and board
   export SHEET              an lspci dump
 
-cartsundial SUBCOMMAND --help says more. A file may be - for standard input, and bytes or text, which is told by its content.
-In the place of SHEET a board may stand: then its plan is meant. A board's text:
+cartsundial SUBCOMMAND --help says more, cartsundial --version which one this is. A file may be - for standard input, and bytes or
+text, which is told by its content. In the place of SHEET a board may stand: then its plan is meant. A board's text:
 
   host buses 00-1F low E0000000+64M high 16G+4G io 2000-5FFF
   bridge 01.0 \"switch up\"
@@ -87,6 +89,11 @@ fn run() -> Answer {
     let Some((name, rest)) = words.split_first() else {
         return Err(Failure::Usage("which subcommand? cartsundial --help names them".into()));
     };
+    one_version(calls::version(), calls::VERSION)?;
+    if name == "--version" || name == "-V" {
+        print(concat!("cartsundial ", env!("CARGO_PKG_VERSION"), "\n"))?;
+        return Ok(Verdict::Accepted);
+    }
     let is_help = |word: &String| word == "--help" || word == "-h";
     if is_help(name) || name == "help" {
         print(HELP)?;
@@ -99,9 +106,34 @@ fn run() -> Answer {
         print(help)?;
         return Ok(Verdict::Accepted);
     }
-    let answer = Arguments::read(rest, options).and_then(|arguments| run(&arguments));
+    let answer = Arguments::read(rest, options).and_then(|arguments| {
+        output::refuse_own_input(&arguments.files)?;
+        run(&arguments)
+    });
     answer.map_err(|failure| match failure {
         Failure::Usage(message) => Failure::Usage(format!("{name}: {message} (cartsundial {name} --help)")),
         other => other,
     })
+}
+
+/// The archive in this command is of its own version; the build script has asked it where it could.
+fn one_version(archive: u32, own: u32) -> Result<(), Failure> {
+    let dotted = |version: u32| format!("{}.{}.{}", version / 10_000, version / 100 % 100, version % 100);
+    let differ = || {
+        let [archive, own] = [archive, own].map(dotted);
+        Failure::Stream(format!("this is version {own}, over an archive of {archive}: build both from one state"))
+    };
+    (archive == own).then_some(()).ok_or_else(differ)
+}
+
+#[cfg(test)]
+mod tests {
+    use super::*;
+
+    #[test]
+    fn an_archive_of_another_version() {
+        assert!(one_version(3100, 3100).is_ok());
+        let Err(Failure::Stream(why)) = one_version(3000, 3100) else { panic!("two versions are one") };
+        assert!(why.starts_with("this is version 0.31.0, over an archive of 0.30.0"));
+    }
 }

@@ -4,16 +4,20 @@ use crate::arguments::{Arguments, Options};
 use crate::failure::{print, Answer, Failure, Verdict};
 use crate::json::Json;
 use crate::named::NamedSheet;
+use crate::output::{is_standard_output, Outputs};
 use crate::source::{read_id, Source};
 use crate::unfit::Unfit;
 use crate::{convert, export, listing};
 use cartsundial::{write_script, Id, FULL_SCRIPT};
-use std::fs;
+use std::io::{self, Write};
 
 pub const OPTIONS: Options = Options {
     flags: &["--json", "--lspci", "--lines"],
     values: &["--sheet", "--script", "--svg", "--requester", "--tag"],
 };
+
+/// The options that name a file to write.
+const FILES: [&str; 3] = ["--sheet", "--script", "--svg"];
 
 pub const HELP: &str = "\
 cartsundial plan BOARD [--sheet FILE] [--script FILE] [--svg FILE] [--json | --lspci | --lines]
@@ -30,6 +34,9 @@ before whom most room of that pool is lost to alignment. Numbers, records, place
   --json              JSON in place of the table
   --lspci             an lspci dump in its place, for lspci -F
   --lines             the proved program's lines in its place
+
+All of the files are written, or none. One of them may be -, standard output; then no table is printed, and why a board is refused
+goes to standard error.
 ";
 
 pub fn run(arguments: &Arguments) -> Answer {
@@ -41,15 +48,33 @@ pub fn run(arguments: &Arguments) -> Answer {
         Ok(board) => board.bytes(),
         Err(bytes) => bytes.clone(),
     };
+    let prints = prints(arguments)?;
     let planned = board.as_ref().ok().and_then(|board| NamedSheet::planned(board).ok());
     let Some(named) = planned else {
         let unfit = Unfit::new(&bytes, board.as_ref().ok(), host_comment);
-        print(if arguments.has("--json") { format!("{}\n", unfit.json()) } else { unfit.text() })?;
+        match prints {
+            true => print(if arguments.has("--json") { format!("{}\n", unfit.json()) } else { unfit.text() })?,
+            // Where standard error cannot be written the status says it.
+            false => drop(io::stderr().write_all(unfit.text().as_bytes())),
+        }
         return Ok(Verdict::Refused);
     };
-    write_files(arguments, &named, &bytes)?;
-    print(shown(arguments, &named))?;
+    let ready = outputs(arguments, &named, &bytes)?.prepare()?;
+    if prints {
+        print(shown(arguments, &named))?;
+    }
+    ready.commit()?;
     Ok(Verdict::Accepted)
+}
+
+/// Whether the plan is printed: not where standard output is one of the files.
+fn prints(arguments: &Arguments) -> Result<bool, Failure> {
+    let is_taken = |option: &&&str| arguments.value(option).is_some_and(is_standard_output);
+    let Some(taken) = FILES.iter().find(is_taken) else { return Ok(true) };
+    match OPTIONS.flags.iter().find(|flag| arguments.has(flag)) {
+        Some(flag) => Err(Failure::Usage(format!("{flag} is printed where {taken} goes, to standard output"))),
+        None => Ok(false),
+    }
 }
 
 fn shown(arguments: &Arguments, named: &NamedSheet) -> String {
@@ -64,25 +89,26 @@ fn shown(arguments: &Arguments, named: &NamedSheet) -> String {
     }
 }
 
-fn write_files(arguments: &Arguments, named: &NamedSheet, board: &[u8]) -> Result<(), Failure> {
-    let write = |file: &str, bytes: &[u8]| fs::write(file, bytes).map_err(Failure::stream(file));
-    if let Some(file) = arguments.value("--sheet") {
+fn outputs<'a>(arguments: &'a Arguments, named: &NamedSheet, board: &[u8]) -> Result<Outputs<'a>, Failure> {
+    let mut outputs = Outputs::new(&arguments.files);
+    let [sheet, script, svg] = FILES.map(|option| arguments.value(option));
+    if let Some(file) = sheet {
         match file.ends_with(".txt") {
-            true => write(file, convert::named_text(named).as_bytes())?,
-            false => write(file, named.sheet.bytes())?,
+            true => outputs.add("--sheet", file, convert::named_text(named)),
+            false => outputs.add("--sheet", file, named.sheet.bytes()),
         }
     }
-    if let Some(file) = arguments.value("--script") {
-        write(file, &script(arguments, board)?)?;
+    if let Some(file) = script {
+        outputs.add("--script", file, script_of(arguments, board)?);
     }
-    if let Some(file) = arguments.value("--svg") {
+    if let Some(file) = svg {
         let drawn = picture::draw_plan(&listing::plan_lines(named), Some(board));
-        write(file, drawn.map_err(|why| Failure::Usage(format!("no picture: {why}")))?.as_bytes())?;
+        outputs.add("--svg", file, drawn.map_err(|why| Failure::Usage(format!("no picture: {why}")))?);
     }
-    Ok(())
+    Ok(outputs)
 }
 
-fn script(arguments: &Arguments, board: &[u8]) -> Result<Vec<u8>, Failure> {
+fn script_of(arguments: &Arguments, board: &[u8]) -> Result<Vec<u8>, Failure> {
     let requester = arguments.value("--requester").map_or(Ok(Id(0)), read_id)?;
     let tag = arguments.value("--tag").map_or(Ok(0), str::parse);
     let tag = tag.map_err(|_| Failure::Usage("--tag has a number from 0 to 255".into()))?;

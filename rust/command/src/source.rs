@@ -199,7 +199,7 @@ fn text_of(bytes: &[u8]) -> Option<&str> {
 }
 
 /// Whether there is nothing but text, which may end inside a letter.
-fn has_text(bytes: &[u8]) -> bool {
+pub fn has_text(bytes: &[u8]) -> bool {
     let is_text = |byte: &u8| *byte >= b' ' || matches!(byte, b'\t' | b'\r' | b'\n');
     let is_spelled = std::str::from_utf8(bytes).map_or_else(|error| error.error_len().is_none(), |_| true);
     !bytes.is_empty() && bytes.iter().all(is_text) && is_spelled

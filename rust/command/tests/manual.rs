@@ -49,7 +49,18 @@ fn options() {
         assert!(page.contains(&format!("\n.Nm cartsundial {name}\n")), "{name}");
         assert_eq!(described(&page), helped(&help(&[&name])), "{name}");
     }
-    assert_eq!(described(&page("cartsundial.1")), BTreeSet::from(["--help".to_string()]));
+    assert_eq!(described(&page("cartsundial.1")), BTreeSet::from(["--help", "--version"].map(String::from)));
+}
+
+/// The version, which is the manual's.
+#[test]
+fn version() {
+    let version = concat!("cartsundial ", env!("CARGO_PKG_VERSION"), "\n");
+    for option in ["--version", "-V"] {
+        let ran = run(&[option], b"");
+        assert_eq!((ran.status, &ran.out[..], &ran.error[..]), (0, version.as_bytes(), ""));
+    }
+    assert!(page("cartsundial.1").contains(concat!("\n.Os Cartsundial ", env!("CARGO_PKG_VERSION"), "\n")));
 }
 
 /// cartsundial(1) lists the subcommands as the help does, and there is no other page of one.

@@ -13,13 +13,13 @@ mod sysfs;
 use crate::arguments::{Arguments, Options};
 use crate::convert;
 use crate::failure::{print, Answer, Failure, Verdict};
+use crate::output::Outputs;
 use crate::source::{called, open};
 use cartsundial::{audit, sound, Board, HostRecord, Pool};
 use found::Found;
 use left_out::LeftOut;
 use log::Log;
 use roots::{Root, Taken};
-use std::fs;
 use std::io::{self, Read, Write};
 use std::path::Path;
 
@@ -190,34 +190,35 @@ fn tight_words(spaces: &[Pool]) -> String {
 /// The files or the sheet of each root bus that was read, and the verdicts: accepted where that holds of all.
 fn write_out(arguments: &Arguments, taken: &[Taken], left_out: &[LeftOut], notes: &mut Notes) -> Answer {
     let roots: Vec<&Root> = taken.iter().filter_map(|(_, root)| root.as_ref().ok()).collect();
-    let prefix = arguments.value("--out");
+    let prefix = arguments.value("--out").filter(|prefix| *prefix != "-");
+    let mut outputs = Outputs::new(&arguments.files);
     match (prefix, taken) {
-        (Some(prefix), _) => write_all(prefix, &roots, left_out)?,
+        (Some(prefix), _) => add_files(&mut outputs, prefix, &roots, left_out),
         (None, [(_, root)]) => print(root.as_ref().map_or(String::new(), |root| sheet_text(root, left_out)))?,
         (None, _) => {
             let names: Vec<String> = taken.iter().map(|((domain, bus), _)| format!("{domain:04x}:{bus:02x}")).collect();
             return Err(Failure::Usage(format!("root buses {}: --out PREFIX writes files for each", names.join(", "))));
         }
     }
+    let ready = outputs.prepare()?;
     let lines = taken.iter().map(|one| line(one, prefix, left_out));
     match prefix {
         Some(_) if arguments.has("--quiet") => {}
         Some(_) => print(lines.map(|line| line + "\n").collect::<String>())?,
         None => notes.extend(lines),
     }
+    ready.commit()?;
     let is_accepted = |root: &&Root| audit(&root.host, &root.sheet).is_ok();
     Ok(Verdict::of(roots.len() == taken.len() && roots.iter().all(is_accepted)))
 }
 
-fn write_all(prefix: &str, roots: &[&Root], left_out: &[LeftOut]) -> Result<(), Failure> {
-    let write = |file: String, text: String| fs::write(&file, text).map_err(Failure::stream(&file));
+fn add_files(outputs: &mut Outputs, prefix: &str, roots: &[&Root], left_out: &[LeftOut]) {
     for root in roots {
         let start = start(prefix, (root.domain, root.bus));
-        write(format!("{start}.sheet.txt"), sheet_text(root, left_out))?;
-        write(format!("{start}.host.txt"), board_text(root, &Board::host(root.host), left_out))?;
-        write(format!("{start}.board.txt"), board_text(root, &root.board, left_out))?;
+        outputs.add("--out", &format!("{start}.sheet.txt"), sheet_text(root, left_out));
+        outputs.add("--out", &format!("{start}.host.txt"), board_text(root, &Board::host(root.host), left_out));
+        outputs.add("--out", &format!("{start}.board.txt"), board_text(root, &root.board, left_out));
     }
-    Ok(())
 }
 
 fn start(prefix: &str, (domain, bus): (u32, u8)) -> String {
