@@ -62,7 +62,7 @@ done < <(links "${documents[@]}")
 [ $dead -eq 0 ] || exit 1
 echo "${#documents[@]} documents: $count links"
 
-# FILE, LINE and NAME of each `crate::name`, without its arguments. CHANGELOG.md and the landings tell of the past, std has its own documents.
+# FILE, LINE and NAME of each `crate::name`, without its arguments. CHANGELOG.md and the landings tell of the past; std is not ours.
 names() {
     find "$@" -not -name CHANGELOG.md -not -path 'docs/landings/*' -print0 |
         xargs -0 grep -noE '`[a-z][a-z0-9_]*(::[A-Za-z0-9_*]+)+' |
@@ -71,9 +71,9 @@ names() {
 
 # Whether a crate of this folder defines the name, in code or in a definition file; a name with * means that there are names like it.
 defines() {
-    local name=${2//\*/[A-Za-z0-9_]*}
+    local name=${2//\*/[A-Za-z0-9_]*} code='fn|struct|enum|const|mod|type|trait|static'
     [ -e "$1/src/$name.rt" ] || [ -e "$1/src/$name.rs" ] ||
-        grep -rqE --include='*.rt' --include='*.rs' "(^|[ (])(fn|struct|enum|const|mod|type|trait|static) $name([^A-Za-z0-9_]|$)" "$1/src" ||
+        grep -rqE --include='*.rt' --include='*.rs' "(^|[ (])($code) $name([^A-Za-z0-9_]|$)" "$1/src" ||
         { [ -d "$1/specs" ] && grep -rqE --include='*.antt' "^ *(pub )?((abbrev|record|data|devfn|type) )*(pub )?$name( |$)" "$1/specs"; }
 }
 

@@ -78,12 +78,12 @@
 //! The build script links it, for x86-64 and ELF only. It looks, in this order, into the folder that the environment variable
 //! `CARTSUNDIAL_LIB_DIR` names, with `libcartsundial.a` or `libcapi.a`; into the repository's `target/staticlib`, where
 //! `rt staticlib capi` writes it, if the crate is there; and where pkg-config finds `cartsundial`, of this version, as
-//! `make install` leaves it.
+//! `make install` leaves it. Wherever it was found, the archive is asked for its version; another one than this crate's is refused.
 //!
 //! # In boot code
 //!
-//! No call allocates, keeps anything or waits. A stack of 128 KiB holds the deepest board and the deepest sheet; that is tested,
-//! not proved. A call that runs where interrupts are handled on the same stack (ring 0) must not be interrupted: the archive uses
+//! No call allocates, keeps anything or waits. A call takes 64 KiB of stack at most, as from C; that is measured, not proved, and a
+//! thread's own library takes its part on top. A call that runs where interrupts are handled on the same stack (ring 0) must not be interrupted: the archive uses
 //! the red zone; include/cartsundial.h says more.
 //!
 //! Nobody may change a slice of a call while it runs, also one that is only read: a call counts on what it found when it looks

@@ -162,6 +162,9 @@ fn empty_slices() {
     assert_eq!(calls::route(&header, &sheet, &mut []), 11);
 }
 
+/// 64 KiB for any call, and 16 for what the thread's library takes and for the frames around the call.
+const SMALL_STACK: usize = (64 + 16) << 10;
+
 /// The deepest board, and a sheet with 255 bridges in a row, on a small stack.
 #[test]
 fn deep_on_a_small_stack() {
@@ -181,7 +184,7 @@ fn deep_on_a_small_stack() {
         let length = plan(&board, &mut room);
         (length, delivered(&request(MRD, 0xF920_0000), &sheet).map(|delivery| (delivery.record, delivery.bridges)))
     };
-    let answers = thread::Builder::new().stack_size(128 << 10).spawn(calls).unwrap().join().unwrap();
+    let answers = thread::Builder::new().stack_size(SMALL_STACK).spawn(calls).unwrap().join().unwrap();
     assert_eq!(answers, (Ok(FULL_SHEET), Ok((256, 255))));
 }
 

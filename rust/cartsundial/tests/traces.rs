@@ -137,6 +137,9 @@ fn room_for_any_piece() {
     assert_eq!(Annotator::room_for(usize::MAX), usize::MAX);
 }
 
+/// 64 KiB for any call, and 16 for what the thread's library takes and for the frames around the call.
+const SMALL_STACK: usize = (64 + 16) << 10;
+
 /// A sheet with 255 bridges in a row.
 #[test]
 fn deep_on_a_small_stack() {
@@ -145,7 +148,7 @@ fn deep_on_a_small_stack() {
     records.push(Record::end(0xFF00).bar(0, memory(20), 0xF920_0000));
     let (sheet, trace) = (sheet(&records), trace::of(&[request(MRD, 0xF920_0000)]));
     let line = move || lines(&sheet, &trace).next().map(|line| line.to_string());
-    let line = thread::Builder::new().stack_size(128 << 10).spawn(line).unwrap().join().unwrap();
+    let line = thread::Builder::new().stack_size(SMALL_STACK).spawn(line).unwrap().join().unwrap();
     assert_eq!(line.as_deref(), Some("1 MRd owner 256"));
 }
 

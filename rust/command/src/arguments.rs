@@ -59,6 +59,12 @@ impl Arguments {
         self.values.iter().filter(|(given, _)| given == option).map(|(_, value)| &value[..]).collect()
     }
 
+    /// Whatever is read: the files, and those that options name. What is no file among them, as a header, is none by its name.
+    pub fn inputs(&self) -> Vec<String> {
+        let named = ["--host", "--names"].into_iter().filter_map(|option| self.value(option));
+        self.files.iter().cloned().chain(named.map(String::from)).collect()
+    }
+
     /// Exactly these files.
     pub fn exactly<const N: usize>(&self, names: [&str; N]) -> Result<[&str; N], Failure> {
         let files: Vec<&str> = self.files.iter().map(String::as_str).collect();

@@ -107,7 +107,7 @@ fn run() -> Answer {
         return Ok(Verdict::Accepted);
     }
     let answer = Arguments::read(rest, options).and_then(|arguments| {
-        output::refuse_own_input(&arguments.files)?;
+        output::refuse_own_input(&arguments.inputs())?;
         run(&arguments)
     });
     answer.map_err(|failure| match failure {
