@@ -9,6 +9,8 @@ use std::io::Read;
 use std::os::unix::fs::{symlink, FileTypeExt, MetadataExt, PermissionsExt};
 use std::path::{Path, PathBuf};
 use std::process::{Command, Stdio};
+use std::thread;
+use std::time::Duration;
 
 const BOARD: &str = "tests/command/recorder.txt";
 const OLD: &[u8] = b"as it was";
@@ -226,12 +228,31 @@ fn through() {
     let pipe = folder.join("pipe");
     if Command::new("mkfifo").arg(&pipe).status().is_ok_and(|status| status.success()) {
         let path = pipe.clone();
-        let reader = std::thread::spawn(move || fs::read(path).unwrap());
+        let reader = thread::spawn(move || fs::read(path).unwrap());
         assert_eq!(run_in(&folder, &["plan", "board.txt", "--sheet", "pipe", "--script", "x"]).status, 0);
         assert!(cartsundial::check(&reader.join().unwrap()).is_ok());
         assert!(fs::metadata(&pipe).unwrap().file_type().is_fifo());
         assert_eq!(names(&folder), ["board.txt", "pipe", "x"]);
     }
+}
+
+/// A call that is stopped while it waits for a pipe's reader leaves everything as it was.
+#[test]
+fn stopped() {
+    let folder = folder("stopped");
+    fs::copy(run::repository().join(BOARD), folder.join("board.txt")).unwrap();
+    fs::write(folder.join("x"), OLD).unwrap();
+    if !Command::new("mkfifo").arg(folder.join("pipe")).status().is_ok_and(|status| status.success()) {
+        return;
+    }
+    let mut waiting = command(&["plan", "board.txt", "--sheet", "x", "--script", "pipe"]);
+    let mut waiting = waiting.current_dir(&folder).stdin(Stdio::null()).spawn().unwrap();
+    thread::sleep(Duration::from_millis(300));
+    assert!(waiting.try_wait().unwrap().is_none());
+    waiting.kill().unwrap();
+    waiting.wait().unwrap();
+    assert_eq!(names(&folder), ["board.txt", "pipe", "x"]);
+    assert_eq!(fs::read(folder.join("x")).unwrap(), OLD);
 }
 
 /// `-` has the bytes of the file, and nothing else; a refusal goes to standard error.

@@ -7,7 +7,7 @@ mod place;
 use crate::failure::{print, Failure};
 use beside::Beside;
 use place::{Identity, Place};
-use std::fs::OpenOptions;
+use std::fs::{File, OpenOptions};
 use std::io::{self, ErrorKind, IsTerminal, Write};
 
 /// What a call is going to write, by the option that names it.
@@ -42,25 +42,20 @@ impl<'a> Outputs<'a> {
     /// beside its place. Where anything fails, no file is changed and none is left.
     pub fn prepare(self) -> Result<Ready, Failure> {
         let places = self.places()?;
+        let all = || self.outputs.iter().zip(&places);
+        // A pipe is opened when somebody reads it, which may take long: before anything is written.
+        let through = all().map(|(output, place)| through(output, place)).collect::<Result<Vec<_>, _>>()?;
         let mut files = Vec::new();
-        for (output, place) in self.outputs.iter().zip(&places) {
+        for (output, place) in all() {
             if let Place::File { path, old } = place {
                 files.push(Beside::write(path, old.as_ref(), &output.bytes).map_err(|error| failed(output, &error))?);
             }
         }
-        for (output, place) in self.outputs.iter().zip(&places) {
-            match place {
-                Place::File { .. } => {}
-                Place::Through(path) => {
-                    let opened = OpenOptions::new().write(true).truncate(true).open(path);
-                    let file = opened.map_err(|error| failed(output, &error))?;
-                    refuse_raw(file.is_terminal(), output)?;
-                    (&file).write_all(&output.bytes).map_err(|error| failed(output, &error))?;
-                }
-                Place::StandardOutput => {
-                    refuse_raw(io::stdout().is_terminal(), output)?;
-                    print(&output.bytes)?;
-                }
+        for (output, through) in self.outputs.iter().zip(through) {
+            match through {
+                Through::Nothing => {}
+                Through::File(mut file) => file.write_all(&output.bytes).map_err(|error| failed(output, &error))?,
+                Through::StandardOutput => print(&output.bytes)?,
             }
         }
         Ok(Ready { files })
@@ -92,6 +87,29 @@ impl<'a> Outputs<'a> {
             places.push(place);
         }
         Ok(places)
+    }
+}
+
+/// What an output goes through, open.
+enum Through {
+    Nothing,
+    File(File),
+    StandardOutput,
+}
+
+fn through(output: &Output, place: &Place) -> Result<Through, Failure> {
+    match place {
+        Place::File { .. } => Ok(Through::Nothing),
+        Place::Through(path) => {
+            let opened = OpenOptions::new().write(true).truncate(true).open(path);
+            let file = opened.map_err(|error| failed(output, &error))?;
+            refuse_raw(file.is_terminal(), output)?;
+            Ok(Through::File(file))
+        }
+        Place::StandardOutput => {
+            refuse_raw(io::stdout().is_terminal(), output)?;
+            Ok(Through::StandardOutput)
+        }
     }
 }
 
