@@ -6,8 +6,8 @@ use crate::packet::{self, Aim, NAMES};
 pub const ANSWER: usize = 22;
 
 /// A record of a sheet with its length, and where its registers and its read-backs start.
-const RECORD: usize = 92;
-const REGISTERS: usize = 4;
+pub const RECORD: usize = 92;
+pub const REGISTERS: usize = 4;
 const READ_BACKS: usize = 68;
 
 /// Command bits.
@@ -16,14 +16,14 @@ const MEMORY_ENABLE: u8 = 2;
 
 /// A function, and the bridges above it.
 #[derive(Clone, Copy)]
-struct Owner {
-    last: u64,
-    record: u16,
-    bridges: u8,
+pub struct Owner {
+    pub last: u64,
+    pub record: u16,
+    pub bridges: u8,
 }
 
 /// Where a packet goes.
-enum Found {
+pub enum Found {
     Function(Owner),
     Every,
     Port,
@@ -31,20 +31,20 @@ enum Found {
 
 /// What functions own in one space: first numbers in order, and whose each is.
 #[derive(Default)]
-struct Space {
+pub struct Space {
     starts: Vec<u64>,
     owners: Vec<Owner>,
 }
 
 impl Space {
-    fn new(mut owned: Vec<(u64, Owner)>) -> Space {
+    pub fn new(mut owned: Vec<(u64, Owner)>) -> Space {
         owned.sort_unstable_by_key(|&(start, _)| start);
         let (starts, owners) = owned.into_iter().unzip();
         Space { starts, owners }
     }
 
     #[inline]
-    fn owner(&self, key: u64) -> Result<Owner, u8> {
+    pub fn owner(&self, key: u64) -> Result<Owner, u8> {
         let after = self.starts.partition_point(|&start| start <= key);
         match self.owners[..after].last() {
             Some(owner) if key <= owner.last => Ok(*owner),
@@ -113,7 +113,7 @@ impl Index {
     }
 
     #[inline]
-    fn owner(&self, aim: Aim) -> Result<Found, u8> {
+    pub fn owner(&self, aim: Aim) -> Result<Found, u8> {
         let root = self.root.ok_or(40)?;
         let owner = match aim {
             Aim::Memory(address) => self.memory.owner(address)?,
@@ -130,6 +130,12 @@ impl Index {
             Aim::Up => return Err(43),
         };
         Ok(Found::Function(owner))
+    }
+
+    /// The record of the function with this ID.
+    #[inline]
+    pub fn with_id(&self, id: u16) -> Option<u16> {
+        self.ids.owner(id.into()).ok().map(|owner| owner.record)
     }
 
     /// Puts the line of a header at the end of `lines`, as the program `label` prints it.
@@ -159,12 +165,12 @@ impl Index {
     }
 }
 
-fn put_refused(number: u8, lines: &mut Vec<u8>) {
+pub fn put_refused(number: u8, lines: &mut Vec<u8>) {
     lines.extend_from_slice(b" refused ");
     put_decimal(number.into(), lines);
 }
 
-fn put_decimal(mut number: u64, lines: &mut Vec<u8>) {
+pub fn put_decimal(mut number: u64, lines: &mut Vec<u8>) {
     let mut digits = [0; 20];
     let mut start = digits.len();
     loop {
@@ -198,17 +204,18 @@ fn above(records: &[[u8; RECORD]]) -> [Above; 256] {
     above
 }
 
-fn is_bridge(record: &[u8; RECORD]) -> bool {
+pub fn is_bridge(record: &[u8; RECORD]) -> bool {
     record[REGISTERS + 0x0E] & 0x7F == 1
 }
 
-struct Bar {
-    is_io: bool,
-    first: u64,
-    last: u64,
+/// A BAR's addresses, or an open window's.
+pub struct Range {
+    pub is_io: bool,
+    pub first: u64,
+    pub last: u64,
 }
 
-fn bars(record: &[u8; RECORD]) -> Vec<Bar> {
+pub fn bars(record: &[u8; RECORD]) -> Vec<Range> {
     let value = |slot: usize| u64::from(u32::from_le_bytes(record[REGISTERS + 0x10..].as_chunks().0[slot]));
     let read_back = |slot: usize| u64::from(u32::from_be_bytes(record[READ_BACKS..].as_chunks().0[slot]));
     let slots = if is_bridge(record) { 2 } else { 6 };
@@ -226,9 +233,24 @@ fn bars(record: &[u8; RECORD]) -> Vec<Bar> {
         first &= !type_bits;
         if low != 0 {
             let size = 1 << (size_bits & !type_bits).trailing_zeros();
-            bars.push(Bar { is_io, first, last: first + (size - 1) });
+            bars.push(Range { is_io, first, last: first + (size - 1) });
         }
         slot += 1 + usize::from(is_wide);
     }
     bars
+}
+
+/// A bridge's windows that are open.
+pub fn windows(bridge: &[u8; RECORD]) -> Vec<Range> {
+    let number = |at: usize, width: usize| {
+        bridge[REGISTERS + at..][..width].iter().rev().fold(0u64, |number, &byte| number << 8 | u64::from(byte))
+    };
+    let memory = |at: usize, upper: u64| upper << 32 | (number(at, 2) & 0xFFF0) << 16;
+    let io = |at: usize| (number(at, 1) & 0xF0) << 8;
+    let all = [
+        Range { is_io: true, first: io(0x1C), last: io(0x1D) | 0xFFF },
+        Range { is_io: false, first: memory(0x20, 0), last: memory(0x22, 0) | 0xF_FFFF },
+        Range { is_io: false, first: memory(0x24, number(0x28, 4)), last: memory(0x26, number(0x2C, 4)) | 0xF_FFFF },
+    ];
+    all.into_iter().filter(|window| window.first <= window.last).collect()
 }

@@ -1,8 +1,9 @@
 //! Every answer is plain's router's.
 
 use inputs::random::Random;
-use inputs::{aim, audit, header, labels, trace};
-use yardstick::{Index, ANSWER};
+use inputs::{aim, audit, cards, ends, header, labels, trace};
+use std::collections::BTreeMap;
+use yardstick::{BothEnds, Index, ANSWER};
 
 fn plan(board: &[u8]) -> Option<Vec<u8>> {
     let mut room = vec![0; plain::FULL_SHEET];
@@ -78,6 +79,40 @@ fn accepted_sheets() {
     let all = (1..=9).chain([40, 42, 43]);
     assert!(all.clone().all(|number| refused[number] > 0), "{refused:?}");
     assert_eq!(refused.iter().sum::<u32>(), all.map(|number| refused[number]).sum::<u32>(), "{refused:?}");
+}
+
+/// With both ends: over accepted sheets, with command words as they are or other ones, and headers by functions of the sheet.
+#[test]
+fn both_ends() {
+    let mut random = Random::new(15);
+    let (mut sheets, mut endings) = (0, BTreeMap::new());
+    while sheets < 3000 {
+        let (host, mut sheet) = audit::any(&mut random, plan);
+        cards::enable(&mut sheet, &mut random);
+        if plain::audit(&host, &sheet) != 0 {
+            continue;
+        }
+        sheets += 1;
+        let host_id = ends::host_id(&sheet, &mut random);
+        let both = BothEnds::build(host_id, &sheet);
+        let headers: Vec<Vec<u8>> = (0..60).map(|_| ends::header(host_id, &sheet, &mut random)).collect();
+        let expected = plain::follow(host_id.into(), &sheet, &trace::of(&headers)).unwrap();
+        for ((number, header), line) in (1..).zip(&headers).zip(expected.lines()) {
+            let mut lines = Vec::new();
+            both.put_line(number, header, &mut lines);
+            let put = String::from_utf8(lines).unwrap();
+            assert_eq!(put.trim_end(), line, "{header:02X?} over {sheet:02X?}");
+            let words: Vec<&str> = line.split(' ').skip(2).collect();
+            let ending =
+                words.iter().map(|word| word.parse::<u16>().map_or(*word, |_| "N")).collect::<Vec<_>>().join(" ");
+            *endings.entry(ending).or_insert(0) += 1;
+        }
+    }
+    for ending in
+        ["from N to N", "from N to host", "from N to port", "from N refused N", "from host to N", "from host to all"]
+    {
+        assert!(endings[ending] > 500, "{endings:?}");
+    }
 }
 
 /// What the program prints is what plain's does, for an accepted sheet and any trace, whole or not, however it is read.
