@@ -1,9 +1,12 @@
 -- The build in the words of the code: one law for each answer, whichever verdict was asked. Assumes nothing.
-use mathlib.Core.Path.{_≡_, refl, sym, ap, _∙_}
-use mathlib.Core.List.{List}
+use mathlib.Core.Path.{_≡_, refl, sym, ap, ap₂, _∙_}
+use mathlib.Core.List.{List, []}
 use Prim.Native.Nat.{ℕ, _≤_, _<_}
+use native.Mathlib.Omega.{arith}
 use lib.ListN.{length}
 use borrow.Author.Tests.{eq-eqb, ne-eqb, lt-ltb, le-ltb}
+use Rattle.lists.specs.Lists.{All}
+use Rattle.lists.specs.ListLaws.{all-map-intro}
 use Rattle.endian.specs.Endian.{Bytes}
 use Rattle.records.specs.Limits.{mostFunctions}
 use Rattle.pools.specs.declared.Space.the-variants.{Memory}
@@ -17,11 +20,17 @@ use Rattle.audit_rule.specs.Audit.{auditNumber, soundNumber}
 use Rattle.audit_rule.specs.Accepted.{OneOwner}
 use Rattle.audit_rule.specs.AcceptedLaws.{one-owner-of-accepted}
 use Rattle.audit_rule.specs.AuditLaws.{audit-iff, sound-iff}
-use Rattle.index_layout.specs.Places.{indexSize}
-use Rattle.index_slots.specs.Slots.{Slot, placed}
+use Rattle.index_layout.specs.Places.{indexSize, mostSlots}
+use Rattle.index_slots.specs.Slots.{Slot, Fits, stored, placed, slotsTo, sorted}
 use Rattle.index_slots.specs.Cleared.{cleared}
+use Rattle.index_slots.specs.ClearedLaws.{length-cleared}
+use Rattle.index_slots.specs.SortedLaws.{length-inserted}
+use Rattle.index_slots.specs.ReadLaws.{slotsTo-stored, stored-over}
 use Rattle.index_table.specs.Table.{finished, built}
-use Rattle.index_pass.specs.Pass.{slotsBelow}
+use Rattle.index_rule.specs.Owners.{ownersOf}
+use Rattle.index_rule.specs.WordLaws.{word-small}
+use Rattle.index_rule.specs.LineLaws.{owners-fit}
+use Rattle.index_pass.specs.Pass.{slotOf, slotsBelow}
 use Rattle.index_build.specs.Build.{from11, numberAfter, buildNumber, soundBuildNumber, rootOf, leftBy, indexAfter, soundIndexAfter}
 
 -- a checked sheet whose buses are a tree below the root bus
@@ -29,12 +38,22 @@ pub record Rooted (s : List ℕ) (root : ℕ) : Type 0 where
   pub checked : Checked s
   pub tree : (table : List ℕ) → Leads (entriesOf s) table → BusTree s table root
 
--- ## The index filled: what is cleared, then inserted, then finished
+-- ## The index filled: what is cleared, then put in, then sorted, then finished
 
-pub filled : (n root : ℕ) (xs : List Slot) (o o₁ o₂ o₃ : List ℕ) (count : ℕ) → o₁ ≡ cleared n o
-    → (o₂ ≡ placed 0 n xs o₁) × (count ≡ length xs) → o₃ ≡ finished n root count o₂ → o₃ ≡ built n root xs o
-unfolding built
-filled n root xs o o₁ o₂ o₃ count e (f, c) g = g ∙ rw (c, f, e)
+pub filled : (n root : ℕ) (xs : List Slot) (o o₁ o₂ o₃ o₄ : List ℕ) (count : ℕ) → indexSize n ≤ length o → All Fits xs
+    → length xs ≤ mostSlots n → o₁ ≡ cleared n o → (o₂ ≡ placed 0 n xs o₁) × (count ≡ length xs)
+    → o₃ ≡ stored n o₂ 1 (sorted (slotsTo o₂ n 0 count)) → o₄ ≡ finished n root count o₃ → o₄ ≡ built n root xs o
+unfolding built placed
+filled n root xs o o₁ o₂ o₃ o₄ count room fits few e (f, c) g h =
+    let put : o₂ ≡ stored n (cleared n o) 1 xs = f ∙ ap (λ (t : List ℕ). stored n t 1 xs) e in
+    let read : slotsTo o₂ n 0 count ≡ xs =
+    ap₂ (λ (t : List ℕ) (k : ℕ). slotsTo t n 0 k) put c
+    ∙ slotsTo-stored n (cleared n o) 0 xs (omega (arith, few)) (omega (arith, room, length-cleared n o room)) fits in
+    let in-order : o₃ ≡ stored n (cleared n o) 1 (sorted xs) =
+    g
+    ∙ ap₂ (λ (t : List ℕ) (ys : List Slot). stored n t 1 (sorted ys)) put read
+    ∙ stored-over n (cleared n o) 1 xs (sorted xs) (omega (arith, length-inserted [] xs)) (omega (arith, few)) in
+    h ∙ ap₂ (finished n root) c in-order
 
 -- ## What a verdict of 0 says of a sheet
 
@@ -75,6 +94,12 @@ module _ (host s o : List ℕ) (v : ℕ) where
                 tree = a .tree Memory;
               };
         })
+
+    pub slots-fit : Bytes host → (root : ℕ) → root ≡ rootOf host → All Fits (slotsBelow root s)
+    slots-fit host-bytes root e =
+        rw e
+        (all-map-intro Fits slotOf (ownersOf host s)
+        (λ x m. let f = owners-fit host s host-bytes bytes a x m in (omega (arith, f .start-small), word-small x f)))
 
     past-verdict : numberAfter v s (length o) ≡ from11 s (length o)
     past-verdict = rw (eq-eqb v 0 zero)

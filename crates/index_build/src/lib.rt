@@ -5,6 +5,8 @@ ghost use lib.ListN.{length};
 ghost use Rattle.sheet.specs.Sheet.{entriesOf};
 ghost use Rattle.audit_rule.specs.Accepted.{OneOwner};
 ghost use Rattle.index_layout.specs.Places.{indexSize};
+ghost use Rattle.lists.specs.Lists.{All};
+ghost use Rattle.index_slots.specs.Slots.{Fits, placed};
 ghost use Rattle.index_table.specs.Table.{built};
 ghost use Rattle.index_pass.specs.Pass.{slotsBelow};
 ghost use Rattle.index_build.specs.Build.{numberAfter, buildNumber, soundBuildNumber, leftBy, indexAfter, soundIndexAfter};
@@ -48,12 +50,27 @@ fn build_after(verdict: u8, host: &[u8], sheet: &[u8], index: &mut [u8]) -> u8
 
 // Of a sheet with n functions, whose buses are a tree below the root bus.
 fn fill(index: &mut [u8], n: usize, sheet: &[u8], root: u8)
-    requires { ⌜ Rooted (now sheet) root × (n ≡ length (entriesOf (now sheet))) × (indexSize n ≤ length (now index)) ⌝ }
+    requires { ⌜
+        Rooted (now sheet) root × (n ≡ length (entriesOf (now sheet))) × (indexSize n ≤ length (now index))
+        × All Fits (slotsBelow root (now sheet))
+        ⌝ }
     ensures { λ _. ⌜ now (index .exit) ≡ built n root (slotsBelow root (now (sheet .entry))) (now (index .entry)) ⌝ }
+{
+    index_slots::clear(index, n);
+    let count = put_all(index, n, sheet, root);
+    index_sort::sort(index, n, count);
+    index_table::finish(index, n, root, count);
+}
+
+// All owners, in the order of the records: how many there are.
+fn put_all(index: &mut [u8], n: usize, sheet: &[u8], root: u8) -> usize
+    requires { ⌜ Rooted (now sheet) root × (n ≡ length (entriesOf (now sheet))) × (indexSize n ≤ length (now index)) ⌝ }
+    ensures { λ r. ⌜
+        (now (index .exit) ≡ placed 0 n (slotsBelow root (now (sheet .entry))) (now (index .entry)))
+        × (r ≡ length (slotsBelow root (now (sheet .entry))))
+        ⌝ }
 {
     let mut table = [0u16; sheet_above::BUSES];
     sheet_above::leaders(sheet, &mut table);
-    index_slots::clear(index, n);
-    let count = index_pass::insert_owners(index, n, sheet, &table, root);
-    index_table::finish(index, n, root, count);
+    index_pass::put_owners(index, n, sheet, &table, root)
 }

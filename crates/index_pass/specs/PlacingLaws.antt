@@ -1,31 +1,32 @@
--- Slots inserted piece by piece, by a loop: inserting what is left from here on gives what inserting all from the start gives. Assumes
+-- Slots put in piece by piece, by a loop: putting in what is left from here on gives what putting in all from the start gives. Assumes
 -- nothing.
 use mathlib.Core.Path.{_≡_, refl, sym, ap, _∙_}
 use mathlib.Core.List.{List, [], _∷_, _++_}
 use Prim.Native.Nat.{ℕ, _+_, _≤_, _<_}
+use native.Mathlib.Numerals.{add-one}
 use native.Mathlib.Omega.{arith}
 use lib.ListN.{length, length-append}
-use Rattle.index_slots.specs.Slots.{Slot, moved, placed}
+use Rattle.index_slots.specs.Slots.{Slot, putSlot, stored, placed}
 use Rattle.index_slots.specs.PlacedLaws.{placed-append}
 
 -- ## One piece: o₁ and count₁ are told after it
 
 module _ (n : ℕ) (xs : List Slot) (count : ℕ) (o : List ℕ) where
   pub none-placed : xs ≡ [] → (o ≡ placed count n xs o) × (count ≡ count + length xs)
-  unfolding placed
+  unfolding placed stored
   none-placed e = rw e (refl, omega arith)
 
-  pub one-placed : (x : Slot) → xs ≡ x ∷ [] → (o₁ : List ℕ) → o₁ ≡ moved count n x o
+  pub one-placed : (x : Slot) → xs ≡ x ∷ [] → (o₁ : List ℕ) → o₁ ≡ putSlot o n (count + 1) x
       → (o₁ ≡ placed count n xs o) × (count + 1 ≡ count + length xs)
-  unfolding placed
-  one-placed x e o₁ q = rw e (q, refl)
+  unfolding placed stored
+  one-placed x e o₁ q = rw e (q ∙ ap (λ (k : ℕ). putSlot o n k x) (add-one count), refl)
 
   pub same-placed : (ys : List Slot) → xs ≡ ys → (o₁ : List ℕ) (count₁ : ℕ) → (o₁ ≡ placed count n ys o) × (count₁ ≡ count + length ys)
       → (o₁ ≡ placed count n xs o) × (count₁ ≡ count + length xs)
   same-placed ys e o₁ count₁ h = rw e h
 
 module _ (xs : List Slot) (count m : ℕ) (room : count + length xs ≤ m) where
-  pub one-room : (x : Slot) → xs ≡ x ∷ [] → count < m
+  pub one-room : (x : Slot) → xs ≡ x ∷ [] → count + 1 ≤ m
   one-room x e = omega (arith, room, ap length e)
 
   pub same-room : (ys : List Slot) → xs ≡ ys → count + length ys ≤ m
@@ -45,7 +46,7 @@ module _ (n : ℕ) (all : List Slot) (count₀ : ℕ) (o₀ : List ℕ) where
 
   module _ (rest : List Slot) (count : ℕ) (o : List ℕ) (p : Placing n all count₀ o₀ rest count o) where
     pub placing-end : rest ≡ [] → (o ≡ placed count₀ n all o₀) × (count ≡ count₀ + length all)
-    unfolding placed
+    unfolding placed stored
     placing-end e = (sym (ap (λ (xs : List Slot). placed count n xs o) e) ∙ p .rest-placed, omega (arith, p .counted, ap length e))
 
     -- xs come next

@@ -1,5 +1,5 @@
-// The owners of an accepted sheet inserted into an index, as slots. Each of four passes over the records inserts those of one segment of
-// the keys behind those that are there: low memory, high memory, I/O, IDs.
+// The owners of an accepted sheet put into an index, as slots. Each of four passes over the records puts those of one segment of the keys
+// behind those that are there: low memory, high memory, I/O, IDs.
 ghost use mathlib.Core.Path.{_≡_};
 ghost use mathlib.Core.Bool.{false, _&&_};
 ghost use Prim.Native.Nat.{_+_, _<_, _≤_};
@@ -31,7 +31,7 @@ pub struct Segment {
     pub base: u64,
 }
 
-// The owners that a pass inserts: the BARs that start in a segment, or the IDs.
+// The owners that a pass puts in: the BARs that start in a segment, or the IDs.
 pub enum Pass {
     Bars(Segment),
     Ids,
@@ -59,7 +59,7 @@ const IO: Segment = Segment {
 };
 
 // All owners, into an index of n functions with no slots: how many there are.
-pub fn insert_owners(index: &mut [u8], n: usize, sheet: &[u8], table: &[u16], root: u8) -> usize
+pub fn put_owners(index: &mut [u8], n: usize, sheet: &[u8], table: &[u16], root: u8) -> usize
     requires { ⌜
         BusTree (now sheet) (now table) root × (n ≡ length (entriesOf (now sheet))) × (indexSize n ≤ length (now index))
         ⌝ }
@@ -68,14 +68,14 @@ pub fn insert_owners(index: &mut [u8], n: usize, sheet: &[u8], table: &[u16], ro
         × (r ≡ length (slotsBelow root (now (sheet .entry))))
         ⌝ }
 {
-    let low = insert_pass(index, n, 0, Pass::Bars(LOW_MEMORY), sheet, table, root);
-    let high = insert_pass(index, n, low, Pass::Bars(HIGH_MEMORY), sheet, table, root);
-    let io = insert_pass(index, n, high, Pass::Bars(IO), sheet, table, root);
-    insert_pass(index, n, io, Pass::Ids, sheet, table, root)
+    let low = put_pass(index, n, 0, Pass::Bars(LOW_MEMORY), sheet, table, root);
+    let high = put_pass(index, n, low, Pass::Bars(HIGH_MEMORY), sheet, table, root);
+    let io = put_pass(index, n, high, Pass::Bars(IO), sheet, table, root);
+    put_pass(index, n, io, Pass::Ids, sheet, table, root)
 }
 
 // How many slots there are then.
-fn insert_pass(
+fn put_pass(
     index: &mut [u8],
     n: usize,
     count: usize,
@@ -100,7 +100,7 @@ fn insert_pass(
         let part = sheet::part(sheet, k);
         k += 1;
         let bridges = sheet_above::bridges_above(sheet, table, root, sheet_record::bus_of(part));
-        at = insert_record(index, n, at, pass, part, bridges, k);
+        at = put_record(index, n, at, pass, part, bridges, k);
     }
     at
 }
@@ -108,7 +108,7 @@ fn insert_pass(
 // ---- one record
 
 // Of the function with this number, below these bridges.
-fn insert_record(
+fn put_record(
     index: &mut [u8],
     n: usize,
     count: usize,
@@ -131,13 +131,13 @@ fn insert_record(
         Pass::Bars(g) => {
             let space = g.space;
             if sheet_record::is_enabled(part, space) & all_on(bridges, space) {
-                return insert_bars(index, n, count, part, g, end);
+                return put_bars(index, n, count, part, g, end);
             }
             count
         }
         Pass::Ids => {
             let id = sheet_record::id_of(part) as u64;
-            index_slots::insert(index, n, count, index_layout::ID_BASE + id, end);
+            index_slots::put_slot(index, n, count + 1, index_layout::ID_BASE + id, end);
             count + 1
         }
     }
@@ -156,7 +156,7 @@ fn all_on(bridges: Bridges, space: Space) -> bool
 // ---- BARs
 
 // A function's that start in the segment, in slot order.
-fn insert_bars(index: &mut [u8], n: usize, count: usize, part: &[u8], g: Segment, end: u64) -> usize
+fn put_bars(index: &mut [u8], n: usize, count: usize, part: &[u8], g: Segment, end: u64) -> usize
     requires { ⌜
         (length (now part) ≡ recordSize) × (anyBad (slotsOf (entryOf (now part))) ≡ false) × (g .base + g .end ≤ noKey)
         × (end < wordLimit) × (count + length (barSlots g end (barsOf (g .space) (entryOf (now part)))) ≤ mostSlots n)
@@ -175,13 +175,13 @@ fn insert_bars(index: &mut [u8], n: usize, count: usize, part: &[u8], g: Segment
     while i < slots {
         let x = bar::slot_at(set, slots, i);
         let value = bar::value_here(x, values, slots, i);
-        at = insert_bar(index, n, at, x, value, g, end);
+        at = put_bar(index, n, at, x, value, g, end);
         i += bar::span(x);
     }
     at
 }
 
-fn insert_bar(
+fn put_bar(
     index: &mut [u8],
     n: usize,
     count: usize,
@@ -206,7 +206,7 @@ fn insert_bar(
             if !starts_in(g, q, start) {
                 return count;
             }
-            index_slots::insert(index, n, count, g.base + start, exponent_of(size) + end);
+            index_slots::put_slot(index, n, count + 1, g.base + start, exponent_of(size) + end);
             count + 1
         }
         Slot::Upper => count,

@@ -1,8 +1,8 @@
--- Slots put in one by one leave the sorted list of them; what is beside the slots stays; what then stands in an index. Assumes nothing.
-use mathlib.Core.Path.{_≡_, refl, sym, ap, ap₂, _∙_}
+-- Slots put behind others, piece by piece; what is beside the slots stays; what then stands in an index. Assumes nothing.
+use mathlib.Core.Path.{_≡_, refl, ap, _∙_}
 use mathlib.Core.Logic.{_⊎_, inl, inr}
 use Prim.Native.Nat.{ℕ, zero, suc, _+_, _≤_, _<_}
-use native.Mathlib.Nat.{add-zero, add-suc, suc-add}
+use native.Mathlib.Nat.{suc-add}
 use native.Mathlib.Omega.{arith}
 use mathlib.Core.List.{List, [], _∷_, _++_}
 use lib.ListN.{length, getD}
@@ -13,34 +13,18 @@ use Rattle.endian.specs.SetsLaws.{getD-sets-after}
 use Rattle.endian.specs.EndianLaws.{length-leBytes, le-sets-before, le-sets-after}
 use Rattle.index_layout.specs.Places.{indexSize, keyPlace, wordPlace, mostSlots, lastKey}
 use Rattle.index_layout.specs.Keys.{noKey}
-use Rattle.index_slots.specs.Slots.{Slot, noSlot, Fits, Ordered, keyAt, slotAt, putSlot, stored}
-use Rattle.index_slots.specs.Slots.{insert, inserted, moved, placed}
+use Rattle.index_slots.specs.Slots.{Slot, noSlot, Fits, keyAt, slotAt, putSlot, stored, placed}
 use Rattle.index_slots.specs.Cleared.{cleared}
-use Rattle.index_slots.specs.SlotsLaws.{length-stored, slotAt-stored-later, slotAt-stored}
+use Rattle.index_slots.specs.SlotsLaws.{length-stored, stored-append, slotAt-stored-later, slotAt-stored}
 use Rattle.index_slots.specs.ClearedLaws.{length-cleared, getD-cleared-past, keyAt-cleared, slotAt-cleared-first}
-use Rattle.index_slots.specs.InsertLaws.{moved-stored}
-use Rattle.index_slots.specs.SortedLaws.{length-insert, all-insert, insert-ordered, all-getD, rising-of-ordered}
-
-pub placed-stored : (n : ℕ) (o : List ℕ) (ys xs : List Slot) → length ys + length xs ≤ mostSlots n → indexSize n ≤ length o
-    → All Fits ys → All Fits xs → Ordered ys
-    → placed (length ys) n xs (stored n o 1 ys) ≡ stored n o 1 (inserted ys xs)
-unfolding placed inserted
-placed-stored n o ys [] l room f g h = refl
-placed-stored n o ys (x ∷ xs) l room f g h =
-    ap₂ (λ (k : ℕ) (t : List ℕ). placed k n xs t) (sym (length-insert x ys))
-    (moved-stored n o ys x (omega arith) room (all-getD Fits ys (omega arith, omega arith) f) (rising-of-ordered ys h))
-    ∙ placed-stored n o (insert x ys) xs (omega (arith, l, length-insert x ys)) room (all-insert Fits x ys (g .0) f) (g .1)
-    (insert-ordered x ys h)
+use Rattle.index_slots.specs.SortedLaws.{all-getD}
 
 -- some first, then the others
 pub placed-append : (count n : ℕ) (xs ys : List Slot) (o : List ℕ)
     → placed count n (xs ++ ys) o ≡ placed (count + length xs) n ys (placed count n xs o)
 unfolding placed
-placed-append count n [] ys o = ap (λ (k : ℕ). placed k n ys o) (sym (add-zero count))
-placed-append count n (x ∷ xs) ys o =
-    placed-append (suc count) n xs ys (moved count n x o)
-    ∙ ap (λ (k : ℕ). placed k n ys (placed (suc count) n xs (moved count n x o)))
-    (suc-add count (length xs) ∙ sym (add-suc count (length xs)))
+placed-append count n xs ys o =
+    stored-append n o (suc count) xs ys ∙ ap (λ (k : ℕ). stored n (stored n o (suc count) xs) k ys) (suc-add count (length xs))
 
 -- ---- what is beside the slots
 
@@ -91,12 +75,6 @@ keyAt-stored-past n o xs i l h k =
 -- ---- over an index with no slots
 
 module _ (n : ℕ) (o : List ℕ) (room : indexSize n ≤ length o) where
-  -- slots put in one by one leave the sorted list of them
-  pub placed-cleared : (xs : List Slot) → length xs ≤ mostSlots n → All Fits xs
-      → placed 0 n xs (cleared n o) ≡ stored n (cleared n o) 1 (inserted [] xs)
-  unfolding stored
-  placed-cleared xs few f = placed-stored n (cleared n o) [] xs (omega arith) (omega (arith, room, length-cleared n o room)) tt f tt
-
   module _ (ys : List Slot) (few : length ys ≤ mostSlots n) (fits : All Fits ys) where
     pub length-held : length (stored n (cleared n o) 1 ys) ≡ length o
     length-held = length-stored n (cleared n o) 1 ys ∙ length-cleared n o room

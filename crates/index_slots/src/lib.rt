@@ -1,11 +1,11 @@
 // Slots of an index of n functions, in a lent slice: keys in one run of 8 bytes each, words in another, both little-endian. Slot 0 stands
-// before all others; slots 1 to 7 n are put in by the order of their keys, and behind the last of them the keys are above all.
+// before all others; slots 1 and up are put in one by one, and behind the last of them the keys are above all.
 ghost use mathlib.Core.Path.{_≡_};
 ghost use Prim.Native.Nat.{_+_, _*_, _<_, _≤_};
 ghost use lib.ListN.{length};
 ghost use lib.Seq.{sets};
 ghost use Rattle.index_layout.specs.Places.{indexSize, mostSlots, lastKey};
-ghost use Rattle.index_slots.specs.Slots.{keyAt, wordAt, putSlot, moved};
+ghost use Rattle.index_slots.specs.Slots.{keyAt, wordAt, putSlot};
 ghost use Rattle.index_slots.specs.Cleared.{copies, cleared};
 
 // The key of slot i, or of one of the 7 n places behind the slots.
@@ -36,26 +36,8 @@ pub fn clear(index: &mut [u8], n: usize)
     write_copies(index, words, (size - words) / 8, 0);
 }
 
-// A slot put among slots 1 to count, behind those whose keys are not above its own.
-pub fn insert(index: &mut [u8], n: usize, count: usize, key: u64, word: u64)
-    requires { ⌜ (count < mostSlots n) × (indexSize n ≤ length (now index)) ⌝ }
-    ensures { λ _. ⌜ now (index .exit) ≡ moved count n (record { key = key; word = word }) (now (index .entry)) ⌝ }
-{
-    let mut i = count;
-    while 0 < i {
-        let k = key_at(index, n, i);
-        if k <= key {
-            put_slot(index, n, i + 1, key, word);
-            return;
-        }
-        let w = word_at(index, n, i);
-        put_slot(index, n, i + 1, k, w);
-        i -= 1;
-    }
-    put_slot(index, n, 1, key, word);
-}
-
-fn put_slot(index: &mut [u8], n: usize, i: usize, key: u64, word: u64)
+// Slot i.
+pub fn put_slot(index: &mut [u8], n: usize, i: usize, key: u64, word: u64)
     requires { ⌜ (i ≤ mostSlots n) × (indexSize n ≤ length (now index)) ⌝ }
     ensures { λ _. ⌜ now (index .exit) ≡ putSlot (now (index .entry)) n i (record { key = key; word = word }) ⌝ }
 {

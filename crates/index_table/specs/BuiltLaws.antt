@@ -20,10 +20,10 @@ use Rattle.index_layout.specs.Places.{mostSlots, lastKey, buckets}
 use Rattle.index_layout.specs.Keys.{noKey, segmentOf}
 use Rattle.index_layout.specs.KeysLaws.{segment-lt}
 use Rattle.index_slots.specs.Slots.{Slot, noSlot, Fits, Ordered, keyAt, wordAt, slotAt, stored}
-use Rattle.index_slots.specs.Slots.{inserted}
+use Rattle.index_slots.specs.Slots.{sorted}
 use Rattle.index_slots.specs.Cleared.{cleared}
 use Rattle.index_slots.specs.SortedLaws.{all-getD, rising-of-ordered, length-inserted, all-inserted, inserted-ordered}
-use Rattle.index_slots.specs.PlacedLaws.{placed-cleared, length-held, slotAt-held, keyAt-held-past, getD-held-past}
+use Rattle.index_slots.specs.PlacedLaws.{length-held, slotAt-held, keyAt-held-past, getD-held-past}
 use Rattle.index_table.specs.Table.{bucketBy, bucketOf, bucketAt, segmented, tabled, widthOf, headed, finished, built}
 use Rattle.index_table.specs.Search.{cut, keyOf, lastIn, leadAt, widthAt, foundAt, Last, Searchable}
 use Rattle.index_table.specs.SegmentLaws.{least-le, least-small, bucket-le, bucket-monotone, bucketBy-agree}
@@ -350,35 +350,35 @@ module _ (n root : ℕ) (o : List ℕ) (ys : List Slot) (most : n ≤ mostFuncti
 
 module _ (n root : ℕ) (o : List ℕ) (xs : List Slot) (few : length xs ≤ mostSlots n) (room : indexSize n ≤ length o)
     (lawful : All Lawful xs) where
-  abbrev sorted : List Slot
-  sorted = inserted [] xs
+  abbrev slots : List Slot
+  slots = sorted xs
 
   all-fit : All Fits xs
   all-fit = all-imp Lawful Fits xs lawful (λ y h. (omega (arith, h .0), h .1))
 
-  length-sorted : length (inserted [] xs) ≡ length xs
+  length-sorted : length slots ≡ length xs
   length-sorted = length-inserted [] xs ∙ omega arith
 
-  built-finished : built n root xs o ≡ finished n root (length sorted) (stored n (cleared n o) 1 sorted)
+  built-finished : built n root xs o ≡ finished n root (length slots) (stored n (cleared n o) 1 slots)
   unfolding built
-  built-finished = ap₂ (λ (k : ℕ) (t : List ℕ). finished n root k t) (sym length-sorted) (placed-cleared n o room xs few all-fit)
+  built-finished = ap (λ (k : ℕ). finished n root k (stored n (cleared n o) 1 slots)) (sym length-sorted)
 
-  -- slots put in one by one, then segments, table and first bytes: an index that can be searched
-  pub built-searchable : n ≤ mostFunctions → Searchable n root (inserted [] xs) (built n root xs o)
+  -- slots in order, then segments, table and first bytes: an index that can be searched
+  pub built-searchable : n ≤ mostFunctions → Searchable n root (sorted xs) (built n root xs o)
   built-searchable most =
       rw built-finished
-      (finished-searchable n root o sorted most (omega (arith, length-sorted, few)) room (inserted-ordered [] xs tt)
+      (finished-searchable n root o slots most (omega (arith, length-sorted, few)) room (inserted-ordered [] xs tt)
       (all-inserted Lawful [] xs tt lawful))
 
   pub length-built : length (built n root xs o) ≡ length o
   length-built =
       ap length built-finished
-      ∙ length-finished n root (length sorted) (stored n (cleared n o) 1 sorted)
-      ∙ length-held n o room sorted (omega (arith, length-sorted, few)) (all-inserted Fits [] xs tt all-fit)
+      ∙ length-finished n root (length slots) (stored n (cleared n o) 1 slots)
+      ∙ length-held n o room slots (omega (arith, length-sorted, few)) (all-inserted Fits [] xs tt all-fit)
 
   -- nothing past the index changes
   pub getD-built-past : (k d : ℕ) → indexSize n ≤ k → getD (built n root xs o) k d ≡ getD o k d
   getD-built-past k d h =
       ap (λ (t : List ℕ). getD t k d) built-finished
-      ∙ getD-finished-after n root (length sorted) (stored n (cleared n o) 1 sorted) k d (omega arith)
-      ∙ getD-held-past n o room sorted (omega (arith, length-sorted, few)) (all-inserted Fits [] xs tt all-fit) k d h
+      ∙ getD-finished-after n root (length slots) (stored n (cleared n o) 1 slots) k d (omega arith)
+      ∙ getD-held-past n o room slots (omega (arith, length-sorted, few)) (all-inserted Fits [] xs tt all-fit) k d h

@@ -1,7 +1,7 @@
 -- The search in an index, on any bytes: a bucket's entry leads to some keys, and how many of them are not above the address is counted
 -- without a branch. Assumes nothing.
 use mathlib.Core.Path.{_≡_}
-use Prim.Native.Nat.{ℕ, zero, suc, _+_, _-_, _/_, _≤_, _<_}
+use Prim.Native.Nat.{ℕ, zero, suc, _+_, _-_, _*_, _/_, _≤_, _<_}
 use mathlib.Core.Bool.{cond}
 use mathlib.Core.List.{List, _∷_}
 use lib.ListN.{length, getD}
@@ -25,15 +25,20 @@ unfoldable pub countFrom : ℕ → (ℕ → ℕ) → ℕ → ℕ → ℕ
 countFrom zero key a i = 0
 countFrom (suc k) key a i = cond (leb (key i) a) 1 0 + countFrom k key a (i + 1)
 
--- past `half` positions, if the key there is not above the address
-unfoldable pub halfway : (ℕ → ℕ) → ℕ → ℕ → ℕ → ℕ
-halfway key a lo half = cond (leb (key (lo + half)) a) (lo + half) lo
+-- how many of the keys at the ends of three runs of q positions behind lo are not above the address
+abbrev pub runsPast : (ℕ → ℕ) → ℕ → ℕ → ℕ → ℕ
+runsPast key a lo q =
+    cond (leb (key (lo + q)) a) 1 0 + cond (leb (key (lo + 2 * q)) a) 1 0 + cond (leb (key (lo + 3 * q)) a) 1 0
 
--- the k positions behind lo halved while they are more than 16, then counted
+-- past so many runs of q positions
+unfoldable pub onward : (ℕ → ℕ) → ℕ → ℕ → ℕ → ℕ
+onward key a lo q = lo + q * runsPast key a lo q
+
+-- the k positions behind lo quartered while they are more than 16, then counted
 unfoldable pub lastIn : ℕ → (ℕ → ℕ) → ℕ → ℕ → ℕ → ℕ
 lastIn zero key a lo k = lo + countFrom k key a (lo + 1)
 lastIn (suc f) key a lo k =
-    cond (ltb 16 k) (lastIn f key a (halfway key a lo (k / 2)) (k - k / 2)) (lo + countFrom k key a (lo + 1))
+    cond (ltb 16 k) (lastIn f key a (onward key a lo (k / 4)) (k - 3 * (k / 4))) (lo + countFrom k key a (lo + 1))
 
 -- what the table and the first bytes say, cut at the most slots that there can be
 abbrev pub leadAt : List ℕ → ℕ → ℕ → ℕ → ℕ

@@ -7,7 +7,7 @@ use native.Mathlib.Omega.{arith}
 use lib.Dec.{leb, ltb}
 use borrow.Author.Tests.{leb-true, leb-false, ltb-true, ltb-false, le-leb, lt-leb, lt-ltb, le-ltb}
 use Rattle.index_layout.specs.Keys.{noKey}
-use Rattle.index_table.specs.Search.{cut, countFrom, halfway, lastIn, Last}
+use Rattle.index_table.specs.Search.{cut, countFrom, onward, lastIn, Last}
 use Rattle.index_table.specs.TableLaws.{Leads}
 
 -- ---- a key, without a branch
@@ -53,17 +53,28 @@ pub count-end : (k : ℕ) (key : ℕ → ℕ) (a from i c : ℕ) → k ≤ i →
 unfolding countFrom
 count-end k key a from i c h = let d : k - i ≡ 0 = omega arith in rw d (omega arith)
 
--- ---- the halving's turns
+-- ---- the quartering's turns
 
-pub halfway-times : {r : ℕ} (key : ℕ → ℕ) (a lo half : ℕ) → r ≡ cond (leb (key (lo + half)) a) 1 0 → lo + half * r ≡ halfway key a lo half
-unfolding halfway
-halfway-times {r} key a lo half e = ap (λ (k : ℕ). lo + half * k) e ∙ go (leb (key (lo + half)) a)
+pub onward-times : {r s t : ℕ} (key : ℕ → ℕ) (a lo q : ℕ) → r ≡ cond (leb (key (lo + q)) a) 1 0
+    → s ≡ cond (leb (key (lo + 2 * q)) a) 1 0 → t ≡ cond (leb (key (lo + 3 * q)) a) 1 0 → lo + q * (r + s + t) ≡ onward key a lo q
+unfolding onward
+onward-times key a lo q d e f = rw (d, e, f)
+
+pub onward-le : (key : ℕ → ℕ) (a lo q : ℕ) → onward key a lo q ≤ lo + 3 * q
+unfolding onward
+onward-le key a lo q = go (leb (key (lo + q)) a) (leb (key (lo + 2 * q)) a) (leb (key (lo + 3 * q)) a)
   where
-    go : (t : Bool) → lo + half * cond t 1 0 ≡ cond t (lo + half) lo
-    go true = omega arith
-    go false = omega arith
+    go : (r s t : Bool) → lo + q * (cond r 1 0 + cond s 1 0 + cond t 1 0) ≤ lo + 3 * q
+    go true true true = omega arith
+    go true true false = omega arith
+    go true false true = omega arith
+    go true false false = omega arith
+    go false true true = omega arith
+    go false true false = omega arith
+    go false false true = omega arith
+    go false false false = omega arith
 
--- halving ends by itself: more turns allowed change nothing
+-- quartering ends by itself: more turns allowed change nothing
 enough : (f g : ℕ) (key : ℕ → ℕ) (a lo k : ℕ) → k ≤ f → k ≤ g → lastIn f key a lo k ≡ lastIn g key a lo k
 unfolding lastIn
 enough zero zero key a lo k h l = refl
@@ -71,22 +82,25 @@ enough zero (suc g) key a lo k h l = let e : ltb 16 k ≡ false = le-ltb 16 k (o
 enough (suc f) zero key a lo k h l = let e : ltb 16 k ≡ false = le-ltb 16 k (omega (arith, l)) in rw e
 enough (suc f) (suc g) key a lo k h l =
     go (ltb 16 k) refl
-    (λ many. enough f g key a (halfway key a lo (k / 2)) (k - k / 2) (omega (arith, h, many)) (omega (arith, l, many)))
+    (λ many. enough f g key a (onward key a lo (k / 4)) (k - 3 * (k / 4)) (omega (arith, h, many)) (omega (arith, l, many)))
   where
+    next : ℕ
+    next = onward key a lo (k / 4)
+
     go : (t : Bool) → ltb 16 k ≡ t
-        → (16 < k → lastIn f key a (halfway key a lo (k / 2)) (k - k / 2) ≡ lastIn g key a (halfway key a lo (k / 2)) (k - k / 2))
-        → cond t (lastIn f key a (halfway key a lo (k / 2)) (k - k / 2)) (lo + countFrom k key a (lo + 1))
-        ≡ cond t (lastIn g key a (halfway key a lo (k / 2)) (k - k / 2)) (lo + countFrom k key a (lo + 1))
+        → (16 < k → lastIn f key a next (k - 3 * (k / 4)) ≡ lastIn g key a next (k - 3 * (k / 4)))
+        → cond t (lastIn f key a next (k - 3 * (k / 4))) (lo + countFrom k key a (lo + 1))
+        ≡ cond t (lastIn g key a next (k - 3 * (k / 4))) (lo + countFrom k key a (lo + 1))
     go true e on = on (ltb-true 16 k e)
     go false e on = refl
 
-pub last-turn : {r : ℕ} (key : ℕ → ℕ) (a lo k : ℕ) → 16 < k → r ≡ halfway key a lo (k / 2)
-    → lastIn (k - k / 2) key a r (k - k / 2) ≡ lastIn k key a lo k
+pub last-turn : {r : ℕ} (key : ℕ → ℕ) (a lo k : ℕ) → 16 < k → r ≡ onward key a lo (k / 4)
+    → lastIn (k - 3 * (k / 4)) key a r (k - 3 * (k / 4)) ≡ lastIn k key a lo k
 unfolding lastIn
 last-turn key a lo zero h e = absurd (omega (arith, h))
 last-turn {r} key a lo (suc k) h e =
     let t : ltb 16 (suc k) ≡ true = lt-ltb 16 (suc k) h in
-    rw (t, ← e) (enough (suc k - suc k / 2) k key a r (suc k - suc k / 2) (omega arith) (omega arith))
+    rw (t, ← e) (enough (suc k - 3 * (suc k / 4)) k key a r (suc k - 3 * (suc k / 4)) (omega arith) (omega arith))
 
 pub last-end : {r : ℕ} (key : ℕ → ℕ) (a lo k : ℕ) → k ≤ 16 → r ≡ lo + countFrom k key a (lo + 1) → r ≡ lastIn k key a lo k
 unfolding lastIn
@@ -131,21 +145,62 @@ module _ (key : ℕ → ℕ) (m a : ℕ) (rises : Rises key m) where
           let z : lo + (0 + countFrom k key a (lo + 1 + 1)) ≡ lo = omega (arith, none) in
           rw z (record { inside = omega arith; not-above = low; then-above = above })
 
-  pub in-last : (f k lo : ℕ) → lo + k < m → key lo ≤ a → ((q : ℕ) → lo + k < q → q < m → a < key q) → Last key m a (lastIn f key a lo k)
-  unfolding lastIn halfway
-  in-last zero k lo fits low high = count-last k lo fits low high
-  in-last (suc f) k lo fits low high = go (ltb 16 k) (leb (key (lo + k / 2)) a) refl refl (λ lo₂ g l h. in-last f (k - k / 2) lo₂ g l h)
+  -- where a search goes on: the key there is not above the address, and q positions behind it one is
+  onward-in : (k lo : ℕ) → lo + k < m → key lo ≤ a → ((q : ℕ) → lo + k < q → q < m → a < key q)
+      → (key (onward key a lo (k / 4)) ≤ a)
+      × ((q : ℕ) → onward key a lo (k / 4) + (k - 3 * (k / 4)) < q → q < m → a < key q)
+  unfolding onward
+  onward-in k lo fits low high =
+      go (leb (key (lo + k / 4)) a) (leb (key (lo + 2 * (k / 4))) a) (leb (key (lo + 3 * (k / 4))) a) refl refl refl
     where
-      go : (s t : Bool) → ltb 16 k ≡ s → leb (key (lo + k / 2)) a ≡ t
-          → ((lo₂ : ℕ) → lo₂ + (k - k / 2) < m → key lo₂ ≤ a → ((q : ℕ) → lo₂ + (k - k / 2) < q → q < m → a < key q)
-          → Last key m a (lastIn f key a lo₂ (k - k / 2)))
-          → Last key m a (cond s (lastIn f key a (cond t (lo + k / 2) lo) (k - k / 2)) (lo + countFrom k key a (lo + 1)))
-      go true true d e on =
-          on (lo + k / 2) (omega (arith, fits)) (leb-true (key (lo + k / 2)) a e) (λ q h l. high q (omega (arith, h)) l)
-      go true false d e on =
-          let above = leb-false (key (lo + k / 2)) a e in
-          on lo (omega (arith, fits)) low (λ q h l. omega (arith, above, rises (lo + k / 2) q (omega (arith, h)) l))
-      go false t d e on = count-last k lo fits low high
+      step : ℕ
+      step = k / 4
+
+      -- i runs past
+      at : (i n : ℕ) → lo + step * i ≡ n → key n ≤ a → ((q : ℕ) → n + (k - 3 * step) < q → q < m → a < key q)
+          → (key (lo + step * i) ≤ a) × ((q : ℕ) → lo + step * i + (k - 3 * step) < q → q < m → a < key q)
+      at i n e l h = rw e (l, h)
+
+      past : (n : ℕ) → n < m → leb (key n) a ≡ false → (q : ℕ) → n ≤ q → q < m → a < key q
+      past n f e q h l = let above = leb-false (key n) a e in omega (arith, above, rises n q h l)
+
+      clash : {A : Type 0} (n o : ℕ) → n ≤ o → o < m → leb (key n) a ≡ false → leb (key o) a ≡ true → A
+      clash n o h l e f = absurd (omega (arith, leb-false (key n) a e, leb-true (key o) a f, rises n o h l))
+
+      go : (r s t : Bool) → leb (key (lo + step)) a ≡ r → leb (key (lo + 2 * step)) a ≡ s → leb (key (lo + 3 * step)) a ≡ t
+          → (key (lo + step * (cond r 1 0 + cond s 1 0 + cond t 1 0)) ≤ a)
+          × ((q : ℕ) → lo + step * (cond r 1 0 + cond s 1 0 + cond t 1 0) + (k - 3 * step) < q → q < m → a < key q)
+      go true true true d e f =
+          at 3 (lo + 3 * step) (omega arith) (leb-true (key (lo + 3 * step)) a f) (λ q h l. high q (omega (arith, h)) l)
+      go true true false d e f =
+          at 2 (lo + 2 * step) (omega arith) (leb-true (key (lo + 2 * step)) a e)
+          (λ q h l. past (lo + 3 * step) (omega (arith, fits)) f q (omega (arith, h)) l)
+      go true false false d e f =
+          at 1 (lo + step) (omega arith) (leb-true (key (lo + step)) a d)
+          (λ q h l. past (lo + 2 * step) (omega (arith, fits)) e q (omega (arith, h)) l)
+      go false false false d e f =
+          at 0 lo (omega arith) low (λ q h l. past (lo + step) (omega (arith, fits)) d q (omega (arith, h)) l)
+      go false true t d e f = clash (lo + step) (lo + 2 * step) (omega arith) (omega (arith, fits)) d e
+      go false false true d e f = clash (lo + step) (lo + 3 * step) (omega arith) (omega (arith, fits)) d f
+      go true false true d e f = clash (lo + 2 * step) (lo + 3 * step) (omega arith) (omega (arith, fits)) e f
+
+  pub in-last : (f k lo : ℕ) → lo + k < m → key lo ≤ a → ((q : ℕ) → lo + k < q → q < m → a < key q) → Last key m a (lastIn f key a lo k)
+  unfolding lastIn
+  in-last zero k lo fits low high = count-last k lo fits low high
+  in-last (suc f) k lo fits low high = go (ltb 16 k) (in-last f (k - 3 * (k / 4)) next)
+    where
+      next : ℕ
+      next = onward key a lo (k / 4)
+
+      there : (key next ≤ a) × ((q : ℕ) → next + (k - 3 * (k / 4)) < q → q < m → a < key q)
+      there = onward-in k lo fits low high
+
+      go : (s : Bool)
+          → (next + (k - 3 * (k / 4)) < m → key next ≤ a → ((q : ℕ) → next + (k - 3 * (k / 4)) < q → q < m → a < key q)
+          → Last key m a (lastIn f key a next (k - 3 * (k / 4))))
+          → Last key m a (cond s (lastIn f key a next (k - 3 * (k / 4))) (lo + countFrom k key a (lo + 1)))
+      go true on = on (omega (arith, fits, onward-le key a lo (k / 4))) (there .0) (there .1)
+      go false on = count-last k lo fits low high
 
 -- any way of sharing keys out among buckets will do, if greater keys are in no earlier bucket
 module _ (key bucket : ℕ → ℕ) (m a : ℕ) (rises : Rises key m) (monotone : (x y : ℕ) → x ≤ y → bucket x ≤ bucket y) where
@@ -176,20 +231,33 @@ count-agree (suc k) key line a i h =
     ap₂ (λ (x y : ℕ). cond (leb x a) 1 0 + y) (h i (omega arith) (omega arith))
     (count-agree k key line a (i + 1) (λ j p q. h j (omega arith) (omega arith)))
 
+onward-agree : (key line : ℕ → ℕ) (a lo q : ℕ) → ((j : ℕ) → lo ≤ j → j ≤ lo + 3 * q → key j ≡ line j)
+    → onward key a lo q ≡ onward line a lo q
+unfolding onward
+onward-agree key line a lo q h =
+    rw (h (lo + q) (omega arith) (omega arith), h (lo + 2 * q) (omega arith) (omega arith), h (lo + 3 * q) (omega arith) (omega arith))
+
+onward-ge : (key : ℕ → ℕ) (a lo q : ℕ) → lo ≤ onward key a lo q
+unfolding onward
+onward-ge key a lo q = omega arith
+
 pub last-agree : (f : ℕ) (key line : ℕ → ℕ) (a lo k : ℕ) → ((j : ℕ) → lo ≤ j → j ≤ lo + k → key j ≡ line j)
     → lastIn f key a lo k ≡ lastIn f line a lo k
-unfolding lastIn halfway
+unfolding lastIn
 last-agree zero key line a lo k h = ap (λ (c : ℕ). lo + c) (count-agree k key line a (lo + 1) (λ j p q. h j (omega arith) (omega arith)))
 last-agree (suc f) key line a lo k h =
-    ap (λ (x : ℕ). cond (ltb 16 k) (lastIn f key a (cond (leb x a) (lo + k / 2) lo) (k - k / 2)) (lo + countFrom k key a (lo + 1)))
-    (h (lo + k / 2) (omega arith) (omega arith))
-    ∙ go (ltb 16 k) (leb (line (lo + k / 2)) a)
-    (λ lo₂ p q. last-agree f key line a lo₂ (k - k / 2) (λ j u v. h j (omega (arith, p, u)) (omega (arith, q, v))))
+    go (ltb 16 k)
+    (last-agree f key line a next (k - 3 * (k / 4))
+    (λ j u v. h j (omega (arith, u, onward-ge key a lo (k / 4))) (omega (arith, v, onward-le key a lo (k / 4)))))
   where
-    go : (s t : Bool)
-        → ((lo₂ : ℕ) → lo ≤ lo₂ → lo₂ ≤ lo + k / 2 → lastIn f key a lo₂ (k - k / 2) ≡ lastIn f line a lo₂ (k - k / 2))
-        → cond s (lastIn f key a (cond t (lo + k / 2) lo) (k - k / 2)) (lo + countFrom k key a (lo + 1))
-        ≡ cond s (lastIn f line a (cond t (lo + k / 2) lo) (k - k / 2)) (lo + countFrom k line a (lo + 1))
-    go true true on = on (lo + k / 2) (omega arith) (omega arith)
-    go true false on = on lo (omega arith) (omega arith)
-    go false t on = ap (λ (c : ℕ). lo + c) (count-agree k key line a (lo + 1) (λ j p q. h j (omega arith) (omega arith)))
+    next : ℕ
+    next = onward key a lo (k / 4)
+
+    same : next ≡ onward line a lo (k / 4)
+    same = onward-agree key line a lo (k / 4) (λ j p q. h j p (omega (arith, q)))
+
+    go : (s : Bool) → lastIn f key a next (k - 3 * (k / 4)) ≡ lastIn f line a next (k - 3 * (k / 4))
+        → cond s (lastIn f key a next (k - 3 * (k / 4))) (lo + countFrom k key a (lo + 1))
+        ≡ cond s (lastIn f line a (onward line a lo (k / 4)) (k - 3 * (k / 4))) (lo + countFrom k line a (lo + 1))
+    go true on = on ∙ ap (λ (n : ℕ). lastIn f line a n (k - 3 * (k / 4))) same
+    go false on = ap (λ (c : ℕ). lo + c) (count-agree k key line a (lo + 1) (λ j p q. h j (omega arith) (omega arith)))

@@ -9,7 +9,7 @@ use lib.Seq.{sets}
 use Rattle.endian.specs.Endian.{le, leBytes}
 use Rattle.index_layout.specs.Places.{functionsPlace, rootPlace, widthPlace, basePlace, shiftPlace, bucketPlace, segmentBuckets, buckets}
 use Rattle.index_layout.specs.Keys.{segmentOf}
-use Rattle.index_slots.specs.Slots.{Slot, keyAt, placed}
+use Rattle.index_slots.specs.Slots.{Slot, keyAt, stored, sorted}
 use Rattle.index_slots.specs.Cleared.{cleared}
 
 unfoldable pub least : ℕ → ℕ → ℕ
@@ -111,4 +111,4 @@ finished n root count o = let s = segmented 4 n count 0 0 o in headed n root (wi
 
 -- the bytes that a build leaves of o, for slots in the order in which they come
 unfoldable pub built : ℕ → ℕ → List Slot → List ℕ → List ℕ
-built n root xs o = finished n root (length xs) (placed 0 n xs (cleared n o))
+built n root xs o = finished n root (length xs) (stored n (cleared n o) 1 (sorted xs))

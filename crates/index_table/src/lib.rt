@@ -10,9 +10,9 @@ ghost use Rattle.index_layout.specs.Places.{indexSize, mostSlots, lastKey, segm
 ghost use Rattle.index_layout.specs.Keys.{noKey};
 ghost use Rattle.index_table.specs.Table.{segmentAt, lastBucket, bucketBy, bucketAt, least as leastOf, larger as largerOf};
 ghost use Rattle.index_table.specs.Table.{ahead, shiftOf, putSegment, segmented, tabled, widthOf, headed, finished};
-ghost use Rattle.index_table.specs.Search.{cut, keyOf, countFrom, halfway, lastIn, foundAt};
+ghost use Rattle.index_table.specs.Search.{cut, keyOf, countFrom, onward, lastIn, foundAt};
 
-// How many keys are counted, where more are halved first.
+// How many keys are counted, where more are quartered first.
 const FEW: usize = 16;
 
 // ---- building
@@ -178,20 +178,23 @@ fn last_in(index: &[u8], n: usize, a: u64, from: usize, width: usize) -> usize
     let mut lo = from;
     let mut k = width;
     while FEW < k {
-        let half = k / 2;
-        lo = step(index, n, a, lo, half);
-        k -= half;
+        let quarter = k / 4;
+        lo = step(index, n, a, lo, quarter);
+        k -= 3 * quarter;
     }
     count(index, n, a, lo, k)
 }
 
-// Past the key in the middle, if it is not above the address.
-fn step(index: &[u8], n: usize, a: u64, lo: usize, half: usize) -> usize
-    requires { ⌜ (indexSize n ≤ length (now index)) × (a < noKey) × (lo + half ≤ lastKey n) ⌝ }
-    ensures { λ r. ⌜ (r ≡ halfway (λ i. keyOf (now (index .entry)) n a i) a lo half) × (r ≤ lo + half) ⌝ }
+// Past as many quarters as have a last key that is not above the address: three keys that are loaded at once, where halving waits for
+// one before the next.
+fn step(index: &[u8], n: usize, a: u64, lo: usize, quarter: usize) -> usize
+    requires { ⌜ (indexSize n ≤ length (now index)) × (a < noKey) × (lo + 3 * quarter ≤ lastKey n) ⌝ }
+    ensures { λ r. ⌜ (r ≡ onward (λ i. keyOf (now (index .entry)) n a i) a lo quarter) × (r ≤ lo + 3 * quarter) ⌝ }
 {
-    let r = reached(index_slots::key_at(index, n, lo + half), a);
-    lo + half * r
+    let first = reached(index_slots::key_at(index, n, lo + quarter), a);
+    let second = reached(index_slots::key_at(index, n, lo + 2 * quarter), a);
+    let third = reached(index_slots::key_at(index, n, lo + 3 * quarter), a);
+    lo + quarter * (first + second + third)
 }
 
 fn count(index: &[u8], n: usize, a: u64, from: usize, width: usize) -> usize

@@ -7,7 +7,7 @@ use borrow.Author.Needs.{needs}
 use Rattle.endian.specs.Endian.{Bytes}
 use Rattle.board_record.specs.declared.Host.{Host}
 use Rattle.audit_rule.specs.Accepted.{OneOwner}
-use Rattle.index_build.specs.BuildLaws.{verdict-refused, refused-stays, framed, few, rooted, too-short, short-stays}
+use Rattle.index_build.specs.BuildLaws.{verdict-refused, refused-stays, framed, few, rooted, slots-fit, too-short, short-stays}
 use Rattle.index_build.specs.BuildLaws.{built-number, built-bytes}
 use Rattle.index_build.proofs.build_after.Statement.{statement}
 use Rattle.index_build.proofs.build_after.Tie as tie
@@ -15,6 +15,9 @@ use Rattle.index_build.proofs.build_after.Tie as tie
 -- what a slice of u8 holds
 bytes : (c : tie.Else1) → Bytes (c .before .before .before .before .args .sheet .now)
 bytes c = λ i. c .before .before .shared-slice-known2 .given i .fits
+
+host-bytes : (c : tie.Else1) → Bytes (c .before .before .before .before .args .host .now)
+host-bytes c = λ i. c .before .before .before .shared-slice-known .given i .fits
 
 owned : (c : tie.Else1) → OneOwner (c .before .before .before .before .args .host .now) (c .before .before .before .before .args .sheet .now)
 owned c = c .before .before .before .before .pre (c .if1 .left)
@@ -65,6 +68,8 @@ fill-requires c κs =
           (ap (λ (h : Host). h .«first_bus») (read .host-of .ensures)),
       counted .count .ensures,
       roomy .if2 .left,
+      slots-fit _ _ (start-index passed) _ (passed .if1 .left) (bytes passed) (owned passed) (host-bytes passed) _
+          (ap (λ (h : Host). h .«first_bus») (read .host-of .ensures)),
     )
 
 same-length : tie.Need-same-length

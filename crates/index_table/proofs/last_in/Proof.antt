@@ -21,6 +21,9 @@ loop-holds c = (omega arith, refl)
 step-requires : tie.Need-step-requires Inv-loop μ-loop
 step-requires c κs = (omega arith, omega arith, omega arith)
 
+mul-k : tie.Need-mul-k Inv-loop μ-loop
+mul-k c = omega arith
+
 sub-k : tie.Need-sub-k Inv-loop μ-loop
 sub-k c = omega arith
 
@@ -54,6 +57,7 @@ last-in-spec =
     μ-loop
     loop-holds
     step-requires
+    mul-k
     sub-k
     loop-less
     loop-again

@@ -1,4 +1,4 @@
--- `index_pass::insert_bars`: the loop over the slots. Invariant: inserting the BARs of the slots from i on gives what inserting all gives;
+-- `index_pass::put_bars`: the loop over the slots. Invariant: inserting the BARs of the slots from i on gives what inserting all gives;
 -- no slot from i on is unlawful. Measure: the slots left. Assumes nothing.
 use mathlib.Core.Path.{refl}
 use Prim.Native.Nat.{_+_, _-_, _≤_, _<_}
@@ -13,8 +13,8 @@ use Rattle.claims.specs.TurnLaws.{slots-le, slots-inside, slots-past as turn-pa
 use Rattle.index_pass.specs.Pass.{barSlots, barIn}
 use Rattle.index_pass.specs.PlacingLaws.{Placing, placing-start, placing-end, placing-room, placing-next}
 use Rattle.index_pass.specs.BarsLaws.{slotsAt, slots-step, slots-past, slots-start, lawful-start}
-use Rattle.index_pass.proofs.insert_bars.Statement.{statement}
-use Rattle.index_pass.proofs.insert_bars.Tie as tie
+use Rattle.index_pass.proofs.put_bars.Statement.{statement}
+use Rattle.index_pass.proofs.put_bars.Tie as tie
 
 abbrev Inv-loop : tie.InvT-loop
 Inv-loop index₀ n count part g end set values slots at₀ i₀ index at i =
@@ -63,8 +63,8 @@ slot-at-requires c κs = search needs
 value-here-requires : tie.Need-value-here-requires Inv-loop μ-loop
 value-here-requires c κs = omega (arith, few (c .before .before .before))
 
-insert-bar-requires : tie.Need-insert-bar-requires Inv-loop μ-loop
-insert-bar-requires c κs =
+put-bar-requires : tie.Need-put-bar-requires Inv-loop μ-loop
+put-bar-requires c κs =
     let valued = c .before in
     let slotted = valued .before in
     let more = slotted .before in
@@ -105,7 +105,7 @@ loop-again c =
       placing-next _ _ _ _ _ _ _ (turn .loop .inv .1) _ _
           (slots-step _ _ _ _ _ _ _ _ (inside more) (slotted .slot-at .ensures) (c .span .ensures .0) (turn .loop .inv .0)
           (valued .value-here .ensures))
-          _ _ (put .insert-bar .kept .0) (put .insert-bar .ensures .0) (put .insert-bar .ensures .1),
+          _ _ (put .put-bar .kept .0) (put .put-bar .ensures .0) (put .put-bar .ensures .1),
     )
 
 same-length : tie.Need-same-length Inv-loop μ-loop
@@ -120,8 +120,8 @@ returns c =
     (turn-past _ _ (s .slot-count .result) (turn .loop .i) (s .before .before .readbacks-of .ensures) (s .slot-count .ensures)
     (c .loop-test .left)))
 
-pub insert-bars-spec : {M : Type 1} → statement M
-insert-bars-spec =
+pub put-bars-spec : {M : Type 1} → statement M
+put-bars-spec =
     tie.close
     (tie.spec
     Inv-loop
@@ -132,7 +132,7 @@ insert-bars-spec =
     loop-holds
     slot-at-requires
     value-here-requires
-    insert-bar-requires
+    put-bar-requires
     span-requires
     add-i
     loop-less

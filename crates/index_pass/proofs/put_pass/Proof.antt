@@ -1,4 +1,4 @@
--- `index_pass::insert_pass`: the loop over the records. Invariant: inserting what the records from k on own gives what inserting all gives.
+-- `index_pass::put_pass`: the loop over the records. Invariant: inserting what the records from k on own gives what inserting all gives.
 -- Measure: the records left. Assumes nothing.
 use Prim.Native.Nat.{_+_, _-_, _<_}
 use native.Mathlib.Omega.{arith}
@@ -9,8 +9,8 @@ use Rattle.sheet_above.specs.BridgesLaws.{part-sized, on-bus-index}
 use Rattle.index_pass.specs.Pass.{passSlots, recordSlots}
 use Rattle.index_pass.specs.PlacingLaws.{Placing, placing-start, placing-end, placing-room, placing-next}
 use Rattle.index_pass.specs.PassLaws.{slotsAfter, pass-start, pass-step, pass-end, part-lawful}
-use Rattle.index_pass.proofs.insert_pass.Statement.{statement}
-use Rattle.index_pass.proofs.insert_pass.Tie as tie
+use Rattle.index_pass.proofs.put_pass.Statement.{statement}
+use Rattle.index_pass.proofs.put_pass.Tie as tie
 
 abbrev Inv-loop : tie.InvT-loop
 Inv-loop index₀ n count pass sheet table root records at₀ k₀ index at k =
@@ -50,8 +50,8 @@ bridges-above-requires c κs =
     let framed = start .pre .0 .checked .framed in
     (start .pre .0, on-bus-index _ framed _ (here (parted .before)) _ (parted .part .ensures) _ (c .bus-of .ensures))
 
-insert-record-requires : tie.Need-insert-record-requires Inv-loop μ-loop
-insert-record-requires c κs =
+put-record-requires : tie.Need-put-record-requires Inv-loop μ-loop
+put-record-requires c κs =
     let over = c .before in
     let based = over .before in
     let parted = based .before in
@@ -87,7 +87,7 @@ loop-again c =
     placing-next _ _ _ _ _ _ _ (turn .loop .inv) _ _
     (pass-step _ (start .pre .0 .checked .framed) _ (here more) _ (parted .part .ensures) _ _ (based .bus-of .ensures) _
     (over .bridges-above .ensures) (start .args .pass))
-    _ _ (put .insert-record .kept .0) (put .insert-record .ensures .0) (put .insert-record .ensures .1)
+    _ _ (put .put-record .kept .0) (put .put-record .ensures .0) (put .put-record .ensures .1)
 
 same-length : tie.Need-same-length Inv-loop μ-loop
 same-length c = c .before .loop .inv .same-length
@@ -100,8 +100,8 @@ returns c =
     placing-end _ _ _ _ _ _ _ (turn .loop .inv)
     (pass-end _ (start .pre .0 .checked .framed) (start .args .pass) _ _ (omega (arith, counted .count .ensures, c .loop-test .left)))
 
-pub insert-pass-spec : {M : Type 1} → statement M
-insert-pass-spec =
+pub put-pass-spec : {M : Type 1} → statement M
+put-pass-spec =
     tie.close
     (tie.spec
     Inv-loop
@@ -112,7 +112,7 @@ insert-pass-spec =
     add-k
     bus-of-requires
     bridges-above-requires
-    insert-record-requires
+    put-record-requires
     loop-less
     loop-again
     same-length

@@ -1,11 +1,11 @@
--- `index_pass::insert_bar`: a BAR that starts in the segment is one slot. Assumes nothing.
+-- `index_pass::put_bar`: a BAR that starts in the segment is one slot. Assumes nothing.
 use native.Mathlib.Omega.{arith}
 use borrow.Author.Needs.{needs}
 use borrow.Author.Tests.{not-true, not-false}
 use Rattle.index_pass.specs.PlacingLaws.{none-placed, one-placed, one-room}
 use Rattle.index_pass.specs.BarsLaws.{no-slots, bar-outside, bar-inside, start-below}
-use Rattle.index_pass.proofs.insert_bar.Statement.{statement}
-use Rattle.index_pass.proofs.insert_bar.Tie as tie
+use Rattle.index_pass.proofs.put_bar.Statement.{statement}
+use Rattle.index_pass.proofs.put_bar.Tie as tie
 
 enum-told : tie.Need-enum-told
 enum-told c = search needs
@@ -29,8 +29,11 @@ returns c =
     (bar-outside (start .args .g) (start .args .end) _ (told .x .given .0 .0) (told .x .given .0 .1 .0) _ _ _ (told .x .given .1)
     (based .base-of .ensures) _ (tested .starts-in .ensures) (not-true _ (c .if1 .taken)))
 
-add-insert : tie.Need-add-insert
-add-insert c =
+add-put-slot : tie.Need-add-put-slot
+add-put-slot c = search needs
+
+add-put-slot-2 : tie.Need-add-put-slot-2
+add-put-slot-2 c =
     let passed = c .before .before in
     let tested = passed .before in
     let based = tested .before in
@@ -44,11 +47,11 @@ add-insert c =
 exponent-of-requires : tie.Need-exponent-of-requires
 exponent-of-requires c κs = search needs
 
-add-insert-2 : tie.Need-add-insert-2
-add-insert-2 c = search needs
+add-put-slot-3 : tie.Need-add-put-slot-3
+add-put-slot-3 c = search needs
 
-insert-requires : tie.Need-insert-requires
-insert-requires c κs =
+put-slot-requires : tie.Need-put-slot-requires
+put-slot-requires c κs =
     let passed = c .before .before .before in
     let tested = passed .before in
     let based = tested .before in
@@ -87,7 +90,7 @@ returns-3 c =
     one-placed _ _ _ _ _
     (bar-inside (start .args .g) (start .args .end) _ (told .x .given .0 .0) (told .x .given .0 .1 .0) _ _ _ (told .x .given .1)
     (based .base-of .ensures) _ (tested .starts-in .ensures) (not-false _ (passed .if1 .left)) _ (sized .exponent-of .ensures .0))
-    _ (inserted .insert .ensures)
+    _ (inserted .put-slot .ensures)
 
 returns-4 : tie.Need-returns-4
 returns-4 c = none-placed _ _ _ _ (no-slots _ _ _ (rw (c .enum-told2 .given .1)))
@@ -95,8 +98,8 @@ returns-4 c = none-placed _ _ _ _ (no-slots _ _ _ (rw (c .enum-told2 .given .1))
 returns-5 : tie.Need-returns-5
 returns-5 c = none-placed _ _ _ _ (no-slots _ _ _ (rw (c .enum-told3 .given .1)))
 
-pub insert-bar-spec : {M : Type 1} → statement M
-insert-bar-spec =
+pub put-bar-spec : {M : Type 1} → statement M
+put-bar-spec =
     tie.close
     (tie.spec
     enum-told
@@ -104,10 +107,11 @@ insert-bar-spec =
     base-of-requires
     starts-in-requires
     returns
-    add-insert
+    add-put-slot
+    add-put-slot-2
     exponent-of-requires
-    add-insert-2
-    insert-requires
+    add-put-slot-3
+    put-slot-requires
     add-result
     enum-told-2
     enum-told-3

@@ -1,9 +1,9 @@
--- `index_pass::insert_record`: by the pass. Assumes nothing.
+-- `index_pass::put_record`: by the pass. Assumes nothing.
 use borrow.Author.Needs.{needs}
 use Rattle.index_pass.specs.PlacingLaws.{none-placed, one-placed, same-placed, one-room, same-room}
 use Rattle.index_pass.specs.PassLaws.{record-live, record-off, record-id, fits-bars}
-use Rattle.index_pass.proofs.insert_record.Statement.{statement}
-use Rattle.index_pass.proofs.insert_record.Tie as tie
+use Rattle.index_pass.proofs.put_record.Statement.{statement}
+use Rattle.index_pass.proofs.put_record.Tie as tie
 
 word-end-requires : tie.Need-word-end-requires
 word-end-requires c κs = search needs
@@ -17,8 +17,8 @@ is-enabled-requires c κs = search needs
 all-on-requires : tie.Need-all-on-requires
 all-on-requires c κs = search needs
 
-insert-bars-requires : tie.Need-insert-bars-requires
-insert-bars-requires c κs =
+put-bars-requires : tie.Need-put-bars-requires
+put-bars-requires c κs =
     let tested = c .before in
     let on = tested .before in
     let enabled = on .before in
@@ -50,7 +50,7 @@ returns c =
     same-placed _ _ _ _ _
     (record-live _ (start .args .bridges) (start .args .number) _ _ (ended .word-end .ensures .0) _ (told .pass .given .1) _ _
     (enabled .is-enabled .ensures) (on .all-on .ensures) (tested .if1 .taken))
-    _ _ (put .insert-bars .ensures)
+    _ _ (put .put-bars .ensures)
 
 enum-told : tie.Need-enum-told
 enum-told c = search needs
@@ -61,11 +61,14 @@ id-of-requires c κs = search needs
 cast-id : tie.Need-cast-id
 cast-id c = search needs
 
-add-insert : tie.Need-add-insert
-add-insert c = search needs
+add-put-slot : tie.Need-add-put-slot
+add-put-slot c = search needs
 
-insert-requires : tie.Need-insert-requires
-insert-requires c κs =
+add-put-slot-2 : tie.Need-add-put-slot-2
+add-put-slot-2 c = search needs
+
+put-slot-requires : tie.Need-put-slot-requires
+put-slot-requires c κs =
     let named = c .before in
     let told = named .before in
     let ended = told .before .before in
@@ -103,24 +106,25 @@ returns-3 c =
     one-placed _ _ _ _ _
     (record-id _ (start .args .bridges) (start .args .number) _ _ (ended .word-end .ensures .0) (told .enum-told .given .1) _
     (named .id-of .ensures))
-    _ (inserted .insert .ensures)
+    _ (inserted .put-slot .ensures)
 
-pub insert-record-spec : {M : Type 1} → statement M
-insert-record-spec =
+pub put-record-spec : {M : Type 1} → statement M
+put-record-spec =
     tie.close
     (tie.spec
     word-end-requires
     enum-known-pass
     is-enabled-requires
     all-on-requires
-    insert-bars-requires
+    put-bars-requires
     same-length
     returns
     enum-told
     id-of-requires
     cast-id
-    add-insert
-    insert-requires
+    add-put-slot
+    add-put-slot-2
+    put-slot-requires
     add-result
     returns-2
     same-length-2
