@@ -14,7 +14,7 @@
  *     sheet    its checks, registers, IDs, command words           cartsundial_check, _lookup, _id, _command
  *     route    where a header goes                                 cartsundial_route, _route_from; for many headers _index, _find
  *     trace    a line for each captured header                     cartsundial_annotate, by an index _label; _annotate_end
- *     audit    whether a sheet that other firmware left will do    cartsundial_audit, _sound, _audit_where
+ *     audit    whether a sheet that other firmware left will do    cartsundial_audit, _sound, _sound_alone, _audit_where
  *     ledger   which requests wait for completions                 cartsundial_ledger_open, _ledger_complete, _ledger_count
  *     script   a board's plan as configuration writes              cartsundial_script
  *     codec    a header's bytes as numbers, and back               cartsundial_read, _write
@@ -502,7 +502,22 @@ CARTSUNDIAL_CHECKED uint32_t cartsundial_index(const uint8_t *host, size_t host_
     CARTSUNDIAL_READS(1, 2) CARTSUNDIAL_READS(3, 4) CARTSUNDIAL_WRITES(5, 6);
 
 /*
- * Where a header goes, by an index that cartsundial_index left: for every header the answer and the number of cartsundial_route over the
+ * The same for every sheet that cartsundial_sound is 0 for: refused by its number, then 11. For a sheet that cartsundial_audit accepts the
+ * two calls leave the same bytes.
+ */
+CARTSUNDIAL_CHECKED uint32_t cartsundial_index_sound(const uint8_t *host, size_t host_len, const uint8_t *sheet, size_t sheet_len,
+                                                     uint8_t *CARTSUNDIAL_RESTRICT index, size_t index_len)
+    CARTSUNDIAL_READS(1, 2) CARTSUNDIAL_READS(3, 4) CARTSUNDIAL_WRITES(5, 6);
+
+/*
+ * The same for a sheet without a host record: refused by the number of cartsundial_sound_alone, then 11.
+ */
+CARTSUNDIAL_CHECKED uint32_t cartsundial_index_alone(const uint8_t *sheet, size_t sheet_len,
+                                                     uint8_t *CARTSUNDIAL_RESTRICT index, size_t index_len)
+    CARTSUNDIAL_READS(1, 2) CARTSUNDIAL_WRITES(3, 4);
+
+/*
+ * Where a header goes, by an index that one of these left: for every header the answer and the number of cartsundial_route over the
  * index's sheet. A longer slice with the index at its front will do.
  * Any other bytes may be given too. The call then ends with an answer that they decide, a record and bridges that need not be anyone's,
  * or a number. A slice shorter than 1,024 bytes, or than the number of functions in its first two bytes asks for, has no functions: 40.
@@ -610,10 +625,17 @@ CARTSUNDIAL_CHECKED uint32_t cartsundial_audit(const uint8_t *host, size_t host_
  * Every sheet that cartsundial_audit accepts is 0 here too. Over a sheet that is 0 here no two functions have BARs over one address, and
  * cartsundial_route answers as over an accepted one: a memory or I/O request goes to the one function whose BAR holds the address, where
  * that function and all bridges above it are enabled, and else is 40; no packet is 41. It stays so when command words are rewritten. All
- * of this is proved. cartsundial_index asks for a sheet that cartsundial_audit accepts.
+ * of this is proved. cartsundial_index_sound makes the index of such a sheet.
  */
 CARTSUNDIAL_CHECKED uint32_t cartsundial_sound(const uint8_t *host, size_t host_len, const uint8_t *sheet, size_t sheet_len)
     CARTSUNDIAL_READS(1, 2) CARTSUNDIAL_READS(3, 4);
+
+/*
+ * One owner for every address of a sheet without a host record: the sheet's own number, 20 to 29, then that of cartsundial_sound for a host
+ * that is as wide as check 26 lets one be: buses from the first record's to FFh, low memory below 4 GiB, high memory from there to 2^52,
+ * all I/O. It is 0 exactly where cartsundial_sound is 0 for some host. What it does not say is where the pools of the sheet's own host end.
+ */
+CARTSUNDIAL_CHECKED uint32_t cartsundial_sound_alone(const uint8_t *sheet, size_t sheet_len) CARTSUNDIAL_READS(1, 2);
 
 /* A place of a record, as cartsundial_plan_where and cartsundial_audit_where name it: 0 to 5 is a BAR's slot. */
 enum cartsundial_place {

@@ -129,6 +129,12 @@ static void route(void) { number = cartsundial_route(header, sizeof header, shee
 static void route_planned(void) { number = cartsundial_route(nearest, sizeof nearest, planned, planned_len, answer, 534); }
 static void route_up(void) { number = cartsundial_route_from(256, upward, sizeof upward, sheet, sheet_len, answer, 534); }
 static void make_index(void) { number = cartsundial_index(host, sizeof host, sheet, sheet_len, index_bytes, sizeof index_bytes); }
+static void make_index_sound(void)
+{
+    number = cartsundial_index_sound(host, sizeof host, sheet, sheet_len, index_bytes, sizeof index_bytes);
+}
+static void make_index_alone(void) { number = cartsundial_index_alone(sheet, sheet_len, index_bytes, sizeof index_bytes); }
+static void sound_alone(void) { number = cartsundial_sound_alone(sheet, sheet_len); }
 static void find(void) { number = cartsundial_find(header, sizeof header, index_bytes, sizeof index_bytes, answer, 534); }
 static void annotate(void)
 {
@@ -197,6 +203,7 @@ int main(void)
     measure("check", check, 12);
     measure("audit", audit, 12);
     measure("sound", sound, 12);
+    measure("sound_alone", sound_alone, 12);
     measure("audit_where", audit_where, 16);
     measure("lookup", lookup, 12);
     measure("id", id, 12);
@@ -206,6 +213,8 @@ int main(void)
     measure("annotate", annotate, 22);
     measure("annotate_end", annotate_end, 12);
     measure("index", make_index, 12);
+    measure("index_sound", make_index_sound, 12);
+    measure("index_alone", make_index_alone, 12);
     measure("find", find, 12);
     measure("label", label, 12);
     measure("ledger_open", ledger_open, 12);

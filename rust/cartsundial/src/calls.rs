@@ -76,6 +76,7 @@ mod c {
         pub fn cartsundial_check(sheet: *const u8, sheet_len: usize) -> u32;
         pub fn cartsundial_audit(host: *const u8, host_len: usize, sheet: *const u8, sheet_len: usize) -> u32;
         pub fn cartsundial_sound(host: *const u8, host_len: usize, sheet: *const u8, sheet_len: usize) -> u32;
+        pub fn cartsundial_sound_alone(sheet: *const u8, sheet_len: usize) -> u32;
         pub fn cartsundial_audit_where(
             host: *const u8,
             host_len: usize,
@@ -118,6 +119,15 @@ mod c {
             index: *mut u8,
             index_len: usize,
         ) -> u32;
+        pub fn cartsundial_index_sound(
+            host: *const u8,
+            host_len: usize,
+            sheet: *const u8,
+            sheet_len: usize,
+            index: *mut u8,
+            index_len: usize,
+        ) -> u32;
+        pub fn cartsundial_index_alone(sheet: *const u8, sheet_len: usize, index: *mut u8, index_len: usize) -> u32;
         pub fn cartsundial_find(
             header: *const u8,
             header_len: usize,
@@ -267,6 +277,11 @@ pub fn sound(host: &[u8], sheet: &[u8]) -> u32 {
     unsafe { c::cartsundial_sound(host.as_ptr(), host.len(), sheet.as_ptr(), sheet.len()) }
 }
 
+/// The same of a sheet without a host record: the sheet's own number first, then as for the widest host that is lawful.
+pub fn sound_alone(sheet: &[u8]) -> u32 {
+    unsafe { c::cartsundial_sound_alone(sheet.as_ptr(), sheet.len()) }
+}
+
 /// Audits a sheet, and writes to `who` whom the number is about: the record and its place, the other record and its place.
 /// Each is 0 where there is none. A refusal leaves them too; where `who` has no room for all four it stays, and 0 becomes 11.
 pub fn audit_where(host: &[u8], sheet: &[u8], who: &mut [u64]) -> u32 {
@@ -338,6 +353,17 @@ pub fn index(host: &[u8], sheet: &[u8], index: &mut [u8]) -> u32 {
     unsafe {
         c::cartsundial_index(host.as_ptr(), host.len(), sheet.as_ptr(), sheet.len(), index.as_mut_ptr(), index.len())
     }
+}
+
+/// The same by the number of [`sound`] in place of the audit's.
+pub fn index_sound(host: &[u8], sheet: &[u8], index: &mut [u8]) -> u32 {
+    let (bytes, len) = (index.as_mut_ptr(), index.len());
+    unsafe { c::cartsundial_index_sound(host.as_ptr(), host.len(), sheet.as_ptr(), sheet.len(), bytes, len) }
+}
+
+/// The same for a sheet without a host record, by the number of [`sound_alone`].
+pub fn index_alone(sheet: &[u8], index: &mut [u8]) -> u32 {
+    unsafe { c::cartsundial_index_alone(sheet.as_ptr(), sheet.len(), index.as_mut_ptr(), index.len()) }
 }
 
 /// Routes a header by an index: what [`route`] answers over the sheet that it was built from. On other bytes the call ends

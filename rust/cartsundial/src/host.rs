@@ -117,7 +117,7 @@ pub fn audit(host: &HostRecord, sheet: &[u8]) -> Result<(), Refusal> {
 ///
 /// Every accepted sheet is sound. Over a sound one no two functions have BARs over one address, and [`route`](crate::route)
 /// answers as over an accepted one: to the one function whose BAR holds the address, where that function and all bridges above
-/// it are enabled, and else 40, never 41. [`Index`](crate::Index) asks for an accepted one.
+/// it are enabled, and else 40, never 41. [`Index::sound`](crate::Index::sound) makes its index.
 ///
 /// ```
 /// use cartsundial::{audit, sound, HostRecord, Refusal};
@@ -137,4 +137,26 @@ pub fn audit(host: &HostRecord, sheet: &[u8]) -> Result<(), Refusal> {
 /// ```
 pub fn sound(host: &HostRecord, sheet: &[u8]) -> Result<(), Refusal> {
     accepted(calls::sound(&host.bytes(), sheet))
+}
+
+/// [`sound`] of a sheet without a host record: the sheet's own number first, then as for a host that is as wide as a lawful one
+/// can be, with the buses from the first record's on. It is accepted exactly where some host record makes it [`sound`]; where
+/// the pools of its own host end it does not say.
+///
+/// ```
+/// use cartsundial::{sound_alone, Refusal};
+///
+/// // A function on bus 0 with two memory BARs of 4 KiB, side by side, then one over the other.
+/// let mut sheet = [0; 93];
+/// sheet[..3].copy_from_slice(&[1, 0, 90]);
+/// for (slot, address) in [0xF900_0000_u32, 0xF900_1000].into_iter().enumerate() {
+///     sheet[5 + 0x10 + 4 * slot..][..4].copy_from_slice(&address.to_le_bytes());
+///     sheet[69 + 4 * slot..][..4].copy_from_slice(&0xFFFF_F000_u32.to_be_bytes());
+/// }
+/// assert_eq!(sound_alone(&sheet), Ok(()));
+/// sheet[5 + 0x15] = 0x00;
+/// assert_eq!(sound_alone(&sheet), Err(Refusal::Overlap));
+/// ```
+pub fn sound_alone(sheet: &[u8]) -> Result<(), Refusal> {
+    accepted(calls::sound_alone(sheet))
 }

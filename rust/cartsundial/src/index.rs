@@ -13,7 +13,7 @@ pub const fn index_length(functions: usize) -> usize {
     1024 + 256 * functions
 }
 
-/// A sheet that [`audit`](crate::audit) accepts, with its index: for many headers over one sheet. A reference to it is an
+/// A sheet with its index: for many headers over one sheet that has one owner for every address. A reference to it is an
 /// [`Engine`](crate::Engine), by which traces are labelled.
 ///
 /// The sheet `S` and the bytes `B` that the index is built in are lent or owned: slices, arrays, or vectors. While the index
@@ -57,6 +57,19 @@ impl<S: AsRef<[u8]>, B: AsRef<[u8]> + AsMut<[u8]>> Index<S, B> {
     /// then 11 for fewer bytes; a refusal leaves them as they were.
     pub fn build(host: &HostRecord, sheet: S, mut bytes: B) -> Result<Index<S, B>, Refusal> {
         accepted(calls::index(&host.bytes(), sheet.as_ref(), bytes.as_mut()))?;
+        Ok(Index { sheet, bytes })
+    }
+
+    /// The same for every sheet that is [`sound`](crate::sound()), by its numbers. Of a sheet that the audit accepts the two
+    /// leave the same bytes.
+    pub fn sound(host: &HostRecord, sheet: S, mut bytes: B) -> Result<Index<S, B>, Refusal> {
+        accepted(calls::index_sound(&host.bytes(), sheet.as_ref(), bytes.as_mut()))?;
+        Ok(Index { sheet, bytes })
+    }
+
+    /// The same for a sheet without a host record, by the numbers of [`sound_alone`](crate::sound_alone).
+    pub fn alone(sheet: S, mut bytes: B) -> Result<Index<S, B>, Refusal> {
+        accepted(calls::index_alone(sheet.as_ref(), bytes.as_mut()))?;
         Ok(Index { sheet, bytes })
     }
 }

@@ -49,7 +49,7 @@
 //! | the headers of a trace, and a trace of headers | [`headers()`], [`TraceWriter`] |
 //! | is a sheet that other firmware left in order, for a host | [`audit`] |
 //! | the same, and which record is not, where, and which other one it meets | [`audit_where`] |
-//! | has every address on it one owner, wherever firmware put prefetchable memory | [`sound`] |
+//! | has every address on it one owner, wherever firmware put prefetchable memory | [`sound`], without a host record [`sound_alone`] |
 //! | which requests wait for completions, and what a completion belongs to | [`Ledger`] |
 //! | a board as configuration writes, in the order in which boot code makes them | [`write_script`], [`writes`] |
 //! | a header's bytes as a packet, and back | [`read()`], [`write()`] |
@@ -152,7 +152,7 @@ pub use engine::Engine;
 pub use fields::{Body, Enables, Fields};
 pub use finding::{audit_where, Finding, Party, Place};
 pub use functions::{functions, Buses, Function, PlacedBar, Windows};
-pub use host::{audit, sound, HostRecord};
+pub use host::{audit, sound, sound_alone, HostRecord};
 pub use id::{Id, NoId};
 pub use index::{index_length, Index, FULL_INDEX};
 pub use kind::{CompletionKind, ConfigurationKind, Form, IoKind, Kind, MemoryKind, MessageKind, NoKind, Routing};

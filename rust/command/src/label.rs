@@ -6,7 +6,7 @@ use crate::named::NamedSheet;
 use crate::parts::{Part, Parts};
 use crate::source::{called, open_trace, Source};
 use crate::tally::Tally;
-use cartsundial::{read, Annotator, Engine, Headers, HostRecord, Index, Label, Owner, Refusal};
+use cartsundial::{index_length, read, Annotator, Engine, Headers, HostRecord, Index, Label, Owner, Refusal};
 use std::io::{self, BufWriter, IsTerminal, Write};
 use std::thread;
 
@@ -21,7 +21,7 @@ A trace may be of any length. Exit status 1 where the trace itself is refused or
   --names             each line goes on with the owner's ID and name, its BAR and the offset in it, or with a number's words
   --jobs N            label parts of the trace side by side: the same lines
   --summary           at the end, on standard error: how many headers went to whom, and how many have which number
-  --host HOST         the host of a sheet that the audit accepts, for which each header takes less time; of a board it is known
+  --host HOST         the sheet's host: a sheet on which an address may have two owners is then refused; of a board it is known
 ";
 
 /// How many bytes are fed at a time: the room for their lines is some twenty times as much.
@@ -44,7 +44,11 @@ pub fn run(arguments: &Arguments) -> Answer {
     let jobs: usize = jobs.ok_or_else(|| Failure::Usage("--jobs has a number from 1 to 256".into()))?;
     let named = Source::read(sheet)?.into_sheet()?;
     let host = arguments.value("--host").map(|file| Source::read(file)?.into_host()).transpose()?;
-    let index = host.or(named.host).map(|host| indexed(&host, &named)).transpose()?;
+    // An index gives the same lines as the walk and takes less time. Without a host it is there where no address has two owners.
+    let index = match host.or(named.host) {
+        Some(host) => Some(indexed(&host, &named)?),
+        None => Index::alone(named.sheet.bytes(), room_for_index(&named)).ok(),
+    };
     let by = index.as_ref().map_or(Engine::from(named.sheet.bytes()), Engine::from);
     let (has_names, has_tally) = (arguments.has("--names"), arguments.has("--summary"));
     let labels = Labels { by, named: &named, has_names, has_tally };
@@ -61,9 +65,14 @@ pub fn run(arguments: &Arguments) -> Answer {
     }
 }
 
+/// By the second verdict: what lies where is not asked here, only that no address has two owners.
 fn indexed<'a>(host: &HostRecord, named: &'a NamedSheet) -> Result<Index<&'a [u8], Vec<u8>>, Failure> {
-    let why = |refusal: Refusal| format!("the audit for this host: {refusal}; without --host any sheet is labelled by");
-    Index::new(host, named.sheet.bytes()).map_err(|refusal| Failure::Refused(why(refusal)))
+    let why = |refusal: Refusal| format!("the sheet for this host: {refusal}; without --host any sheet is labelled by");
+    Index::sound(host, named.sheet.bytes(), room_for_index(named)).map_err(|refusal| Failure::Refused(why(refusal)))
+}
+
+fn room_for_index(named: &NamedSheet) -> Vec<u8> {
+    vec![0; index_length(named.sheet.functions().len())]
 }
 
 impl Labels<'_> {

@@ -4,7 +4,7 @@
 use crate::bar;
 use crate::board::{Host, HOST};
 use crate::pool::{Pool, Range};
-use crate::sheet::{Record, Sheet};
+use crate::sheet::{check, Record, Sheet};
 
 /// The number of the first check that the host record or the sheet fails, 0 when the sheet is accepted.
 pub fn audit(host: &[u8], sheet: &[u8]) -> u8 {
@@ -15,6 +15,26 @@ pub fn audit(host: &[u8], sheet: &[u8]) -> u8 {
 /// the bridge above, on the root bus in the low or the high pool. 0 when every address has one owner.
 pub fn sound(host: &[u8], sheet: &[u8]) -> u8 {
     judge(host, sheet, Nesting::Space).err().unwrap_or(0)
+}
+
+/// The second verdict of a sheet without a host record: the sheet's own number, then as for a host that any sheet fits.
+pub fn sound_alone(sheet: &[u8]) -> u8 {
+    match check(sheet) {
+        0 => sound(&widest_host(sheet), sheet),
+        number => number,
+    }
+}
+
+/// Buses from the first record's to FFh, and the widest pools that are lawful.
+pub(crate) fn widest_host(sheet: &[u8]) -> [u8; HOST] {
+    let first = Sheet::new(sheet).ok().and_then(|sheet| sheet.records().next()).map_or(0, |record| record.bus());
+    let mut host = [0; HOST];
+    host[..2].copy_from_slice(&[first, 0xFF]);
+    host[2..10].copy_from_slice(&0xFFFF_FFFF_u64.to_be_bytes());
+    host[10..18].copy_from_slice(&(1_u64 << 32).to_be_bytes());
+    host[18..26].copy_from_slice(&((1_u64 << 52) - 1).to_be_bytes());
+    host[26..].copy_from_slice(&0xFFFF_u32.to_be_bytes());
+    host
 }
 
 /// The host record's 20 and 26, the sheet's own checks, then 50, 51 and 52.

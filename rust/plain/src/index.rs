@@ -1,7 +1,7 @@
 //! The index (request E8 of document 02): the owners of an accepted sheet in a lent slice, and the search for one.
 //! docs/FORMATS.md has the layout.
 
-use crate::audit::audit;
+use crate::audit::{audit, sound, sound_alone, widest_host};
 use crate::bar;
 use crate::packet;
 use crate::route::{Arrival, Owners, Space};
@@ -19,7 +19,7 @@ const IO_END: u64 = MEMORY_END + 0x1_0000;
 /// Behind the last slot's key.
 const NO_KEY: u64 = 1 << 62;
 
-/// So many keys are counted; more are halved first.
+/// So many keys are counted; more are quartered first.
 const FEW: usize = 16;
 
 /// Where the parts of an index for so many functions start.
@@ -92,7 +92,21 @@ struct Slot {
 /// Builds the index of a sheet for a host record: 0, the audit's number, or 11 for a slice shorter than the index. Nothing
 /// past the index is written, and nothing at all when it is refused.
 pub fn build(host: &[u8], sheet: &[u8], index: &mut [u8]) -> u8 {
-    match audit(host, sheet) {
+    build_after(audit(host, sheet), host, sheet, index)
+}
+
+/// The same by the number of the second verdict: for every sheet that has one owner for every address.
+pub fn build_sound(host: &[u8], sheet: &[u8], index: &mut [u8]) -> u8 {
+    build_after(sound(host, sheet), host, sheet, index)
+}
+
+/// The same for a sheet without a host record.
+pub fn build_alone(sheet: &[u8], index: &mut [u8]) -> u8 {
+    build_after(sound_alone(sheet), &widest_host(sheet), sheet, index)
+}
+
+fn build_after(verdict: u8, host: &[u8], sheet: &[u8], index: &mut [u8]) -> u8 {
+    match verdict {
         0 => place(host[0], sheet, index).err().unwrap_or(0),
         number => number,
     }
@@ -239,11 +253,10 @@ impl<'a> Index<'a> {
         let mut position = self.u16(self.layout.bucket(bucket)).min(most);
         let mut left = self.u16(4).min(most);
         while left > FEW {
-            let half = left / 2;
-            if !self.is_above(position + half, key) {
-                position += half;
-            }
-            left -= half;
+            let quarter = left / 4;
+            let passed = (1..=3).filter(|times| !self.is_above(position + times * quarter, key)).count();
+            position += passed * quarter;
+            left -= 3 * quarter;
         }
         let reached = (1..=left).filter(|behind| !self.is_above(position + behind, key)).count();
         (position + reached).min(most)

@@ -24,11 +24,11 @@ mod sent;
 mod sheet;
 mod trace;
 
-pub use audit::{audit, sound};
+pub use audit::{audit, sound, sound_alone};
 pub use cards::route_from;
 pub use finding::{audit_where, Finding, Party};
 pub use fit::{plan_where, Fit, Needs};
-pub use index::{build, find};
+pub use index::{build, build_alone, build_sound, find};
 pub use packet::{read, to_numbers, write, write_numbers, Form, Kind, Packet};
 pub use plan::plan;
 pub use route::{route, Arrival};

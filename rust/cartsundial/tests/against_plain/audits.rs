@@ -67,6 +67,15 @@ fn judge(host: &[u8], sheet: &[u8], random: &mut Random, tally: &mut Tally) -> [
     assert!(numbers[0] == numbers[1] || numbers[0] == 51, "{numbers:?} {}", of());
     tally.judged(numbers[0], numbers[1]);
 
+    // Without a host record it is sound where it is for some host: for this one, say.
+    let alone = plain::sound_alone(sheet);
+    let returned = calls::sound_alone(lent.slice());
+    tally.count(Call::SoundAlone, returned);
+    assert_eq!(returned, alone.into(), "sound alone {}", hex(sheet));
+    assert!(lent == lent_before && (numbers[1] != 0 || alone == 0), "sound alone {}", of());
+    let typed = cartsundial::sound_alone(sheet).map_or_else(|refusal| refusal.number(), |()| 0);
+    assert_eq!(typed, alone, "sound alone {}", hex(sheet));
+
     let found = name(host, sheet, numbers[0], random, tally);
     if let Ok(bytes) = host.try_into() {
         let record = HostRecord::from_bytes(bytes);

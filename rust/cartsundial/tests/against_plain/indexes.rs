@@ -22,7 +22,9 @@ pub fn compare(random: &mut Random, rounds: u64, tally: &mut Tally) {
             _ => full,
         };
         build(&host, &sheet, length, random, tally);
-        if plain::audit(&host, &sheet) == 0 {
+        // Sound ones are rare among any: a planned one with its ranges of other kinds is.
+        let (host, sheet) = if random.chance(1, 2) { (host, sheet) } else { of_other_kinds(random) };
+        if plain::sound(&host, &sheet) == 0 {
             let index = typed(&host, &sheet);
             for _ in 0..15 {
                 over(&aim::header(&sheet, random), &index, random, tally);
@@ -57,6 +59,13 @@ pub fn chosen(random: &mut Random, tally: &mut Tally) {
     }
 }
 
+/// A planned sheet, its ranges of other kinds where they are.
+fn of_other_kinds(random: &mut Random) -> (Vec<u8>, Vec<u8>) {
+    let (host, mut sheet) = audit::planned(random, plan);
+    audit::change_kinds(&mut sheet, random);
+    (host, sheet)
+}
+
 pub fn plan(board: &[u8]) -> Option<Vec<u8>> {
     let mut room = vec![0; plain::FULL_SHEET];
     let length = plain::plan(board, &mut room).ok()?;
@@ -64,13 +73,19 @@ pub fn plan(board: &[u8]) -> Option<Vec<u8>> {
     Some(room)
 }
 
-/// The index of an accepted sheet, in lent bytes and then in a vector of its own.
+/// The index of a sound sheet, in lent bytes and then in a vector of its own, without the host record the same.
 pub fn typed<'a>(host: &[u8], sheet: &'a [u8]) -> Index<&'a [u8], Vec<u8>> {
     let host = HostRecord::from_bytes(host.try_into().unwrap());
     let mut bytes = vec![0xA5; index_length(sheet.len() / RECORD)];
-    let lent = Index::build(&host, sheet, &mut bytes[..]).unwrap();
-    let owned = Index::build(&host, sheet, vec![0x5A; lent.bytes().len()]).unwrap();
+    let lent = Index::sound(&host, sheet, &mut bytes[..]).unwrap();
+    let owned = Index::sound(&host, sheet, vec![0x5A; lent.bytes().len()]).unwrap();
     assert!(lent.bytes() == owned.bytes() && lent.sheet() == owned.sheet());
+    let alone = Index::alone(sheet, vec![0xC3; lent.bytes().len()]).unwrap();
+    // Its root bus is the host's first, which a sheet without functions does not tell.
+    assert!(alone.bytes() == owned.bytes() || alone.bytes().len() == index_length(0));
+    if let Ok(accepted) = Index::build(&host, sheet, vec![0x3C; lent.bytes().len()]) {
+        assert!(accepted.bytes() == owned.bytes());
+    }
     owned
 }
 
@@ -88,25 +103,40 @@ pub fn damaged(mut index: Vec<u8>, random: &mut Random) -> Vec<u8> {
     index
 }
 
-/// Builds by both in a slice of this length.
+/// Builds by both in a slice of this length: of an accepted sheet, of a sound one, and of one without a host record.
 fn build(host: &[u8], sheet: &[u8], length: usize, random: &mut Random, tally: &mut Tally) {
     let mut given = Lent::holding(host, random);
     let given_before = given.clone();
     let mut lent = Lent::holding(sheet, random);
     let lent_before = lent.clone();
-    let mut index = Lent::bytes(length, random);
-    let mut index_then = index.clone();
-    let number = plain::build(host, sheet, index_then.slice());
-    let returned = calls::index(given.slice(), lent.slice(), index.slice());
-    tally.count(Call::Index, returned);
-    assert_eq!(returned, number.into(), "index of {} for {}", hex(sheet), hex(host));
-    let same = index == index_then && given == given_before && lent == lent_before;
-    assert!(same, "index of {} for {}: what was lent", hex(sheet), hex(host));
+    for call in [Call::Index, Call::IndexSound, Call::IndexAlone] {
+        let mut index = Lent::bytes(length, random);
+        let mut index_then = index.clone();
+        let (number, returned) = match call {
+            Call::Index => {
+                (plain::build(host, sheet, index_then.slice()), calls::index(given.slice(), lent.slice(), index.slice()))
+            }
+            Call::IndexSound => {
+                let number = plain::build_sound(host, sheet, index_then.slice());
+                (number, calls::index_sound(given.slice(), lent.slice(), index.slice()))
+            }
+            _ => (plain::build_alone(sheet, index_then.slice()), calls::index_alone(lent.slice(), index.slice())),
+        };
+        tally.count(call, returned);
+        assert_eq!(returned, number.into(), "{call:?} of {} for {}", hex(sheet), hex(host));
+        let same = index == index_then && given == given_before && lent == lent_before;
+        assert!(same, "{call:?} of {} for {}: what was lent", hex(sheet), hex(host));
 
-    if let Ok(bytes) = host.try_into() {
-        let mut bytes_lent = vec![0; length];
-        let typed = Index::build(&HostRecord::from_bytes(bytes), sheet, &mut bytes_lent[..]);
-        assert_eq!(typed.map_or_else(|refusal| refusal.number(), |_| 0), number);
+        if let Ok(bytes) = host.try_into() {
+            let host = HostRecord::from_bytes(bytes);
+            let mut bytes_lent = vec![0; length];
+            let typed = match call {
+                Call::Index => Index::build(&host, sheet, &mut bytes_lent[..]),
+                Call::IndexSound => Index::sound(&host, sheet, &mut bytes_lent[..]),
+                _ => Index::alone(sheet, &mut bytes_lent[..]),
+            };
+            assert_eq!(typed.map_or_else(|refusal| refusal.number(), |_| 0), number);
+        }
     }
 }
 
