@@ -39,7 +39,7 @@ typeOf pool v = v % 2 ^ typeBits pool
 abbrev pub withoutType : Pool → ℕ → ℕ
 withoutType pool v = v / 2 ^ typeBits pool * 2 ^ typeBits pool
 
--- the least size bit
+-- the least size bit: an I/O BAR has 4 bytes or more, a memory BAR 128 (document 02, E9)
 abbrev pub leastBit : Pool → ℕ
 leastBit Low = 7
 leastBit High = 7
@@ -70,7 +70,7 @@ ioWrong r = eqb (r / 2 % 2) 1 || not (eqb (r / 65536) 0 || eqb (r / 65536) 65535
 unfoldable pub ioSlot : ℕ → Slot
 ioSlot r = cond (ioWrong r) Bad (barOf Io false (r % 65536))
 
--- memory: bits 2:1 are 00, or 10 for 64-bit; ones from a size bit, 4 or above, to the top
+-- memory: bits 2:1 are 00, or 10 for 64-bit; ones from a size bit, 7 or above (document 02, E9), to the top
 abbrev pub isWide : ℕ → Bool
 isWide r = not (isIoBar r) && eqb (r / 2 % 4) 2
 
