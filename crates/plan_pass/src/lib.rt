@@ -126,7 +126,7 @@ fn store_cursors(cursors: &mut [u64], b: usize, c: Cursors)
 }
 
 // The record after which the bus below record i + 1 ends.
-fn last_below(memo: &[u64], i: usize) -> usize
+pub fn last_below(memo: &[u64], i: usize) -> usize
     requires { ⌜ 7 * i + 7 ≤ length (now memo) ⌝ }
     ensures { λ r. ⌜ r ≡ laidAt (now (memo .entry)) i .next ⌝ }
 {
@@ -150,14 +150,14 @@ fn extents_at(memo: &[u64], i: usize) -> Extents
 
 // The first bus and the numbers that k records take, less the spares still to come of record p and of the bridges above it: for p = k the
 // number of record k's own bus.
-fn number_at(first: u8, counts: &[u8], k: usize, p: usize) -> u8
+pub fn number_at(first: u8, counts: &[u8], k: usize, p: usize) -> u8
     requires { ⌜ NumberFits first (now counts) k p ⌝ }
     ensures { λ r. ⌜ (r ≡ numberIn first (now (counts .entry)) k p) × (r < 256) ⌝ }
 {
     first + (counts[2 * k] - counts[2 * p + 1])
 }
 
-fn id_of(bus: u8, devfn: u8) -> u16
+pub fn id_of(bus: u8, devfn: u8) -> u16
     ensures { λ r. ⌜ r ≡ bus * 256 + devfn ⌝ }
 {
     bus as u16 * 256 + devfn as u16

@@ -10,6 +10,7 @@ use lib.Seq.{sets, length-sets}
 use Rattle.endian.specs.SetsLaws.{sets-append}
 use Rattle.script_writes.specs.declared.Boot.{Boot}
 use Rattle.script_writes.specs.declared.Place.{Place}
+use Rattle.script_writes.specs.declared.Dword.{Dword}
 use Rattle.script_writes.specs.Writes.{Write, writeOf, slotWrites, barWrites}
 use Rattle.script_writes.specs.WritesLaws.{bars-snoc, bars-le}
 use Rattle.script_writes.specs.Script.{writeStride, writeBytes, nextTag, scriptFrom, tagAfter, placeAfter}
@@ -22,6 +23,17 @@ pub record Wrote (boot : Boot) (room : List ℕ) (from : Place) (ws : List Write
 -- the write of one register of a part, whatever its record's number
 abbrev pub WroteOne : Boot → List ℕ → Place → List ℕ → ℕ → ℕ → List ℕ → Place → Type 0
 WroteOne boot room from p offset enables room' next = (k : ℕ) → Wrote boot room from (writeOf k p offset enables ∷ []) room' next
+
+-- a write of these four bytes
+abbrev pub knownWrite : ℕ → ℕ → ℕ → ℕ → Dword → Write
+knownWrite k id offset enables d =
+    record {
+      number = k;
+      id = id;
+      offset = offset;
+      enables = enables;
+      bytes = d .first ∷ d .second ∷ d .third ∷ d .fourth ∷ [];
+    }
 
 pub wrote-nothing : {boot : Boot} {room : List ℕ} (from : Place) → Wrote boot room from [] room from
 unfolding scriptFrom tagAfter

@@ -7,11 +7,10 @@ ghost use lib.ListN.{length};
 ghost use lib.Seq.{sets};
 ghost use Rattle.sheet_record.specs.Places.{recordSize};
 ghost use Rattle.sheet_record.specs.Entry.{headerOf, slotCount};
-ghost use Rattle.script_writes.specs.Writes.{dataByte, dataOf, isUsed, slotWrites, barWrites, busWrites, windowWrites};
-ghost use Rattle.script_writes.specs.Writes.{registerWrites, writesIn};
+ghost use Rattle.script_writes.specs.Writes.{dataByte, dataOf, isUsed, slotWrites, barWrites, windowWrites, registerWrites};
 ghost use Rattle.script_writes.specs.Script.{writeStride};
 ghost use Rattle.script_writes.specs.ScriptLaws.{kindByte, IsRegister, headerFor};
-ghost use Rattle.script_writes.specs.Wrote.{Wrote, WroteOne};
+ghost use Rattle.script_writes.specs.Wrote.{Wrote, WroteOne, knownWrite};
 use sheet_record::places;
 
 // The bytes of a write's record, and with the two of its own length.
@@ -27,6 +26,14 @@ const REQUEST: usize = 6;
 const TARGET: usize = 10;
 
 const DATA: usize = 14;
+
+// A register's four bytes, in register order.
+pub struct Dword {
+    pub first: u8,
+    pub second: u8,
+    pub third: u8,
+    pub fourth: u8,
+}
 
 // The three parts of a script, each over all records before the next.
 pub enum Pass {
@@ -47,35 +54,8 @@ pub struct Place {
     pub tag: u8,
 }
 
-// The writes of one record in one part of the script.
-pub fn put_writes(pass: Pass, part: &[u8], boot: Boot, from: Place, room: &mut [u8]) -> Place
-    requires { ⌜
-        (length (now part) ≡ recordSize) × (from .at + writeStride * length (writesIn pass 0 (now part)) ≤ length (now room))
-        ⌝ }
-    ensures { λ r. ⌜ ((k : ℕ) → Wrote boot (now (room .entry)) from (writesIn pass k (now (part .entry))) (now (room .exit)) r) ⌝ }
-{
-    match pass {
-        Pass::Buses => put_buses(part, boot, from, room),
-        Pass::Registers => put_registers(part, boot, from, room),
-        Pass::Commands => put_write(part, 0x04, 0b0011, boot, from, room),
-    }
-}
-
-// A bridge's bus registers.
-fn put_buses(part: &[u8], boot: Boot, from: Place, room: &mut [u8]) -> Place
-    requires { ⌜
-        (length (now part) ≡ recordSize) × (from .at + writeStride * length (busWrites 0 (now part)) ≤ length (now room))
-        ⌝ }
-    ensures { λ r. ⌜ ((k : ℕ) → Wrote boot (now (room .entry)) from (busWrites k (now (part .entry))) (now (room .exit)) r) ⌝ }
-{
-    if !sheet_record::is_bridge(part) {
-        return from;
-    }
-    put_write(part, 0x18, 0b0111, boot, from, room)
-}
-
 // The BARs that are used, then a bridge's windows.
-fn put_registers(part: &[u8], boot: Boot, from: Place, room: &mut [u8]) -> Place
+pub fn put_registers(part: &[u8], boot: Boot, from: Place, room: &mut [u8]) -> Place
     requires { ⌜
         (length (now part) ≡ recordSize) × (from .at + writeStride * length (registerWrites 0 (now part)) ≤ length (now room))
         ⌝ }
@@ -140,6 +120,34 @@ fn put_windows(part: &[u8], boot: Boot, from: Place, room: &mut [u8]) -> Place
     let high = put_write(part, 0x24, 0b1111, boot, low, room);
     let base = put_write(part, 0x28, 0b1111, boot, high, room);
     put_write(part, 0x2c, 0b1111, boot, base, room)
+}
+
+// One write of a register whose four bytes are known, those that it does not name 0.
+pub fn put_known(
+    id: u16,
+    offset: u8,
+    enables: u8,
+    dword: Dword,
+    boot: Boot,
+    from: Place,
+    room: &mut [u8],
+) -> Place
+    requires { ⌜ IsRegister offset × (from .at + writeStride ≤ length (now room)) ⌝ }
+    ensures { λ r. ⌜ ((k : ℕ) → Wrote boot (now (room .entry)) from (knownWrite k id offset enables dword ∷ []) (now (room .exit)) r) ⌝ }
+{
+    put_header(id, offset, enables, boot, from, room);
+    put_four(
+        room,
+        from.at + DATA,
+        dword.first,
+        dword.second,
+        dword.third,
+        dword.fourth,
+    );
+    Place {
+        at: from.at + STRIDE,
+        tag: ((from.tag as u16 + 1) % 256) as u8,
+    }
 }
 
 // One write: its length, its header, and the data bytes that it names. Stored dword by dword: its eighteen bytes at once are more than

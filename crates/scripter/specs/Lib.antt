@@ -4,6 +4,7 @@ pub mod AnswerLaws
 pub mod NumberLaws
 pub mod Counting
 pub mod CountingLaws
+pub mod UnplacedLaws
 pub mod PassLaws
 pub mod CallLaws
 pub mod LongestLaws

@@ -1,12 +1,12 @@
 -- One part of a script over a board's records, turn by turn. The placing pass's own laws carry it: they speak of the sheet that the pass
 -- would have written, which is no array here. Assumes nothing.
 use mathlib.Core.Path.{_≡_, refl, sym, ap, subst, _∙_}
-use mathlib.Core.Bool.{true, false}
+use mathlib.Core.Bool.{Bool, true, false, cond}
 use mathlib.Core.List.{List, [], _∷_, _++_, map, map-append}
 use Prim.Native.Nat.{ℕ, suc, _+_, _*_, _≤_, _<_}
 use native.Mathlib.Omega.{arith}
 use lib.ListN.{length, take, drop, set, replicate, length-append, length-map, take-append-drop}
-use lib.Seq.{sets, sets-eq, take-at}
+use lib.Seq.{sets, sets-eq, length-sets, take-at}
 use Rattle.endian.specs.Endian.{beBytes}
 use Rattle.records.specs.declared.Next.the-variants.{End, Record, Broken}
 use Rattle.records.specs.Limits.{mostFunctions}
@@ -21,13 +21,13 @@ use Rattle.sheet.specs.Sheet.{sheetLength, partsIn}
 use Rattle.sheet_bytes.specs.Layout.{Planned, plannedOf, partBytes, recordBytes}
 use Rattle.sheet_bytes.specs.LayoutLaws.{length-partBytes, length-recordBytes}
 use Rattle.sheet_bytes.specs.ReadBack.{partsIn-sheetBytes}
-use Rattle.plan_pass.specs.Step.{registersOf, cursorsNext, Placeable, Bridged}
+use Rattle.plan_pass.specs.Step.{endsList, barsIn, windowsIn, leafNext, bridgeNext, registersOf, cursorsNext, Placeable, Bridged}
 use Rattle.plan_function.specs.declared.Cursors.{Cursors}
 use Rattle.plan_pass.specs.Loop.{mostBuses, planOn, Ready, Standing, basesFor, Filled, Placing}
 use Rattle.plan_pass.specs.LoopLaws.{standing-start, standing-turn, header-right, inside, turn-placeable, turn-bridged, plan-turn, plan-end}
 use Rattle.plan_pass.specs.LoopLaws.{plan-broken, ready-of-placing}
 use Rattle.script_writes.specs.declared.Pass.{Pass}
-use Rattle.script_writes.specs.declared.Pass.the-variants.{Buses, Registers}
+use Rattle.script_writes.specs.declared.Pass.the-variants.{Buses, Registers, Commands}
 use Rattle.script_writes.specs.declared.Boot.{Boot}
 use Rattle.script_writes.specs.declared.Place.{Place}
 use Rattle.script_writes.specs.Writes.{Write, writesIn, passWrites}
@@ -35,6 +35,7 @@ use Rattle.script_writes.specs.WritesLaws.{length-of-number, pass-append, pass-
 use Rattle.script_writes.specs.Script.{writeStride}
 use Rattle.script_writes.specs.Wrote.{Wrote, wrote-nothing, wrote-append, wrote-length}
 use Rattle.scripter.specs.Scripting.{plannedSheet}
+use Rattle.scripter.specs.UnplacedLaws.{command-placed, buses-placed}
 
 -- room for the sheet that is not written
 abbrev pub ghostSheet : List ℕ → List ℕ
@@ -46,6 +47,18 @@ versioned b = set (ghostSheet b) 0 1
 -- record i + 1 as it is placed from these cursors: its part
 abbrev pub placedPart : Boot → List ℕ → List ℕ → List ℕ → ℕ → Function → List ℕ
 placedPart boot counts memo c i f = partBytes (plannedOf (registersOf (boot .root) counts memo c i f))
+
+-- the cursors that a part leaves after a record: only registers are placed
+abbrev pub cursorsAfter : Pass → List ℕ → List ℕ → ℕ → Function → List ℕ
+cursorsAfter Buses memo c i f = c
+cursorsAfter Registers memo c i f = cursorsNext memo c i f
+cursorsAfter Commands memo c i f = c
+
+-- the cursors that a part goes by: the array's, or those that a pass which places would have
+abbrev pub cursorsOf : Pass → List ℕ → List ℕ → List ℕ
+cursorsOf Buses c placed = placed
+cursorsOf Registers c placed = c
+cursorsOf Commands c placed = placed
 
 -- the writes of the first i records, and all
 abbrev pub writesUpTo : Pass → List ℕ → ℕ → List Write
@@ -67,7 +80,10 @@ pub record Passing (pass : Pass) (b : List ℕ) (boot : Boot) (counts memo c : L
 pub record Passed (pass : Pass) (b : List ℕ) (boot : Boot) (c₀ : List ℕ) (from : Place) (room₀ c room : List ℕ) (at i : ℕ) (next : Place)
     : Type 0 where
   pub sheet : List ℕ
-  pub standing : Standing b c₀ (versioned b) c sheet at i
+  pub cursors : List ℕ
+  pub held : cursorsOf pass c cursors ≡ cursors
+  pub same-length : length c ≡ length cursors
+  pub standing : Standing b c₀ (versioned b) cursors sheet at i
   pub wrote : Wrote boot room₀ from (writesUpTo pass b i) room next
 
 pass-of : (pass : Pass) (b : List ℕ) → passOf pass b ≡ passWrites pass 1 (map partBytes (planOn b))
@@ -86,30 +102,77 @@ up-to-le pass b i =
       length-append (passWrites pass 1 before) (passWrites pass (1 + length before) after),
     )
 
+length-next : (memo c : List ℕ) (i : ℕ) (f : Function) → length (cursorsNext memo c i f) ≡ length c
+unfolding leafNext bridgeNext
+length-next memo c i f = go (isBridge f)
+  where
+    own : Cursors
+    own = windowsIn memo c i f .cursors
+
+    go : (t : Bool) → length (cond t (bridgeNext memo c i f) (leafNext c f)) ≡ length c
+    go true =
+        length-sets (sets c (3 * f .parent) (endsList own)) (3 * suc i) (endsList (windowsIn memo c i f .below))
+        ∙ length-sets c (3 * f .parent) (endsList own)
+    go false = length-sets c (3 * f .parent) (endsList (barsIn c f .cursors))
+
+held-same : (pass : Pass) (c : List ℕ) → cursorsOf pass c c ≡ c
+held-same Buses c = refl
+held-same Registers c = refl
+held-same Commands c = refl
+
+-- a part that does not place writes the same wherever a record lies
+writes-held : (pass : Pass) (k : ℕ) (boot : Boot) (counts memo c placed : List ℕ) (i : ℕ) (f : Function) → cursorsOf pass c placed ≡ placed
+    → writesIn pass k (placedPart boot counts memo c i f) ≡ writesIn pass k (placedPart boot counts memo placed i f)
+writes-held Buses k boot counts memo c placed i f e =
+    buses-placed k boot counts f memo i c ∙ sym (buses-placed k boot counts f memo i placed)
+writes-held Registers k boot counts memo c placed i f e = ap (λ (x : List ℕ). writesIn Registers k (placedPart boot counts memo x i f)) e
+writes-held Commands k boot counts memo c placed i f e =
+    command-placed k boot counts f memo i c ∙ sym (command-placed k boot counts f memo i placed)
+
 pub passed-start : (pass : Pass) (b : List ℕ) {boot : Boot} {counts memo c room : List ℕ} {from : Place}
     → Passing pass b boot counts memo c from room → Passed pass b boot c from room c room functionsAt 0 from
 unfolding passWrites
-passed-start pass b {from = from} p =
-    record { sheet = versioned b; standing = standing-start b (p .ready); wrote = wrote-nothing from }
+passed-start pass b {c = c} {from = from} p =
+    record {
+      sheet = versioned b;
+      cursors = c;
+      held = held-same pass c;
+      same-length = refl;
+      standing = standing-start b (p .ready);
+      wrote = wrote-nothing from;
+    }
 
 module _ {pass : Pass} {b : List ℕ} {boot : Boot} {counts memo c₀ room₀ c room : List ℕ} {from next : Place} {at i : ℕ}
     (p : Passing pass b boot counts memo c₀ from room₀) (s : Passed pass b boot c₀ from room₀ c room at i next) where
+  pub pass-length : length c ≡ length c₀
+  pass-length = s .same-length ∙ s .standing .cursors-length
+
   -- a record stands there
   module _ (n : ℕ) (e : nextOf (drop at b) ≡ Record n) where
     abbrev pub here : Function
     here = functionOfPart (take n (drop (at + 2) b))
 
     abbrev pub planned : Planned
-    planned = plannedOf (registersOf (boot .root) counts memo c i here)
+    planned = plannedOf (registersOf (boot .root) counts memo (s .cursors) i here)
 
     pub pass-header : headerWrong (take n (drop (at + 2) b)) ≡ false
     pass-header = header-right (p .ready) (s .standing) n e
 
     pub pass-placeable : Placeable (boot .root) counts c here
-    pass-placeable = turn-placeable (p .ready) (s .standing) n e
+    pass-placeable =
+        let t = turn-placeable (p .ready) (s .standing) n e in
+        record { numbered = t .numbered; room = omega (arith, t .room, s .same-length); readable = t .readable }
 
     pub pass-bridged : isBridge here ≡ true → Bridged (boot .root) counts memo c i (here .parent)
-    pass-bridged = turn-bridged (p .ready) (s .standing) n e
+    pass-bridged bridge =
+        let t = turn-bridged (p .ready) (s .standing) n e bridge in
+        record {
+          numbered = t .numbered;
+          room = omega (arith, t .room, s .same-length);
+          stored = t .stored;
+          last-numbered = t .last-numbered;
+          aligned = t .aligned;
+        }
 
     pub pass-few : i < mostFunctions
     pass-few =
@@ -132,7 +195,10 @@ module _ {pass : Pass} {b : List ℕ} {boot : Boot} {counts memo c₀ room₀ c 
         ∙ ap (passWrites pass 1) (map-append partBytes (take i (planOn b)) (planned ∷ []))
         ∙ pass-snoc pass 1 (map partBytes (take i (planOn b))) (partBytes planned)
 
-    pub pass-room : next .at + writeStride * length (writesIn pass 0 (partBytes planned)) ≤ length room
+    writes-here : (k : ℕ) → writesIn pass k (placedPart boot counts memo c i here) ≡ writesIn pass k (partBytes planned)
+    writes-here k = writes-held pass k boot counts memo c (s .cursors) i here (s .held)
+
+    pub pass-room : next .at + writeStride * length (writesIn pass 0 (placedPart boot counts memo c i here)) ≤ length room
     pass-room =
         let more = ap length next-writes ∙ length-append (writesUpTo pass b i) (writesIn pass number (partBytes planned)) in
         let at-is = ap (λ (x : Place). x .at) (s .wrote .next-is) in
@@ -142,20 +208,35 @@ module _ {pass : Pass} {b : List ℕ} {boot : Boot} {counts memo c₀ room₀ c 
           wrote-length (s .wrote),
           more,
           length-of-number pass number 0 (partBytes planned),
+          ap length (writes-here 0),
           up-to-le pass b (suc i),
           p .fits,
         )
 
-    pub passed-turn : {c' room' : List ℕ} {next' : Place} → c' ≡ cursorsNext memo c i here → length c' ≡ length c
-        → ((k : ℕ) → Wrote boot room next (writesIn pass k (partBytes planned)) room' next')
+    moved : {c' : List ℕ} → c' ≡ cursorsAfter pass memo c i here → cursorsOf pass c' (cursorsNext memo (s .cursors) i here)
+        ≡ cursorsNext memo (s .cursors) i here
+    moved {c'} m = go pass (s .held) m
+      where
+        go : (q : Pass) → cursorsOf q c (s .cursors) ≡ s .cursors → c' ≡ cursorsAfter q memo c i here
+            → cursorsOf q c' (cursorsNext memo (s .cursors) i here) ≡ cursorsNext memo (s .cursors) i here
+        go Buses h m = refl
+        go Registers h m = m ∙ ap (λ (x : List ℕ). cursorsNext memo x i here) h
+        go Commands h m = refl
+
+    pub passed-turn : {c' room' : List ℕ} {next' : Place} → c' ≡ cursorsAfter pass memo c i here → length c' ≡ length c
+        → ((k : ℕ) → Wrote boot room next (writesIn pass k (placedPart boot counts memo c i here)) room' next')
         → Passed pass b boot c₀ from room₀ c' room' (at + 2 + n) (suc i) next'
-    passed-turn {c'} {room'} {next'} moved same w =
+    passed-turn {c'} {room'} {next'} m same w =
         record {
           sheet = sets (s .sheet) (sheetLength i) (recordBytes planned);
-          standing = standing-turn (p .ready) (s .standing) n e moved refl same;
+          cursors = cursorsNext memo (s .cursors) i here;
+          held = moved m;
+          same-length = same ∙ s .same-length ∙ sym (length-next memo (s .cursors) i here);
+          standing = standing-turn (p .ready) (s .standing) n e refl refl (length-next memo (s .cursors) i here);
           wrote =
               subst (λ (ws : List Write). Wrote boot room₀ from ws room' next') (sym next-writes)
-              (wrote-append (writesUpTo pass b i) (writesIn pass number (partBytes planned)) (s .wrote) (w number));
+              (wrote-append (writesUpTo pass b i) (writesIn pass number (partBytes planned)) (s .wrote)
+              (subst (λ (ws : List Write). Wrote boot room next ws room' next') (writes-here number) (w number)));
         }
 
   -- none does

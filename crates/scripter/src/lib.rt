@@ -1,5 +1,6 @@
 // The write script: a board's bytes to the plan as configuration writes, or the number. No sheet is kept: each part of the script is a
-// placing pass of its own, whose records are laid out one at a time, so the call takes no more stack than the planner.
+// pass over the board of its own, and the one that writes BARs and windows places the records, laid out one at a time, so the call takes no
+// more stack than the planner.
 ghost use mathlib.Core.Path.{_≡_};
 ghost use mathlib.Core.Bool.{false, true};
 ghost use Prim.Native.Nat.{ℕ, _+_, _*_, _≤_, _<_};
@@ -8,25 +9,27 @@ ghost use lib.Seq.{sets};
 ghost use Rattle.records.specs.Limits.{mostFunctions};
 ghost use Rattle.records.specs.declared.Next.the-variants.{Record};
 ghost use Rattle.records.specs.Records.{nextOf};
-ghost use Rattle.board_record.specs.Function.{isBridge as isBridgeOf, headerWrong};
+ghost use Rattle.board_record.specs.Function.{isBridge as isBridgeOf, functionOfPart, headerWrong};
 ghost use Rattle.board.specs.Board.{boardNumber, hostOf, functionsOf};
 ghost use Rattle.sheet.specs.Sheet.{fullSheet};
 ghost use Rattle.plan_answer.specs.Plan.{onBoard};
 ghost use Rattle.planner.specs.Measure.{IsMeasured};
-ghost use Rattle.plan_pass.specs.Step.{functionAt, cursorsNext, Placeable, Bridged};
+ghost use Rattle.plan_pass.specs.Step.{functionAt, cursorsNext, NumberFits, Placeable, Bridged};
 ghost use Rattle.plan_pass.specs.Loop.{mostBuses, Placing};
-ghost use Rattle.script_writes.specs.Writes.{writesIn};
+ghost use Rattle.script_writes.specs.Writes.{registerWrites, writesIn};
 ghost use Rattle.script_writes.specs.Script.{writeStride};
 ghost use Rattle.script_writes.specs.Wrote.{Wrote};
 ghost use Rattle.scripter.specs.Scripting.{scriptOf, scriptLength, scriptingAs, scripting, roomAs, roomAfter};
 ghost use Rattle.scripter.specs.Counting.{weightOf, usedIn, writeCount, countIn};
-ghost use Rattle.scripter.specs.PassLaws.{ghostSheet, placedPart, passOf, frontOf, Passing};
+ghost use Rattle.scripter.specs.UnplacedLaws.{Numbered, busPart, commandPart};
+ghost use Rattle.scripter.specs.PassLaws.{ghostSheet, placedPart, cursorsAfter, passOf, frontOf, Passing};
 use board_record::Function;
 use board_record::Host;
 use planner::Measured;
 use records::MOST_FUNCTIONS;
 use records::Next;
 use script_writes::Boot;
+use script_writes::Dword;
 use script_writes::Pass;
 use script_writes::Place;
 use sheet_record::places::STRIDE;
@@ -294,7 +297,7 @@ fn pass_records(
     }
 }
 
-// Record i + 1 placed, and its writes in this part.
+// Record i + 1 in this part. Only its registers need it placed: its bus numbers, its ID and its command word are told without.
 fn put_next(
     pass: Pass,
     board: &[u8],
@@ -320,11 +323,128 @@ fn put_next(
         ≤ length (now room)
         ⌝ }
     ensures cursors { λ _. ⌜
-        now (cursors .exit) ≡ cursorsNext (now (memo .entry)) (now (cursors .entry)) i (functionAt (now (board .entry)) at n)
+        now (cursors .exit) ≡ cursorsAfter pass (now (memo .entry)) (now (cursors .entry)) i (functionAt (now (board .entry)) at n)
         ⌝ }
     ensures room { λ r. ⌜
         ((k : ℕ) → Wrote boot (now (room .entry)) from
         (writesIn pass k
+        (placedPart boot (now (counts .entry)) (now (memo .entry)) (now (cursors .entry)) i (functionAt (now (board .entry)) at n)))
+        (now (room .exit)) r)
+        ⌝ }
+{
+    match pass {
+        Pass::Buses => {
+            let part = records::part_at(board, at, n);
+            put_buses(part, i, counts, memo, boot, from, room)
+        }
+        Pass::Registers => put_placed(board, at, n, i, counts, memo, cursors, boot, from, room),
+        Pass::Commands => {
+            let part = records::part_at(board, at, n);
+            put_command(part, counts, boot, from, room)
+        }
+    }
+}
+
+// ---- one record
+
+// A bridge's bus registers.
+fn put_buses(
+    part: &[u8],
+    i: usize,
+    counts: &[u8],
+    memo: &[u64],
+    boot: Boot,
+    from: Place,
+    room: &mut [u8],
+) -> Place
+    requires { ⌜ (headerWrong (now part) ≡ false) × Numbered boot (now counts) (now memo) i (functionOfPart (now part)) ⌝ }
+    requires { ⌜
+        from .at + writeStride * length (busPart 0 boot (now counts) (now memo) i (functionOfPart (now part))) ≤ length (now room)
+        ⌝ }
+    ensures { λ r. ⌜
+        ((k : ℕ) → Wrote boot (now (room .entry)) from
+        (busPart k boot (now (counts .entry)) (now (memo .entry)) i (functionOfPart (now (part .entry))))
+        (now (room .exit)) r)
+        ⌝ }
+{
+    if !board_record::is_bridge(part) {
+        return from;
+    }
+    let parent = board_record::parent_of(part) as usize;
+    let primary = plan_pass::number_at(boot.root, counts, parent, parent);
+    let last = plan_pass::last_below(memo, i);
+    let buses = Dword {
+        first: primary,
+        second: plan_pass::number_at(boot.root, counts, i + 1, i + 1),
+        third: plan_pass::number_at(boot.root, counts, last, parent),
+        fourth: 0,
+    };
+    let id = plan_pass::id_of(primary, board_record::devfn_of(part));
+    script_writes::put_known(id, 0x18, 0b0111, buses, boot, from, room)
+}
+
+// Its command word.
+fn put_command(part: &[u8], counts: &[u8], boot: Boot, from: Place, room: &mut [u8]) -> Place
+    requires { ⌜
+        (headerWrong (now part) ≡ false)
+        × NumberFits (boot .root) (now counts) (functionOfPart (now part) .parent) (functionOfPart (now part) .parent)
+        ⌝ }
+    requires { ⌜ from .at + writeStride ≤ length (now room) ⌝ }
+    ensures { λ r. ⌜
+        ((k : ℕ) → Wrote boot (now (room .entry)) from
+        (commandPart k boot (now (counts .entry)) (functionOfPart (now (part .entry)))) (now (room .exit)) r)
+        ⌝ }
+{
+    let parent = board_record::parent_of(part) as usize;
+    let bus = plan_pass::number_at(boot.root, counts, parent, parent);
+    let command = command_of(part);
+    let bytes = Dword {
+        first: (command % 256) as u8,
+        second: (command / 256) as u8,
+        third: 0,
+        fourth: 0,
+    };
+    let id = plan_pass::id_of(bus, board_record::devfn_of(part));
+    script_writes::put_known(id, 0x04, 0b0011, bytes, boot, from, room)
+}
+
+fn command_of(part: &[u8]) -> u16
+    requires { ⌜ headerWrong (now part) ≡ false ⌝ }
+    ensures { λ r. ⌜ r ≡ functionOfPart (now (part .entry)) .command ⌝ }
+{
+    endian::read_be16(part, 4) as u16
+}
+
+// The function placed, and its BARs and windows.
+fn put_placed(
+    board: &[u8],
+    at: usize,
+    n: usize,
+    i: usize,
+    counts: &[u8],
+    memo: &[u64],
+    cursors: &mut [u64],
+    boot: Boot,
+    from: Place,
+    room: &mut [u8],
+) -> Place
+    requires { ⌜ (nextOf (drop at (now board)) ≡ Record n) × (headerWrong (take n (drop (at + 2) (now board))) ≡ false) ⌝ }
+    requires { ⌜
+        Placeable (boot .root) (now counts) (now cursors) (functionAt (now board) at n)
+        × (isBridgeOf (functionAt (now board) at n) ≡ true
+        → Bridged (boot .root) (now counts) (now memo) (now cursors) i (functionAt (now board) at n .parent))
+        ⌝ }
+    requires { ⌜
+        from .at + writeStride * length
+        (registerWrites 0 (placedPart boot (now counts) (now memo) (now cursors) i (functionAt (now board) at n)))
+        ≤ length (now room)
+        ⌝ }
+    ensures cursors { λ _. ⌜
+        now (cursors .exit) ≡ cursorsNext (now (memo .entry)) (now (cursors .entry)) i (functionAt (now (board .entry)) at n)
+        ⌝ }
+    ensures room { λ r. ⌜
+        ((k : ℕ) → Wrote boot (now (room .entry)) from
+        (registerWrites k
         (placedPart boot (now (counts .entry)) (now (memo .entry)) (now (cursors .entry)) i (functionAt (now (board .entry)) at n)))
         (now (room .exit)) r)
         ⌝ }
@@ -342,5 +462,5 @@ fn put_next(
         &mut bytes,
         0,
     );
-    script_writes::put_writes(pass, &bytes[2..], boot, from, room)
+    script_writes::put_registers(&bytes[2..], boot, from, room)
 }

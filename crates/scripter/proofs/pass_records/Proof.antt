@@ -5,7 +5,7 @@ use native.Mathlib.Omega.{arith}
 use native.Mathlib.Numerals.{add-one}
 use lib.ListN.{length}
 use borrow.Author.Needs.{needs}
-use Rattle.scripter.specs.PassLaws.{passed-turn}
+use Rattle.scripter.specs.PassLaws.{pass-length, passed-turn}
 use Rattle.scripter.specs.PassLaws.{Passed, passed-start, passed-end, passed-broken, pass-header, pass-placeable, pass-bridged}
 use Rattle.scripter.specs.PassLaws.{pass-few, pass-room}
 use Rattle.script_writes.specs.Wrote.{wrote-length}
@@ -19,51 +19,39 @@ Inv-loop pass board counts memo cursors₀ boot room₀ at₀ i₀ next₀ curso
 abbrev μ-loop : tie.MeasureT-loop
 μ-loop pass board counts memo cursors₀ boot room₀ at₀ i₀ next₀ cursors room at i next = length board - at
 
--- src/lib.rt:268:5
 loop-holds : tie.Need-loop-holds Inv-loop μ-loop
 loop-holds c = passed-start (c .before .before .before .before .before .args .pass) (c .before .before .before .before .before .args .board .now) (c .before .before .before .before .before .pre)
 
--- src/lib.rt:269:15
 next-at-requires : tie.Need-next-at-requires Inv-loop μ-loop
 next-at-requires c κs = search needs
 
--- src/lib.rt:271:17
 enum-told : tie.Need-enum-told Inv-loop μ-loop
 enum-told c = search needs
 
--- src/lib.rt:271:17
 same-length : tie.Need-same-length Inv-loop μ-loop
-same-length c = c .before .before .before .loop .inv .standing .cursors-length
+same-length c = pass-length (c .before .before .before .before .before .before .before .before .before .pre) (c .before .before .before .loop .inv)
 
--- src/lib.rt:271:17
 same-length-2 : tie.Need-same-length-2 Inv-loop μ-loop
 same-length-2 c = wrote-length (c .before .before .before .loop .inv .wrote)
 
--- src/lib.rt:271:17
 returns : tie.Need-returns Inv-loop μ-loop
 returns c = passed-end (c .before .before .before .before .before .before .before .before .before .pre) (c .before .before .before .loop .inv) (sym (c .before .before .next-at .ensures) ∙ c .enum-told .given .1)
 
--- src/lib.rt:274:17
 enum-told-2 : tie.Need-enum-told-2 Inv-loop μ-loop
 enum-told-2 c = search needs
 
--- src/lib.rt:274:17
 same-length-3 : tie.Need-same-length-3 Inv-loop μ-loop
-same-length-3 c = c .before .before .before .loop .inv .standing .cursors-length
+same-length-3 c = pass-length (c .before .before .before .before .before .before .before .before .before .pre) (c .before .before .before .loop .inv)
 
--- src/lib.rt:274:17
 same-length-4 : tie.Need-same-length-4 Inv-loop μ-loop
 same-length-4 c = wrote-length (c .before .before .before .loop .inv .wrote)
 
--- src/lib.rt:274:17
 returns-2 : tie.Need-returns-2 Inv-loop μ-loop
 returns-2 c = passed-broken (c .before .before .before .before .before .before .before .before .before .pre) (c .before .before .before .loop .inv) (sym (c .before .before .next-at .ensures) ∙ c .enum-told2 .given .1)
 
--- src/lib.rt:276:26
 enum-known-n : tie.Need-enum-known-n Inv-loop μ-loop
 enum-known-n c = search needs
 
--- src/lib.rt:277:17
 put-next-requires : tie.Need-put-next-requires Inv-loop μ-loop
 put-next-requires c κs =
     let pre = c .before .before .before .before .before .before .before .before .before .before .before .before .pre in
@@ -71,31 +59,26 @@ put-next-requires c κs =
     let e = sym (c .before .before .before .before .before .next-at .ensures) ∙ c .before .before .before .n .given .1 in
     ((e, pass-header pre inv _ e), ((pass-placeable pre inv _ e, pass-bridged pre inv _ e), pass-room pre inv _ e))
 
--- src/lib.rt:280:22
 add-at : tie.Need-add-at Inv-loop μ-loop
 add-at c =
     let e = sym (c .before .before .before .before .before .before .before .before .before .before .next-at .ensures) ∙ c .before .before .before .before .before .before .before .before .n .given .1 in
     omega (arith, fits-at (c .before .before .before .before .before .before .before .before .before .before .before .before .before .before .before .before .before .args .board .now) (c .before .before .before .before .before .before .before .before .before .before .before .loop .at) _ e, c .before .before .before .before .before .before .before .before .before .before .before .before .before .before .before .before .before .good .1 .0 .1)
 
--- src/lib.rt:280:22
 add-at-2 : tie.Need-add-at-2 Inv-loop μ-loop
 add-at-2 c =
     let e = sym (c .before .before .before .before .before .before .before .before .before .before .next-at .ensures) ∙ c .before .before .before .before .before .before .before .before .n .given .1 in
     omega (arith, fits-at (c .before .before .before .before .before .before .before .before .before .before .before .before .before .before .before .before .before .args .board .now) (c .before .before .before .before .before .before .before .before .before .before .before .loop .at) _ e, c .before .before .before .before .before .before .before .before .before .before .before .before .before .before .before .before .before .good .1 .0 .1)
 
--- src/lib.rt:281:17
 add-i : tie.Need-add-i Inv-loop μ-loop
 add-i c =
     let e = sym (c .before .before .before .before .before .before .before .before .before .before .next-at .ensures) ∙ c .before .before .before .before .before .before .before .before .n .given .1 in
     omega (arith, pass-few (c .before .before .before .before .before .before .before .before .before .before .before .before .before .before .before .before .before .pre) (c .before .before .before .before .before .before .before .before .before .before .before .loop .inv) _ e)
 
--- src/lib.rt:268:5
 loop-less : tie.Need-loop-less Inv-loop μ-loop
 loop-less c =
     let e = sym (c .before .before .before .before .before .before .before .before .before .before .next-at .ensures) ∙ c .before .before .before .before .before .before .before .before .n .given .1 in
     omega (arith, fits-at (c .before .before .before .before .before .before .before .before .before .before .before .before .before .before .before .before .before .args .board .now) (c .before .before .before .before .before .before .before .before .before .before .before .loop .at) _ e)
 
--- src/lib.rt:268:5
 loop-again : tie.Need-loop-again Inv-loop μ-loop
 loop-again c =
     let e = sym (c .before .before .before .before .before .before .before .before .before .before .next-at .ensures) ∙ c .before .before .before .before .before .before .before .before .n .given .1 in

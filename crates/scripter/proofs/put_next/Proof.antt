@@ -1,65 +1,131 @@
--- `scripter::put_next` meets its contract. Assumes nothing.
-use mathlib.Core.Path.{ap, _∙_}
+-- `scripter::put_next` meets its contract: a part is by the pass. Assumes nothing.
+use mathlib.Core.Path.{_≡_, refl, sym, ap, subst, _∙_}
+use mathlib.Core.List.{List}
+use Prim.Native.Nat.{ℕ, _+_, _*_, _≤_}
 use native.Mathlib.Omega.{arith}
 use lib.ListN.{length}
 use borrow.Author.Needs.{needs}
-use Rattle.scripter.specs.PassLaws.{laid-out}
-use Rattle.script_writes.specs.Wrote.{wrote-length}
-use Rattle.sheet_bytes.specs.LayoutLaws.{length-partBytes}
+use Rattle.script_writes.specs.Writes.{Write}
+use Rattle.script_writes.specs.Wrote.{Wrote}
+use Rattle.records.specs.RecordsLaws.{fits-at}
+use Rattle.board_record.specs.Function.{headerWrong}
+use Rattle.plan_pass.specs.Step.{functionAt}
+use Rattle.scripter.specs.UnplacedLaws.{command-placed, buses-placed}
 use Rattle.scripter.proofs.put_next.Statement.{statement}
 use Rattle.scripter.proofs.put_next.Tie as tie
 
--- src/lib.rt:332:9
-slice-aggregate-place-at : tie.Need-slice-aggregate-place-at
-slice-aggregate-place-at c = search needs
+enum-told : tie.Need-enum-told
+enum-told c = search needs
 
--- src/lib.rt:323:5
-place-at-requires : tie.Need-place-at-requires
-place-at-requires c κs = search needs
+part-at-requires : tie.Need-part-at-requires
+part-at-requires c κs =
+    let at-args = c .before .before .before .before .before .before .before in
+    fits-at (at-args .args .board .now) (at-args .args .at) (at-args .args .n) (at-args .pre .0 .0)
 
--- src/lib.rt:335:37
-sub-put-writes : tie.Need-sub-put-writes
-sub-put-writes c = search needs
+put-buses-requires : tie.Need-put-buses-requires
+put-buses-requires c κs =
+    let at-args = c .before .before .before .before .before .before .before .before .before in
+    let s = at-args .args in
+    let pre = at-args .pre in
+    let e = c .before .part-at .ensures in
+    let room = rw (c .before .before .enum-told .given .1) at (pre .1 .1) in
+    let ws = ap length (buses-placed 0 (s .boot) (s .counts .now) (functionAt (s .board .now) (s .at) (s .n)) (s .memo .now) (s .i)
+    (s .cursors .now)) in (
+      (
+        ap headerWrong e ∙ pre .0 .1,
+        rw e (record {
+          own = pre .1 .0 .0 .numbered;
+          below = λ b. pre .1 .0 .1 b .numbered;
+          stored = λ b. pre .1 .0 .1 b .stored;
+          last = λ b. pre .1 .0 .1 b .last-numbered;
+        }),
+      ),
+      rw e (omega (arith, room, ws)),
+    )
 
--- src/lib.rt:335:37
-part-put-writes-start : tie.Need-part-put-writes-start
-part-put-writes-start c = search needs
+enum-told-2 : tie.Need-enum-told-2
+enum-told-2 c = search needs
 
--- src/lib.rt:335:37
-part-put-writes-end : tie.Need-part-put-writes-end
-part-put-writes-end c = search needs
+put-placed-requires : tie.Need-put-placed-requires
+put-placed-requires c κs =
+    let pre = c .before .before .before .before .before .before .before .before .before .pre in
+    (pre .0, (pre .1 .0, rw (c .before .before .enum-told2 .given .1) at (pre .1 .1)))
 
--- src/lib.rt:335:5
-put-writes-requires : tie.Need-put-writes-requires
-put-writes-requires c κs =
-    let part-is = laid-out _ _ (c .before .before .before .before .before .before .place-at .ensures .1) in
-    (ap length part-is ∙ length-partBytes _, rw part-is (c .before .before .before .before .before .before .before .before .before .before .before .before .before .before .pre .1 .1))
+enum-told-3 : tie.Need-enum-told-3
+enum-told-3 c = search needs
 
--- src/lib.rt:288:1
+part-at-requires-2 : tie.Need-part-at-requires-2
+part-at-requires-2 c κs =
+    let at-args = c .before .before .before .before .before .before .before in
+    fits-at (at-args .args .board .now) (at-args .args .at) (at-args .args .n) (at-args .pre .0 .0)
+
+put-command-requires : tie.Need-put-command-requires
+put-command-requires c κs =
+    let pre = c .before .before .before .before .before .before .before .before .before .pre in
+    let e = c .before .part-at2 .ensures in
+    let room = rw (c .before .before .enum-told3 .given .1) at (pre .1 .1) in
+    ((ap headerWrong e ∙ pre .0 .1, rw e (pre .1 .0 .0 .numbered)), omega (arith, room))
+
 same-length : tie.Need-same-length
 same-length c = search needs
 
--- src/lib.rt:288:1
-same-length-2 : tie.Need-same-length-2
-same-length-2 c = wrote-length (c .before .before .put-writes .ensures 0)
-
--- src/lib.rt:288:1
 returns : tie.Need-returns
 returns c =
-    let place-at = c .before .before .before .before .before .before .before .before .before .place-at in
-    let part-is = laid-out _ _ (place-at .ensures .1) in
-    (place-at .ensures .0, λ k. rw part-is at (c .before .before .put-writes .ensures k))
+    let put = c .before .before in
+    let s = c .before .before .before .before .before .before .before .before .before .before .before .before .args in
+    let told = put .before .before .before .enum-told .given .1 in (
+      rw told,
+      λ k.
+          rw (
+            told,
+            buses-placed k (s .boot) (s .counts .now) (functionAt (s .board .now) (s .at) (s .n)) (s .memo .now) (s .i) (s .cursors .now),
+          ) (rw (put .before .before .part-at .ensures) at (put .put-buses .ensures k)),
+    )
+
+same-length-2 : tie.Need-same-length-2
+same-length-2 c = search needs
+
+same-length-3 : tie.Need-same-length-3
+same-length-3 c = search needs
+
+returns-2 : tie.Need-returns-2
+returns-2 c =
+    let put = c .before .before .before .before in
+    let told = put .before .before .before .enum-told2 .given .1 in
+    (rw told (put .put-placed .ensures .0), λ k. rw told (put .put-placed .ensures .1 k))
+
+same-length-4 : tie.Need-same-length-4
+same-length-4 c = search needs
+
+returns-3 : tie.Need-returns-3
+returns-3 c =
+    let put = c .before .before in
+    let s = c .before .before .before .before .before .before .before .before .before .before .before .before .args in
+    let told = put .before .before .before .enum-told3 .given .1 in (
+      rw told,
+      λ k.
+          rw (
+            told,
+            command-placed k (s .boot) (s .counts .now) (functionAt (s .board .now) (s .at) (s .n)) (s .memo .now) (s .i) (s .cursors .now),
+          ) (rw (put .before .before .part-at2 .ensures) at (put .put-command .ensures k)),
+    )
 
 pub put-next-spec : {M : Type 1} → statement M
 put-next-spec =
     tie.close
     (tie.spec
-    slice-aggregate-place-at
-    place-at-requires
-    sub-put-writes
-    part-put-writes-start
-    part-put-writes-end
-    put-writes-requires
+    enum-told
+    part-at-requires
+    put-buses-requires
+    enum-told-2
+    put-placed-requires
+    enum-told-3
+    part-at-requires-2
+    put-command-requires
     same-length
+    returns
     same-length-2
-    returns)
+    same-length-3
+    returns-2
+    same-length-4
+    returns-3)
