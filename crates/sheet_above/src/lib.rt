@@ -159,11 +159,11 @@ fn leader_of(sheet: &[u8], bus: u8) -> u16
 {
     let records = sheet::count(sheet);
     let first = next_leader(sheet, bus, 0);
-    if records <= first {
+    if first == records {
         return 0;
     }
     let second = next_leader(sheet, bus, first + 1);
-    if second < records {
+    if second != records {
         return SEVERAL;
     }
     (first + 1) as u16
