@@ -17,7 +17,7 @@
  *     audit    whether a sheet that other firmware left will do    cartsundial_audit, _sound, _sound_alone, _audit_where
  *     ledger   which requests wait for completions                 cartsundial_ledger_open, _ledger_complete, _ledger_count
  *     script   a board's plan as configuration writes              cartsundial_script
- *     codec    a header's bytes as numbers, and back               cartsundial_read, _write
+ *     codec    a header's bytes as numbers, and back               cartsundial_read, _write; whether they are a header _judge
  *
  * The archive is for x86-64, System V calling convention, position independent, with SSE2. Of a C library it calls memset, and for the
  * lines of a trace memcpy; nothing else.
@@ -726,6 +726,11 @@ CARTSUNDIAL_CHECKED uint32_t cartsundial_script(const uint8_t *board, size_t boa
 CARTSUNDIAL_CHECKED uint32_t cartsundial_read(const uint8_t *header, size_t header_len,
                                               uint64_t *CARTSUNDIAL_RESTRICT packet, size_t packet_len)
     CARTSUNDIAL_READS(1, 2) CARTSUNDIAL_WRITES(3, 4);
+
+/*
+ * 0 for a header that cartsundial_read reads, or the number with which it refuses it, 1 to 9. Nothing is written: the quickest way to tell.
+ */
+CARTSUNDIAL_CHECKED uint32_t cartsundial_judge(const uint8_t *header, size_t header_len) CARTSUNDIAL_READS(1, 2);
 
 /*
  * Writes the packet that the first twenty numbers are, 12 or 16 bytes at the front of the room and nothing past them. written: how many.

@@ -117,6 +117,7 @@ static void plan_where_refused(void)
 }
 static void write_script(void) { number = cartsundial_script(board, board_len, 0, 0, script, sizeof script, written, 1); }
 static void read_header(void) { number = cartsundial_read(header, sizeof header, packet, 20); }
+static void judge(void) { number = cartsundial_judge(header, sizeof header); }
 static void write_header(void) { number = cartsundial_write(packet, 20, lines, 16, written, 1); }
 static void check(void) { number = cartsundial_check(sheet, sheet_len); }
 static void audit(void) { number = cartsundial_audit(host, sizeof host, sheet, sheet_len); }
@@ -199,6 +200,7 @@ int main(void)
     measure("plan_where, refused", plan_where_refused, 60);
     measure("script", write_script, 60);
     measure("read", read_header, 12);
+    measure("judge", judge, 12);
     measure("write", write_header, 12);
     measure("check", check, 12);
     measure("audit", audit, 12);

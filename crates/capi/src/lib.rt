@@ -2,6 +2,7 @@
 // pointer and then a length. An answer slice too short is 11, tried last; numbers past the answer's own are left as they were.
 ghost use mathlib.Core.Path.{_≡_};
 ghost use lib.ListN.{length};
+ghost use Rattle.tlp.specs.Reading.{numberOf as readingNumber, readOf};
 ghost use Rattle.sheet.specs.Sheet.{sheetNumber};
 ghost use Rattle.audit_rule.specs.Audit.{auditNumber, soundNumber};
 ghost use Rattle.audit_finding.specs.Finding.{findingOf};
@@ -41,6 +42,14 @@ pub extern "C" fn cartsundial_read(header: &[u8], packet: &mut [u64]) -> u32
     ensures { λ _. ⌜ now (packet .exit) ≡ filled (readAnswer (now (header .entry))) (now (packet .entry)) ⌝ }
 {
     capi_packet::read(header, packet)
+}
+
+// 0 for a header that cartsundial_read reads, or its number. There is no answer, so that no room for one is asked for.
+#[no_mangle]
+pub extern "C" fn cartsundial_judge(header: &[u8]) -> u32
+    ensures { λ r. ⌜ r ≡ readingNumber (readOf (now (header .entry))) ⌝ }
+{
+    tlp_judge::judge(header) as u32
 }
 
 // Writes the packet that twenty numbers are, and its number of bytes. Numbers that are no packet are refused before the room is looked at:

@@ -46,6 +46,7 @@ mod c {
     extern "sysv64" {
         pub fn cartsundial_version() -> u32;
         pub fn cartsundial_read(header: *const u8, header_len: usize, packet: *mut u64, packet_len: usize) -> u32;
+        pub fn cartsundial_judge(header: *const u8, header_len: usize) -> u32;
         pub fn cartsundial_write(
             packet: *const u64,
             packet_len: usize,
@@ -199,8 +200,15 @@ pub fn version() -> u32 {
 }
 
 /// Reads the header at the start of `header` into the first [`PACKET`] numbers of `packet`.
+#[inline]
 pub fn read(header: &[u8], packet: &mut [u64]) -> u32 {
     unsafe { c::cartsundial_read(header.as_ptr(), header.len(), packet.as_mut_ptr(), packet.len()) }
+}
+
+/// The number that [`read`] gives the header at the start of `header`, with no numbers to write: 0 where it is read.
+#[inline]
+pub fn judge(header: &[u8]) -> u32 {
+    unsafe { c::cartsundial_judge(header.as_ptr(), header.len()) }
 }
 
 /// Writes the packet that the first [`PACKET`] numbers are to the start of `room`, and the header's length to
@@ -208,6 +216,7 @@ pub fn read(header: &[u8], packet: &mut [u64]) -> u32 {
 ///
 /// Fewer numbers are 11, before anything else; a number that its field cannot hold, and one in a field that the kind
 /// does not have, are 10.
+#[inline]
 pub fn write(packet: &[u64], room: &mut [u8], written: &mut [u64]) -> u32 {
     unsafe {
         c::cartsundial_write(

@@ -1,8 +1,8 @@
 //! A packet's fields as Rust types, to make a packet of and to match on.
 
-use crate::calls::{self, PACKET};
+use crate::calls::PACKET;
 use crate::kind::{CompletionKind, ConfigurationKind, Form, IoKind, MemoryKind, MessageKind, Routing};
-use crate::{refused, Id, Refusal};
+use crate::{Id, Packet, Refusal};
 
 /// The fields of a packet, for [`Packet::new`](crate::Packet::new). Every kind has its own fields only. A field may hold
 /// a value that its bits in the header cannot: no packet is made of it then, and the refusal is 10.
@@ -101,14 +101,35 @@ pub struct Enables {
 
 impl Fields {
     /// Writes the header of the packet with these fields at the start of `room`, as [`Packet::new`](crate::Packet::new)
-    /// and then [`write()`](crate::write()) would, but straight into the room.
+    /// and then [`write()`](crate::write()) do.
     #[inline]
     pub fn write(&self, room: &mut [u8]) -> Result<usize, Refusal> {
-        let mut written = [0];
-        match calls::write(&self.to_numbers(), room, &mut written) {
-            0 => Ok(written[0] as usize),
-            number => Err(refused(number)),
+        crate::write(&Packet::new(self)?, room)
+    }
+
+    /// Bytes 0 to 7 and 8 to 15 of the header, each as a number, its first byte highest; and zeros past the end of a shorter
+    /// one. None where a field holds what its bits cannot.
+    #[inline]
+    pub(crate) fn laid_out(&self) -> Option<[u64; 2]> {
+        let Fields { tc, attr, td, ep, at, length, requester, tag, body } = *self;
+        let Own { byte0, dword1, tail, fits, has_length, tag_bits } = body.laid_out(requester, tag);
+        let in_range = if has_length { length.wrapping_sub(1) < 1024 } else { length == 0 };
+        if !fits | !in_range | (tc > 7) | (attr > 7) | (at > 3) | (tag >> tag_bits != 0) {
+            return None;
         }
+        let (attr, tag) = (u64::from(attr), u64::from(tag));
+        // The code of 1,024 is 0.
+        let dword0 = u64::from(byte0) << 24
+            | (tag & 0x200) << 14
+            | u64::from(tc) << 20
+            | (tag & 0x100) << 11
+            | (attr & 4) << 16
+            | u64::from(td) << 15
+            | u64::from(ep) << 14
+            | (attr & 3) << 12
+            | u64::from(at) << 10
+            | u64::from(length & 0x3FF);
+        Some([dword0 << 32 | dword1, tail])
     }
 
     /// The fields as the library's numbers, in the order of [`PACKET`].
@@ -129,7 +150,69 @@ impl Fields {
     }
 }
 
+/// What a kind has of its own in a header.
+struct Own {
+    byte0: u8,
+    /// Bytes 4 to 7, and bytes 8 to 15.
+    dword1: u64,
+    tail: u64,
+    /// Whether each of the kind's own fields has a value that its bits can hold.
+    fits: bool,
+    has_length: bool,
+    tag_bits: u32,
+}
+
+impl Own {
+    /// Of a request that a completion answers.
+    #[inline]
+    fn request(byte0: u8, transaction: u64, Enables { last, first }: Enables, tail: u64, fits: bool) -> Own {
+        let dword1 = transaction | u64::from(last << 4 | first & 0xF);
+        Own { byte0, dword1, tail, fits: fits & (last < 16) & (first < 16), has_length: true, tag_bits: 10 }
+    }
+}
+
 impl Body {
+    #[inline]
+    fn laid_out(&self, requester: Id, tag: u16) -> Own {
+        let transaction = u64::from(requester.0) << 16 | u64::from(tag & 0xFF) << 8;
+        match *self {
+            Body::Memory { kind, form, enables, address } => {
+                let (tail, fits) = match form {
+                    Form::ThreeDwords => (address << 32, address >> 32 == 0),
+                    Form::FourDwords => (address, true),
+                };
+                let own = Own::request(kind.byte0() | form.bit(), transaction, enables, tail, fits);
+                Own { tag_bits: if matches!(kind, MemoryKind::MWr) { 8 } else { 10 }, ..own }
+            }
+            Body::Io { kind, enables, address } => {
+                Own::request(kind.byte0(), transaction, enables, u64::from(address) << 32, true)
+            }
+            Body::Configuration { kind, enables, target, register } => {
+                let tail = u64::from(target.0) << 48 | u64::from(register & 0x3FF) << 34;
+                Own::request(kind.byte0(), transaction, enables, tail, register < 1024)
+            }
+            Body::Completion { kind, completer, status, bcm, byte_count, lower_address } => Own {
+                byte0: kind.byte0(),
+                dword1: u64::from(completer.0) << 16
+                    | u64::from(status & 7) << 13
+                    | u64::from(bcm) << 12
+                    | u64::from(byte_count & 0xFFF),
+                tail: (transaction | u64::from(lower_address & 0x7F)) << 32,
+                fits: (status < 8) & (byte_count < 4096) & (lower_address < 128),
+                has_length: matches!(kind, CompletionKind::CplD | CompletionKind::CplDLk),
+                tag_bits: 10,
+            },
+            Body::Message { kind, routing, code, tail } => Own {
+                byte0: kind.byte0() | routing.number(),
+                dword1: transaction | u64::from(code),
+                tail,
+                fits: true,
+                has_length: matches!(kind, MessageKind::MsgD),
+                tag_bits: 8,
+            },
+        }
+    }
+
     /// Puts a kind's own fields to their places among the last ten numbers, and returns the kind's and the form's.
     #[inline]
     fn put(&self, own: &mut [u64; 10]) -> (u64, u64) {

@@ -216,6 +216,27 @@ impl Form {
     pub const fn bytes(self) -> usize {
         4 * self as usize
     }
+
+    /// Its bit in byte 0, Fmt's lowest.
+    #[inline]
+    pub(crate) const fn bit(self) -> u8 {
+        match self {
+            Form::ThreeDwords => 0,
+            Form::FourDwords => 0b001_00000,
+        }
+    }
+}
+
+impl MemoryKind {
+    /// Fmt and Type.
+    #[inline]
+    pub(crate) const fn byte0(self) -> u8 {
+        match self {
+            MemoryKind::MRd => 0b000_00000,
+            MemoryKind::MRdLk => 0b000_00001,
+            MemoryKind::MWr => 0b010_00000,
+        }
+    }
 }
 
 impl From<MemoryKind> for Kind {
@@ -229,12 +250,36 @@ impl From<MemoryKind> for Kind {
     }
 }
 
+impl IoKind {
+    /// Fmt and Type.
+    #[inline]
+    pub(crate) const fn byte0(self) -> u8 {
+        match self {
+            IoKind::IORd => 0b000_00010,
+            IoKind::IOWr => 0b010_00010,
+        }
+    }
+}
+
 impl From<IoKind> for Kind {
     #[inline]
     fn from(kind: IoKind) -> Kind {
         match kind {
             IoKind::IORd => Kind::IORd,
             IoKind::IOWr => Kind::IOWr,
+        }
+    }
+}
+
+impl ConfigurationKind {
+    /// Fmt and Type.
+    #[inline]
+    pub(crate) const fn byte0(self) -> u8 {
+        match self {
+            ConfigurationKind::CfgRd0 => 0b000_00100,
+            ConfigurationKind::CfgWr0 => 0b010_00100,
+            ConfigurationKind::CfgRd1 => 0b000_00101,
+            ConfigurationKind::CfgWr1 => 0b010_00101,
         }
     }
 }
@@ -251,6 +296,19 @@ impl From<ConfigurationKind> for Kind {
     }
 }
 
+impl CompletionKind {
+    /// Fmt and Type.
+    #[inline]
+    pub(crate) const fn byte0(self) -> u8 {
+        match self {
+            CompletionKind::Cpl => 0b000_01010,
+            CompletionKind::CplD => 0b010_01010,
+            CompletionKind::CplLk => 0b000_01011,
+            CompletionKind::CplDLk => 0b010_01011,
+        }
+    }
+}
+
 impl From<CompletionKind> for Kind {
     #[inline]
     fn from(kind: CompletionKind) -> Kind {
@@ -259,6 +317,17 @@ impl From<CompletionKind> for Kind {
             CompletionKind::CplD => Kind::CplD,
             CompletionKind::CplLk => Kind::CplLk,
             CompletionKind::CplDLk => Kind::CplDLk,
+        }
+    }
+}
+
+impl MessageKind {
+    /// Fmt and Type.
+    #[inline]
+    pub(crate) const fn byte0(self) -> u8 {
+        match self {
+            MessageKind::Msg => 0b001_10000,
+            MessageKind::MsgD => 0b011_10000,
         }
     }
 }

@@ -1,27 +1,31 @@
 //! A lawful header.
 //!
-//! A [`Packet`] keeps a header's 12 or 16 bytes. It is made by three ways: of a header that the library's reader accepted, as
-//! it is or as it arrives ([`read()`], and the answers of routing); of fields ([`Packet::new`], through which the constructors
-//! of common packets go); of the library's twenty numbers ([`Packet::from_numbers`]). The last two are what the library's
-//! writer wrote. What is proved of the library makes that enough:
+//! A [`Packet`] keeps a header's 12 or 16 bytes. It is made by three ways: of a header that the library judged lawful, as it is
+//! or as it arrives ([`read()`], and the answers of routing); of fields, laid out here and judged by the library
+//! ([`Packet::new`], through which the constructors of common packets go); of the library's twenty numbers, by its writer
+//! ([`Packet::from_numbers`]). What is proved of the library makes that enough:
 //!
+//! - A header is judged as it is read: 0 where it is accepted, else the reader's number (`cartsundial_judge`).
 //! - A header that is read is written back to its own first 12 or 16 bytes, and what the writer wrote is read back as the
 //!   same packet (crates/demands/specs/Demand2.antt). So [`write()`] copies the bytes and asks nothing again.
 //! - Lawful packets with the same bytes are one packet (`layout-unique` in crates/tlp/specs/RoundTrip.antt). So packets
 //!   are equal exactly when their bytes are.
+//! - Fields that fit their bits are, laid out, judged as the writer judges them (`fitting-layout` in
+//!   crates/tlp_judge/specs/Fitting.antt). So fields get the writer's number.
 //! - A packet arrives as it was read, but for a configuration request of type 1, which becomes type 0: one bit, and no rule
 //!   tells the two types apart.
 //!
-//! A field is taken from the bytes where it is asked for. No proof covers that: tests/against_plain holds each field of
-//! each header that it reads against the library's own number.
+//! A field is taken from the bytes where it is asked for, and put there by `Fields::laid_out`. No proof covers these two:
+//! tests/against_plain holds each field of each header that it reads against the library's own number, and each header that it
+//! makes of fields against what the library writes of the same numbers.
 
-use crate::calls::{self, PACKET, SHORT};
+use crate::calls::{self, PACKET};
 use crate::kind::{CompletionKind, ConfigurationKind, IoKind, MemoryKind, MessageKind};
 use crate::{refused, Body, Enables, Fields, Form, Id, Kind, Refusal, Routing};
 use core::fmt;
 
-/// The longest header.
-const LONGEST: usize = Form::FourDwords.bytes();
+/// Half of the longest header.
+const HALF: usize = Form::FourDwords.bytes() / 2;
 
 /// Byte 0 of a configuration request of type 1.
 const CFG_RD1: u8 = 0b000_00101;
@@ -48,8 +52,8 @@ const CFG_WR1: u8 = 0b010_00101;
 // Aligned, so that in a `Result` the bytes are not where the refusal is, and are moved as two words.
 #[repr(align(8))]
 pub struct Packet {
-    /// A lawful header, and zeros past its end.
-    bytes: [u8; LONGEST],
+    /// A lawful header, and zeros past its end: bytes 0 to 7, and 8 to 15.
+    halves: [[u8; HALF]; 2],
 }
 
 /// Reads the header at the start of `header`. Later bytes are not looked at.
@@ -62,9 +66,8 @@ pub struct Packet {
 /// ```
 #[inline]
 pub fn read(header: &[u8]) -> Result<Packet, Refusal> {
-    // Twenty numbers do not fit an empty slice: an accepted header is short of room, and none of them is stored.
-    match calls::read(header, &mut []) {
-        SHORT => Ok(Packet::of_accepted(header)),
+    match calls::judge(header) {
+        0 => Ok(Packet::of_accepted(header)),
         number => Err(refused(number)),
     }
 }
@@ -75,9 +78,10 @@ pub fn write(packet: &Packet, room: &mut [u8]) -> Result<usize, Refusal> {
     let length = packet.form().bytes();
     let room = room.get_mut(..length).ok_or(Refusal::ShortRoom)?;
     // Two dwords, the third, and the last, which is the third again or the fourth: no copy of a varying length.
-    room[..8].copy_from_slice(&packet.bytes[..8]);
+    let bytes = packet.halves.as_flattened();
+    room[..8].copy_from_slice(&bytes[..8]);
     for at in [8, length - 4] {
-        room[at..at + 4].copy_from_slice(&packet.bytes[at..at + 4]);
+        room[at..at + 4].copy_from_slice(&bytes[at..at + 4]);
     }
     Ok(length)
 }
@@ -86,16 +90,22 @@ impl Packet {
     /// The packet with these fields. Where there is none, the refusal is the writer's: 10, then 4 to 9.
     #[inline]
     pub fn new(fields: &Fields) -> Result<Packet, Refusal> {
-        Packet::from_numbers(&fields.to_numbers())
+        let laid_out = Packet { halves: fields.laid_out().ok_or(Refusal::TooWide)?.map(u64::to_be_bytes) };
+        // A copy is lent, so that the packet stays in registers.
+        let copy = laid_out.halves;
+        match calls::judge(copy.as_flattened()) {
+            0 => Ok(laid_out),
+            number => Err(refused(number)),
+        }
     }
 
     /// The packet that these numbers are, in the order of [`PACKET`]. Where there is none, the refusal is the writer's: 2,
     /// 10, then 4 to 9.
     #[inline]
     pub fn from_numbers(numbers: &[u64; PACKET]) -> Result<Packet, Refusal> {
-        let mut bytes = [0; LONGEST];
-        match calls::write(numbers, &mut bytes, &mut [0]) {
-            0 => Ok(Packet { bytes }),
+        let mut halves = [[0; HALF]; 2];
+        match calls::write(numbers, halves.as_flattened_mut(), &mut [0]) {
+            0 => Ok(Packet { halves }),
             number => Err(refused(number)),
         }
     }
@@ -103,36 +113,34 @@ impl Packet {
     /// The packet of a header that the library's reader accepted: its first 12 or 16 bytes.
     #[inline]
     pub(crate) fn of_accepted(header: &[u8]) -> Packet {
-        let front = match header.first_chunk() {
-            Some(&front) => front,
+        let mut bytes = [0; 2 * HALF];
+        match header.first_chunk() {
+            Some(front) => bytes = *front,
             // Under 16 bytes only the shorter form is accepted.
-            None => {
-                let mut front = [0; LONGEST];
-                front[..12].copy_from_slice(&header[..12]);
-                front
-            }
+            None => bytes[..12].copy_from_slice(&header[..12]),
+        }
+        // As numbers, the lowest byte first, they stay in registers.
+        let whole = u128::from_le_bytes(bytes);
+        let (front, tail) = (whole as u64, (whole >> 64) as u64);
+        let kept = match form(front as u8) {
+            Form::ThreeDwords => tail & 0xFFFF_FFFF,
+            Form::FourDwords => tail,
         };
-        // As a number, byte 0 lowest, the bytes stay in registers.
-        let number = u128::from_le_bytes(front);
-        let kept = match form(number as u8) {
-            Form::ThreeDwords => number & u128::MAX >> 32,
-            Form::FourDwords => number,
-        };
-        Packet { bytes: kept.to_le_bytes() }
+        Packet { halves: [front.to_le_bytes(), kept.to_le_bytes()] }
     }
 
     /// The packet as it arrives at a function: configuration type 1 becomes type 0, which is bit 0 of byte 0.
     #[inline]
     pub(crate) fn arrived(mut self) -> Packet {
-        let is_type1 = matches!(self.bytes[0], CFG_RD1 | CFG_WR1);
-        self.bytes[0] &= !u8::from(is_type1);
+        let is_type1 = matches!(self.byte0(), CFG_RD1 | CFG_WR1);
+        self.halves[0][0] &= !u8::from(is_type1);
         self
     }
 
     /// The header's 12 or 16 bytes.
     #[inline]
     pub fn header(&self) -> &[u8] {
-        &self.bytes[..self.form().bytes()]
+        &self.halves.as_flattened()[..self.form().bytes()]
     }
 
     /// What the packet is.
@@ -150,43 +158,43 @@ impl Packet {
     /// The header's length. Memory requests alone have both.
     #[inline]
     pub fn form(&self) -> Form {
-        form(self.bytes[0])
+        form(self.byte0())
     }
 
     /// Traffic class, 0 to 7.
     #[inline]
     pub fn tc(&self) -> u8 {
-        self.bytes[1] >> 4 & 7
+        (self.front() >> 52) as u8 & 7
     }
 
     /// Attributes, 0 to 7; Attr2 is the highest bit.
     #[inline]
     pub fn attr(&self) -> u8 {
-        self.bytes[1] & 4 | self.bytes[2] >> 4 & 3
+        (self.front() >> 48) as u8 & 4 | (self.front() >> 44) as u8 & 3
     }
 
     /// Whether a digest follows.
     #[inline]
     pub fn td(&self) -> bool {
-        self.bytes[2] & 0x80 != 0
+        self.front() >> 47 & 1 != 0
     }
 
     /// Whether the data is poisoned.
     #[inline]
     pub fn ep(&self) -> bool {
-        self.bytes[2] & 0x40 != 0
+        self.front() >> 46 & 1 != 0
     }
 
     /// Address type, 0 to 3.
     #[inline]
     pub fn at(&self) -> u8 {
-        self.bytes[2] >> 2 & 3
+        (self.front() >> 42) as u8 & 3
     }
 
     /// In dwords, 1 to 1,024; 0 for Cpl, CplLk and Msg.
     #[inline]
     pub fn length(&self) -> u16 {
-        match self.word(2) & 0x3FF {
+        match (self.front() >> 32) as u16 & 0x3FF {
             0 if self.has_length() => 1024,
             code => code,
         }
@@ -195,14 +203,14 @@ impl Packet {
     /// Who asked.
     #[inline]
     pub fn requester(&self) -> Id {
-        Id(self.word(self.transaction()))
+        Id((self.transaction() >> 16) as u16)
     }
 
     /// 0 to 1,023; 0 to 255 of a memory write or a message, whose bits in byte 1 are 0.
     #[inline]
     pub fn tag(&self) -> u16 {
-        let (byte1, low) = (u16::from(self.bytes[1]), u16::from(self.bytes[self.transaction() + 2]));
-        (byte1 & 0x80) << 2 | (byte1 & 0x08) << 5 | low
+        let high = (self.front() >> 46) as u16 & 0x200 | (self.front() >> 43) as u16 & 0x100;
+        high | (self.transaction() >> 8) as u16 & 0xFF
     }
 
     /// What the packet is, with the fields that only some kinds have.
@@ -212,25 +220,29 @@ impl Packet {
             Pair::Memory(kind) => {
                 let form = self.form();
                 let address = match form {
-                    Form::ThreeDwords => self.dword(8).into(),
+                    Form::ThreeDwords => self.tail() >> 32,
                     Form::FourDwords => self.tail(),
                 };
                 Body::Memory { kind, form, enables: self.enables(), address }
             }
-            Pair::Io(kind) => Body::Io { kind, enables: self.enables(), address: self.dword(8) },
-            Pair::Configuration(kind) => {
-                let register = self.word(10) >> 2 & 0x3FF;
-                Body::Configuration { kind, enables: self.enables(), target: Id(self.word(8)), register }
-            }
+            Pair::Io(kind) => Body::Io { kind, enables: self.enables(), address: (self.tail() >> 32) as u32 },
+            Pair::Configuration(kind) => Body::Configuration {
+                kind,
+                enables: self.enables(),
+                target: Id((self.tail() >> 48) as u16),
+                register: (self.tail() >> 34) as u16 & 0x3FF,
+            },
             Pair::Completion(kind) => Body::Completion {
                 kind,
-                completer: Id(self.word(4)),
-                status: self.bytes[6] >> 5,
-                bcm: self.bytes[6] & 0x10 != 0,
-                byte_count: self.word(6) & 0xFFF,
-                lower_address: self.bytes[11] & 0x7F,
+                completer: Id((self.front() >> 16) as u16),
+                status: (self.front() >> 13) as u8 & 7,
+                bcm: self.front() >> 12 & 1 != 0,
+                byte_count: self.front() as u16 & 0xFFF,
+                lower_address: (self.tail() >> 32) as u8 & 0x7F,
             },
-            Pair::Message(kind, routing) => Body::Message { kind, routing, code: self.bytes[7], tail: self.tail() },
+            Pair::Message(kind, routing) => {
+                Body::Message { kind, routing, code: self.front() as u8, tail: self.tail() }
+            }
         }
     }
 
@@ -255,48 +267,51 @@ impl Packet {
         self.fields().to_numbers()
     }
 
-    /// Cpl, CplLk and Msg have no Length.
+    /// Cpl, CplLk and Msg, of the completions and messages those without data, have no Length.
     #[inline]
     fn has_length(&self) -> bool {
-        !matches!(
-            self.pair(),
-            Pair::Completion(CompletionKind::Cpl | CompletionKind::CplLk) | Pair::Message(MessageKind::Msg, _)
-        )
+        const DATA: u8 = 0x40;
+        const COMPLETION_OR_MESSAGE: u8 = 0x18;
+        self.byte0() & DATA != 0 || self.byte0() & COMPLETION_OR_MESSAGE == 0
     }
 
     #[inline]
     fn pair(&self) -> Pair {
-        PAIRS[usize::from(self.bytes[0])]
+        PAIRS[usize::from(self.byte0())]
     }
 
     #[inline]
     fn enables(&self) -> Enables {
-        Enables { last: self.bytes[7] >> 4, first: self.bytes[7] & 0xF }
+        Enables { last: self.front() as u8 >> 4, first: self.front() as u8 & 0xF }
     }
 
-    /// Where the requester's ID and the tag start.
+    /// The dword that starts with the requester's ID and the tag: the third of a completion, else the second.
     #[inline]
-    fn transaction(&self) -> usize {
-        match self.pair() {
-            Pair::Completion(_) => 8,
-            _ => 4,
+    fn transaction(&self) -> u32 {
+        const COMPLETION: u8 = 0x08;
+        if self.byte0() & COMPLETION != 0 {
+            (self.tail() >> 32) as u32
+        } else {
+            self.front() as u32
         }
     }
 
+    /// Fmt and Type.
     #[inline]
-    fn word(&self, at: usize) -> u16 {
-        u16::from_be_bytes([self.bytes[at], self.bytes[at + 1]])
+    fn byte0(&self) -> u8 {
+        self.halves[0][0]
     }
 
+    /// Bytes 0 to 7 as a number, the first highest.
     #[inline]
-    fn dword(&self, at: usize) -> u32 {
-        u32::from(self.word(at)) << 16 | u32::from(self.word(at + 2))
+    fn front(&self) -> u64 {
+        u64::from_be_bytes(self.halves[0])
     }
 
     /// Bytes 8 to 15.
     #[inline]
     fn tail(&self) -> u64 {
-        u64::from(self.dword(8)) << 32 | u64::from(self.dword(12))
+        u64::from_be_bytes(self.halves[1])
     }
 }
 

@@ -33,6 +33,11 @@ pub fn read(bytes: &[u8], random: &mut Random, tally: &mut Tally) {
     assert_eq!(returned, number, "read {}", hex(bytes));
     assert!(packet == packet_then && header == header_before, "read {}: what was lent", hex(bytes));
 
+    let judged = calls::judge(header.slice());
+    tally.count(Call::Judge, judged);
+    assert_eq!(judged, answer.err().unwrap_or(0).into(), "judge {}", hex(bytes));
+    assert!(header == header_before, "judge {}: what was lent", hex(bytes));
+
     let typed = cartsundial::read(bytes).map_err(|refusal| refusal.number());
     assert_eq!(typed.map(|packet| packet.to_numbers()), numbers, "read {}", hex(bytes));
     if let (Ok(typed), Ok(packet), Ok(numbers)) = (typed, answer, numbers) {
@@ -40,7 +45,7 @@ pub fn read(bytes: &[u8], random: &mut Random, tally: &mut Tally) {
         assert_eq!(typed.header(), &bytes[..length], "read {}", hex(bytes));
         assert_eq!(typed.to_string(), packet.to_string());
         assert_eq!(typed::common(&typed), numbers[..10], "read {}", hex(bytes));
-        // The library's writer makes the same packet of its fields and of its numbers.
+        // The same packet is made of its fields, and of its numbers by the library's writer.
         assert_eq!(Packet::new(&typed.fields()), Ok(typed), "make {}", hex(bytes));
         assert_eq!(Packet::from_numbers(&numbers), Ok(typed), "make {}", hex(bytes));
     }

@@ -8,6 +8,7 @@ use std::fmt;
 #[derive(Clone, Copy, Debug, PartialEq, Eq)]
 pub enum Call {
     Read,
+    Judge,
     Write,
     Plan,
     PlanWhere,
@@ -34,8 +35,9 @@ pub enum Call {
     Count,
 }
 
-const CALLS: [Call; 25] = [
+const CALLS: [Call; 26] = [
     Call::Read,
+    Call::Judge,
     Call::Write,
     Call::Plan,
     Call::PlanWhere,
@@ -73,6 +75,7 @@ impl Call {
     fn numbers(self) -> &'static [usize] {
         match self {
             Call::Read => &[0, 1, 2, 3, 4, 5, 6, 7, 8, 9, 11],
+            Call::Judge => &[0, 1, 2, 3, 4, 5, 6, 7, 8, 9],
             Call::Write => &[0, 2, 4, 5, 6, 7, 8, 9, 10, 11],
             Call::Plan | Call::PlanWhere => &[0, 11, 20, 21, 22, 23, 24, 25, 26, 30, 31, 32, 33],
             Call::Script => &[0, 10, 11, 20, 21, 22, 23, 24, 25, 26, 30, 31, 32, 33],
