@@ -19,6 +19,7 @@ ghost use Rattle.capi_sheet.specs.Calls.{lookupAnswer, idAnswer, commandNumber,
 ghost use Rattle.capi_plan.specs.Calls.{planAnswer, sheetLeft};
 ghost use Rattle.capi_route.specs.Calls.{routeAnswer};
 ghost use Rattle.capi_cards.specs.Calls.{sendAnswer};
+ghost use Rattle.capi_sent.specs.Calls.{senderAnswer, endsAnswer};
 ghost use Rattle.capi_find.specs.Calls.{findAnswer};
 ghost use Rattle.capi_trace.specs.Calls.{pieceAnswer, stateLeft, linesLeft, endAnswer, endLeft};
 ghost use Rattle.capi_ledger.specs.Calls.{openAnswer, openLeft, completeAnswer, completeLeft, countAnswer};
@@ -200,6 +201,40 @@ pub extern "C" fn cartsundial_route_from(
     ensures { λ _. ⌜ now (answer .exit) ≡ filled (sendAnswer number (now (header .entry)) (now (sheet .entry))) (now (answer .entry)) ⌝ }
 {
     capi_cards::route_from(number, header, sheet, answer)
+}
+
+// Who sends a header's packet, below a host with this ID: 0 for the host, else the record. A host ID above FFFFh is 10, tried first.
+#[no_mangle]
+pub extern "C" fn cartsundial_sender(
+    host_id: u64,
+    header: &[u8],
+    sheet: &[u8],
+    sender: &mut [u64],
+) -> u32
+    ensures { λ r. ⌜ r ≡ returned (senderAnswer «host_id» (now (header .entry)) (now (sheet .entry))) (now (sender .entry)) ⌝ }
+    ensures { λ _. ⌜
+        now (sender .exit) ≡ filled (senderAnswer «host_id» (now (header .entry)) (now (sheet .entry))) (now (sender .entry))
+        ⌝ }
+{
+    capi_sent::sender(host_id, header, sheet, sender)
+}
+
+// Both ends of a header's packet, below a host with this ID: the sender as above; where it goes, 0 one function, 1 the host, 2 the port,
+// 3 every function; the record, 0 where it is none; the bridges crossed both ways; and the packet as it arrives, 24 numbers. A broadcast has
+// how many functions for the bridges, and after the packet their record numbers. A host ID above FFFFh is 10, tried first.
+#[no_mangle]
+pub extern "C" fn cartsundial_route_sent(
+    host_id: u64,
+    header: &[u8],
+    sheet: &[u8],
+    answer: &mut [u64],
+) -> u32
+    ensures { λ r. ⌜ r ≡ returned (endsAnswer «host_id» (now (header .entry)) (now (sheet .entry))) (now (answer .entry)) ⌝ }
+    ensures { λ _. ⌜
+        now (answer .exit) ≡ filled (endsAnswer «host_id» (now (header .entry)) (now (sheet .entry))) (now (answer .entry))
+        ⌝ }
+{
+    capi_sent::route_sent(host_id, header, sheet, answer)
 }
 
 // Builds the index of a sheet that is accepted for a host record: the audit's number, then 11 where the slice is shorter than 1,024 bytes

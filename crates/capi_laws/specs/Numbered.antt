@@ -48,6 +48,8 @@ use Rattle.capi_trace.specs.Calls.{onLines, pieceOn, pieceAnswer, endOn, endAns
 use Rattle.capi_find.specs.Calls.{findAnswer}
 use Rattle.capi_cards.specs.Calls.{sendAnswer}
 use Rattle.capi_cards.specs.Numbered.{numbered-sending}
+use Rattle.capi_sent.specs.Calls.{senderAnswer, endsAnswer}
+use Rattle.capi_sent.specs.Numbered as sent-numbers
 use Rattle.capi_script.specs.Calls.{scriptAnswer}
 use Rattle.capi_script.specs.Refused.{numbered-script as script-numbered}
 use Rattle.capi_packet.specs.Calls.{onReading, readAnswer, onWriting, onParsed, writeAnswer}
@@ -109,6 +111,13 @@ numbered-find header ix = numbered-routing (counted 1) (searchOf header ix) (num
 -- a request from a card
 pub numbered-route-from : (number : ℕ) (header sheet : List ℕ) → Numbered (sendAnswer number header sheet)
 numbered-route-from = numbered-sending
+
+-- both ends
+pub numbered-sender : (hostId : ℕ) (header sheet : List ℕ) → Numbered (senderAnswer hostId header sheet)
+numbered-sender = sent-numbers.numbered-sender
+
+pub numbered-route-sent : (hostId : ℕ) (header sheet : List ℕ) → Numbered (endsAnswer hostId header sheet)
+numbered-route-sent = sent-numbers.numbered-ends
 
 -- ## Planning
 

@@ -20,6 +20,8 @@ use Rattle.route_answer.specs.declared.Routing.the-variants.{Refused}
 use Rattle.route.specs.Route.{routeOf}
 use Rattle.route_answer.specs.Listed.{onRoom, listedAfter}
 use Rattle.route.specs.Listed.{listAfter}
+use Rattle.route_sent.specs.BothEnds as ends
+use Rattle.route_sent.specs.BothEnds.{bothEndsOf}
 use Rattle.trace.specs.declared.Trace.{Trace}
 use Rattle.trace.specs.Feed.{fedOf, fedPut, finishedOf, finishedPut}
 use Rattle.index_build.specs.Build.{buildNumber, soundBuildNumber, indexAfter, soundIndexAfter}
@@ -46,11 +48,13 @@ pub record Demand1 : Type 0 where
       → fed.roomOf f front kept room ≡ room
   -- `sheet::set_command`: the sheet
   pub command-keeps-sheet : (s : List ℕ) (id command n : ℕ) → lookupOf s id ≡ NotFound n → withCommand (lookupOf s id) s command ≡ s
-  -- `route::route_listed`, and `index_search::search_listed`: the slice for a broadcast's list
+  -- `route::route_listed`, `index_search::search_listed` and `route_sent::route_sent_listed`: the slice for a broadcast's list
   pub route-keeps-list : (header s list : List ℕ) (n : ℕ) → let r = onRoom (routeOf header s) (length list) in
       r ≡ Refused n → listAfter r s list ≡ list
   pub search-keeps-list : (header index list : List ℕ) (n : ℕ) → let r = onRoom (searchOf header index) (length list) in
       r ≡ Refused n → listedAfter r list ≡ list
+  pub sent-keeps-list : (hostId : ℕ) (header s list : List ℕ) → let r = ends.onRoom (bothEndsOf hostId header s) (length list) in
+      ¬ (ends.numberOf r ≡ 0) → ends.listedAfter r list ≡ list
   -- `index_build::build` and `build_sound`, `index_alone::build_alone`: the slice for the index
   pub build-keeps-slice : (host s slice : List ℕ) → ¬ (buildNumber host s (length slice) ≡ 0) → indexAfter host s slice ≡ slice
   pub build-sound-keeps-slice : (host s slice : List ℕ) → ¬ (soundBuildNumber host s (length slice) ≡ 0)

@@ -18,6 +18,11 @@ use Rattle.board_feed.specs.declared.Feed.{Feed}
 use Rattle.board_feed.specs.Feed.{isLong, frameNumber, planningOf, sheetOf}
 use Rattle.route_answer.specs.declared.Routing.{Routing}
 use Rattle.route.specs.Listed.{listAfter}
+use Rattle.route_answer.specs.declared.Routing.the-variants.{Delivered, Broadcast, Port, Refused as NotRouted}
+use Rattle.route_sent.specs.declared.BothEnds.{BothEnds}
+use Rattle.route_sent.specs.declared.BothEnds.the-variants.{FromHost, FromFunction, Refused as NotSent}
+use Rattle.route_sent.specs.BothEnds as ends
+use Rattle.route_sent.specs.BothEnds.{bothEndsOf}
 use Rattle.trace.specs.declared.Trace.{Trace}
 use Rattle.trace.specs.declared.Finished.{Finished}
 use Rattle.trace.specs.Trace.{linesOf, endLine}
@@ -65,6 +70,16 @@ fed-keeps-room f front kept room n = go (isLong (f .board))
     go true e = refl
     go false e = refused-keeps-room (fed.boardOf f kept) room (requesterIn front) (tagIn front) n e
 
+-- ## Both ends: only a broadcast that is not refused has a list
+
+ends-keep-list : (r : BothEnds) (list : List ℕ) → ¬ (ends.numberOf r ≡ 0) → ends.listedAfter r list ≡ list
+ends-keep-list (FromHost (Delivered d)) list h = refl
+ends-keep-list (FromHost (Broadcast n p)) list h = absurd (h refl)
+ends-keep-list (FromHost (Port p)) list h = refl
+ends-keep-list (FromHost (NotRouted n)) list h = refl
+ends-keep-list (FromFunction number f) list h = refl
+ends-keep-list (NotSent n) list h = refl
+
 -- ## A trace: lines that do not fit are not put
 
 feed-keeps : (line : ℕ → List ℕ → List ℕ) (t : Trace) (piece room : List ℕ) → ¬ (fedOf line t piece (length room) .number ≡ 0)
@@ -101,6 +116,7 @@ demand-1 =
       command-keeps-sheet = λ s id command n e. ap (λ (l : Lookup). withCommand l s command) e;
       route-keeps-list = λ header s list n e. ap (λ (r : Routing). listAfter r s list) e;
       search-keeps-list = λ header index list n e. ap (λ (r : Routing). listedAfter r list) e;
+      sent-keeps-list = λ hostId header s list h. ends-keep-list (ends.onRoom (bothEndsOf hostId header s) (length list)) list h;
       build-keeps-slice = refused-keeps .index-slice;
       build-sound-keeps-slice = refused-keeps .sound-index-slice;
       build-alone-keeps-slice = refused-keeps .alone-index-slice;

@@ -28,6 +28,8 @@ use Rattle.route_sent.specs.declared.BothEnds.{BothEnds}
 use Rattle.route_sent.specs.declared.BothEnds.the-variants.{FromHost, FromFunction, Refused as NotSent}
 use Rattle.route_sender.specs.declared.Sender.{Sender}
 use Rattle.route_sender.specs.declared.Sender.the-variants.{Host as HostSends, Function as FunctionSends}
+use Rattle.route_sender.specs.declared.SentBy.{SentBy}
+use Rattle.route_sender.specs.declared.SentBy.the-variants.{Told, Refused as NotTold}
 use Rattle.route_sender.specs.Sender.{namedBy, senderOf}
 
 -- ## From a function
@@ -78,6 +80,12 @@ fromReading hostId (NotRead n) s = NotSent n
 
 unfoldable pub bothEndsOf : ℕ → List ℕ → List ℕ → BothEnds
 bothEndsOf hostId header s = fromReading hostId (readOf header) s
+
+-- "The answer names the sender also where it is refused with 40, 41, 44 or 45; with the reader's or the sheet's number there is none."
+abbrev pub namedIn : BothEnds → SentBy
+namedIn (FromHost r) = Told HostSends
+namedIn (FromFunction number f) = Told (FunctionSends number)
+namedIn (NotSent n) = NotTold n
 
 -- the papers' number of it: 0 where it is not refused
 abbrev pub fateNumber : Fate → ℕ
