@@ -13,6 +13,7 @@
  *     plan     a board's register sheet, or what does not fit      cartsundial_plan, _plan_where
  *     sheet    its checks, registers, IDs, command words           cartsundial_check, _lookup, _id, _command
  *     route    where a header goes                                 cartsundial_route, _route_from; for many headers _index, _find
+ *     ends     who sent it and who gets it                         cartsundial_sender, _route_sent
  *     trace    a line for each captured header                     cartsundial_annotate, by an index _label; _annotate_end
  *     audit    whether a sheet that other firmware left will do    cartsundial_audit, _sound, _sound_alone, _audit_where
  *     ledger   which requests wait for completions                 cartsundial_ledger_open, _ledger_complete, _ledger_count
@@ -50,7 +51,7 @@
  * Stack to allow, measured (examples/c/stack.c) and not proved: 64 KiB for any call. cartsundial_plan, cartsundial_plan_where and
  * cartsundial_script 60 KiB each, of which a board with few bridges in a row needs 50; cartsundial_route, cartsundial_route_from and
  * cartsundial_annotate 12 KiB over a planned sheet, which has at most 32 bridges above a function, and over a foreign one with 255 in a row
- * 22 KiB, cartsundial_route_from 46; cartsundial_audit_where 16 KiB; every other call 12 KiB. That is what a call takes. A thread's library
+ * 22 KiB, cartsundial_route_from and cartsundial_route_sent 46; cartsundial_audit_where 16 KiB; every other call 12 KiB. That is what a call takes. A thread's library
  * takes its own part of the same stack (guard page, thread-local data, first frames), and so does each signal handler: a pthread of glibc
  * 2.36 needed 64 KiB for the deepest board and 52 KiB for the deepest sheet, where 60 and 48 KiB were too little.
  *
@@ -180,6 +181,8 @@ enum cartsundial_size {
     CARTSUNDIAL_HEADER_BYTES = 16,             /* a header written: 12 or 16 bytes */
     CARTSUNDIAL_ROUTE_NUMBERS = 22,            /* record, bridges, and a packet: every route but a broadcast's */
     CARTSUNDIAL_ANY_ROUTE_NUMBERS = 534,       /* any route: a broadcast's has the records of up to 512 functions after it */
+    CARTSUNDIAL_SENT_NUMBERS = 24,             /* both ends of a packet: every answer but a broadcast's */
+    CARTSUNDIAL_ANY_SENT_NUMBERS = 536,        /* any: a broadcast's has the records of up to 512 functions after it */
     CARTSUNDIAL_INDEX_BYTES = 132096,          /* the index of a sheet of 512 functions */
     CARTSUNDIAL_INDEX_FRONT_BYTES = 1024,      /* of an index whatever its sheet has */
     CARTSUNDIAL_INDEX_FUNCTION_BYTES = 256,    /* and for each function */
@@ -485,6 +488,66 @@ CARTSUNDIAL_CHECKED uint32_t cartsundial_route(const uint8_t *header, size_t hea
 CARTSUNDIAL_CHECKED uint32_t cartsundial_route_from(uint32_t record, const uint8_t *header, size_t header_len,
                                                     const uint8_t *sheet, size_t sheet_len,
                                                     uint64_t *CARTSUNDIAL_RESTRICT answer, size_t answer_len)
+    CARTSUNDIAL_READS(2, 3) CARTSUNDIAL_READS(4, 5) CARTSUNDIAL_WRITES(6, 7);
+
+/* ---- both ends ---- */
+
+/*
+ * A header says who sent it. These calls read it so: a completion names its sender by its completer ID, any other header by its requester
+ * ID. Configuration requests and messages 011 (broadcast) start at the host, whoever they name; so does a header that names the host's own
+ * ID, also where a function has that ID too, or an ID that no function of the sheet has. Any other starts at the function with that ID.
+ * host_id: the host's own ID, the requester ID of its own requests; FFFFh where you do not know it.
+ *
+ * sender: one number, 0 for the host, else the record, from 1. A packet that cartsundial_route_sent refuses with 40, 41, 44 or 45 has a
+ * sender too, and this call tells it.
+ * Refused: 10 for a host_id above FFFFh, before anything is read; the header's number, 1 to 9; the sheet's, 20 to 29; 11 for no number of
+ * room.
+ */
+CARTSUNDIAL_CHECKED uint32_t cartsundial_sender(uint64_t host_id, const uint8_t *header, size_t header_len, const uint8_t *sheet,
+                                                size_t sheet_len, uint64_t *CARTSUNDIAL_RESTRICT sender, size_t sender_len)
+    CARTSUNDIAL_READS(2, 3) CARTSUNDIAL_READS(4, 5) CARTSUNDIAL_WRITES(6, 7);
+
+/* Places in the answer of cartsundial_route_sent. */
+enum cartsundial_sent {
+    CARTSUNDIAL_SENT_SENDER = 0,               /* as cartsundial_sender tells it */
+    CARTSUNDIAL_SENT_TO = 1,                   /* one of enum cartsundial_goal */
+    CARTSUNDIAL_SENT_RECORD = 2,               /* the record that gets it, from 1; 0 where it is none */
+    CARTSUNDIAL_SENT_BRIDGES = 3,              /* bridges crossed, up and down together; of a broadcast how many functions */
+    CARTSUNDIAL_SENT_PACKET = 4,               /* the packet as it arrives, in the places of enum cartsundial_field */
+    CARTSUNDIAL_SENT_LIST = 24                 /* of a broadcast the record numbers, in the sheet's order */
+};
+
+/* Where a packet goes. */
+enum cartsundial_goal {
+    CARTSUNDIAL_TO_FUNCTION = 0,
+    CARTSUNDIAL_TO_HOST = 1,
+    CARTSUNDIAL_TO_PORT = 2,
+    CARTSUNDIAL_TO_EVERY = 3
+};
+
+/*
+ * Both ends of a packet: who sends it, as above, and what becomes of it. From the host the answer is that of cartsundial_route, with its
+ * numbers. From a function a memory or I/O request goes as cartsundial_route_from has it, with its numbers; messages 000 and 101 go up to
+ * the host, 100 ends at the port, and 001 is 45; a completion or a message 010 goes by ID. Command bits matter for requests only.
+ *
+ *     goes to                      answer[1]   answer[2]            answer[3]                     after the packet
+ *     one function                 0           its record, from 1   bridges crossed, up and down  nothing
+ *     the host                     1           0                    bridges crossed upward        nothing
+ *     the port (routing 4)         2           0                    0                             nothing
+ *     every function (broadcast)   3           0                    how many, n                   the n record numbers
+ *
+ * answer[0] is the sender. Only a broadcast, which the host sends, has more than CARTSUNDIAL_SENT_NUMBERS: 24 + n.
+ * By ID from a function: the host's own ID goes up to the host, and the sender's own is 40. Else on each bus from the sender's on another
+ * function with that ID claims it, or a bridge whose buses hold the ID's bus, from which the packet goes down; where none does, it goes up,
+ * unless the bridge above has the ID's bus among its own, which is 40, and from the root bus to the host. No bridge above a bus is 40, two
+ * are 41, and so are two claims.
+ * Refused, in this order: 10 for a host_id above FFFFh; the header's number, 1 to 9; the sheet's, 20 to 29; 40 to 45 as said; and 11 for
+ * fewer numbers than the answer has.
+ * Over a sheet that cartsundial_audit accepts, and so over a planned one, it is never 41, and every packet has one sender and, a broadcast
+ * apart, at most one receiver. Both are proved.
+ */
+CARTSUNDIAL_CHECKED uint32_t cartsundial_route_sent(uint64_t host_id, const uint8_t *header, size_t header_len, const uint8_t *sheet,
+                                                    size_t sheet_len, uint64_t *CARTSUNDIAL_RESTRICT answer, size_t answer_len)
     CARTSUNDIAL_READS(2, 3) CARTSUNDIAL_READS(4, 5) CARTSUNDIAL_WRITES(6, 7);
 
 /* ---- route, by an index ---- */

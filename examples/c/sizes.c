@@ -28,10 +28,12 @@ HOLDS(a_write, CARTSUNDIAL_SCRIPT_WRITE_BYTES == CARTSUNDIAL_WRITE_DATA_OFFSET +
 HOLDS(an_index, CARTSUNDIAL_INDEX_BYTES == CARTSUNDIAL_INDEX_FRONT_BYTES + CARTSUNDIAL_FUNCTIONS * CARTSUNDIAL_INDEX_FUNCTION_BYTES);
 HOLDS(a_route, CARTSUNDIAL_ROUTE_NUMBERS == 2 + CARTSUNDIAL_PACKET_NUMBERS);
 HOLDS(any_route, CARTSUNDIAL_ANY_ROUTE_NUMBERS == CARTSUNDIAL_ROUTE_NUMBERS + CARTSUNDIAL_FUNCTIONS);
+HOLDS(both_ends, CARTSUNDIAL_SENT_NUMBERS == CARTSUNDIAL_SENT_PACKET + CARTSUNDIAL_PACKET_NUMBERS);
+HOLDS(any_ends, CARTSUNDIAL_ANY_SENT_NUMBERS == CARTSUNDIAL_SENT_LIST + CARTSUNDIAL_FUNCTIONS);
 
 static uint8_t board[CARTSUNDIAL_BOARD_BYTES + CARD_BYTES], sheet[CARTSUNDIAL_SHEET_BYTES], script[CARTSUNDIAL_SCRIPT_BYTES];
 static uint8_t index_bytes[CARTSUNDIAL_INDEX_BYTES], lines[CARTSUNDIAL_LINE_BYTES];
-static uint64_t answer[CARTSUNDIAL_ANY_ROUTE_NUMBERS], ledger[CARTSUNDIAL_LEDGER_NUMBERS], written[1];
+static uint64_t answer[CARTSUNDIAL_ANY_SENT_NUMBERS], ledger[CARTSUNDIAL_LEDGER_NUMBERS], written[1];
 static size_t board_len;
 static int asked, failed;
 
@@ -181,6 +183,18 @@ static void ask_routes(void)
     expect("a route of 21 numbers", cartsundial_route(read_request, 12, sheet, sizeof sheet, answer, one - 1), SHORT);
     expect("a broadcast", cartsundial_route(broadcast, sizeof broadcast, sheet, sizeof sheet, answer, all), CARTSUNDIAL_ACCEPTED);
     expect("a broadcast, too short", cartsundial_route(broadcast, sizeof broadcast, sheet, sizeof sheet, answer, all - 1), SHORT);
+    expect("both ends", cartsundial_route_sent(0, read_request, 12, sheet, sizeof sheet, answer, CARTSUNDIAL_SENT_NUMBERS), 0);
+    expect("both ends in 23 numbers",
+           cartsundial_route_sent(0, read_request, 12, sheet, sizeof sheet, answer, CARTSUNDIAL_SENT_NUMBERS - 1), SHORT);
+    expect("a broadcast's ends",
+           cartsundial_route_sent(0, broadcast, sizeof broadcast, sheet, sizeof sheet, answer, CARTSUNDIAL_ANY_SENT_NUMBERS), 0);
+    expect("where it goes", answer[CARTSUNDIAL_SENT_TO], CARTSUNDIAL_TO_EVERY);
+    expect("its last record", answer[CARTSUNDIAL_ANY_SENT_NUMBERS - 1], CARTSUNDIAL_FUNCTIONS);
+    expect("a broadcast's ends, too short",
+           cartsundial_route_sent(0, broadcast, sizeof broadcast, sheet, sizeof sheet, answer, CARTSUNDIAL_ANY_SENT_NUMBERS - 1), SHORT);
+    expect("a sender", cartsundial_sender(0xFFFF, read_request, 12, sheet, sizeof sheet, written, 1), CARTSUNDIAL_ACCEPTED);
+    expect("a sender, no room", cartsundial_sender(0xFFFF, read_request, 12, sheet, sizeof sheet, written, 0), SHORT);
+    expect("a host ID above FFFFh", cartsundial_sender(0x10000, read_request, 12, sheet, sizeof sheet, written, 0), 10);
     expect("an index", cartsundial_index(host, CARTSUNDIAL_HOST_BYTES, sheet, sizeof sheet, index_bytes, sizeof index_bytes), 0);
     expect("an index, too short",
            cartsundial_index(host, CARTSUNDIAL_HOST_BYTES, sheet, sizeof sheet, index_bytes, sizeof index_bytes - 1), SHORT);

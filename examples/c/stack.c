@@ -23,7 +23,7 @@ static uint8_t stack[256 * KIB];
 static uint8_t board[64 * KIB], sheet[ROOM], planned[ROOM], lines[64 * KIB];
 static uint8_t script[CARTSUNDIAL_SCRIPT_BYTES], index_bytes[CARTSUNDIAL_INDEX_BYTES];
 static size_t board_len, sheet_len, planned_len;
-static uint64_t answer[CARTSUNDIAL_ANY_ROUTE_NUMBERS], state[CARTSUNDIAL_TRACE_NUMBERS], ledger[CARTSUNDIAL_LEDGER_NUMBERS];
+static uint64_t answer[CARTSUNDIAL_ANY_SENT_NUMBERS], state[CARTSUNDIAL_TRACE_NUMBERS], ledger[CARTSUNDIAL_LEDGER_NUMBERS];
 static uint64_t packet[CARTSUNDIAL_PACKET_NUMBERS], written[1];
 static ucontext_t here, there;
 static uint32_t number;
@@ -34,6 +34,10 @@ static const uint8_t header[] = { 0x00, 0x00, 0x00, 0x01, 0x00, 0x00, 0x07, 0x0F
 static const uint8_t trace[] = { 0x01, 0x00, 0x0C, 0x00, 0x00, 0x00, 0x01, 0x00, 0x00, 0x07, 0x0F, 0xF9, 0x20, 0x00, 0x00 };
 /* A write to the host's memory, for the way up. */
 static const uint8_t upward[] = { 0x40, 0x00, 0x00, 0x01, 0x00, 0x00, 0x07, 0x0F, 0x00, 0x10, 0x00, 0x00 };
+/* The same from the card at FF00h, its completion for the host, and one that goes down to it from the first bridge. */
+static const uint8_t sent_up[] = { 0x40, 0x00, 0x00, 0x01, 0xFF, 0x00, 0x07, 0x0F, 0x00, 0x10, 0x00, 0x00 };
+static const uint8_t by_id_up[] = { 0x4A, 0x00, 0x00, 0x01, 0xFF, 0x00, 0x00, 0x04, 0x00, 0x08, 0x07, 0x00 };
+static const uint8_t by_id_down[] = { 0x4A, 0x00, 0x00, 0x01, 0x00, 0x00, 0x00, 0x04, 0xFF, 0x00, 0x07, 0x00 };
 static const uint8_t completion[] = { 0x4A, 0x00, 0x00, 0x01, 0x01, 0x00, 0x00, 0x04, 0x00, 0x00, 0x07, 0x00 };
 static const uint8_t host[] = { 0x00, 0xFF, 0xF9, 0x00, 0x00, 0x00, 0xF9, 0xFF, 0xFF, 0xFF, 0x00, 0x00, 0x00, 0x02, 0x40,
                                 0x00, 0x00, 0x00, 0x00, 0x00, 0x00, 0x02, 0x7F, 0xFF, 0xFF, 0xFF, 0x40, 0x00, 0x4F, 0xFF };
@@ -129,6 +133,14 @@ static void command(void) { number = cartsundial_command(sheet, sheet_len, 0xFF0
 static void route(void) { number = cartsundial_route(header, sizeof header, sheet, sheet_len, answer, 534); }
 static void route_planned(void) { number = cartsundial_route(nearest, sizeof nearest, planned, planned_len, answer, 534); }
 static void route_up(void) { number = cartsundial_route_from(256, upward, sizeof upward, sheet, sheet_len, answer, 534); }
+static void sender(void) { number = cartsundial_sender(0xFFFF, sent_up, sizeof sent_up, sheet, sheet_len, written, 1); }
+static void sent(const uint8_t *bytes)
+{
+    number = cartsundial_route_sent(0xFFFF, bytes, 12, sheet, sheet_len, answer, CARTSUNDIAL_SENT_NUMBERS);
+}
+static void sent_request(void) { sent(sent_up); }
+static void sent_by_id_up(void) { sent(by_id_up); }
+static void sent_by_id_down(void) { sent(by_id_down); }
 static void make_index(void) { number = cartsundial_index(host, sizeof host, sheet, sheet_len, index_bytes, sizeof index_bytes); }
 static void make_index_sound(void)
 {
@@ -224,5 +236,9 @@ int main(void)
     measure("ledger_complete", ledger_complete, 12);
     make_sheet(0);
     measure("route_from, 255 up", route_up, 46);
+    measure("sender", sender, 12);
+    measure("route_sent, 255 up", sent_request, 46);
+    measure("by ID, 255 up", sent_by_id_up, 46);
+    measure("by ID, 255 down", sent_by_id_down, 46);
     return failed;
 }

@@ -6,6 +6,7 @@ use mathlib.Core.Bool.{true, false}
 use mathlib.Core.List.{List, reverse}
 use Prim.Native.Nat.{ℕ, _+_, _/_, _≤_}
 use lib.ListN.{length, take}
+use Rattle.refusals.specs.Refusals.{IsRefusal}
 use Rattle.endian.specs.Endian.{Bytes}
 use Rattle.pairs.specs.declared.MessageKind.{MessageKind}
 use Rattle.pairs.specs.declared.MessageRouting.the-variants.{ByAddress}
@@ -27,8 +28,9 @@ use Rattle.plan_answer.specs.Plan.{planning, sheetAfter}
 use Rattle.audit_rule.specs.Accepted.{Accepted}
 use Rattle.claims.specs.declared.Aim.the-variants.{Id}
 use Rattle.claims.specs.Claims.{tallyFor}
-use Rattle.route_arrival.specs.declared.Heading.the-variants.{Up, Port as ToPort}
+use Rattle.route_arrival.specs.declared.Heading.the-variants.{Up, Every, Port as ToPort}
 use Rattle.route_arrival.specs.Arrival.{headingOf}
+use Rattle.route_answer.specs.declared.Routing.the-variants.{Delivered as Routed, Broadcast, Port as RoutedPort, Refused as NotRouted}
 use Rattle.route.specs.Route.{root, routeOf}
 use Rattle.route_cards.specs.declared.Arrival.{Arrival}
 use Rattle.route_cards.specs.Sending.{sendingOf}
@@ -36,8 +38,12 @@ use Rattle.route_cards.specs.Search.{IsType0}
 use Rattle.route_sent.specs.declared.Fate.{Fate}
 use Rattle.route_sent.specs.declared.Fate.the-variants.{Delivered, Host, Port, Refused}
 use Rattle.route_sent.specs.declared.BothEnds.the-variants.{FromHost, FromFunction, Refused as NotSent}
-use Rattle.route_sender.specs.Sender.{namedBy, startsAtHost}
-use Rattle.route_sent.specs.BothEnds.{fateOf, bothEndsOf, numberOf}
+use Rattle.route_sent.specs.declared.BothEnds as answered
+use Rattle.route_sender.specs.declared.Sender.{Sender}
+use Rattle.route_sender.specs.declared.Sender.the-variants.{Host as HostSends, Function}
+use Rattle.route_sender.specs.declared.SentBy.the-variants.{Told}
+use Rattle.route_sender.specs.Sender.{namedBy, startsAtHost, sentByOf}
+use Rattle.route_sent.specs.BothEnds.{fateOf, bothEndsOf, namedIn, numberOf}
 use Rattle.demands.specs.Demand3 as planned
 use Rattle.demands.specs.ById as plannedIds
 use Rattle.demands.specs.ById.{GoesById}
@@ -114,6 +120,48 @@ module _ (Has : ℕ → Type 0) (above : ℕ → List ℕ) (most hostId : ℕ) (
     -- ".. and arrives unchanged."
     pub arrives-unchanged : (d : Arrival) → Becomes (Delivered d) → d .packet ≡ p
 
+-- ## One sender, and at most one receiver
+
+-- the host sends it, or this function
+abbrev pub Sends : ℕ → Packet → List ℕ → Sender → Type 0
+Sends hostId p t HostSends = StartsAtHost hostId p t
+Sends hostId p t (Function k) = StartsAt hostId p t k
+
+-- the function with this record number, the host, or the port
+pub data Receiver : Type 0 where
+  function : ℕ → Receiver
+  the-host : Receiver
+  the-port : Receiver
+
+-- who gets a packet that is answered so: of a broadcast every function, and nobody where it is refused
+abbrev pub Gets : answered.BothEnds → Receiver → Type 0
+Gets (FromHost (Routed d)) r = r ≡ function (d .owner)
+Gets (FromHost (Broadcast n p)) r = (j : ℕ) × (r ≡ function j) × (1 ≤ j) × (j ≤ n)
+Gets (FromHost (RoutedPort p)) r = r ≡ the-port
+Gets (FromHost (NotRouted n)) r = ⊥
+Gets (FromFunction k (Delivered d)) r = r ≡ function (d .owner)
+Gets (FromFunction k (Host bridges p)) r = r ≡ the-host
+Gets (FromFunction k (Port p)) r = r ≡ the-port
+Gets (FromFunction k (Refused n)) r = ⊥
+Gets (NotSent n) r = ⊥
+
+-- "So every packet of such a box has one sender and, a broadcast apart, at most one receiver, fixed by the host's ID, the header and the
+-- sheet": of a header that is read as p
+pub record OneOfEach (hostId : ℕ) (t header : List ℕ) (p : Packet) : Type 0 where
+  -- one sender, which both calls name
+  pub sender : Sender
+  pub sends : Sends hostId p t sender
+  pub only-sender : (x : Sender) → Sends hostId p t x → x ≡ sender
+  pub told : sentByOf hostId header t ≡ Told sender
+  pub named : namedIn (bothEndsOf hostId header t) ≡ Told sender
+  -- "a broadcast apart, at most one receiver"
+  pub one-receiver : ¬ (headingOf p ≡ Every) → (a b : Receiver)
+      → Gets (bothEndsOf hostId header t) a → Gets (bothEndsOf hostId header t) b → a ≡ b
+  -- who gets it, or a number of 1 to 99, and never both; never 41
+  pub gets-or-number : ((a : Receiver) × Gets (bothEndsOf hostId header t) a) ⊎ IsRefusal (numberOf (bothEndsOf hostId header t))
+  pub never-both : (a : Receiver) → Gets (bothEndsOf hostId header t) a → numberOf (bothEndsOf hostId header t) ≡ 0
+  pub never-contested : ¬ (numberOf (bothEndsOf hostId header t) ≡ 41)
+
 -- ## The request
 
 pub record BothEnds : Type 0 where
@@ -182,10 +230,11 @@ pub record BothEnds : Type 0 where
       → (hostId : ℕ) (header : List ℕ) (p : Packet) → readOf header ≡ Read p
       → (k : ℕ) → StartsAt hostId p t k → headingOf p ≡ Up
       → bothEndsOf hostId header t ≡ FromFunction k (Host (length (audited.bridgesAbove host s k)) p)
-  -- So no packet of such a box has two receivers, from the host or from a function, by address, by ID or any other way: never 41
-  pub planned-never-contested : (b room : List ℕ) (n : ℕ) → Bytes b → planning b (length room) ≡ Planned n
+  -- "So every packet of such a box has one sender and, a broadcast apart, at most one receiver": from the host or from a function, by
+  -- address, by ID or any other way
+  pub planned-one-of-each : (b room : List ℕ) (n : ℕ) → Bytes b → planning b (length room) ≡ Planned n
       → (t : List ℕ) → SameButCommands (take n (sheetAfter b room)) t
-      → (hostId : ℕ) (header : List ℕ) (p : Packet) → readOf header ≡ Read p → ¬ (numberOf (bothEndsOf hostId header t) ≡ 41)
-  pub accepted-never-contested : (host s : List ℕ) → Bytes s → Accepted host s
+      → (hostId : ℕ) (header : List ℕ) (p : Packet) → readOf header ≡ Read p → OneOfEach hostId t header p
+  pub accepted-one-of-each : (host s : List ℕ) → Bytes s → Accepted host s
       → (t : List ℕ) → SameButCommands s t
-      → (hostId : ℕ) (header : List ℕ) (p : Packet) → readOf header ≡ Read p → ¬ (numberOf (bothEndsOf hostId header t) ≡ 41)
+      → (hostId : ℕ) (header : List ℕ) (p : Packet) → readOf header ≡ Read p → OneOfEach hostId t header p

@@ -79,7 +79,7 @@ use Rattle.route_sender.specs.declared.Sender.the-variants.{Host as HostSends, 
 use Rattle.route_sender.specs.Sender.{namedBy, startsAtHost, senderOf}
 use Rattle.route_sent.specs.BothEnds.{fateOf, answer, onHeading, bothEndsOf, fateNumber, numberOf}
 use Rattle.route_sent.specs.FunctionLaws.{is-sender}
-use Rattle.route_sender.specs.NamedLaws.{host-only, host-named, nobody-named, function-named}
+use Rattle.route_sender.specs.NamedLaws.{function-named}
 use Rattle.route_sent.specs.RequestLaws.{header-first, sheet-next, from-host, from-function, sent-as-request}
 use Rattle.demands.specs.Demand3 as planned
 use Rattle.demands.specs.ById as plannedIds
@@ -91,7 +91,8 @@ use Rattle.requests.specs.Audit.{HasIdOver}
 use Rattle.requests.specs.AuditLaws.{above-agree as audited-above, audits}
 use Rattle.requests.specs.CardToCard.{IsCardRequest, sendNumber}
 use Rattle.requests.specs.CardToCardLaws.{card-to-card}
-use Rattle.request_sent.specs.BothEnds.{StartsAtHost, StartsAt, CrossesById, RoutedFrom, BothEnds}
+use Rattle.request_sent.specs.BothEnds.{StartsAtHost, StartsAt, CrossesById, RoutedFrom, OneOfEach, BothEnds}
+use Rattle.request_sent.specs.SendersLaws.{host-sends, function-sends, some-sender, one-of-each}
 
 -- ## The packet
 
@@ -113,53 +114,6 @@ aim-by-address (Io k h e a) sp address (in-io, starts) = rw (in-io, starts)
 aim-by-address (Config k h e t) sp address is = absurd is
 aim-by-address (Completion k h o) sp address is = absurd is
 aim-by-address (Message k h routing code tail) sp address is = absurd is
-
--- ## The sender
-
-host-sends : (hostId : ℕ) (p : Packet) (t : List ℕ) → StartsAtHost hostId p t → senderOf hostId p t ≡ HostSends
-host-sends hostId p t (inl e) = host-only hostId p t e
-host-sends hostId p t (inr (inl e)) = host-named hostId p t e
-host-sends hostId p t (inr (inr none)) =
-    nobody-named hostId p t (λ n h. none (n .number) (record { function = n; has-id = h; number-is = refl }))
-
-function-sends : (hostId : ℕ) (p : Packet) (t : List ℕ) → DistinctIds (nodesOf t) → (k : ℕ) → StartsAt hostId p t k
-    → senderOf hostId p t ≡ Function k
-function-sends hostId p t distinct k s =
-    function-named hostId p t distinct (s .not-hosts-own) (s .not-host-named) (s .has-id .function) (s .has-id .has-id)
-    ∙ ap Function (s .has-id .number-is)
-
-some-sender : (hostId : ℕ) (p : Packet) (t : List ℕ) → StartsAtHost hostId p t ⊎ ((k : ℕ) × StartsAt hostId p t k)
-some-sender hostId p t =
-    go (startsAtHost p) refl (eqb (namedBy p) hostId) refl (keep (hasId (namedBy p / 256) (namedBy p % 256)) (nodesOf t)) refl
-  where
-    go : (a : Bool) → startsAtHost p ≡ a → (b : Bool) → eqb (namedBy p) hostId ≡ b
-        → (ns : List Node) → keep (hasId (namedBy p / 256) (namedBy p % 256)) (nodesOf t) ≡ ns
-        → StartsAtHost hostId p t ⊎ ((k : ℕ) × StartsAt hostId p t k)
-    go true e b f ns is = inl (inl e)
-    go false e true f ns is = inl (inr (inl (eqb-true _ _ f)))
-    go false e false f [] is =
-        inl (inr (inr (λ k h.
-        let n = h .function in
-        let at = eq-eqb (n .bus) (namedBy p / 256) (h .has-id .bus-is) in
-        let same = eq-eqb (n .devfn) (namedBy p % 256) (h .has-id .devfn-is) in
-        List·Memᴰ·not-nil (rw is at (keep-intro (hasId (namedBy p / 256) (namedBy p % 256)) (nodesOf t) (h .has-id .in-sheet)
-        (rw (at, same) refl))))))
-    go false e false f (n ∷ ns) is =
-        let there : n ∈ keep (hasId (namedBy p / 256) (namedBy p % 256)) (nodesOf t) = rw is (List·Memᴰ·head refl) in
-        let (inside, has) = keep-elim (hasId (namedBy p / 256) (namedBy p % 256)) (nodesOf t) there in
-        let (bus, devfn) = has-id-elim (namedBy p / 256) (namedBy p % 256) n has in
-        inr (
-          n .number,
-          record {
-            not-hosts-own = e;
-            not-host-named = eqb-false _ _ f;
-            has-id = record {
-              function = n;
-              has-id = record { in-sheet = inside; bus-is = bus; devfn-is = devfn };
-              number-is = refl;
-            };
-          },
-        )
 
 -- ## From what a packet by ID comes to, what is answered
 
@@ -548,6 +502,10 @@ module _ (b room : List ℕ) (n : ℕ) (bytes : Bytes b) (answered : planning b 
       (λ q read k start by. ap numberOf (planned-host-id hostId header q read k start by))
       (λ q read k start e. ap numberOf (planned-up hostId header q read k start e))
 
+  planned-one : (hostId : ℕ) (header : List ℕ) (p : Packet) → readOf header ≡ Read p → OneOfEach hostId t header p
+  planned-one hostId header p read =
+      one-of-each hostId header t p read (sheet .passes) distinct (planned-not-41 hostId header p read)
+
 -- ## An accepted sheet
 
 module _ (host s : List ℕ) (bytes : Bytes s) (a : Accepted host s) where
@@ -642,6 +600,11 @@ module _ (host s : List ℕ) (bytes : Bytes s) (a : Accepted host s) where
         (λ q read k start by. ap numberOf (accepted-host-id hostId header q read k start by))
         (λ q read k start e. ap numberOf (accepted-up hostId header q read k start e))
 
+    accepted-one : (hostId : ℕ) (header : List ℕ) (p : Packet) → readOf header ≡ Read p → OneOfEach hostId t header p
+    accepted-one hostId header p read =
+        one-of-each hostId header t p read (number-same same ∙ a .passes)
+        (subst DistinctIds nodes-kept (passes-of-zero s bytes (a .passes) .distinct-ids)) (accepted-not-41 hostId header p read)
+
 -- ## The request
 
 as-request : (hostId : ℕ) (header t : List ℕ) (p : Packet) → readOf header ≡ Read p → sheetNumber t ≡ 0 → Bytes t
@@ -690,8 +653,8 @@ both-ends =
           planned-up b room n bytes answered t same hostId header p read k start e;
       accepted-up = λ host s bytes a t same hostId header p read k start e.
           accepted-up host s bytes a t same hostId header p read k start e;
-      planned-never-contested = λ b room n bytes answered t same hostId header p read.
-          planned-not-41 b room n bytes answered t same hostId header p read;
-      accepted-never-contested = λ host s bytes a t same hostId header p read.
-          accepted-not-41 host s bytes a t same hostId header p read;
+      planned-one-of-each = λ b room n bytes answered t same hostId header p read.
+          planned-one b room n bytes answered t same hostId header p read;
+      accepted-one-of-each = λ host s bytes a t same hostId header p read.
+          accepted-one host s bytes a t same hostId header p read;
     }
