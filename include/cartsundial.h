@@ -49,11 +49,12 @@
  * is no allocation and no I/O, so calls may run at the same time where none writes to a slice of another.
  *
  * Stack to allow, measured (examples/c/stack.c) and not proved: 64 KiB for any call. cartsundial_plan, cartsundial_plan_where and
- * cartsundial_script 60 KiB each, of which a board with few bridges in a row needs 50; cartsundial_route, cartsundial_route_from and
- * cartsundial_annotate 12 KiB over a planned sheet, which has at most 32 bridges above a function, and over a foreign one with 255 in a row
- * 22 KiB, cartsundial_route_from and cartsundial_route_sent 46; cartsundial_audit_where 16 KiB; every other call 12 KiB. That is what a call takes. A thread's library
- * takes its own part of the same stack (guard page, thread-local data, first frames), and so does each signal handler: a pthread of glibc
- * 2.36 needed 64 KiB for the deepest board and 52 KiB for the deepest sheet, where 60 and 48 KiB were too little.
+ * cartsundial_script 60 KiB each, of which a board with few bridges in a row needs 50; cartsundial_route, cartsundial_route_from,
+ * cartsundial_route_sent and cartsundial_annotate 12 KiB over a planned sheet, which has at most 32 bridges above a function, and over a
+ * foreign one with 255 in a row 22 KiB, cartsundial_route_from and cartsundial_route_sent 46; cartsundial_audit_where 16 KiB; every other
+ * call 12 KiB. That is what a call takes. A thread's library takes its own part of the same stack (guard page, thread-local data, first
+ * frames), and so does each signal handler: a pthread of glibc 2.36 needed 64 KiB for the deepest board and 52 KiB for the deepest sheet,
+ * where 60 and 48 KiB were too little.
  *
  * Red zone. The code keeps live data in the 128 bytes below the stack pointer, as the System V convention allows. In user mode nothing has
  * to be done: signal handlers keep clear of it. In ring 0 an interrupt or exception that is handled on the interrupted stack overwrites
