@@ -34,10 +34,12 @@ static const uint8_t header[] = { 0x00, 0x00, 0x00, 0x01, 0x00, 0x00, 0x07, 0x0F
 static const uint8_t trace[] = { 0x01, 0x00, 0x0C, 0x00, 0x00, 0x00, 0x01, 0x00, 0x00, 0x07, 0x0F, 0xF9, 0x20, 0x00, 0x00 };
 /* A write to the host's memory, for the way up. */
 static const uint8_t upward[] = { 0x40, 0x00, 0x00, 0x01, 0x00, 0x00, 0x07, 0x0F, 0x00, 0x10, 0x00, 0x00 };
-/* The same from the card at FF00h, its completion for the host, and one that goes down to it from the first bridge. */
+/* The same from the card at FF00h, its completion for the host, and one that goes down to it from the first bridge; over the planned sheet
+   the card's completion, up past its 32 bridges. */
 static const uint8_t sent_up[] = { 0x40, 0x00, 0x00, 0x01, 0xFF, 0x00, 0x07, 0x0F, 0x00, 0x10, 0x00, 0x00 };
 static const uint8_t by_id_up[] = { 0x4A, 0x00, 0x00, 0x01, 0xFF, 0x00, 0x00, 0x04, 0x00, 0x08, 0x07, 0x00 };
 static const uint8_t by_id_down[] = { 0x4A, 0x00, 0x00, 0x01, 0x00, 0x00, 0x00, 0x04, 0xFF, 0x00, 0x07, 0x00 };
+static const uint8_t by_id_planned[] = { 0x4A, 0x00, 0x00, 0x01, CARTSUNDIAL_BRIDGES_ABOVE, 0x08, 0x00, 0x04, 0xFF, 0x00, 0x07, 0x00 };
 static const uint8_t completion[] = { 0x4A, 0x00, 0x00, 0x01, 0x01, 0x00, 0x00, 0x04, 0x00, 0x00, 0x07, 0x00 };
 static const uint8_t host[] = { 0x00, 0xFF, 0xF9, 0x00, 0x00, 0x00, 0xF9, 0xFF, 0xFF, 0xFF, 0x00, 0x00, 0x00, 0x02, 0x40,
                                 0x00, 0x00, 0x00, 0x00, 0x00, 0x00, 0x02, 0x7F, 0xFF, 0xFF, 0xFF, 0x40, 0x00, 0x4F, 0xFF };
@@ -141,6 +143,12 @@ static void sent(const uint8_t *bytes)
 static void sent_request(void) { sent(sent_up); }
 static void sent_by_id_up(void) { sent(by_id_up); }
 static void sent_by_id_down(void) { sent(by_id_down); }
+static void sent_planned(void)
+{
+    number = cartsundial_route_sent(0xFFFF, by_id_planned, 12, planned, planned_len, answer, CARTSUNDIAL_SENT_NUMBERS);
+    if (number == CARTSUNDIAL_ACCEPTED && answer[CARTSUNDIAL_SENT_BRIDGES] != CARTSUNDIAL_BRIDGES_ABOVE)
+        number = 1;
+}
 static void make_index(void) { number = cartsundial_index(host, sizeof host, sheet, sheet_len, index_bytes, sizeof index_bytes); }
 static void make_index_sound(void)
 {
@@ -224,6 +232,7 @@ int main(void)
     measure("command", command, 12);
     measure("route, 255 bridges", route, 22);
     measure("route, planned", route_planned, 12);
+    measure("by ID, planned", sent_planned, 12);
     measure("annotate", annotate, 22);
     measure("annotate_end", annotate_end, 12);
     measure("index", make_index, 12);
