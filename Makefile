@@ -34,7 +34,9 @@ installed = $(BINDIR)/cartsundial $(LIBDIR)/libcartsundial.a $(LIBDIR)/pkgconfig
 
 all: library command
 
+# rt check proves on all cores; rt staticlib, by itself, on one.
 library:
+	$(RT) check capi
 	$(RT) staticlib capi
 
 command: library
