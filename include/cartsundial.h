@@ -14,7 +14,7 @@
  *     sheet    its checks, registers, IDs, command words           cartsundial_check, _lookup, _id, _command
  *     route    where a header goes                                 cartsundial_route, _route_from; for many headers _index, _find
  *     ends     who sent it and who gets it                         cartsundial_sender, _route_sent
- *     trace    a line for each captured header                     cartsundial_annotate, by an index _label; _annotate_end
+ *     trace    a line for each captured header                     cartsundial_annotate, by an index _label, both ends _follow; _annotate_end
  *     audit    whether a sheet that other firmware left will do    cartsundial_audit, _sound, _sound_alone, _audit_where
  *     ledger   which requests wait for completions                 cartsundial_ledger_open, _ledger_complete, _ledger_count
  *     script   a board's plan as configuration writes              cartsundial_script
@@ -189,6 +189,7 @@ enum cartsundial_size {
     CARTSUNDIAL_INDEX_FUNCTION_BYTES = 256,    /* and for each function */
     CARTSUNDIAL_TRACE_NUMBERS = 6,             /* the state of a trace */
     CARTSUNDIAL_LINE_BYTES = 40,               /* a line of a trace, with its newline */
+    CARTSUNDIAL_FOLLOW_LINE_BYTES = 51,        /* and of a trace with both ends */
     CARTSUNDIAL_LEDGER_NUMBERS = 256           /* a ledger of open requests */
 };
 
@@ -653,9 +654,27 @@ CARTSUNDIAL_CHECKED uint32_t cartsundial_label(uint64_t *CARTSUNDIAL_RESTRICT st
     CARTSUNDIAL_CHANGES(1, 2) CARTSUNDIAL_READS(3, 4) CARTSUNDIAL_READS(5, 6) CARTSUNDIAL_WRITES(7, 8) CARTSUNDIAL_WRITES(9, 10);
 
 /*
+ * The same with both ends of each packet (document 03), over a sheet and with the host's own ID, bus, device and function as in a header:
+ *
+ *     4 MWr from 3 to host        a memory write from the function of the sheet's record 3, up to the host
+ *     6 MRd from host to 4        a memory read that the host starts, or that names an ID which no function of the sheet has
+ *     7 MWr from 3 refused 44     the sender is told also where the packet is refused on its way
+ *     8 Msg from host to all      a broadcast
+ *     9 Msg from 3 to port        a message that ends at the port
+ *
+ * A header that is not read stays `2 - refused 4`, and over a sheet that fails its checks `1 MRd refused 27` names no sender.
+ * Refused: 10 for a host_id above FFFFh, first; then as cartsundial_annotate. Room for CARTSUNDIAL_FOLLOW_LINE_BYTES a record is enough.
+ */
+CARTSUNDIAL_CHECKED uint32_t cartsundial_follow(uint64_t host_id, uint64_t *CARTSUNDIAL_RESTRICT state, size_t state_len,
+                                                const uint8_t *sheet, size_t sheet_len, const uint8_t *piece, size_t piece_len,
+                                                uint8_t *CARTSUNDIAL_RESTRICT lines, size_t lines_len,
+                                                uint64_t *CARTSUNDIAL_RESTRICT written, size_t written_len)
+    CARTSUNDIAL_CHANGES(2, 3) CARTSUNDIAL_READS(4, 5) CARTSUNDIAL_READS(6, 7) CARTSUNDIAL_WRITES(8, 9) CARTSUNDIAL_WRITES(10, 11);
+
+/*
  * The line that a trace gets if it ends here, at the front of lines: `cut` inside a record or its length, `refused 20` where there was no
  * byte, else none. written: how many bytes. The state stays as it was, and more pieces may follow. It needs neither sheet nor index, so it
- * ends a trace of either call.
+ * ends a trace of each of these calls.
  * Refused: as cartsundial_annotate.
  */
 CARTSUNDIAL_CHECKED uint32_t cartsundial_annotate_end(const uint64_t *state, size_t state_len,

@@ -168,6 +168,12 @@ static void label(void)
     number = cartsundial_label(state, CARTSUNDIAL_TRACE_NUMBERS, index_bytes, sizeof index_bytes, trace, sizeof trace, lines, sizeof lines,
                                written, 1);
 }
+static void follow(void)
+{
+    memset(state, 0, sizeof state);
+    number = cartsundial_follow(0, state, CARTSUNDIAL_TRACE_NUMBERS, sheet, sheet_len, trace, sizeof trace, lines, sizeof lines,
+                                written, 1);
+}
 static void annotate_end(void)
 {
     number = cartsundial_annotate_end(state, CARTSUNDIAL_TRACE_NUMBERS, lines, sizeof lines, written, 1);
@@ -234,6 +240,7 @@ int main(void)
     measure("route, planned", route_planned, 12);
     measure("by ID, planned", sent_planned, 12);
     measure("annotate", annotate, 22);
+    measure("follow", follow, 46);
     measure("annotate_end", annotate_end, 12);
     measure("index", make_index, 12);
     measure("index_sound", make_index_sound, 12);

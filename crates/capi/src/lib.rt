@@ -10,9 +10,9 @@ ghost use Rattle.plan_where.specs.Finding.{planFindingOf};
 ghost use Rattle.capi_where.specs.Calls.{whoNumber, whoFilled, planNumber, planFilled};
 ghost use Rattle.index_build.specs.Build.{buildNumber, soundBuildNumber, indexAfter, soundIndexAfter};
 ghost use Rattle.index_alone.specs.Alone.{aloneNumber, aloneBuildNumber, aloneIndexAfter};
-ghost use Rattle.trace_line.specs.declared.Engine.the-variants.{Index};
+ghost use Rattle.trace_line.specs.declared.Finder.the-variants.{Index};
 ghost use Rattle.trace_line.specs.Line.{lineOver};
-ghost use Rattle.trace_line.specs.Engine.{lineBy};
+ghost use Rattle.trace_line.specs.Finder.{lineBy};
 ghost use Rattle.capi_answers.specs.Answers.{returned, filled};
 ghost use Rattle.capi_packet.specs.Calls.{readAnswer, writeAnswer, roomLeft};
 ghost use Rattle.capi_sheet.specs.Calls.{lookupAnswer, idAnswer, commandNumber, commandLeft};
@@ -21,7 +21,7 @@ ghost use Rattle.capi_route.specs.Calls.{routeAnswer};
 ghost use Rattle.capi_cards.specs.Calls.{sendAnswer};
 ghost use Rattle.capi_sent.specs.Calls.{senderAnswer, endsAnswer};
 ghost use Rattle.capi_find.specs.Calls.{findAnswer};
-ghost use Rattle.capi_trace.specs.Calls.{pieceAnswer, stateLeft, linesLeft, endAnswer, endLeft};
+ghost use Rattle.capi_trace.specs.Calls.{pieceAnswer, stateLeft, linesLeft, followAnswer, followState, followLines, endAnswer, endLeft};
 ghost use Rattle.capi_ledger.specs.Calls.{openAnswer, openLeft, completeAnswer, completeLeft, countAnswer};
 ghost use Rattle.capi_script.specs.Calls.{scriptAnswer, scriptLeft};
 ghost use Rattle.capi.specs.Calls.{versionNumber};
@@ -349,7 +349,40 @@ pub extern "C" fn cartsundial_label(
     capi_trace::label(state, index, piece, lines, written)
 }
 
-// Ends a trace, labelled over a sheet or by an index: its last line, if it gets one, and how many bytes it is.
+// The same with both ends of each packet, over a sheet and with the host's own ID: above FFFFh that is 10, tried before all else.
+#[no_mangle]
+pub extern "C" fn cartsundial_follow(
+    host_id: u64,
+    state: &mut [u64],
+    sheet: &[u8],
+    piece: &[u8],
+    lines: &mut [u8],
+    written: &mut [u64],
+) -> u32
+    ensures { λ r. ⌜
+        r
+        ≡ returned (followAnswer «host_id» (now (sheet .entry)) (now (state .entry)) (now (piece .entry)) (length (now (lines .entry))))
+        (now (written .entry))
+        ⌝ }
+    ensures { λ _. ⌜
+        now (state .exit)
+        ≡ followState «host_id» (now (sheet .entry)) (now (state .entry)) (now (piece .entry)) (length (now (lines .entry)))
+        (now (written .entry))
+        ⌝ }
+    ensures { λ _. ⌜
+        now (lines .exit)
+        ≡ followLines «host_id» (now (sheet .entry)) (now (state .entry)) (now (piece .entry)) (now (lines .entry)) (now (written .entry))
+        ⌝ }
+    ensures { λ _. ⌜
+        now (written .exit)
+        ≡ filled (followAnswer «host_id» (now (sheet .entry)) (now (state .entry)) (now (piece .entry)) (length (now (lines .entry))))
+        (now (written .entry))
+        ⌝ }
+{
+    capi_trace::follow(host_id, state, sheet, piece, lines, written)
+}
+
+// Ends a trace, labelled over a sheet, by an index or with both ends: its last line, if it gets one, and how many bytes it is.
 #[no_mangle]
 pub extern "C" fn cartsundial_annotate_end(
     state: &[u64],

@@ -9,9 +9,9 @@ use Rattle.index_build.specs.Build.{buildNumber, soundBuildNumber, indexAfter, 
 use Rattle.index_build.specs.BuiltLaws.{search-is-route, sound-search-is-route}
 use Rattle.route.specs.Route.{routeOf}
 use Rattle.index_search.specs.Search.{searchOf}
-use Rattle.trace_line.specs.declared.Engine.the-variants.{Index}
+use Rattle.trace_line.specs.declared.Finder.the-variants.{Index}
 use Rattle.trace_line.specs.Line.{lineOver}
-use Rattle.trace_line.specs.Engine.{lineBy}
+use Rattle.trace_line.specs.Finder.{lineBy}
 use Rattle.trace_line.specs.LineLaws.{lines-agree}
 use Rattle.capi_trace.specs.Calls.{pieceAnswer, stateLeft, linesLeft}
 

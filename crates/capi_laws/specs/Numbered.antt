@@ -39,12 +39,13 @@ use Rattle.plan_answer.specs.declared.Planning.the-variants.{Planned, Refused a
 use Rattle.plan_answer.specs.Plan.{planning}
 use Rattle.plan_answer.specs.NumberLaws.{Numbered as NumberedPlanning, numbered-planning}
 use Rattle.trace.specs.Feed.{fedOf, finishedOf}
+use Rattle.trace_ends.specs.Ends.{lineEnds}
 use Rattle.trace_numbers.specs.Parsing.{Parsed as ParsedState, Accepted as State, Refused as NoState, traceOf}
 use Rattle.trace_numbers.specs.NumbersLaws.{NumberedParsed as NumberedParsedState, numbered-traceOf}
 use Rattle.capi_answers.specs.Answers.{refuses, gives}
 use Rattle.capi_answers.specs.AnswersLaws.{Numbered}
 use Rattle.capi_routing.specs.Routing.{onRouting}
-use Rattle.capi_trace.specs.Calls.{onLines, pieceOn, pieceAnswer, endOn, endAnswer}
+use Rattle.capi_trace.specs.Calls.{onLines, pieceOn, pieceAnswer, noHostId, followAnswer, endOn, endAnswer}
 use Rattle.capi_find.specs.Calls.{findAnswer}
 use Rattle.capi_cards.specs.Calls.{sendAnswer}
 use Rattle.capi_cards.specs.Numbered.{numbered-sending}
@@ -148,6 +149,13 @@ numbered-piece line state piece room = go (traceOf state) (numbered-traceOf stat
     go : (q : ParsedState) → NumberedParsedState q → Numbered (pieceOn line q piece room)
     go (State t) h = let f = fedOf line t piece room in numbered-lines (f .number) (f .written)
     go (NoState n) h = h
+
+pub numbered-follow : (hostId : ℕ) (sheet state piece : List ℕ) (room : ℕ) → Numbered (followAnswer hostId sheet state piece room)
+numbered-follow hostId sheet state piece room = go (noHostId hostId)
+  where
+    go : (b : Bool) → Numbered (cond b (refuses 10) (pieceAnswer (lineEnds hostId sheet) state piece room))
+    go true = omega arith
+    go false = numbered-piece (lineEnds hostId sheet) state piece room
 
 pub numbered-end : (state : List ℕ) (room : ℕ) → Numbered (endAnswer state room)
 numbered-end state room = go (traceOf state) (numbered-traceOf state)

@@ -25,10 +25,10 @@ use Rattle.index_build.specs.Build.{buildNumber, soundBuildNumber, indexAfter, 
 use Rattle.index_alone.specs.Alone.{aloneBuildNumber, aloneIndexAfter}
 use Rattle.capi_answers.specs.Answers.{Answer, returned, filled}
 use Rattle.capi_answers.specs.AnswersLaws.{one-given, refused-keeps-slice}
-use Rattle.capi_trace.specs.Calls.{pieceAnswer, stateLeft, linesLeft, endAnswer, endLeft}
+use Rattle.capi_trace.specs.Calls.{pieceAnswer, stateLeft, linesLeft, followAnswer, followState, followLines, endAnswer, endLeft}
 use Rattle.capi_script.specs.Calls.{scriptAnswer, scriptLeft}
 use Rattle.capi_script.specs.Refused.{refused-keeps-script}
-use Rattle.capi_trace.specs.Refused.{refused-keeps-state, refused-keeps-lines, refused-keeps-last}
+use Rattle.capi_trace.specs.Refused.{refused-keeps-state, refused-keeps-lines, follow-keeps-state, follow-keeps-lines, refused-keeps-last}
 use Rattle.capi_ledger.specs.Calls.{openAnswer, openLeft, completeAnswer, completeLeft}
 use Rattle.capi_ledger.specs.Refused.{refused-open-keeps, refused-complete-keeps}
 use Rattle.capi_packet.specs.Calls.{onWriting, onParsed, writeAnswer, roomOf, roomLeft}
@@ -59,6 +59,12 @@ pub record RefusedKeeps : Type 0 where
       → ¬ (returned (pieceAnswer line state piece room) written ≡ 0) → stateLeft line state piece room written ≡ state
   pub trace-lines : (line : ℕ → List ℕ → List ℕ) (state piece lines written : List ℕ)
       → ¬ (returned (pieceAnswer line state piece (length lines)) written ≡ 0) → linesLeft line state piece lines written ≡ lines
+  -- and those of a trace with both ends
+  pub follow-state : (hostId : ℕ) (sheet state piece written : List ℕ) (room : ℕ)
+      → ¬ (returned (followAnswer hostId sheet state piece room) written ≡ 0) → followState hostId sheet state piece room written ≡ state
+  pub follow-lines : (hostId : ℕ) (sheet state piece lines written : List ℕ)
+      → ¬ (returned (followAnswer hostId sheet state piece (length lines)) written ≡ 0)
+      → followLines hostId sheet state piece lines written ≡ lines
   pub end-lines : (state lines written : List ℕ) → ¬ (returned (endAnswer state (length lines)) written ≡ 0)
       → endLeft state lines written ≡ lines
   -- the ledger of an opening and of a completion
@@ -142,6 +148,8 @@ refused-keeps =
       alone-index-slice = keeps-alone-index;
       trace-state = refused-keeps-state;
       trace-lines = refused-keeps-lines;
+      follow-state = follow-keeps-state;
+      follow-lines = follow-keeps-lines;
       end-lines = refused-keeps-last;
       opened-ledger = refused-open-keeps;
       completed-ledger = refused-complete-keeps;

@@ -1,13 +1,14 @@
--- What the calls on a trace answer, and what the state and the lines that they were lent then hold: a piece, over a sheet or by an index,
--- and the end. Assumes nothing.
+-- What the calls on a trace answer, and what the state and the lines that they were lent then hold: a piece, over a sheet, by an index or
+-- with both ends, and the end. Assumes nothing.
 use Prim.Native.Nat.{ℕ}
-use mathlib.Core.Bool.{cond}
+use mathlib.Core.Bool.{Bool, cond}
 use mathlib.Core.List.{List, [], _∷_, _++_}
 use lib.ListN.{drop}
-use lib.Dec.{eqb}
+use lib.Dec.{eqb, ltb}
 use Rattle.trace.specs.declared.Fed.{Fed}
 use Rattle.trace.specs.declared.Finished.{Finished}
 use Rattle.trace.specs.Feed.{fedOf, fedPut, finishedOf, finishedPut}
+use Rattle.trace_ends.specs.Ends.{lineEnds}
 use Rattle.trace_numbers.specs.Numbers.{numbersOf}
 use Rattle.trace_numbers.specs.Parsing.{size, Parsed, Accepted, Refused, traceOf}
 use Rattle.capi_answers.specs.Answers.{Answer, refuses, gives, leftBeside}
@@ -47,6 +48,21 @@ module _ (line : ℕ → List ℕ → List ℕ) where
 
   abbrev pub linesLeft : List ℕ → List ℕ → List ℕ → List ℕ → List ℕ
   linesLeft state piece lines written = leftBeside written lines (linesOn (traceOf state) piece lines)
+
+-- ## A piece with both ends: "fed as `cartsundial_annotate` is, with the host's ID first"; an ID "above FFFFh (10, first)"
+
+abbrev pub noHostId : ℕ → Bool
+noHostId hostId = ltb 65535 hostId
+
+module _ (hostId : ℕ) (sheet : List ℕ) where
+  abbrev pub followAnswer : List ℕ → List ℕ → ℕ → Answer
+  followAnswer state piece room = cond (noHostId hostId) (refuses 10) (pieceAnswer (lineEnds hostId sheet) state piece room)
+
+  abbrev pub followState : List ℕ → List ℕ → ℕ → List ℕ → List ℕ
+  followState state piece room written = cond (noHostId hostId) state (stateLeft (lineEnds hostId sheet) state piece room written)
+
+  abbrev pub followLines : List ℕ → List ℕ → List ℕ → List ℕ → List ℕ
+  followLines state piece lines written = cond (noHostId hostId) lines (linesLeft (lineEnds hostId sheet) state piece lines written)
 
 -- ## The end
 

@@ -11,11 +11,13 @@ use Rattle.trace.specs.declared.Fed.{Fed}
 use Rattle.trace.specs.declared.Finished.{Finished}
 use Rattle.trace.specs.Trace.{linesOf, endLine}
 use Rattle.trace.specs.Feed.{textPut, takenFed, refusedFed, fedOf, endedOf}
+use Rattle.trace_ends.specs.Ends.{lineEnds}
 use Rattle.trace_numbers.specs.Numbers.{numbersOf}
 use Rattle.trace_numbers.specs.Parsing.{size, Parsed, Accepted, Refused, traceOf}
-use Rattle.capi_answers.specs.Answers.{returned}
+use Rattle.capi_answers.specs.Answers.{refuses, returned}
 use Rattle.capi_answers.specs.AnswersLaws.{one-given}
 use Rattle.capi_trace.specs.Calls.{onFed, pieceOn, pieceAnswer, statePut, stateOn, stateLeft, linesOn, linesLeft}
+use Rattle.capi_trace.specs.Calls.{noHostId, followAnswer, followState, followLines}
 use Rattle.capi_trace.specs.Calls.{onFinished, endOn, endAnswer, lastOn, endLeft}
 
 -- ## A piece
@@ -64,6 +66,34 @@ module _ (line : ℕ → List ℕ → List ℕ) where
       go : (b : Bool) → eqb (length written) 0 ≡ b → cond b lines (linesOn line (traceOf state) piece lines) ≡ lines
       go true e = refl
       go false e = by-state (traceOf state) e h
+
+-- ## A piece with both ends
+
+module _ (hostId : ℕ) (sheet : List ℕ) where
+  pub follow-keeps-state : (state piece written : List ℕ) (room : ℕ)
+      → ¬ (returned (followAnswer hostId sheet state piece room) written ≡ 0) → followState hostId sheet state piece room written ≡ state
+  follow-keeps-state state piece written room = go (noHostId hostId)
+    where
+      line : ℕ → List ℕ → List ℕ
+      line = lineEnds hostId sheet
+
+      go : (b : Bool) → ¬ (returned (cond b (refuses 10) (pieceAnswer line state piece room)) written ≡ 0)
+          → cond b state (stateLeft line state piece room written) ≡ state
+      go true h = refl
+      go false h = refused-keeps-state line state piece written room h
+
+  pub follow-keeps-lines : (state piece lines written : List ℕ)
+      → ¬ (returned (followAnswer hostId sheet state piece (length lines)) written ≡ 0)
+      → followLines hostId sheet state piece lines written ≡ lines
+  follow-keeps-lines state piece lines written = go (noHostId hostId)
+    where
+      line : ℕ → List ℕ → List ℕ
+      line = lineEnds hostId sheet
+
+      go : (b : Bool) → ¬ (returned (cond b (refuses 10) (pieceAnswer line state piece (length lines))) written ≡ 0)
+          → cond b lines (linesLeft line state piece lines written) ≡ lines
+      go true h = refl
+      go false h = refused-keeps-lines line state piece lines written h
 
 -- ## The end
 

@@ -2,12 +2,17 @@
 // 10, both tried first. Lines that do not fit, and an answer slice of no numbers, are 11: the state, the lines and the slice then stay.
 ghost use mathlib.Core.Path.{_≡_};
 ghost use lib.ListN.{length};
-ghost use Rattle.trace_line.specs.declared.Engine.the-variants.{Index};
+ghost use Rattle.trace_line.specs.declared.Finder.the-variants.{Index};
 ghost use Rattle.trace_line.specs.Line.{lineOver};
-ghost use Rattle.trace_line.specs.Engine.{Knows, lineBy};
+ghost use Rattle.trace_line.specs.Finder.{lineBy};
+ghost use Rattle.trace_engine.specs.Engine.{Ready, lineOf};
 ghost use Rattle.capi_answers.specs.Answers.{returned, filled};
-ghost use Rattle.capi_trace.specs.Calls.{pieceAnswer, stateLeft, linesLeft, endAnswer, endLeft};
-use trace_line::Engine;
+ghost use Rattle.capi_trace.specs.Calls.{pieceAnswer, stateLeft, linesLeft, followAnswer, followState, followLines, endAnswer, endLeft};
+use trace_engine::Engine;
+use trace_line::Finder;
+
+// The greatest ID.
+const LAST_ID: u64 = 65535;
 
 // Takes a piece over a sheet, which is checked once: the lines of the records that end in it, and how many bytes they are.
 pub fn annotate(
@@ -37,8 +42,8 @@ pub fn annotate(
         (now (written .entry))
         ⌝ }
 {
-    let engine = Engine::Sheet(sheet::check(sheet));
-    take(state, engine, sheet, piece, lines, written)
+    let finder = Finder::Sheet(sheet::check(sheet));
+    take(state, Engine::Owner(finder), sheet, piece, lines, written)
 }
 
 // The same by an index, which any bytes may be given as.
@@ -70,7 +75,50 @@ pub fn label(
         (now (written .entry))
         ⌝ }
 {
-    take(state, Engine::Index, index, piece, lines, written)
+    take(
+        state,
+        Engine::Owner(Finder::Index),
+        index,
+        piece,
+        lines,
+        written,
+    )
+}
+
+// The same with both ends, over a sheet and with the host's own ID: above FFFFh that is 10, tried before all else.
+pub fn follow(
+    host_id: u64,
+    state: &mut [u64],
+    sheet: &[u8],
+    piece: &[u8],
+    lines: &mut [u8],
+    written: &mut [u64],
+) -> u32
+    ensures { λ r. ⌜
+        r
+        ≡ returned (followAnswer «host_id» (now (sheet .entry)) (now (state .entry)) (now (piece .entry)) (length (now (lines .entry))))
+        (now (written .entry))
+        ⌝ }
+    ensures { λ _. ⌜
+        now (state .exit)
+        ≡ followState «host_id» (now (sheet .entry)) (now (state .entry)) (now (piece .entry)) (length (now (lines .entry)))
+        (now (written .entry))
+        ⌝ }
+    ensures { λ _. ⌜
+        now (lines .exit)
+        ≡ followLines «host_id» (now (sheet .entry)) (now (state .entry)) (now (piece .entry)) (now (lines .entry)) (now (written .entry))
+        ⌝ }
+    ensures { λ _. ⌜
+        now (written .exit)
+        ≡ filled (followAnswer «host_id» (now (sheet .entry)) (now (state .entry)) (now (piece .entry)) (length (now (lines .entry))))
+        (now (written .entry))
+        ⌝ }
+{
+    if LAST_ID < host_id {
+        return 10;
+    }
+    let engine = Engine::Ends(host_id as u16, sheet::check(sheet));
+    take(state, engine, sheet, piece, lines, written)
 }
 
 // The same by an engine, which has the number of its sheet already.
@@ -82,26 +130,26 @@ fn take(
     lines: &mut [u8],
     written: &mut [u64],
 ) -> u32
-    requires { ⌜ Knows engine (now bytes) ⌝ }
+    requires { ⌜ Ready engine (now bytes) ⌝ }
     ensures { λ r. ⌜
         r
-        ≡ returned (pieceAnswer (lineBy engine (now (bytes .entry))) (now (state .entry)) (now (piece .entry))
+        ≡ returned (pieceAnswer (lineOf engine (now (bytes .entry))) (now (state .entry)) (now (piece .entry))
         (length (now (lines .entry))))
         (now (written .entry))
         ⌝ }
     ensures { λ _. ⌜
         now (state .exit)
-        ≡ stateLeft (lineBy engine (now (bytes .entry))) (now (state .entry)) (now (piece .entry)) (length (now (lines .entry)))
+        ≡ stateLeft (lineOf engine (now (bytes .entry))) (now (state .entry)) (now (piece .entry)) (length (now (lines .entry)))
         (now (written .entry))
         ⌝ }
     ensures { λ _. ⌜
         now (lines .exit)
-        ≡ linesLeft (lineBy engine (now (bytes .entry))) (now (state .entry)) (now (piece .entry)) (now (lines .entry))
+        ≡ linesLeft (lineOf engine (now (bytes .entry))) (now (state .entry)) (now (piece .entry)) (now (lines .entry))
         (now (written .entry))
         ⌝ }
     ensures { λ _. ⌜
         now (written .exit)
-        ≡ filled (pieceAnswer (lineBy engine (now (bytes .entry))) (now (state .entry)) (now (piece .entry)) (length (now (lines .entry))))
+        ≡ filled (pieceAnswer (lineOf engine (now (bytes .entry))) (now (state .entry)) (now (piece .entry)) (length (now (lines .entry))))
         (now (written .entry))
         ⌝ }
 {

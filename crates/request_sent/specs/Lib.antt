@@ -2,3 +2,5 @@
 pub mod BothEnds
 pub mod SendersLaws
 pub mod BothEndsLaws
+pub mod Follows
+pub mod FollowsLaws

@@ -19,9 +19,9 @@ use Rattle.index_search.specs.Search.{searchOf}
 use Rattle.index_build.specs.Build.{buildNumber, indexAfter}
 use Rattle.trace.specs.declared.Trace.{Trace}
 use Rattle.trace.specs.Feed.{fedOf, fedPut}
-use Rattle.trace_line.specs.declared.Engine.the-variants.{Index}
+use Rattle.trace_line.specs.declared.Finder.the-variants.{Index}
 use Rattle.trace_line.specs.Line.{lineOver}
-use Rattle.trace_line.specs.Engine.{lineBy}
+use Rattle.trace_line.specs.Finder.{lineBy}
 use Rattle.requests.specs.Trace.{told}
 
 -- "The index takes 1,024 bytes and 256 a function"

@@ -20,9 +20,9 @@ use Rattle.index_build.specs.BuiltLaws.{zero-elim, Fitting, search-left, listed
 use Rattle.index_alone.specs.AloneLaws.{alone-iff, alone-search-is-route}
 use Rattle.trace.specs.declared.Trace.{Trace}
 use Rattle.trace.specs.Feed.{fedOf, fedPut}
-use Rattle.trace_line.specs.declared.Engine.the-variants.{Index}
+use Rattle.trace_line.specs.declared.Finder.the-variants.{Index}
 use Rattle.trace_line.specs.Line.{lineOver}
-use Rattle.trace_line.specs.Engine.{lineBy}
+use Rattle.trace_line.specs.Finder.{lineBy}
 use Rattle.trace_line.specs.LineLaws.{lines-agree}
 use Rattle.requests.specs.Trace.{told}
 use Rattle.requests.specs.FastLabels.{indexBytes, FedAlike, LabelsBy, FastLabels}

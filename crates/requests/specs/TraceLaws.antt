@@ -188,9 +188,9 @@ calls line cs =
 prints : (a b : ℕ) → Prints a b
 prints a b =
     record {
-      pieces-printed = λ sheet pieces l h. sym (program-pieces a b sheet pieces l (omega (arith, l, h)));
-      long-sheet = program-long a b;
-      short-sheet = program-short a b;
+      pieces-printed = λ sheet pieces l h. sym (program-pieces lineOver a b sheet pieces l (omega (arith, l, h)));
+      long-sheet = program-long lineOver a b;
+      short-sheet = program-short lineOver a b;
     }
 
 pub trace-annotated : TraceAnnotated
@@ -206,5 +206,5 @@ trace-annotated =
       ends = ends;
       calls = calls;
       prints = prints;
-      no-length = program-no-length;
+      no-length = program-no-length lineOver;
     }

@@ -16,9 +16,9 @@ use Rattle.audit_rule.specs.AuditLaws.{audit-iff}
 use Rattle.index_layout.specs.Places.{indexSize}
 use Rattle.index_build.specs.Build.{from11, buildNumber, indexAfter}
 use Rattle.index_build.specs.BuiltLaws.{search-is-route}
-use Rattle.trace_line.specs.declared.Engine.the-variants.{Index}
+use Rattle.trace_line.specs.declared.Finder.the-variants.{Index}
 use Rattle.trace_line.specs.Line.{lineOver}
-use Rattle.trace_line.specs.Engine.{lineBy}
+use Rattle.trace_line.specs.Finder.{lineBy}
 use Rattle.trace_line.specs.LineLaws.{lines-agree}
 
 pub record Indexed (host s : List ℕ) (number : ℕ) (index : List ℕ) : Type 0 where

@@ -16,8 +16,8 @@ use Rattle.sheet.specs.Sheet.{fullSheet}
 use Rattle.audit_rule.specs.Audit.{auditNumber}
 use Rattle.trace.specs.Trace.{fresh, endLine}
 use Rattle.trace.specs.TraceLaws.{stateAll, linesAll, pieces-told}
-use Rattle.trace_line.specs.declared.Engine.the-variants.{Index}
-use Rattle.trace_line.specs.Engine.{lineBy}
+use Rattle.trace_line.specs.declared.Finder.the-variants.{Index}
+use Rattle.trace_line.specs.Finder.{lineBy}
 use Rattle.stream_trace.specs.declared.Opening.{Opening}
 use Rattle.stream_trace.specs.Program.{openingOf}
 use Rattle.stream_trace.specs.ProgramLaws.{opening-long, opening-sheet, sizeOf}

@@ -7,7 +7,8 @@ ghost use Rattle.board_record.specs.Host.{hostLength};
 ghost use Rattle.stream_label.specs.Indexed.{Indexed};
 use stream_trace::Filling;
 use stream_trace::SheetRead;
-use trace_line::Engine;
+use trace_engine::Engine;
+use trace_line::Finder;
 
 // The index of a full sheet, 1,024 bytes and 256 a function: 132,096 for 512 functions, which E4's 64 KiB cannot hold, so this program
 // stands beside the annotator. Its memory is fixed too: the index, a full sheet of 47,105 bytes, a piece of 16,384 and its lines (327,720),
@@ -18,7 +19,7 @@ pub const INDEX: usize = index_layout::LEAST + index_layout::EACH * records::MOS
 // A record takes two bytes at least, so the lines of any piece fit: none is counted before it is labelled.
 pub const PIECE: usize = 16384;
 
-pub const LINES: usize = (PIECE / 2 + 1) * trace::LONGEST;
+pub const LINES: usize = (PIECE / 2 + 1) * trace_line::LONGEST;
 
 pub fn label(
     sheet: &mut [u8; sheet::FULL],
@@ -80,7 +81,8 @@ fn label_sheet(
         print_refused(number, lines);
         return;
     }
-    stream_trace::read_trace(start, Engine::Index, index, piece, lines);
+    let engine = Engine::Owner(Finder::Index);
+    stream_trace::read_trace(start, engine, index, piece, lines);
 }
 
 // The audit's number; where it is 0, the sheet's index. There is room for any, so no build gives 11.

@@ -13,10 +13,10 @@ use Rattle.trace.specs.declared.Fed.{Fed}
 use Rattle.trace.specs.Trace.{stateOf, linesOf}
 use Rattle.trace.specs.TraceLaws.{state-append, state-past}
 use Rattle.trace.specs.Feed.{takenFed, refusedFed, fedOf}
-use Rattle.trace.specs.FeedLaws.{longestLine, Sound, lines-le, count-le-length, state-sound}
-use Rattle.trace_line.specs.declared.Engine.{Engine}
-use Rattle.trace_line.specs.Engine.{lineBy}
-use Rattle.trace_line.specs.LineLaws.{line-le}
+use Rattle.trace.specs.FeedLaws.{Sound, count-le-length, state-sound}
+use Rattle.trace_engine.specs.declared.Engine.{Engine}
+use Rattle.trace_engine.specs.Engine.{lineOf, longestOf}
+use Rattle.trace_engine.specs.EngineLaws.{few-fit}
 
 -- a piece that was taken moves the state by all of it
 pub taken-of-zero : (line : ℕ → List ℕ → List ℕ) (t : Trace) (piece : List ℕ) (room : ℕ) (fed : Fed) → fed ≡ fedOf line t piece room
@@ -31,24 +31,20 @@ taken-of-zero line t piece room fed e z =
     go false z = absurd (omega (arith, z))
 
 -- i and end are places in the piece, with no more bytes between them than lines fit
-module _ (engine : Engine) (bytes : List ℕ) (t : Trace) (piece : List ℕ) (i end room : ℕ) (fed : Fed) (sound : Sound (t .number))
-    (on : i < end) (inside : end ≤ length piece) (few : end ≤ i + room / longestLine)
-    (e : fed ≡ fedOf (lineBy engine bytes) t (take (end - i) (drop i piece)) room) where
-  part-fits : length (linesOf (lineBy engine bytes) t (take (end - i) (drop i piece))) ≤ room
+module _ (engine : Engine) (bytes : List ℕ) (t : Trace) (piece : List ℕ) (i end room most : ℕ) (fed : Fed) (sound : Sound (t .number))
+    (on : i < end) (inside : end ≤ length piece) (is : most ≡ room / longestOf engine) (few : end ≤ i + most)
+    (e : fed ≡ fedOf (lineOf engine bytes) t (take (end - i) (drop i piece)) room) where
+  part-fits : length (linesOf (lineOf engine bytes) t (take (end - i) (drop i piece))) ≤ room
   part-fits =
       let p = take (end - i) (drop i piece) in
-      omega (
-        arith,
-        lines-le (lineBy engine bytes) (line-le engine bytes) t p sound,
-        count-le-length (t .stage) p,
-        length-take (end - i) (drop i piece),
-      )
+      few-fit engine bytes t p room sound
+      (rw (← is) (omega (arith, count-le-length (t .stage) p, length-take (end - i) (drop i piece))))
 
   part-taken : fed .state ≡ stateOf t (take (end - i) (drop i piece))
   unfolding fedOf
   part-taken =
       let p = take (end - i) (drop i piece) in
-      ap (λ (f : Fed). f .state) e ∙ rw (le-leb (length (linesOf (lineBy engine bytes) t p)) room part-fits)
+      ap (λ (f : Fed). f .state) e ∙ rw (le-leb (length (linesOf (lineOf engine bytes) t p)) room part-fits)
 
   pub part-sound : Sound (fed .state .number)
   part-sound = rw part-taken (state-sound t (take (end - i) (drop i piece)) sound)

@@ -15,10 +15,9 @@ use Rattle.endian.specs.Endian.{be}
 use Rattle.sheet.specs.Sheet.{fullSheet}
 use Rattle.trace.specs.Trace.{fresh, endLine}
 use Rattle.trace.specs.TraceLaws.{stateAll, linesAll, pieces-told}
-use Rattle.trace_line.specs.Line.{lineOver}
 use Rattle.stream_trace.specs.declared.Opening.{Opening}
 use Rattle.stream_trace.specs.declared.Opening.the-variants.{Sheet, Long}
-use Rattle.stream_trace.specs.Program.{overSheet, openingOf, fromOpening, programOf}
+use Rattle.stream_trace.specs.Program.{openingOf, overSheet, fromOpening, programWith}
 
 -- ## A length
 
@@ -40,37 +39,41 @@ opened-le size n o e q = go (ltb fullSheet size) refl (sym e ∙ q)
 
 -- ## An input
 
--- an input that ends inside the length
-pub program-no-length : (s : List ℕ) → length s < 2 → programOf s ≡ ascii "refused 20\n"
-unfolding programOf
-program-no-length s h = rw (lt-ltb (length s) 2 h)
-
 -- a and b are the bytes of the length
-module _ (a b : ℕ) where
-  abbrev pub sizeOf : ℕ
-  sizeOf = be 2 (a ∷ b ∷ []) 0
+abbrev pub sizeOf : ℕ → ℕ → ℕ
+sizeOf a b = be 2 (a ∷ b ∷ []) 0
 
-  from-length : (s : List ℕ) → programOf (a ∷ b ∷ s) ≡ fromOpening (openingOf sizeOf) s
-  unfolding programOf be
-  from-length s = rw (le-ltb (length (a ∷ b ∷ s)) 2 (omega arith))
+module _ (line : List ℕ → ℕ → List ℕ → List ℕ) where
+  -- an input that ends inside the length
+  pub program-no-length : (s : List ℕ) → length s < 2 → programWith line s ≡ ascii "refused 20\n"
+  unfolding programWith
+  program-no-length s h = rw (lt-ltb (length s) 2 h)
 
-  -- at once, whatever follows
-  pub program-long : (s : List ℕ) → fullSheet < sizeOf → programOf (a ∷ b ∷ s) ≡ ascii "refused 22\n"
-  program-long s h = from-length s ∙ ap (λ (o : Opening). fromOpening o s) (opening-long sizeOf h)
+  module _ (a b : ℕ) where
+    from-length : (s : List ℕ) → programWith line (a ∷ b ∷ s) ≡ fromOpening line (openingOf (sizeOf a b)) s
+    unfolding programWith be
+    from-length s = rw (le-ltb (length (a ∷ b ∷ s)) 2 (omega arith))
 
-  pub program-short : (s : List ℕ) → sizeOf ≤ fullSheet → length s < sizeOf → programOf (a ∷ b ∷ s) ≡ ascii "refused 20\n"
-  unfolding overSheet
-  program-short s h l = from-length s ∙ ap (λ (o : Opening). fromOpening o s) (opening-sheet sizeOf h) ∙ rw (lt-ltb (length s) sizeOf l)
+    -- at once, whatever follows
+    pub program-long : (s : List ℕ) → fullSheet < sizeOf a b → programWith line (a ∷ b ∷ s) ≡ ascii "refused 22\n"
+    program-long s h = from-length s ∙ ap (λ (o : Opening). fromOpening line o s) (opening-long (sizeOf a b) h)
 
-  -- each piece's lines, then the end's
-  pub program-pieces : (sheet : List ℕ) (pieces : List (List ℕ)) → length sheet ≡ sizeOf → sizeOf ≤ fullSheet
-      → linesAll (lineOver sheet) fresh pieces ++ endLine (stateAll fresh pieces) ≡ programOf (a ∷ b ∷ (sheet ++ flatten pieces))
-  unfolding overSheet
-  program-pieces sheet pieces l h =
-      let s = sheet ++ flatten pieces in
-      let enough : sizeOf ≤ length s = omega (arith, length-append sheet (flatten pieces)) in
-      pieces-told (lineOver sheet) pieces
-      ∙ sym
-      (from-length s
-      ∙ ap (λ (o : Opening). fromOpening o s) (opening-sheet sizeOf h)
-      ∙ rw (le-ltb (length s) sizeOf enough, take-at sheet (flatten pieces) sizeOf l, drop-at sheet (flatten pieces) sizeOf l))
+    pub program-short : (s : List ℕ) → sizeOf a b ≤ fullSheet → length s < sizeOf a b
+        → programWith line (a ∷ b ∷ s) ≡ ascii "refused 20\n"
+    unfolding overSheet
+    program-short s h l =
+        from-length s ∙ ap (λ (o : Opening). fromOpening line o s) (opening-sheet (sizeOf a b) h) ∙ rw (lt-ltb (length s) (sizeOf a b) l)
+
+    -- each piece's lines, then the end's
+    pub program-pieces : (sheet : List ℕ) (pieces : List (List ℕ)) → length sheet ≡ sizeOf a b → sizeOf a b ≤ fullSheet
+        → linesAll (line sheet) fresh pieces ++ endLine (stateAll fresh pieces) ≡ programWith line (a ∷ b ∷ (sheet ++ flatten pieces))
+    unfolding overSheet
+    program-pieces sheet pieces l h =
+        let size = sizeOf a b in
+        let s = sheet ++ flatten pieces in
+        let enough : size ≤ length s = omega (arith, length-append sheet (flatten pieces)) in
+        pieces-told (line sheet) pieces
+        ∙ sym
+        (from-length s
+        ∙ ap (λ (o : Opening). fromOpening line o s) (opening-sheet size h)
+        ∙ rw (le-ltb (length s) size enough, take-at sheet (flatten pieces) size l, drop-at sheet (flatten pieces) size l))

@@ -6,22 +6,22 @@ ghost use mathlib.Core.Bool.{true};
 ghost use Prim.Native.Nat.{_+_, _≤_, _<_};
 ghost use lib.ListN.{length};
 ghost use Rattle.trace.specs.Trace.{stateOf};
-ghost use Rattle.trace.specs.FeedLaws.{longestLine};
-ghost use Rattle.trace_line.specs.Engine.{Knows};
+ghost use Rattle.trace_engine.specs.Engine.{Ready, longestLine};
 ghost use Rattle.stream_trace.specs.Program.{openingOf};
 use console::Piece;
 use trace::Trace;
-use trace_line::Engine;
+use trace_engine::Engine;
+use trace_line::Finder;
 
 // Where bytes are held: the sheet, a piece of the trace, its lines; 8,192 bytes in which the sheet's check marks IDs, 4,096 in which `io`
-// goes on after a short write, 40 for a line that is measured; 16 kept of a record, 16 that clear them and 8 for a kind's name. With a full
-// sheet of 47,105 bytes that is 65,521 of the 65,536 allowed.
+// goes on after a short write, 51 for a line that is measured; 16 kept of a record, 16 that clear them and 8 for a kind's name. With a full
+// sheet of 47,105 bytes that is 65,532 of the 65,536 allowed.
 // A piece of ordinary records, each 12 bytes after its length, has lines that fit by their count, so that none is routed twice.
 pub const MOST_LINES: usize = 112;
 
 pub const PIECE: usize = MOST_LINES * 14;
 
-pub const LINES: usize = MOST_LINES * trace::LONGEST;
+pub const LINES: usize = MOST_LINES * trace_line::LONGEST;
 
 // What a length opens: a sheet of so many bytes, or one longer than a full sheet.
 pub enum Opening {
@@ -103,13 +103,13 @@ fn fill_sheet(start: u64, size: usize, sheet: &mut [u8]) -> SheetRead
 
 // The trace over a sheet, which is checked once in all.
 fn read_over(start: u64, sheet: &[u8], piece: &mut [u8; PIECE], lines: &mut [u8; LINES]) {
-    let engine = Engine::Sheet(sheet::check(sheet));
-    read_trace(start, engine, sheet, piece, lines);
+    let finder = Finder::Sheet(sheet::check(sheet));
+    read_trace(start, Engine::Owner(finder), sheet, piece, lines);
 }
 
 // The trace to its end, by an engine, in pieces of any size, with room for any line.
 pub fn read_trace(start: u64, engine: Engine, bytes: &[u8], piece: &mut [u8], lines: &mut [u8])
-    requires { ⌜ Knows engine (now bytes) × (longestLine ≤ length (now lines)) ⌝ }
+    requires { ⌜ Ready engine (now bytes) × (longestLine ≤ length (now lines)) ⌝ }
 {
     let mut t = Trace::start();
     let mut left = start;
@@ -141,7 +141,7 @@ fn finish(t: Trace, lines: &mut [u8]) {
 
 // A piece whose lines do not fit at once is taken in parts, each of no more bytes than lines fit.
 fn label(t: Trace, engine: Engine, bytes: &[u8], piece: &[u8], lines: &mut [u8]) -> Labelled
-    requires { ⌜ Knows engine (now bytes) × (longestLine ≤ length (now lines)) ⌝ }
+    requires { ⌜ Ready engine (now bytes) × (longestLine ≤ length (now lines)) ⌝ }
     ensures { λ r. ⌜ (r .written ≡ true → r .state ≡ stateOf t (now (piece .entry))) ⌝ }
 {
     let fed = trace_feed::feed_by(t, engine, bytes, piece, lines);
@@ -160,10 +160,10 @@ fn label_parts(
     piece: &[u8],
     lines: &mut [u8],
 ) -> Labelled
-    requires { ⌜ Knows engine (now bytes) × (longestLine ≤ length (now lines)) ⌝ }
+    requires { ⌜ Ready engine (now bytes) × (longestLine ≤ length (now lines)) ⌝ }
     ensures { λ r. ⌜ (r .written ≡ true → r .state ≡ stateOf start (now (piece .entry))) ⌝ }
 {
-    let most = lines.len() / trace::LONGEST;
+    let most = trace_engine::most_lines(engine, lines.len());
     let mut t = start;
     let mut i = 0;
     while i < piece.len() {

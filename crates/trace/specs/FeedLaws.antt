@@ -3,7 +3,8 @@ use mathlib.Core.Path.{_≡_, refl, ap, ap₂, _∙_}
 use mathlib.Core.Bool.{Bool, true, false, cond}
 use mathlib.Core.List.{List, [], _∷_, _++_, flatten}
 use Prim.Native.Nat.{ℕ, suc, _+_, _-_, _*_, _≤_, _<_}
-use native.Mathlib.Nat.{zero-add}
+use native.Mathlib.Nat.{zero-add, mul-suc}
+use native.Mathlib.Numerals.{add-one}
 use native.Mathlib.Omega.{arith}
 use lib.ListN.{length, length-append, take, drop, drop-of-length-le}
 use lib.Seq.{sets, sets-eq, take-length, drop-drop}
@@ -46,10 +47,7 @@ let-go h h′ l e =
     let past : length h ≤ 16 = omega arith in
     e ∙ sets-eq noBytes h 0 (omega arith) ∙ ap (λ (r : List ℕ). noBytes ++ r) (drop-of-length-le h past)
 
--- ## Lines of at most 40 bytes
-
-abbrev pub longestLine : ℕ
-longestLine = 40
+-- ## Lines of at most so many bytes
 
 -- what the number's type says
 abbrev pub Sound : ℕ → Type 0
@@ -64,8 +62,13 @@ sound-by Nothing k s = s
 sound-by Refusal k s = s
 sound-by Line k s = number-sound k
 
-module _ (line : ℕ → List ℕ → List ℕ) (short : (n : ℕ) (header : List ℕ) → Sound n → length (line n header) ≤ longestLine) where
-  pub text-le : (m : Emits) (n : ℕ) (header : List ℕ) → Sound n → length (textOf line m n header) ≤ longestLine
+one-more : (most n : ℕ) → most * (n + 1) ≡ most * n + most
+one-more most n = ap (λ (k : ℕ). most * k) (add-one n) ∙ mul-suc most n
+
+-- which is no less than another version's refusal has
+module _ (line : ℕ → List ℕ → List ℕ) (most : ℕ) (some : 11 ≤ most)
+    (short : (n : ℕ) (header : List ℕ) → Sound n → length (line n header) ≤ most) where
+  pub text-le : (m : Emits) (n : ℕ) (header : List ℕ) → Sound n → length (textOf line m n header) ≤ most
   unfolding ascii
   text-le Nothing n header s = omega arith
   text-le Refusal n header s = omega arith
@@ -73,18 +76,18 @@ module _ (line : ℕ → List ℕ → List ℕ) (short : (n : ℕ) (header : Lis
 
   -- each that was counted is at most so long
   abbrev Within : Told → ℕ → Type 0
-  Within t n = (length (t .lines) ≤ longestLine * n) × Sound (t .account .number)
+  Within t n = (length (t .lines) ≤ most * n) × Sound (t .account .number)
 
-  on-within : (x : List ℕ) (n k : ℕ) (header : List ℕ) (m : Emits) → length x ≤ longestLine * n → Sound (numberBy m k)
-      → length (x ++ textOf line m (numberBy m k) header) ≤ longestLine * countOn m n
+  on-within : (x : List ℕ) (n k : ℕ) (header : List ℕ) (m : Emits) → length x ≤ most * n → Sound (numberBy m k)
+      → length (x ++ textOf line m (numberBy m k) header) ≤ most * countOn m n
   on-within x n k header Nothing l s = omega (arith, length-append x [])
   on-within x n k header Refusal l s =
-      omega (arith, length-append x versionLine, text-le Refusal k header s)
+      omega (arith, length-append x versionLine, text-le Refusal k header s, one-more most n)
   on-within x n k header Line l s =
-      omega (arith, length-append x (line (numberAfter k) header), text-le Line (numberAfter k) header s)
+      omega (arith, length-append x (line (numberAfter k) header), text-le Line (numberAfter k) header s, one-more most n)
 
   -- counting tells that the lines fit
-  pub lines-le : (t : Trace) (piece : List ℕ) → Sound (t .number) → length (linesOf line t piece) ≤ longestLine * lineCount (t .stage) piece
+  pub lines-le : (t : Trace) (piece : List ℕ) → Sound (t .number) → length (linesOf line t piece) ≤ most * lineCount (t .stage) piece
   unfolding linesOf lineCount
   lines-le t piece s =
       heard-related (toldBy line) countBy Within

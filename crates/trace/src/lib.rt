@@ -17,9 +17,6 @@ use records::frame::Stage;
 // A header is labelled by so many bytes of its front.
 pub const FRONT: usize = 16;
 
-// No line is longer: a number of 20 digits, a kind of 6 letters, and a refusal by number.
-pub const LONGEST: usize = 40;
-
 // What was fed so far: where the next byte falls, the number of the last whole record, and how many bytes of a record are kept, in `head`.
 pub struct Trace {
     pub stage: Stage,

@@ -2,7 +2,7 @@
 use mathlib.Core.Path.{_≡_, refl, sym, ap, ap₂, _∙_}
 use mathlib.Core.Bool.{Bool, true, false, not}
 use mathlib.Core.List.{List}
-use Prim.Native.Nat.{ℕ, _+_, _-_, _/_, _≤_, _<_}
+use Prim.Native.Nat.{ℕ, _+_, _-_, _≤_, _<_}
 use native.Mathlib.Nat.{zero-add}
 use native.Mathlib.Omega.{arith}
 use lib.ListN.{length, length-append, drop}
@@ -14,33 +14,10 @@ use Rattle.text.specs.Text.{Put}
 use Rattle.text.specs.TextLaws.{put-length}
 use Rattle.trace.specs.declared.Trace.{Trace}
 use Rattle.trace.specs.declared.Fed.{Fed}
-use Rattle.trace.specs.declared.Emits.{Emits}
-use Rattle.trace.specs.Trace.{stateOf, textOf, linesOf, lineCount}
+use Rattle.trace.specs.Trace.{stateOf, linesOf}
 use Rattle.trace.specs.Feed.{fedOf, fedPut}
 use Rattle.trace.specs.TraceLaws.{Turn, lines-past, state-past}
-use Rattle.trace.specs.FeedLaws.{Sound, text-le, lines-le, count-le-half, put-front, short-front}
-use Rattle.trace_line.specs.declared.Engine.{Engine}
-use Rattle.trace_line.specs.Engine.{lineBy}
-use Rattle.trace_line.specs.LineLaws.{line-le}
-
--- ## Lengths
-
--- lines that are few enough fit
-pub few-fit : (engine : Engine) (bytes : List ℕ) (t : Trace) (piece : List ℕ) (room count : ℕ) → Sound (t .number)
-    → count ≡ lineCount (t .stage) piece
-    → count ≤ room / 40 → length (linesOf (lineBy engine bytes) t piece) ≤ room
-few-fit engine bytes t piece room count sound is few =
-    omega (arith, lines-le (lineBy engine bytes) (line-le engine bytes) t piece sound)
-
--- and so do those of a piece that is short enough
-pub half-fit : (engine : Engine) (bytes : List ℕ) (t : Trace) (piece : List ℕ) (room : ℕ) → Sound (t .number)
-    → length piece / 2 < room / 40 → length (linesOf (lineBy engine bytes) t piece) ≤ room
-half-fit engine bytes t piece room sound short =
-    omega (arith, lines-le (lineBy engine bytes) (line-le engine bytes) t piece sound, count-le-half (t .stage) piece)
-
-pub emitted-le : (engine : Engine) (bytes : List ℕ) (m : Emits) (n : ℕ) (header : List ℕ) → Sound n
-    → length (textOf (lineBy engine bytes) m n header) ≤ 40
-emitted-le engine bytes = text-le (lineBy engine bytes) (line-le engine bytes)
+use Rattle.trace.specs.FeedLaws.{put-front, short-front}
 
 -- ## A piece taken or not, in the words of the code
 

@@ -1,4 +1,4 @@
--- Every number that stands in a label is small, by either engine: a refusal has at most three digits, a record number two bytes. Assumes
+-- Every number that stands in a label is small, by either finder: a refusal has at most three digits, a record number two bytes. Assumes
 -- nothing.
 use Prim.Native.Nat.{ℕ, _<_}
 use mathlib.Core.List.{List}
@@ -21,9 +21,9 @@ use Rattle.route.specs.Route.{walked, root, from42, routePacket}
 use Rattle.route.specs.NumberLaws.{route-elim}
 use Rattle.index_search.specs.Search.{functionsIn, rootIn, outcomeOver, searchPacket}
 use Rattle.index_search.specs.NumberLaws.{outcome-elim, search-elim}
-use Rattle.trace_line.specs.declared.Engine.{Engine}
-use Rattle.trace_line.specs.declared.Engine.the-variants.{Sheet, Index}
-use Rattle.trace_line.specs.Engine.{routingBy}
+use Rattle.trace_line.specs.declared.Finder.{Finder}
+use Rattle.trace_line.specs.declared.Finder.the-variants.{Sheet, Index}
+use Rattle.trace_line.specs.Finder.{routingBy}
 
 abbrev pub Small : ℕ → Type 0
 Small n = n < 1000
@@ -52,7 +52,7 @@ small-over : (functions bus : ℕ) (outcome : Aim → Outcome) → ((aim : Aim) 
 small-over functions bus outcome small p =
     over-elim SmallRouting functions bus outcome p small-refusal tt tt (λ aim. small-answer p (outcome aim) (small aim))
 
--- ## Either engine
+-- ## Either finder
 
 small-walk : (s : List ℕ) → Checked s → (aim : Aim) → SmallOutcome (walked aim s (root s) 0)
 small-walk s c aim =
@@ -69,7 +69,7 @@ small-by-index ix p =
     let n = functionsIn ix in
     small-over n (rootIn ix) (λ aim. outcomeOver ix n aim) (outcome-elim SmallOutcome ix n (omega arith) (λ word. omega arith)) p
 
-pub small-routing : (engine : Engine) (bytes header : List ℕ) → SmallRouting (routingBy engine bytes header)
+pub small-routing : (finder : Finder) (bytes header : List ℕ) → SmallRouting (routingBy finder bytes header)
 unfolding routingBy
 small-routing (Sheet number) bytes header = route-elim SmallRouting header bytes small-refusal (λ p c. small-packet bytes c p)
 small-routing Index bytes header = search-elim SmallRouting header bytes small-refusal (small-by-index bytes)

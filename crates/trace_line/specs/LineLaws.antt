@@ -26,23 +26,23 @@ use Rattle.route_answer.specs.declared.Routing.the-variants.{Delivered, Broadca
 use Rattle.route.specs.Route.{routePacket, fromSheet, fromReading, routeOf}
 use Rattle.index_search.specs.Search.{searchOf}
 use Rattle.trace_label.specs.Label.{kindRead, ownerText, labelWith}
-use Rattle.trace_line.specs.declared.Engine.{Engine}
-use Rattle.trace_line.specs.declared.Engine.the-variants.{Sheet, Index}
+use Rattle.trace_line.specs.declared.Finder.{Finder}
+use Rattle.trace_line.specs.declared.Finder.the-variants.{Sheet, Index}
 use Rattle.trace_line.specs.Line.{lineWith, lineOver}
-use Rattle.trace_line.specs.Engine.{packetBy, routingBy, lineBy}
+use Rattle.trace_line.specs.Finder.{packetBy, routingBy, lineBy}
 use Rattle.trace_line.specs.Bounds.{Small, SmallRouting, small-routing}
 
 -- ## Digits
 
-decimal-le-20 : (n : ℕ) → n < 18446744073709551616 → length (decimal n) ≤ 20
+pub decimal-le-20 : (n : ℕ) → n < 18446744073709551616 → length (decimal n) ≤ 20
 unfolding tens
 decimal-le-20 n h = digits-le 19 n (omega arith)
 
-decimal-le-5 : (n : ℕ) → n < 65536 → length (decimal n) ≤ 5
+pub decimal-le-5 : (n : ℕ) → n < 65536 → length (decimal n) ≤ 5
 unfolding tens
 decimal-le-5 n h = digits-le 4 n (omega arith)
 
-decimal-le-3 : (n : ℕ) → Small n → length (decimal n) ≤ 3
+pub decimal-le-3 : (n : ℕ) → Small n → length (decimal n) ≤ 3
 unfolding tens
 decimal-le-3 n h = digits-le 2 n (omega arith)
 
@@ -66,7 +66,7 @@ packet-kind-le (Completion CplDLk h o) = omega arith
 packet-kind-le (Message Msg h routing code tail) = omega arith
 packet-kind-le (Message MsgD h routing code tail) = omega arith
 
-kind-le : (r : Reading) → length (kindRead r) ≤ 6
+pub kind-le : (r : Reading) → length (kindRead r) ≤ 6
 unfolding ascii
 kind-le (Accepted p) = packet-kind-le p
 kind-le (NotRead n) = omega arith
@@ -101,9 +101,9 @@ module _ (route : List ℕ → Routing) (header : List ℕ) (small : SmallRoutin
         length-append (labelWith route header) (10 ∷ []),
       )
 
-pub line-le : (engine : Engine) (bytes : List ℕ) (n : ℕ) (header : List ℕ) → n < 18446744073709551616
-    → length (lineBy engine bytes n header) ≤ 40
-line-le engine bytes n header h = line-with-le (routingBy engine bytes) header (small-routing engine bytes header) n h
+pub line-le : (finder : Finder) (bytes : List ℕ) (n : ℕ) (header : List ℕ) → n < 18446744073709551616
+    → length (lineBy finder bytes n header) ≤ 40
+line-le finder bytes n header h = line-with-le (routingBy finder bytes) header (small-routing finder bytes header) n h
 
 -- ## In the words of the code
 
@@ -117,24 +117,24 @@ module _ (p : Packet) (sheet : List ℕ) (n : ℕ) (number : n ≡ sheetNumber s
   sheet-passed h r e = rw (← number, eq-eqb n 0 h) e
 
 -- only a packet is looked up
-by-packet : (engine : Engine) (bytes header : List ℕ) (p : Packet) → readOf header ≡ Accepted p
-    → routingBy engine bytes header ≡ packetBy engine p bytes
+by-packet : (finder : Finder) (bytes header : List ℕ) (p : Packet) → readOf header ≡ Accepted p
+    → routingBy finder bytes header ≡ packetBy finder p bytes
 unfolding routingBy packetBy routeOf searchOf
 by-packet (Sheet number) bytes header p e = rw e
 by-packet Index bytes header p e = rw e
 
-by-refusal : (engine : Engine) (bytes header : List ℕ) (n : ℕ) → readOf header ≡ NotRead n → routingBy engine bytes header ≡ Refused n
+by-refusal : (finder : Finder) (bytes header : List ℕ) (n : ℕ) → readOf header ≡ NotRead n → routingBy finder bytes header ≡ Refused n
 unfolding routingBy routeOf searchOf
 by-refusal (Sheet number) bytes header n e = rw e
 by-refusal Index bytes header n e = rw e
 
-module _ (engine : Engine) (bytes header : List ℕ) (reading : Reading) (is-reading : reading ≡ readOf header) where
-  pub routing-accepted : (p : Packet) → reading ≡ Accepted p → (r : Routing) → r ≡ packetBy engine p bytes
-      → r ≡ routingBy engine bytes header
-  routing-accepted p e r routed = routed ∙ sym (by-packet engine bytes header p (sym is-reading ∙ e))
+module _ (finder : Finder) (bytes header : List ℕ) (reading : Reading) (is-reading : reading ≡ readOf header) where
+  pub routing-accepted : (p : Packet) → reading ≡ Accepted p → (r : Routing) → r ≡ packetBy finder p bytes
+      → r ≡ routingBy finder bytes header
+  routing-accepted p e r routed = routed ∙ sym (by-packet finder bytes header p (sym is-reading ∙ e))
 
-  pub routing-refused : (n : ℕ) → reading ≡ NotRead n → routingBy engine bytes header ≡ Refused n
-  routing-refused n e = by-refusal engine bytes header n (sym is-reading ∙ e)
+  pub routing-refused : (n : ℕ) → reading ≡ NotRead n → routingBy finder bytes header ≡ Refused n
+  routing-refused n e = by-refusal finder bytes header n (sym is-reading ∙ e)
 
 -- ## The front
 

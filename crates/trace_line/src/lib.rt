@@ -1,24 +1,27 @@
 // A record's line of a trace: its number, the header's kind as read, and where the packet goes, as `1 MRd owner 2` or
-// `2 IOWr refused 40`, looked up by one of two engines.
+// `2 IOWr refused 40`, looked up in a sheet or in an index.
 ghost use mathlib.Core.Path.{_≡_};
 ghost use Rattle.text.specs.Text.{Put};
 ghost use Rattle.sheet.specs.Sheet.{sheetNumber};
 ghost use Rattle.route.specs.Route.{fromSheet};
 ghost use Rattle.trace_label.specs.Label.{ownerText};
 ghost use Rattle.trace_label.specs.Word.{wayText, Labels, Told};
-ghost use Rattle.trace_line.specs.Engine.{Knows, packetBy, labelBy, lineBy};
+ghost use Rattle.trace_line.specs.Finder.{Knows, packetBy, labelBy, lineBy};
 use packet::Packet;
 use route_answer::Routing;
 use text::put_text;
 use tlp::Reading;
 use trace_label::Label;
 
-// What a header is looked up in, whose bytes are lent beside it: a sheet, whose own number is known, so that who labels many headers over
+// Who finds a header's owner, whose bytes are lent beside it: a sheet, whose own number is known, so that who labels many headers over
 // one sheet checks it once; or an index.
-pub enum Engine {
+pub enum Finder {
     Sheet(u8),
     Index,
 }
+
+// No line is longer: a number of 20 digits, a kind of 6 letters, and a refusal by number.
+pub const LONGEST: usize = 40;
 
 // Puts the line at a place, as far as it fits, and answers the next place.
 pub fn put_line(
@@ -26,14 +29,14 @@ pub fn put_line(
     start: usize,
     n: u64,
     header: &[u8],
-    engine: Engine,
+    finder: Finder,
     bytes: &[u8],
 ) -> usize
-    requires { ⌜ Knows engine (now bytes) ⌝ }
-    ensures { λ r. ⌜ Put (now (out .entry)) start (lineBy engine (now (bytes .entry)) n (now (header .entry))) (now (out .exit)) r ⌝ }
+    requires { ⌜ Knows finder (now bytes) ⌝ }
+    ensures { λ r. ⌜ Put (now (out .entry)) start (lineBy finder (now (bytes .entry)) n (now (header .entry))) (now (out .exit)) r ⌝ }
 {
-    let told = label_by_bytes(header, engine, bytes);
-    let label = label_of(told, header, engine, bytes);
+    let told = label_by_bytes(header, finder, bytes);
+    let label = label_of(told, header, finder, bytes);
     let mut at = text::put_decimal(out, start, n);
     at = trace_label::put_name(out, at, label.name);
     at = trace_label::put_way(out, at, label.way, label.number);
@@ -41,35 +44,35 @@ pub fn put_line(
 }
 
 // The label that is told, or by a packet. What tells it calls nothing that is lent the header, so that this stays in registers.
-fn label_of(told: Label, header: &[u8], engine: Engine, bytes: &[u8]) -> Label
-    requires { ⌜ Knows engine (now bytes) × Told told (labelBy engine (now bytes) (now header)) ⌝ }
-    ensures { λ r. ⌜ Labels r (labelBy engine (now (bytes .entry)) (now (header .entry))) ⌝ }
+fn label_of(told: Label, header: &[u8], finder: Finder, bytes: &[u8]) -> Label
+    requires { ⌜ Knows finder (now bytes) × Told told (labelBy finder (now bytes) (now header)) ⌝ }
+    ensures { λ r. ⌜ Labels r (labelBy finder (now (bytes .entry)) (now (header .entry))) ⌝ }
 {
     if told.way != trace_label::UNTOLD {
         return told;
     }
-    label_packet(header, engine, bytes)
+    label_packet(header, finder, bytes)
 }
 
 // By an index most headers need no packet.
-fn label_by_bytes(header: &[u8], engine: Engine, bytes: &[u8]) -> Label
-    ensures { λ r. ⌜ Told r (labelBy engine (now (bytes .entry)) (now (header .entry))) ⌝ }
+fn label_by_bytes(header: &[u8], finder: Finder, bytes: &[u8]) -> Label
+    ensures { λ r. ⌜ Told r (labelBy finder (now (bytes .entry)) (now (header .entry))) ⌝ }
 {
-    match engine {
-        Engine::Sheet(_) => trace_label::untold(),
-        Engine::Index => index_label::label_by_index(header, bytes),
+    match finder {
+        Finder::Sheet(_) => trace_label::untold(),
+        Finder::Index => index_label::label_by_index(header, bytes),
     }
 }
 
 // ---- by a packet
 
 // The name is in a word, so that it is stored at once. The packet is let go.
-fn label_packet(header: &[u8], engine: Engine, bytes: &[u8]) -> Label
-    requires { ⌜ Knows engine (now bytes) ⌝ }
-    ensures { λ r. ⌜ Labels r (labelBy engine (now (bytes .entry)) (now (header .entry))) ⌝ }
+fn label_packet(header: &[u8], finder: Finder, bytes: &[u8]) -> Label
+    requires { ⌜ Knows finder (now bytes) ⌝ }
+    ensures { λ r. ⌜ Labels r (labelBy finder (now (bytes .entry)) (now (header .entry))) ⌝ }
 {
     match tlp::read(header) {
-        Reading::Accepted(p) => way_of(trace_label::name_of(p), route_by(p, engine, bytes)),
+        Reading::Accepted(p) => way_of(trace_label::name_of(p), route_by(p, finder, bytes)),
         Reading::Refused(n) => Label {
             name: trace_label::NONE,
             way: trace_label::REFUSED,
@@ -105,13 +108,13 @@ fn way_of(name: u64, routing: Routing) -> Label
     }
 }
 
-fn route_by(p: Packet, engine: Engine, bytes: &[u8]) -> Routing
-    requires { ⌜ Knows engine (now bytes) ⌝ }
-    ensures { λ r. ⌜ r ≡ packetBy engine p (now (bytes .entry)) ⌝ }
+fn route_by(p: Packet, finder: Finder, bytes: &[u8]) -> Routing
+    requires { ⌜ Knows finder (now bytes) ⌝ }
+    ensures { λ r. ⌜ r ≡ packetBy finder p (now (bytes .entry)) ⌝ }
 {
-    match engine {
-        Engine::Sheet(number) => route_over(p, number, bytes),
-        Engine::Index => index_search::search_packet(p, bytes),
+    match finder {
+        Finder::Sheet(number) => route_over(p, number, bytes),
+        Finder::Index => index_search::search_packet(p, bytes),
     }
 }
 

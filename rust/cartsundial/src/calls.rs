@@ -161,6 +161,19 @@ mod c {
             written: *mut u64,
             written_len: usize,
         ) -> u32;
+        pub fn cartsundial_follow(
+            host_id: u64,
+            state: *mut u64,
+            state_len: usize,
+            sheet: *const u8,
+            sheet_len: usize,
+            piece: *const u8,
+            piece_len: usize,
+            lines: *mut u8,
+            lines_len: usize,
+            written: *mut u64,
+            written_len: usize,
+        ) -> u32;
         pub fn cartsundial_annotate_end(
             state: *const u64,
             state_len: usize,
@@ -421,6 +434,33 @@ pub fn label(state: &mut [u64], index: &[u8], piece: &[u8], lines: &mut [u8], wr
             state.len(),
             index.as_ptr(),
             index.len(),
+            piece.as_ptr(),
+            piece.len(),
+            lines.as_mut_ptr(),
+            lines.len(),
+            written.as_mut_ptr(),
+            written.len(),
+        )
+    }
+}
+
+/// Takes the next piece of a trace as [`annotate`] does, with both ends of each packet: `host_id` is the host's own ID, and
+/// above FFFFh 10, before anything else. A line is `4 MWr from 3 to host`, and at most 51 bytes long.
+pub fn follow(
+    host_id: u64,
+    state: &mut [u64],
+    sheet: &[u8],
+    piece: &[u8],
+    lines: &mut [u8],
+    written: &mut [u64],
+) -> u32 {
+    unsafe {
+        c::cartsundial_follow(
+            host_id,
+            state.as_mut_ptr(),
+            state.len(),
+            sheet.as_ptr(),
+            sheet.len(),
             piece.as_ptr(),
             piece.len(),
             lines.as_mut_ptr(),

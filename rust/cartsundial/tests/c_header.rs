@@ -119,6 +119,7 @@ fn sizes() {
             "INDEX_BYTES" => FULL_INDEX,
             "TRACE_NUMBERS" => calls::TRACE,
             "LINE_BYTES" => LONGEST_LINE,
+            "FOLLOW_LINE_BYTES" => 51,
             "LEDGER_NUMBERS" => calls::LEDGER,
             other => panic!("{other}"),
         };

@@ -121,6 +121,28 @@ fn empty_slices() {
     assert_eq!(calls::annotate_end(&[2, 0, 0, 0, 0, 0], &mut [], &mut [7]), 0);
 }
 
+/// With both ends: a host's ID above FFFFh before all else, then as the others; and the lines of plain Rust, cut anywhere.
+#[test]
+fn both_ends() {
+    for host_id in [0x10000, u64::MAX] {
+        assert_eq!(calls::follow(host_id, &mut [], &[], &[], &mut [], &mut []), 10);
+    }
+    for (numbers, number) in [(&mut [][..], 11), (&mut [5; 5], 11), (&mut [5; 6], 10), (&mut [0; 6], 11)] {
+        assert_eq!(calls::follow(0xFFFF, numbers, &[], &[], &mut [], &mut []), number);
+    }
+    let header = configuration(CFGRD1, 0x0100, 0);
+    let trace = trace::of(&[&header[..], &header[..4]]);
+    let expected = plain::follow(0, &[1], &trace).unwrap();
+    for cut in 0..=trace.len() {
+        let (mut state, mut room, mut written, mut lines) = ([0; 6], [0; 102], [0], Vec::new());
+        for piece in [&trace[..cut], &trace[cut..]] {
+            assert_eq!(calls::follow(0, &mut state, &[1], piece, &mut room, &mut written), 0);
+            lines.extend(&room[..written[0] as usize]);
+        }
+        assert_eq!(lines, expected.as_bytes());
+    }
+}
+
 /// Room that is said to be enough for any piece is: for records of no bytes after the last byte of one, and after half of
 /// its length.
 #[test]

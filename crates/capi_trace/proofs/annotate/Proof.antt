@@ -1,7 +1,7 @@
 -- `capi_trace::annotate` meets its contract: a sheet is an engine with the sheet's own number. Assumes nothing.
 use borrow.Author.Needs.{needs}
 use Rattle.trace_line.specs.Line.{lineOver}
-use Rattle.trace_line.specs.Engine.{routingBy}
+use Rattle.trace_line.specs.Finder.{routingBy}
 use Rattle.capi_trace.proofs.annotate.Statement.{statement}
 use Rattle.capi_trace.proofs.annotate.Tie as tie
 

@@ -1,7 +1,7 @@
 -- `capi_trace::take` meets its contract: numbers that are no state, no room for the answer, lines that do not fit, and a piece that was
 -- taken. Assumes nothing.
 use borrow.Author.Needs.{needs}
-use Rattle.trace_line.specs.Engine.{lineBy}
+use Rattle.trace_engine.specs.Engine.{lineOf}
 use Rattle.capi_trace.specs.CallsLaws.{not-taken, six-of-state, no-slice, not-fed, fed}
 use Rattle.capi_trace.proofs.take.Statement.{statement}
 use Rattle.capi_trace.proofs.take.Tie as tie
@@ -20,7 +20,7 @@ returns c =
     let call = c .before .before .before in
     let u = call .state-of in
     let s = call .before .before .before .before .before .before .before .args in
-    let line = lineBy (s .engine) (s .bytes .now) in
+    let line = lineOf (s .engine) (s .bytes .now) in
     not-taken line (s .state .now) (s .piece .now) (s .lines .now) (s .written .now) (u .result) (u .ensures)
     (c .before .if1 .taken)
 
@@ -32,7 +32,7 @@ returns-2 c =
     let call = c .before .before .before in
     let u = call .state-of in
     let s = call .before .before .before .before .before .before .before .args in
-    let line = lineBy (s .engine) (s .bytes .now) in
+    let line = lineOf (s .engine) (s .bytes .now) in
     no-slice line (s .state .now) (s .piece .now) (s .lines .now) (s .written .now) (u .result) (u .ensures)
     (c .before .if1 .left) (c .if2 .taken)
 
@@ -55,7 +55,7 @@ returns-3 c =
     let call = slice .before .before .before in
     let u = call .state-of in
     let s = call .before .before .before .before .before .before .before .args in
-    let line = lineBy (s .engine) (s .bytes .now) in
+    let line = lineOf (s .engine) (s .bytes .now) in
     not-fed line (s .state .now) (s .piece .now) (s .lines .now) (s .written .now) (u .result) (u .ensures)
     (slice .before .if1 .left) (slice .if2 .left) (feed .feed-by .result) (feed .feed-by .ensures .0) _ (feed .feed-by .ensures .1)
     (c .before .if3 .taken)
@@ -66,7 +66,7 @@ put-state-requires c κs =
     let call = test .before .before in
     let u = call .state-of in
     let s = call .before .before .before .before .before .before .before .args in
-    let line = lineBy (s .engine) (s .bytes .now) in
+    let line = lineOf (s .engine) (s .bytes .now) in
     six-of-state line (s .state .now) (s .piece .now) (s .lines .now) (s .written .now) (u .result) (u .ensures)
     (test .if1 .left)
 
@@ -92,7 +92,7 @@ returns-4 c =
     let call = slice .before .before .before in
     let u = call .state-of in
     let s = call .before .before .before .before .before .before .before .args in
-    let line = lineBy (s .engine) (s .bytes .now) in
+    let line = lineOf (s .engine) (s .bytes .now) in
     fed line (s .state .now) (s .piece .now) (s .lines .now) (s .written .now) (u .result) (u .ensures)
     (slice .before .if1 .left) (slice .if2 .left) (feed .feed-by .result) (feed .feed-by .ensures .0) _ (feed .feed-by .ensures .1)
     (fits .if3 .left)

@@ -2,15 +2,16 @@
 -- what the whole piece comes to, and the room stays as long as it was; the measure is the bytes left. Assumes nothing.
 use Rattle.stream_trace.proofs.label_parts.Statement.{statement}
 use Rattle.stream_trace.proofs.label_parts.Tie as tie
-use Prim.Native.Nat.{_+_, _-_, _/_, _≤_}
-use mathlib.Core.Path.{_≡_, refl, sym, _∙_}
+use Prim.Native.Nat.{ℕ, _+_, _-_, _/_, _≤_}
+use mathlib.Core.Path.{_≡_, refl, sym, ap, _∙_}
 use mathlib.Core.Bool.{true≢false}
 use lib.ListN.{length, drop}
 use native.Mathlib.Omega.{arith}
 use borrow.Author.Needs.{needs}
 use Rattle.trace.specs.Trace.{stateOf}
 use Rattle.trace.specs.FeedLaws.{Sound}
-use Rattle.trace_line.specs.Engine.{lineBy}
+use Rattle.trace_engine.specs.Engine.{lineOf, longestOf}
+use Rattle.trace_engine.specs.EngineLaws.{some-fit}
 use Rattle.stream_trace.specs.PartsLaws.{part-sound, part-state, parts-done}
 
 abbrev Inv-loop : tie.InvT-loop
@@ -23,11 +24,18 @@ Inv-loop engine bytes piece lines₀ most t₀ i₀ lines t i =
 abbrev μ-loop : tie.MeasureT-loop
 μ-loop engine bytes piece lines₀ most t₀ i₀ lines t i = length piece - i
 
+most-lines-requires : tie.Need-most-lines-requires Inv-loop μ-loop
+most-lines-requires c κs = search needs
+
 loop-holds : tie.Need-loop-holds Inv-loop μ-loop
-loop-holds c = let start = c .before .before .before in (omega arith, omega (arith, start .good .0 .1 .1 .1 .0), refl, refl)
+loop-holds c = let start = c .before .before .before .before in (omega arith, omega (arith, start .good .0 .1 .1 .1 .0), refl, refl)
 
 part-end-requires : tie.Need-part-end-requires Inv-loop μ-loop
-part-end-requires c κs = (c .loop-test .taken, omega (arith, c .before .before .before .before .before .pre .1))
+part-end-requires c κs =
+    let most = c .before .before in
+    let start = most .before .before .before .before in
+    let some = some-fit (start .args .engine) (length (start .args .lines .now)) (start .pre .1) in
+    (c .loop-test .taken, rw (most .most-lines .ensures) some)
 
 sub-feed-by : tie.Need-sub-feed-by Inv-loop μ-loop
 sub-feed-by c = search needs
@@ -39,7 +47,7 @@ part-feed-by-end : tie.Need-part-feed-by-end Inv-loop μ-loop
 part-feed-by-end c = search needs
 
 feed-by-requires : tie.Need-feed-by-requires Inv-loop μ-loop
-feed-by-requires c κs = c .before .before .before .before .before .before .before .before .pre .0
+feed-by-requires c κs = c .before .before .before .before .before .before .before .before .before .pre .0
 
 front-requires : tie.Need-front-requires Inv-loop μ-loop
 front-requires c κs = search needs
@@ -62,17 +70,19 @@ loop-again c =
     let end = fed .before .before .before in
     let test = end .before in
     let top = test .before in
-    let start = top .before .before .before .before in
+    let most = top .before in
+    let start = most .before .before .before .before in
     let engine = start .args .engine in
     let bytes = start .args .bytes .now in
     let piece = start .args .piece .now in
     let now = top .loop in
     let ends = end .part-end .ensures in
-    let few : end .part-end .result ≤ now .i + length (now .lines) / 40 = omega (arith, ends .2, now .inv .3) in
+    let room = length (now .lines) in
+    let is = most .most-lines .ensures ∙ ap (λ (n : ℕ). n / longestOf engine) (sym (now .inv .3)) in
     let answer = fed .feed-by .ensures .0 in (
       ends .1,
-      part-sound engine bytes (now .t) piece (now .i) _ (length (now .lines)) _ (now .inv .1) (ends .0) (ends .1) few answer,
-      part-state engine bytes (now .t) piece (now .i) _ (length (now .lines)) _ (now .inv .1) (ends .0) (ends .1) few answer ∙ now .inv .2,
+      part-sound engine bytes (now .t) piece (now .i) _ room _ _ (now .inv .1) (ends .0) (ends .1) is (ends .2) answer,
+      part-state engine bytes (now .t) piece (now .i) _ room _ _ (now .inv .1) (ends .0) (ends .1) is (ends .2) answer ∙ now .inv .2,
       omega (arith, now .inv .3, fed .feed-by .kept .1 .1 .1 .1 .0),
     )
 
@@ -82,8 +92,8 @@ same-length-2 c = c .before .loop .inv .3
 returns-2 : tie.Need-returns-2 Inv-loop μ-loop
 returns-2 c =
     let top = c .before in
-    let start = top .before .before .before .before in
-    λ z. parts-done (lineBy (start .args .engine) (start .args .bytes .now)) _ _ _ _ (top .loop .inv .2) (c .loop-test .left)
+    let start = top .before .before .before .before .before in
+    λ z. parts-done (lineOf (start .args .engine) (start .args .bytes .now)) _ _ _ _ (top .loop .inv .2) (c .loop-test .left)
 
 pub label-parts-spec : {M : Type 1} → statement M
 label-parts-spec =
@@ -91,6 +101,7 @@ label-parts-spec =
     (tie.spec
     Inv-loop
     μ-loop
+    most-lines-requires
     loop-holds
     part-end-requires
     sub-feed-by

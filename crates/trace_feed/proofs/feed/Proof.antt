@@ -3,7 +3,7 @@ use Rattle.trace_feed.proofs.feed.Statement.{statement}
 use Rattle.trace_feed.proofs.feed.Tie as tie
 use borrow.Author.Needs.{needs}
 use Rattle.trace_line.specs.Line.{lineOver}
-use Rattle.trace_line.specs.Engine.{routingBy}
+use Rattle.trace_line.specs.Finder.{routingBy}
 
 check-requires : tie.Need-check-requires
 check-requires c κs = search needs

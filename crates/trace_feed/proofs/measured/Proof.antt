@@ -9,7 +9,7 @@ use native.Mathlib.Omega.{arith}
 use borrow.Author.Needs.{needs}
 use Rattle.trace.specs.Trace.{tracing, linesOf}
 use Rattle.trace.specs.TraceLaws.{turn, length-head, length-settled}
-use Rattle.trace_line.specs.Engine.{lineBy}
+use Rattle.trace_engine.specs.Engine.{lineOf}
 use mathlib.Core.Bool.{true, false}
 use lib.Dec.{leb}
 use Rattle.trace_feed.specs.LoopLaws.{Measuring, measuring-start, measuring-more, measured-short, measured-all}
@@ -18,7 +18,7 @@ use Rattle.trace.specs.declared.Trace.{Trace}
 abbrev Inv-loop : tie.InvT-loop
 Inv-loop engine bytes piece room stage₀ n₀ kept₀ head₀ total₀ i₀ stage n kept head total i =
     (length head ≡ 16)
-    × Measuring (lineBy engine bytes) piece room (tracing stage₀ n₀ kept₀ head₀) (tracing stage n kept head) total i
+    × Measuring (lineOf engine bytes) piece room (tracing stage₀ n₀ kept₀ head₀) (tracing stage n kept head) total i
 
 abbrev μ-loop : tie.MeasureT-loop
 μ-loop engine bytes piece room stage₀ n₀ kept₀ head₀ total₀ i₀ stage n kept head total i = length piece - i
@@ -80,10 +80,10 @@ returns c =
     let start = head .before .before .before in
     let now = top .loop in
     let moved =
-    turn (lineBy (start .args .engine) (start .args .bytes .now)) (tracing (now .stage) (now .n) (now .kept) (now .head))
+    turn (lineOf (start .args .engine) (start .args .bytes .now)) (tracing (now .stage) (now .n) (now .kept) (now .head))
     (start .args .piece .now) (now .i) (test .loop-test .taken) _ (event .event-of .ensures) _ (emit .emitted .ensures) _ _ _ _ _ refl
     (number .number-after .ensures) (keep .keep .ensures .0) (keep .keep .ensures .1) (front .front .ensures) _ _ refl refl in
-    let line = lineBy (start .args .engine) (start .args .bytes .now) in
+    let line = lineOf (start .args .engine) (start .args .bytes .now) in
     let piece = start .args .piece .now in
     subst (λ (t : Trace). false ≡ leb (length (linesOf line t piece)) (start .args .room)) (head .head-of .ensures .0)
     (measured-short _ _ _ _ (now .inv .1) (test .loop-test .taken) moved (size .size-of .ensures) (c .if1 .taken))
@@ -139,7 +139,7 @@ loop-again c =
     let now = top .loop in
     let kept = ap length (keep .keep .ensures .1) ∙ length-head (event .event-of .result) (now .kept) (now .head) ∙ now .inv .0 in
     let moved =
-    turn (lineBy (start .args .engine) (start .args .bytes .now)) (tracing (now .stage) (now .n) (now .kept) (now .head))
+    turn (lineOf (start .args .engine) (start .args .bytes .now)) (tracing (now .stage) (now .n) (now .kept) (now .head))
     (start .args .piece .now) (now .i) (test .loop-test .taken) _ (event .event-of .ensures) _ (emit .emitted .ensures) _ _ _ _ _
     (c .stage-after .ensures) (number .number-after .ensures) (keep .keep .ensures .0) (keep .keep .ensures .1) (front .front .ensures)
     _ _ (settle .settle .ensures .0) (settle .settle .ensures .1) in (
@@ -152,7 +152,7 @@ returns-2 c =
     let top = c .before in
     let head = top .before in
     let start = head .before .before .before in
-    let line = lineBy (start .args .engine) (start .args .bytes .now) in
+    let line = lineOf (start .args .engine) (start .args .bytes .now) in
     let piece = start .args .piece .now in
     subst (λ (t : Trace). true ≡ leb (length (linesOf line t piece)) (start .args .room)) (head .head-of .ensures .0)
     (measured-all _ _ _ _ (top .loop .inv .1) (c .loop-test .left))

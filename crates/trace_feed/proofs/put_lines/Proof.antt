@@ -9,14 +9,14 @@ use native.Mathlib.Omega.{arith}
 use borrow.Author.Needs.{needs}
 use Rattle.trace.specs.Trace.{tracing, linesOf}
 use Rattle.trace.specs.TraceLaws.{turn, turn-whole, whole-fits, length-head, length-settled}
-use Rattle.trace_line.specs.Engine.{lineBy}
+use Rattle.trace_engine.specs.Engine.{lineOf}
 use Rattle.trace_feed.specs.LoopLaws.{Putting, putting-start, putting-more, Done, putting-done}
 use Rattle.trace.specs.declared.Trace.{Trace}
 
 abbrev Inv-loop : tie.InvT-loop
 Inv-loop engine bytes piece out₀ stage₀ n₀ kept₀ head₀ at₀ i₀ out stage n kept head at i =
     (length head ≡ 16)
-    × Putting (lineBy engine bytes) piece out₀ (tracing stage₀ n₀ kept₀ head₀) out (tracing stage n kept head) at i
+    × Putting (lineOf engine bytes) piece out₀ (tracing stage₀ n₀ kept₀ head₀) out (tracing stage n kept head) at i
 
 abbrev μ-loop : tie.MeasureT-loop
 μ-loop engine bytes piece out₀ stage₀ n₀ kept₀ head₀ at₀ i₀ out stage n kept head at i = length piece - i
@@ -27,7 +27,7 @@ head-of-requires c κs = search needs
 loop-holds : tie.Need-loop-holds Inv-loop μ-loop
 loop-holds c =
     let start = c .before .before .before .before in
-    let line = lineBy (start .args .engine) (start .args .bytes .now) in
+    let line = lineOf (start .args .engine) (start .args .bytes .now) in
     let piece = start .args .piece .now in
     let fits =
     subst (λ (t : Trace). length (linesOf line t piece) ≤ length (start .args .out .now)) (sym (c .head-of .ensures .0))
@@ -101,7 +101,7 @@ loop-again c =
     let piece = start .args .piece .now in
     let is = sym (next .next-in .ensures) ∙ size .size .given .1 in
     let moved =
-    turn-whole (lineBy (start .args .engine) (start .args .bytes .now)) (tracing (now .stage) (now .n) (now .kept) (now .head))
+    turn-whole (lineOf (start .args .engine) (start .args .bytes .now)) (tracing (now .stage) (now .n) (now .kept) (now .head))
     piece (now .i) _ (now .inv .0) is _ _ _ (number .number-after .ensures) (part .part-at .ensures) (front .front .ensures) in
     (refl, putting-more _ _ _ _ (now .inv .1) moved (whole-fits (now .stage) piece (now .i) _ is) (put .put-line .ensures))
 
@@ -187,7 +187,7 @@ loop-again-2 c =
     let now = top .loop in
     let kept = ap length (keep .keep .ensures .1) ∙ length-head (event .event-of .result) (now .kept) (now .head) ∙ now .inv .0 in
     let moved =
-    turn (lineBy (start .args .engine) (start .args .bytes .now)) (tracing (now .stage) (now .n) (now .kept) (now .head))
+    turn (lineOf (start .args .engine) (start .args .bytes .now)) (tracing (now .stage) (now .n) (now .kept) (now .head))
     (start .args .piece .now) (now .i) (test .loop-test .taken) _ (event .event-of .ensures) _ (emit .emitted .ensures) _ _ _ _ _
     (c .stage-after .ensures) (number .number-after2 .ensures) (keep .keep .ensures .0) (keep .keep .ensures .1) (front .front2 .ensures)
     _ _ (settle .settle .ensures .0) (settle .settle .ensures .1) in (
@@ -203,7 +203,7 @@ returns c =
     let top = c .before in
     let head = top .before in
     let start = head .before .before .before .before in
-    let line = lineBy (start .args .engine) (start .args .bytes .now) in
+    let line = lineOf (start .args .engine) (start .args .bytes .now) in
     let end = top .loop in
     let state = tracing (end .stage) (end .n) (end .kept) (end .head) in
     let done =

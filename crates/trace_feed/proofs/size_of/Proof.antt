@@ -1,9 +1,9 @@
--- `trace_feed::size_of` meets its contract: 40 bytes hold what any event gives. Assumes nothing.
+-- `trace_feed::size_of` meets its contract: the room of any engine's longest line holds what any event gives. Assumes nothing.
 use borrow.Author.Needs.{needs}
 use Rattle.trace_feed.proofs.size_of.Statement.{statement}
 use Rattle.trace_feed.proofs.size_of.Tie as tie
 use native.Mathlib.Omega.{arith}
-use Rattle.trace_feed.specs.LoopLaws.{emitted-le}
+use Rattle.trace_engine.specs.EngineLaws.{emitted-le}
 
 slice-aggregate-put-emitted : tie.Need-slice-aggregate-put-emitted
 slice-aggregate-put-emitted c = search needs

@@ -1,6 +1,6 @@
--- `trace_line::label_by_bytes` meets its contract: by the engine. Assumes nothing.
+-- `trace_line::label_by_bytes` meets its contract: by the finder. Assumes nothing.
 use borrow.Author.Needs.{needs}
-use Rattle.trace_line.specs.Engine.{routingBy}
+use Rattle.trace_line.specs.Finder.{routingBy}
 use Rattle.trace_line.proofs.label_by_bytes.Statement.{statement}
 use Rattle.trace_line.proofs.label_by_bytes.Tie as tie
 

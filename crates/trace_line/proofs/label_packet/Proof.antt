@@ -3,7 +3,7 @@ use borrow.Author.Needs.{needs}
 use Rattle.trace_line.proofs.label_packet.Statement.{statement}
 use Rattle.trace_line.proofs.label_packet.Tie as tie
 use Rattle.trace_label.specs.LabelLaws.{labels-accepted, labels-refused}
-use Rattle.trace_line.specs.Engine.{routingBy}
+use Rattle.trace_line.specs.Finder.{routingBy}
 use Rattle.trace_line.specs.LineLaws.{routing-accepted, routing-refused}
 
 read-requires : tie.Need-read-requires
@@ -34,11 +34,11 @@ returns c =
     let packet = name .before .before in
     let read = packet .before .before in
     let start = read .before .before .before in
-    let engine = start .args .engine in
+    let finder = start .args .finder in
     let bytes = start .args .bytes .now in
     let routed =
-    routing-accepted engine bytes (start .args .header .now) _ (read .read .ensures) _ (packet .p .given .1) _ (route .route-by .ensures) in
-    labels-accepted (routingBy engine bytes) (start .args .header .now) _ (read .read .ensures) _ (packet .p .given .1)
+    routing-accepted finder bytes (start .args .header .now) _ (read .read .ensures) _ (packet .p .given .1) _ (route .route-by .ensures) in
+    labels-accepted (routingBy finder bytes) (start .args .header .now) _ (read .read .ensures) _ (packet .p .given .1)
     _ (name .name-of .ensures) _ routed _ (c .way-of .ensures)
 
 returns-2 : tie.Need-returns-2
@@ -46,10 +46,10 @@ returns-2 c =
     let number = c .before in
     let read = number .before .before in
     let start = read .before .before .before in
-    let engine = start .args .engine in
+    let finder = start .args .finder in
     let bytes = start .args .bytes .now in
-    let refused = routing-refused engine bytes (start .args .header .now) _ (read .read .ensures) _ (number .n .given .1) in
-    labels-refused (routingBy engine bytes) (start .args .header .now) _ (read .read .ensures) _ (number .n .given .1) refused
+    let refused = routing-refused finder bytes (start .args .header .now) _ (read .read .ensures) _ (number .n .given .1) in
+    labels-refused (routingBy finder bytes) (start .args .header .now) _ (read .read .ensures) _ (number .n .given .1) refused
 
 pub label-packet-spec : {M : Type 1} → statement M
 label-packet-spec =

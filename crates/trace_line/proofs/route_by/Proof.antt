@@ -1,19 +1,19 @@
--- `trace_line::route_by` meets its contract: each engine by its own search. Assumes nothing.
+-- `trace_line::route_by` meets its contract: each finder by its own search. Assumes nothing.
 use borrow.Author.Needs.{needs}
 use Rattle.trace_line.proofs.route_by.Statement.{statement}
 use Rattle.trace_line.proofs.route_by.Tie as tie
 use mathlib.Core.Path.{subst}
-use Rattle.trace_line.specs.declared.Engine.{Engine}
-use Rattle.trace_line.specs.Engine.{Knows, packetBy}
+use Rattle.trace_line.specs.declared.Finder.{Finder}
+use Rattle.trace_line.specs.Finder.{Knows, packetBy}
 
-enum-known-engine : tie.Need-enum-known-engine
-enum-known-engine c = search needs
+enum-known-finder : tie.Need-enum-known-finder
+enum-known-finder c = search needs
 
 route-over-requires : tie.Need-route-over-requires
 route-over-requires c κs =
     let told = c .before in
     let start = told .before .before .before in
-    subst (λ (e : Engine). Knows e (start .args .bytes .now)) (told .engine .given .1) (start .pre)
+    subst (λ (e : Finder). Knows e (start .args .bytes .now)) (told .finder .given .1) (start .pre)
 
 enum-told : tie.Need-enum-told
 enum-told c = search needs
@@ -23,7 +23,7 @@ search-packet-requires c κs = search needs
 
 returns : tie.Need-returns
 unfolding packetBy
-returns c = let told = c .before .before in rw (told .engine .given .1) (c .route-over .ensures)
+returns c = let told = c .before .before in rw (told .finder .given .1) (c .route-over .ensures)
 
 returns-2 : tie.Need-returns-2
 unfolding packetBy
@@ -33,7 +33,7 @@ pub route-by-spec : {M : Type 1} → statement M
 route-by-spec =
     tie.close
     (tie.spec
-    enum-known-engine
+    enum-known-finder
     route-over-requires
     enum-told
     search-packet-requires

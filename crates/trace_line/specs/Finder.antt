@@ -1,5 +1,5 @@
--- Document 02, E4 and E8: what a header is looked up in, an engine and its bytes: a sheet, by the router, or an index, by the search.
--- Assumes nothing.
+-- Document 02, E4 and E8: who finds a header's owner, and in which bytes: the router in a sheet, or the search in an index. Assumes
+-- nothing.
 use Prim.Native.Nat.{ℕ}
 use mathlib.Core.Path.{_≡_}
 use mathlib.Core.List.{List}
@@ -8,27 +8,27 @@ use Rattle.sheet.specs.Sheet.{sheetNumber}
 use Rattle.route_answer.specs.declared.Routing.{Routing}
 use Rattle.route.specs.Route.{fromSheet, routeOf}
 use Rattle.index_search.specs.Search.{searchPacket, searchOf}
-use Rattle.trace_line.specs.declared.Engine.{Engine}
-use Rattle.trace_line.specs.declared.Engine.the-variants.{Sheet, Index}
+use Rattle.trace_line.specs.declared.Finder.{Finder}
+use Rattle.trace_line.specs.declared.Finder.the-variants.{Sheet, Index}
 use Rattle.trace_label.specs.Label.{labelWith}
 use Rattle.trace_line.specs.Line.{lineWith}
 
 -- the number that it has is its sheet's
-abbrev pub Knows : Engine → List ℕ → Type 0
+abbrev pub Knows : Finder → List ℕ → Type 0
 Knows (Sheet number) bytes = number ≡ sheetNumber bytes
 Knows Index bytes = Unit {0}
 
 -- a packet, and a header
-unfoldable pub packetBy : Engine → Packet → List ℕ → Routing
+unfoldable pub packetBy : Finder → Packet → List ℕ → Routing
 packetBy (Sheet number) p bytes = fromSheet p bytes
 packetBy Index p bytes = searchPacket p bytes
 
-unfoldable pub routingBy : Engine → List ℕ → List ℕ → Routing
+unfoldable pub routingBy : Finder → List ℕ → List ℕ → Routing
 routingBy (Sheet number) bytes header = routeOf header bytes
 routingBy Index bytes header = searchOf header bytes
 
-abbrev pub labelBy : Engine → List ℕ → List ℕ → List ℕ
-labelBy engine bytes = labelWith (routingBy engine bytes)
+abbrev pub labelBy : Finder → List ℕ → List ℕ → List ℕ
+labelBy finder bytes = labelWith (routingBy finder bytes)
 
-abbrev pub lineBy : Engine → List ℕ → ℕ → List ℕ → List ℕ
-lineBy engine bytes = lineWith (routingBy engine bytes)
+abbrev pub lineBy : Finder → List ℕ → ℕ → List ℕ → List ℕ
+lineBy finder bytes = lineWith (routingBy finder bytes)
