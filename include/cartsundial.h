@@ -80,7 +80,7 @@ extern "C" {
 
 /* The version of this file. The archive's is what cartsundial_version answers: they are the same where both belong together. */
 #define CARTSUNDIAL_VERSION_MAJOR 0
-#define CARTSUNDIAL_VERSION_MINOR 31
+#define CARTSUNDIAL_VERSION_MINOR 34
 #define CARTSUNDIAL_VERSION_PATCH 0
 #define CARTSUNDIAL_VERSION_NUMBER (10000 * CARTSUNDIAL_VERSION_MAJOR + 100 * CARTSUNDIAL_VERSION_MINOR + CARTSUNDIAL_VERSION_PATCH)
 

@@ -3,4 +3,4 @@ use Prim.Native.Nat.{ℕ}
 
 -- 10,000 times the major number, 100 times the minor one, the patch
 abbrev pub versionNumber : ℕ
-versionNumber = 3100
+versionNumber = 3400

@@ -33,7 +33,7 @@ use plan_answer::Planning;
 pub extern "C" fn cartsundial_version() -> u32
     ensures { λ r. ⌜ r ≡ versionNumber ⌝ }
 {
-    3100
+    3400
 }
 
 // Reads a header's packet as twenty numbers.
