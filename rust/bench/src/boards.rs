@@ -1,9 +1,11 @@
 //! Boards and their sheets: a board planned and scripted, its sheet checked and judged, a read of its last card from the host
-//! and from its first card.
+//! and from its first card, and both ends of what the first card sends.
 
 use crate::measure::{compare, Times};
 use crate::subjects::{plain_calls, proved_calls, Backplane};
 use crate::table;
+use cartsundial::Sender;
+use inputs::foreign::{completion, CPLD};
 use std::hint::black_box;
 
 /// A sheet's record, and the command word in it.
@@ -32,6 +34,9 @@ pub fn print() {
     row("audit_where, of an accepted sheet", audit_where);
     row("route, a read of the last card", route);
     row("route_from, the same from the first card", route_from);
+    row("route_sent, the same by its requester", sent_request);
+    row("route_sent, a completion of the first card for the last", sent_completion);
+    row("route_sent, the first card's completion for the host", sent_up);
 }
 
 fn plan_where(backplane: &Backplane) -> Times {
@@ -114,18 +119,56 @@ fn route(Backplane { header, sheet, .. }: &Backplane) -> Times {
     )
 }
 
-/// Every function is made a bus master, and the first card reads.
-fn route_from(backplane: &Backplane) -> Times {
-    let header = &backplane.header;
+/// The sheet with every function a bus master, and its first card.
+fn masters(backplane: &Backplane) -> (Vec<u8>, u16) {
     let mut sheet = backplane.sheet.clone();
     sheet[1..].chunks_exact_mut(RECORD).for_each(|record| record[COMMAND] |= BUS_MASTER);
     let first = (1..).zip(sheet[1..].chunks_exact(RECORD)).find(|(_, record)| record[4 + 0x0E] & 0x7F == 0);
-    let first: u16 = first.expect("a board with cards").0;
+    let first = first.expect("a board with cards").0;
+    (sheet, first)
+}
+
+/// The first card reads.
+fn route_from(backplane: &Backplane) -> Times {
+    let header = &backplane.header;
+    let (sheet, first) = masters(backplane);
     let sent = plain_calls::route_from(first, header, &sheet).expect("a request that is delivered").numbers();
     let proved = proved_calls::route_from(first, header, &sheet).expect("a request that is delivered");
     assert_eq!(sent[..2], [proved.record().unwrap_or(0).into(), proved.bridges().unwrap_or(0).into()]);
     compare(
         || plain_calls::route_from(first, black_box(header), black_box(&sheet)).is_ok(),
         || proved_calls::route_from(first, black_box(header), black_box(&sheet)).is_ok(),
+    )
+}
+
+/// The host's own ID, which no function has.
+const HOST: u16 = 0xFFFF;
+
+fn sent_request(backplane: &Backplane) -> Times {
+    sent(backplane, |_| backplane.header.clone())
+}
+
+fn sent_completion(backplane: &Backplane) -> Times {
+    sent(backplane, |last| completion(CPLD, last))
+}
+
+fn sent_up(backplane: &Backplane) -> Times {
+    sent(backplane, |_| completion(CPLD, HOST))
+}
+
+/// A header that the first card sends, made for the ID of the last.
+fn sent(backplane: &Backplane, header: impl Fn(u16) -> Vec<u8>) -> Times {
+    let (sheet, first) = masters(backplane);
+    let id = |record: usize| plain::id_of(&sheet, record).expect("a record of the sheet");
+    let mut header = header(id(sheet.len() / RECORD));
+    header[4..6].copy_from_slice(&id(first.into()).to_be_bytes());
+    let answer = plain_calls::sent(HOST, &header, &sheet).expect("a packet that arrives");
+    let proved = proved_calls::sent(HOST, &header, &sheet).expect("a packet that arrives");
+    assert_eq!((answer.sender.number(), proved.sender), (first.into(), Sender::Record(first)));
+    let arrived = [proved.arrival.record().unwrap_or(0).into(), proved.arrival.bridges().unwrap_or(0).into()];
+    assert_eq!(answer.arrival.numbers()[..2], arrived);
+    compare(
+        || plain_calls::sent(HOST, black_box(&header), black_box(&sheet)).is_ok(),
+        || proved_calls::sent(HOST, black_box(&header), black_box(&sheet)).is_ok(),
     )
 }

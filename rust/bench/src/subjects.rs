@@ -78,11 +78,16 @@ pub mod plain_calls {
     pub fn route_from(record: u16, header: &[u8], sheet: &[u8]) -> Result<plain::Arrival, u8> {
         plain::route_from(record.into(), header, sheet)
     }
+
+    #[inline(never)]
+    pub fn sent(host_id: u16, header: &[u8], sheet: &[u8]) -> Result<plain::Sent, u8> {
+        plain::sent(host_id.into(), header, sheet)
+    }
 }
 
 /// The proved calls with Rust types, likewise.
 pub mod proved_calls {
-    use cartsundial::{calls, Arrival, Fields, Id, Packet, Refusal};
+    use cartsundial::{calls, Arrival, Fields, Id, Packet, Refusal, Sent};
 
     #[inline(never)]
     pub fn read(header: &[u8]) -> Result<Packet, Refusal> {
@@ -159,6 +164,11 @@ pub mod proved_calls {
     #[inline(never)]
     pub fn route_from(record: u16, header: &[u8], sheet: &[u8]) -> Result<Arrival, Refusal> {
         cartsundial::route_from(record, header, sheet)
+    }
+
+    #[inline(never)]
+    pub fn sent(host_id: u16, header: &[u8], sheet: &[u8]) -> Result<Sent, Refusal> {
+        cartsundial::sent(Id(host_id), header, sheet)
     }
 }
 

@@ -3,8 +3,8 @@
 use crate::calls::{self, ANY_ROUTE, ROUTE, SHORT};
 use crate::{functions, refused, Id, Packet, Refusal};
 
-/// Where a packet arrives: one that comes from the host ([`route`], [`Index::find`](crate::Index::find)), or one that a function
-/// sends ([`route_from`](crate::route_from)).
+/// Where a packet arrives: one that comes from the host ([`route`], [`Index::find`](crate::Index::find)), one that a function
+/// sends ([`route_from`](crate::route_from)), or one from whom its header names ([`sent`](crate::sent())).
 #[derive(Clone, Copy, Debug, PartialEq, Eq, Hash)]
 #[non_exhaustive]
 pub enum Arrival {

@@ -19,6 +19,13 @@ pub const ROUTE: usize = 2 + PACKET;
 /// with the record of every function.
 pub const ANY_ROUTE: usize = ROUTE + 512;
 
+/// How many numbers the answer to [`route_sent`] has: sender, where the packet goes, then as [`ROUTE`]. Only of a broadcast are
+/// there more.
+pub const SENT: usize = 2 + ROUTE;
+
+/// How many numbers are always enough for [`route_sent`].
+pub const ANY_SENT: usize = SENT + 512;
+
 /// How many numbers the state of a trace has, in [`annotate`], [`label`] and [`annotate_end`]. All zero is a trace of which
 /// nothing was read yet.
 pub const TRACE: usize = 6;
@@ -105,6 +112,24 @@ mod c {
         ) -> u32;
         pub fn cartsundial_route_from(
             record: u32,
+            header: *const u8,
+            header_len: usize,
+            sheet: *const u8,
+            sheet_len: usize,
+            answer: *mut u64,
+            answer_len: usize,
+        ) -> u32;
+        pub fn cartsundial_sender(
+            host_id: u64,
+            header: *const u8,
+            header_len: usize,
+            sheet: *const u8,
+            sheet_len: usize,
+            sender: *mut u64,
+            sender_len: usize,
+        ) -> u32;
+        pub fn cartsundial_route_sent(
+            host_id: u64,
             header: *const u8,
             header_len: usize,
             sheet: *const u8,
@@ -358,6 +383,48 @@ pub fn route_from(record: u32, header: &[u8], sheet: &[u8], answer: &mut [u64]) 
     unsafe {
         c::cartsundial_route_from(
             record,
+            header.as_ptr(),
+            header.len(),
+            sheet.as_ptr(),
+            sheet.len(),
+            answer.as_mut_ptr(),
+            answer.len(),
+        )
+    }
+}
+
+/// Writes to `sender` who sent a packet: 0 for the host, else the record of the function whose ID the header names.
+///
+/// A host ID above FFFFh is 10, before the header is read.
+pub fn sender(host_id: u64, header: &[u8], sheet: &[u8], sender: &mut [u64]) -> u32 {
+    unsafe {
+        c::cartsundial_sender(
+            host_id,
+            header.as_ptr(),
+            header.len(),
+            sheet.as_ptr(),
+            sheet.len(),
+            sender.as_mut_ptr(),
+            sender.len(),
+        )
+    }
+}
+
+/// Routes a packet from whom its header names into the first [`SENT`] numbers of `answer`: the sender as [`sender`] has it, where
+/// the packet goes, and then
+///
+/// | where | record | bridges | after the packet |
+/// |---|---|---|---|
+/// | 0, one function | its record, from 1 | crossed, up and down | |
+/// | 1, the host | 0 | crossed, up | |
+/// | 2, the port | 0 | 0 | |
+/// | 3, every function | 0 | how many functions | their records, in order |
+///
+/// A host ID above FFFFh is 10, before the header is read.
+pub fn route_sent(host_id: u64, header: &[u8], sheet: &[u8], answer: &mut [u64]) -> u32 {
+    unsafe {
+        c::cartsundial_route_sent(
+            host_id,
             header.as_ptr(),
             header.len(),
             sheet.as_ptr(),

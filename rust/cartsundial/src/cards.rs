@@ -8,6 +8,8 @@ use crate::{accepted, Arrival, Packet, Refusal};
 ///
 /// Another record or another packet is [`Refusal::NoStart`]; a function or a bridge on the way up that is no bus master is
 /// [`Refusal::NoBusMaster`]. The header's number comes first, then the sheet's.
+///
+/// [`sent`](crate::sent()) takes any packet, and its sender from the header.
 pub fn route_from(record: u16, header: &[u8], sheet: &[u8]) -> Result<Arrival, Refusal> {
     let mut numbers = [0; ROUTE];
     accepted(calls::route_from(record.into(), header, sheet, &mut numbers))?;

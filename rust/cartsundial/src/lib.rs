@@ -44,6 +44,7 @@
 //! | where a packet goes: a function, every function, the port | [`route`] |
 //! | the same for many headers over one sheet | [`Index`] |
 //! | where a request goes that starts at a function: another function, the host | [`route_from`] |
+//! | both ends of a packet: from whom it comes, by the ID in its header, and where it goes | [`sent()`], [`sender`] |
 //! | a line for each header of a trace, over a sheet or by an index: in pieces, of a whole one, as bytes come | [`Annotator`], [`lines()`], [`Labeller`] |
 //! | what each of the two costs | [`Engine`] |
 //! | the headers of a trace, and a trace of headers | [`headers()`], [`TraceWriter`] |
@@ -166,7 +167,7 @@ pub use plan_finding::{plan_where, what_does_not_fit, Needs, PlanFinding, PlanPa
 pub use pool::Pool;
 pub use refusal::{NoRefusal, Refusal};
 pub use script::{write_script, writes, RegisterWrite, Writes, FULL_SCRIPT};
-pub use sent::Sender;
+pub use sent::{sender, sent, Sender, Sent};
 pub use sheet::Sheet;
 pub use size::{NoSize, Size};
 #[cfg(feature = "alloc")]

@@ -30,13 +30,11 @@ pub fn host_id(sheet: &[u8], random: &mut Random) -> u16 {
     }
 }
 
-/// The same, and seldom a number above FFFFh, which no ID is.
-pub fn any_host_id(sheet: &[u8], random: &mut Random) -> u64 {
-    let id = u64::from(host_id(sheet, random));
-    match random.below(24) {
-        0 => id | 1 << (16 + random.below(48)),
-        1 => [0x1_0000, 0xFFFF_FFFF, 1 << 32, u64::MAX][random.below(4) as usize],
-        _ => id,
+/// A number above FFFFh, which no ID is.
+pub fn no_host_id(sheet: &[u8], random: &mut Random) -> u64 {
+    match random.below(2) {
+        0 => u64::from(host_id(sheet, random)) | 1 << (16 + random.below(48)),
+        _ => [0x1_0000, 0xFFFF_FFFF, 1 << 32, u64::MAX][random.below(4) as usize],
     }
 }
 

@@ -2,6 +2,7 @@
 
 use crate::aim;
 use crate::damage;
+use crate::ends;
 use crate::random::Random;
 
 /// The length of the largest sheet.
@@ -19,13 +20,16 @@ pub fn of<H: AsRef<[u8]>>(headers: &[H]) -> Vec<u8> {
 
 /// A trace whose records are whole, most of them headers that are likely to find something on the sheet.
 pub fn whole(sheet: &[u8], random: &mut Random) -> Vec<u8> {
+    whole_of(|random| aim::header(sheet, random), random)
+}
+
+fn whole_of(header: impl Fn(&mut Random) -> Vec<u8>, random: &mut Random) -> Vec<u8> {
     let count = if random.chance(1, 32) { random.below(300) } else { random.below(12) };
-    of(&(0..count).map(|_| record(sheet, random)).collect::<Vec<_>>())
+    of(&(0..count).map(|_| record(header(random), random)).collect::<Vec<_>>())
 }
 
 /// A record of 0 to 40 bytes, and seldom of more than 255: a header, whole, cut short or with bytes after it.
-fn record(sheet: &[u8], random: &mut Random) -> Vec<u8> {
-    let mut bytes = aim::header(sheet, random);
+fn record(mut bytes: Vec<u8>, random: &mut Random) -> Vec<u8> {
     let length = match random.below(64) {
         0..=3 => 0,
         4..=7 => random.below(bytes.len() as u64 + 1) as usize,
@@ -40,7 +44,15 @@ fn record(sheet: &[u8], random: &mut Random) -> Vec<u8> {
 
 /// A trace, whole or not: cut, with other bytes, of another version, or of no bytes.
 pub fn any(sheet: &[u8], random: &mut Random) -> Vec<u8> {
-    let mut trace = whole(sheet, random);
+    damaged(whole(sheet, random), random)
+}
+
+/// The same, most of its headers by functions of the sheet.
+pub fn any_sent(host_id: u16, sheet: &[u8], random: &mut Random) -> Vec<u8> {
+    damaged(whole_of(|random| ends::header(host_id, sheet, random), random), random)
+}
+
+fn damaged(mut trace: Vec<u8>, random: &mut Random) -> Vec<u8> {
     match random.below(16) {
         0 => trace.clear(),
         1 => trace[0] = random.word() as u8,

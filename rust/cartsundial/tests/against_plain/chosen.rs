@@ -2,7 +2,7 @@
 //! the rounds.
 
 use crate::tally::Tally;
-use crate::{audits, boards, cards, headers, indexes, ledgers, routes, sheets, traces};
+use crate::{audits, boards, cards, ends, headers, indexes, ledgers, routes, sheets, traces};
 use inputs::random::Random;
 
 pub fn compare(random: &mut Random, _: u64, tally: &mut Tally) {
@@ -21,9 +21,13 @@ pub fn compare(random: &mut Random, _: u64, tally: &mut Tally) {
     for (_, input) in stored::labels() {
         labelled(&input, random, tally);
     }
+    for (_, input) in stored::follows() {
+        followed(&input, random, tally);
+    }
     audits::chosen(random, tally);
     indexes::chosen(random, tally);
     cards::chosen(random, tally);
+    ends::chosen(random, tally);
     ledgers::chosen(random, tally);
 }
 
@@ -34,6 +38,17 @@ fn labelled(input: &[u8], random: &mut Random, tally: &mut Tally) {
     let Some((sheet, trace)) = rest.split_at_checked(u16::from_be_bytes(*length).into()) else { return };
     if plain::audit(host, sheet) == 0 {
         traces::label(host, sheet, trace, random, tally);
+    }
+}
+
+/// A run of the program `follow`, if it comes to its trace: each of its headers.
+fn followed(input: &[u8], random: &mut Random, tally: &mut Tally) {
+    let Some((&host_id, rest)) = input.split_first_chunk() else { return };
+    let Some((&length, rest)) = rest.split_first_chunk() else { return };
+    let Some((sheet, trace)) = rest.split_at_checked(u16::from_be_bytes(length).into()) else { return };
+    let host_id = u16::from_be_bytes(host_id);
+    for header in cartsundial::headers(trace).into_iter().flatten() {
+        let _ = ends::sent(host_id.into(), header, sheet, random, tally);
     }
 }
 

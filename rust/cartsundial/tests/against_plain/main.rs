@@ -10,6 +10,7 @@ mod audits;
 mod boards;
 mod cards;
 mod chosen;
+mod ends;
 mod headers;
 mod indexes;
 mod ledgers;
@@ -35,7 +36,7 @@ fn main() -> ExitCode {
     let rounds = setting("CARTSUNDIAL_ROUNDS", 1);
     println!("against plain: seed {seed}, rounds {rounds}");
     let mut tally = Tally::default();
-    let parts: [(&str, Part); 11] = [
+    let parts: [(&str, Part); 12] = [
         ("chosen", chosen::compare),
         ("headers", headers::compare),
         ("boards", boards::compare),
@@ -47,6 +48,7 @@ fn main() -> ExitCode {
         ("cards", cards::compare),
         ("ledgers", ledgers::compare),
         ("writes", writes::compare),
+        ("ends", ends::compare),
     ];
     for (number, (name, compare)) in (0..).zip(parts) {
         let before = tally.total();

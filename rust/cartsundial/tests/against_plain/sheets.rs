@@ -4,7 +4,7 @@ use crate::lent::{hex, Lent};
 use crate::tally::{Call, Tally};
 use cartsundial::{calls, Id};
 use inputs::random::Random;
-use inputs::{aim, registers, trees};
+use inputs::{aim, audit, ends, registers, trees};
 
 pub fn compare(random: &mut Random, rounds: u64, tally: &mut Tally) {
     for _ in 0..80_000 * rounds {
@@ -29,6 +29,22 @@ pub fn any(random: &mut Random) -> Vec<u8> {
         for _ in 0..1 + random.below(2) {
             registers::spoil(&mut sheet, random);
         }
+    }
+    sheet
+}
+
+/// A sheet for packets by both ends: any, one that an audit accepts, or one on which the ways up and down differ.
+pub fn any_for_ends(random: &mut Random) -> Vec<u8> {
+    let mut sheet = match random.below(8) {
+        0..=2 => ends::sheet(random),
+        3 => audit::nested(random).1,
+        4 | 5 => planned(random),
+        _ => return any(random),
+    };
+    match random.below(12) {
+        0 => registers::rewrite(&mut sheet, random),
+        1 => registers::spoil(&mut sheet, random),
+        _ => {}
     }
     sheet
 }

@@ -23,6 +23,8 @@ pub enum Call {
     Command,
     Route,
     RouteFrom,
+    Sender,
+    RouteSent,
     Index,
     IndexSound,
     IndexAlone,
@@ -35,7 +37,7 @@ pub enum Call {
     Count,
 }
 
-const CALLS: [Call; 26] = [
+const CALLS: [Call; 28] = [
     Call::Read,
     Call::Judge,
     Call::Write,
@@ -52,6 +54,8 @@ const CALLS: [Call; 26] = [
     Call::Command,
     Call::Route,
     Call::RouteFrom,
+    Call::Sender,
+    Call::RouteSent,
     Call::Index,
     Call::IndexSound,
     Call::IndexAlone,
@@ -71,7 +75,7 @@ const NUMBERS: usize = 66;
 const VERSION: usize = 21;
 
 impl Call {
-    /// The numbers that the call can give, by documents 01 and 02 and, for 11, by the boundary's answer slices.
+    /// The numbers that the call can give, by documents 01 to 03 and, for 11, by the boundary's answer slices.
     fn numbers(self) -> &'static [usize] {
         match self {
             Call::Read => &[0, 1, 2, 3, 4, 5, 6, 7, 8, 9, 11],
@@ -88,6 +92,10 @@ impl Call {
             Call::Command => &[0, 10, 20, 21, 22, 24, 25, 27, 28, 29, 40],
             Call::Route => &[0, 1, 2, 3, 4, 5, 6, 7, 8, 9, 11, 20, 21, 22, 24, 25, 27, 28, 29, 40, 41, 42, 43],
             Call::RouteFrom => &[0, 1, 2, 3, 4, 5, 6, 7, 8, 9, 11, 20, 21, 22, 24, 25, 27, 28, 29, 40, 41, 44, 45],
+            Call::Sender => &[0, 1, 2, 3, 4, 5, 6, 7, 8, 9, 10, 11, 20, 21, 22, 24, 25, 27, 28, 29],
+            Call::RouteSent => {
+                &[0, 1, 2, 3, 4, 5, 6, 7, 8, 9, 10, 11, 20, 21, 22, 24, 25, 27, 28, 29, 40, 41, 42, 43, 44, 45]
+            }
             Call::Index | Call::IndexSound => &[0, 11, 20, 21, 22, 24, 25, 26, 27, 28, 29, 50, 51, 52],
             Call::IndexAlone => &[0, 11, 20, 21, 22, 24, 25, 27, 28, 29, 50, 51, 52],
             Call::Find => &[0, 1, 2, 3, 4, 5, 6, 7, 8, 9, 11, 40, 42, 43],
@@ -115,6 +123,9 @@ pub struct Tally {
     cards: [u64; 256],
     /// Requests from a card that went to the host, by the bridges that they crossed.
     hosts: [u64; 256],
+    /// Packets by ID that a function sent: delivered, by the bridges crossed, and gone up to the host.
+    by_id: [u64; 512],
+    by_id_to_host: [u64; 512],
     /// Messages that went to every function, by how many there are.
     broadcasts: [u64; MOST_FUNCTIONS + 1],
     /// Messages that ended at the port.
@@ -134,6 +145,8 @@ impl Default for Tally {
             bridges: [0; 256],
             cards: [0; 256],
             hosts: [0; 256],
+            by_id: [0; 512],
+            by_id_to_host: [0; 512],
             broadcasts: [0; MOST_FUNCTIONS + 1],
             ports: 0,
             labels: [0; LABELS.len()],
@@ -146,7 +159,7 @@ impl Tally {
     pub fn count(&mut self, call: Call, number: u32) {
         match self.numbers[call as usize].get_mut(number as usize) {
             Some(count) => *count += 1,
-            None => panic!("{call:?} gave {number}, which is no number of documents 01 and 02"),
+            None => panic!("{call:?} gave {number}, which is no number of documents 01 to 03"),
         }
     }
 
@@ -184,13 +197,23 @@ impl Tally {
         }
     }
 
+    /// Of a completion or a message that a function sends.
+    pub fn climbed_by_id(&mut self, arrival: &Arrival) {
+        match *arrival {
+            Arrival::Function { bridges, .. } => self.by_id[usize::from(bridges)] += 1,
+            Arrival::Host { bridges, .. } => self.by_id_to_host[usize::from(bridges)] += 1,
+            Arrival::Port { .. } => self.ports += 1,
+            Arrival::Every { .. } => panic!("a broadcast starts at the host"),
+        }
+    }
+
     pub fn labelled(&mut self, label: &Label) {
         let kind = match label {
-            Label::Owned { owner: Owner::Function(_), .. } => 0,
-            Label::Owned { owner: Owner::Every, .. } => 1,
-            Label::Owned { owner: Owner::Port, .. } => 2,
-            Label::Refused { kind: None, .. } => 3,
-            Label::Refused { kind: Some(_), .. } => 4,
+            Label::Owned { sender: None, owner: Owner::Function(_), .. } => 0,
+            Label::Owned { sender: None, owner: Owner::Every, .. } => 1,
+            Label::Owned { sender: None, owner: Owner::Port, .. } => 2,
+            Label::Refused { sender: None, kind: None, .. } => 3,
+            Label::Refused { sender: None, kind: Some(_), .. } => 4,
             Label::NoTrace(Refusal::Frame) => 5,
             Label::NoTrace(_) => 6,
             Label::Cut => 7,
@@ -230,6 +253,9 @@ impl Tally {
         }
         if self.cards[..=2 * MOST_ABOVE].contains(&0) || self.cards[255] == 0 || self.hosts[..3].contains(&0) {
             faults.push("some number of bridges was never crossed from card to card, or to the host".into());
+        }
+        if self.by_id[..=2 * MOST_ABOVE].contains(&0) || self.by_id[255] == 0 || self.by_id_to_host[..3].contains(&0) {
+            faults.push("some number of bridges was never crossed by ID from a function, or to the host".into());
         }
         if self.broadcasts[1] == 0 || self.broadcasts[MOST_FUNCTIONS] == 0 || self.ports == 0 {
             faults.push("no message went to the one function, to all 512, or to the port".into());
@@ -289,6 +315,12 @@ impl fmt::Display for Tally {
         writeln!(f, "packets delivered, by bridges crossed: {}", by_size(&self.bridges))?;
         writeln!(f, "requests from card to card, by bridges crossed: {}", by_size(&self.cards))?;
         writeln!(f, "requests from a card to the host, by bridges crossed: {}", by_size(&self.hosts))?;
+        writeln!(f, "packets by ID from a function, by bridges crossed: {}", by_size(&self.by_id))?;
+        writeln!(
+            f,
+            "packets by ID or up from a function to the host, by bridges crossed: {}",
+            by_size(&self.by_id_to_host)
+        )?;
         writeln!(f, "messages for every function, by functions: {}", by_size(&self.broadcasts))?;
         writeln!(f, "messages for the port: {}", self.ports)?;
         let labels: Vec<String> =

@@ -3,7 +3,7 @@
 use cartsundial::calls::PACKET;
 use cartsundial::{
     Arrival, Body, CompletionKind, ConfigurationKind, Delivery, Enables, Fields, Form, Id, IoKind, MemoryKind,
-    MessageKind, Packet, Routing,
+    MessageKind, Packet, Routing, Sender,
 };
 
 /// The ten numbers that every kind has, each from its own method.
@@ -20,6 +20,14 @@ pub fn common(packet: &Packet) -> [u64; 10] {
         packet.requester().0.into(),
         packet.tag().into(),
     ]
+}
+
+/// 0 is the host.
+pub fn sender_number(sender: Sender) -> u64 {
+    match sender {
+        Sender::Host => 0,
+        Sender::Record(record) => record.into(),
+    }
 }
 
 /// Whether both say the same of a packet that was routed over this sheet, or have the same number.
