@@ -134,7 +134,7 @@ fn both_ends() {
     let trace = trace::of(&[&header[..], &header[..4]]);
     let expected = plain::follow(0, &[1], &trace).unwrap();
     for cut in 0..=trace.len() {
-        let (mut state, mut room, mut written, mut lines) = ([0; 6], [0; 102], [0], Vec::new());
+        let (mut state, mut room, mut written, mut lines) = ([0; 6], [0; 102], [0], Vec::<u8>::new());
         for piece in [&trace[..cut], &trace[cut..]] {
             assert_eq!(calls::follow(0, &mut state, &[1], piece, &mut room, &mut written), 0);
             lines.extend(&room[..written[0] as usize]);
