@@ -14,7 +14,8 @@
  *     sheet    its checks, registers, IDs, command words           cartsundial_check, _lookup, _id, _command
  *     route    where a header goes                                 cartsundial_route, _route_from; for many headers _index, _find
  *     ends     who sent it and who gets it                         cartsundial_sender, _route_sent
- *     trace    a line for each captured header                     cartsundial_annotate, by an index _label, both ends _follow; _annotate_end
+ *     trace    a line for each captured header                     cartsundial_annotate, by an index _label, with both ends _follow;
+ *                                                                  _annotate_end
  *     audit    whether a sheet that other firmware left will do    cartsundial_audit, _sound, _sound_alone, _audit_where
  *     ledger   which requests wait for completions                 cartsundial_ledger_open, _ledger_complete, _ledger_count
  *     script   a board's plan as configuration writes              cartsundial_script
