@@ -3,8 +3,9 @@
 use crate::calls::{self, TRACE};
 use crate::{accepted, Engine, Refusal};
 
-/// No line of an annotated trace is longer, with its newline: a number of 20 digits, a kind of 6 letters, and a refusal.
-pub const LONGEST_LINE: usize = 40;
+/// No line of a trace is longer, with its newline: a number of 20 digits, a kind of 6 letters, a sender, and a refusal,
+/// with room to spare.
+pub const LONGEST_LINE: usize = 51;
 
 /// Where the state has its stage, and the number of the last whole record.
 const STAGE: usize = 0;
@@ -21,7 +22,7 @@ const BETWEEN: u64 = 2;
 /// piece, given the same sheet throughout, or its index; that is proved. Two annotators that were fed the same bytes are equal.
 ///
 /// Each piece is fed together with what it is labelled by, an [`Engine`]: a reference to a sheet or to an
-/// [`Index`](crate::Index). A sheet is checked for each piece, so feed some KiB at a time.
+/// [`Index`](crate::Index), or [both ends](Engine::both_ends). A sheet is checked for each piece, so feed some KiB at a time.
 ///
 /// [`lines()`](crate::lines()) takes a whole trace. With the feature `std`, `Labeller` is an `io::Write`.
 ///

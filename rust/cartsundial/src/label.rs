@@ -5,7 +5,7 @@ use core::error::Error;
 use core::fmt;
 use core::str::FromStr;
 
-/// What a line of an annotated trace says. With both ends a line names the sender too.
+/// What a line of an annotated trace says. With [both ends](crate::Engine::both_ends) a line names the sender too.
 #[derive(Clone, Copy, Debug, PartialEq, Eq, Hash)]
 #[non_exhaustive]
 pub enum Label {

@@ -46,7 +46,8 @@
 //! | where a request goes that starts at a function: another function, the host | [`route_from`] |
 //! | both ends of a packet: from whom it comes, by the ID in its header, and where it goes | [`sent()`], [`sender`] |
 //! | a line for each header of a trace, over a sheet or by an index: in pieces, of a whole one, as bytes come | [`Annotator`], [`lines()`], [`Labeller`] |
-//! | what each of the two costs | [`Engine`] |
+//! | the same with both ends of each packet | [`Engine::both_ends`] |
+//! | what each of these costs | [`Engine`] |
 //! | the headers of a trace, and a trace of headers | [`headers()`], [`TraceWriter`] |
 //! | is a sheet that other firmware left in order, for a host | [`audit`] |
 //! | the same, and which record is not, where, and which other one it meets | [`audit_where`] |

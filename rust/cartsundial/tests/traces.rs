@@ -1,7 +1,8 @@
 //! A trace's lines by the types: what each says, record numbers that wrap, empty slices, and a small stack.
 
 use cartsundial::{
-    calls, lines, plan, Annotator, Kind, Label, NoKind, NoLabel, Owner, Refusal, FULL_SHEET, LONGEST_LINE,
+    calls, lines, plan, Annotator, Engine, Id, Kind, Label, NoKind, NoLabel, Owner, Refusal, Sender, FULL_SHEET,
+    LONGEST_LINE,
 };
 use inputs::board::{self, memory};
 use inputs::foreign::{configuration, message, request, sheet, Record, CFGRD1, IOWR, MRD, MSG};
@@ -77,9 +78,45 @@ fn no_lines() {
         "1 MRd owner 2 3",
         "1 - owner 2",
         "x MRd refused 40",
+        // The host gets only what has a sender, and a header that is not read has none.
+        "1 MRd owner host",
+        "1 MRd from host",
+        "1 MRd from host owner 2",
+        "1 MRd from all to 2",
+        "1 - from host refused 4",
+        "1 MRd from host to 2 3",
     ] {
         assert_eq!(text.parse::<Label>(), Err(NoLabel), "{text}");
     }
+}
+
+#[test]
+fn both_ends_in_words() {
+    let owned = |number, kind, sender, owner| Label::Owned { number, kind, sender: Some(sender), owner };
+    let refused =
+        |number, kind, sender, refusal| Label::Refused { number, kind: Some(kind), sender: Some(sender), refusal };
+    for (text, label) in [
+        ("4 MWr from 3 to host", owned(4, Kind::MWr, Sender::Record(3), Owner::Host)),
+        ("6 MRd from host to 4", owned(6, Kind::MRd, Sender::Host, Owner::Function(4))),
+        ("8 Msg from host to all", owned(8, Kind::Msg, Sender::Host, Owner::Every)),
+        ("9 Msg from 3 to port", owned(9, Kind::Msg, Sender::Record(3), Owner::Port)),
+        ("7 MWr from 3 refused 44", refused(7, Kind::MWr, Sender::Record(3), Refusal::NoBusMaster)),
+        ("3 MRd from host refused 40", refused(3, Kind::MRd, Sender::Host, Refusal::NoOwner)),
+    ] {
+        assert_eq!((text.parse(), label.to_string()), (Ok(label), text.to_string()));
+    }
+}
+
+/// The lines with both ends that are as long as any.
+#[test]
+fn longest_with_both_ends() {
+    let mut annotator = Annotator::after(u64::MAX - 1);
+    let header = configuration(CFGRD1, 0x0100, 0);
+    let mut room = [0; LONGEST_LINE];
+    let piece = &trace::of(&[&header[..]])[1..];
+    let length = annotator.feed(Engine::both_ends(Id(0), &[1]), piece, &mut room).unwrap();
+    assert_eq!(&room[..length], b"18446744073709551615 CfgRd1 from host refused 40\n");
+    assert!(length <= LONGEST_LINE);
 }
 
 /// These lines are as long as any.

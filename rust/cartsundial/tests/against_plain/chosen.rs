@@ -41,12 +41,13 @@ fn labelled(input: &[u8], random: &mut Random, tally: &mut Tally) {
     }
 }
 
-/// A run of the program `follow`, if it comes to its trace: each of its headers.
+/// A run of the program `follow`, if it comes to its trace: the trace, and each of its headers.
 fn followed(input: &[u8], random: &mut Random, tally: &mut Tally) {
     let Some((&host_id, rest)) = input.split_first_chunk() else { return };
     let Some((&length, rest)) = rest.split_first_chunk() else { return };
     let Some((sheet, trace)) = rest.split_at_checked(u16::from_be_bytes(length).into()) else { return };
     let host_id = u16::from_be_bytes(host_id);
+    traces::follow(host_id, sheet, trace, random, tally);
     for header in cartsundial::headers(trace).into_iter().flatten() {
         let _ = ends::sent(host_id.into(), header, sheet, random, tally);
     }

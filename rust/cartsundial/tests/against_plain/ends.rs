@@ -3,6 +3,7 @@
 use crate::lent::{hex, Lent};
 use crate::sheets;
 use crate::tally::{Call, Tally};
+use crate::traces;
 use crate::typed;
 use cartsundial::{calls, Id};
 use inputs::board::MOST_ABOVE;
@@ -24,6 +25,7 @@ pub fn compare(random: &mut Random, rounds: u64, tally: &mut Tally) {
         let _ = sent(host_id.into(), &header::any(random), &sheet, random, tally);
         let _ = sent(ends::no_host_id(&sheet, random), &ends::header(host_id, &sheet, random), &sheet, random, tally);
     }
+    traces::compare_ends(random, rounds, tally);
 }
 
 /// Completions between two cards of a planned board with 0 to 64 bridges between them, both ways; the furthest that there can

@@ -113,9 +113,10 @@ fn build(host: &[u8], sheet: &[u8], length: usize, random: &mut Random, tally: &
         let mut index = Lent::bytes(length, random);
         let mut index_then = index.clone();
         let (number, returned) = match call {
-            Call::Index => {
-                (plain::build(host, sheet, index_then.slice()), calls::index(given.slice(), lent.slice(), index.slice()))
-            }
+            Call::Index => (
+                plain::build(host, sheet, index_then.slice()),
+                calls::index(given.slice(), lent.slice(), index.slice()),
+            ),
             Call::IndexSound => {
                 let number = plain::build_sound(host, sheet, index_then.slice());
                 (number, calls::index_sound(given.slice(), lent.slice(), index.slice()))

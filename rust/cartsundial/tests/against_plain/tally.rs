@@ -1,6 +1,6 @@
 //! How often each call gave each number, and how large what it accepted was.
 
-use cartsundial::{Label, Owner, Refusal};
+use cartsundial::{Label, Owner, Refusal, Sender};
 use inputs::board::{MOST_ABOVE, MOST_FUNCTIONS};
 use plain::Arrival;
 use std::fmt;
@@ -31,13 +31,14 @@ pub enum Call {
     Find,
     Annotate,
     Label,
+    Follow,
     End,
     Open,
     Complete,
     Count,
 }
 
-const CALLS: [Call; 28] = [
+const CALLS: [Call; 29] = [
     Call::Read,
     Call::Judge,
     Call::Write,
@@ -62,6 +63,7 @@ const CALLS: [Call; 28] = [
     Call::Find,
     Call::Annotate,
     Call::Label,
+    Call::Follow,
     Call::End,
     Call::Open,
     Call::Complete,
@@ -99,7 +101,7 @@ impl Call {
             Call::Index | Call::IndexSound => &[0, 11, 20, 21, 22, 24, 25, 26, 27, 28, 29, 50, 51, 52],
             Call::IndexAlone => &[0, 11, 20, 21, 22, 24, 25, 27, 28, 29, 50, 51, 52],
             Call::Find => &[0, 1, 2, 3, 4, 5, 6, 7, 8, 9, 11, 40, 42, 43],
-            Call::Annotate | Call::Label | Call::End => &[0, 10, 11],
+            Call::Annotate | Call::Label | Call::Follow | Call::End => &[0, 10, 11],
             Call::Open => &[0, 1, 2, 3, 4, 5, 6, 7, 8, 9, 11, 60, 61, 62],
             Call::Complete => &[0, 1, 2, 3, 4, 5, 6, 7, 8, 9, 11, 60, 63, 64, 65],
             Call::Count => &[0, 11],
@@ -108,8 +110,23 @@ impl Call {
 }
 
 /// What the lines of traces say, in kinds.
-const LABELS: [&str; 8] =
-    ["a function", "every function", "the port", "header refused", "route refused", "refused 20", "refused 21", "cut"];
+const LABELS: [&str; 15] = [
+    "a function",
+    "every function",
+    "the port",
+    "header refused",
+    "route refused",
+    "refused 20",
+    "refused 21",
+    "cut",
+    "host to function",
+    "host to every function",
+    "host to port",
+    "from the host refused",
+    "function to function",
+    "function to host or port",
+    "from a function refused",
+];
 
 pub struct Tally {
     numbers: [[u64; NUMBERS]; CALLS.len()],
@@ -214,6 +231,13 @@ impl Tally {
             Label::Owned { sender: None, owner: Owner::Port, .. } => 2,
             Label::Refused { sender: None, kind: None, .. } => 3,
             Label::Refused { sender: None, kind: Some(_), .. } => 4,
+            Label::Owned { sender: Some(Sender::Host), owner: Owner::Function(_), .. } => 8,
+            Label::Owned { sender: Some(Sender::Host), owner: Owner::Every, .. } => 9,
+            Label::Owned { sender: Some(Sender::Host), owner: Owner::Port, .. } => 10,
+            Label::Refused { sender: Some(Sender::Host), .. } => 11,
+            Label::Owned { sender: Some(Sender::Record(_)), owner: Owner::Function(_), .. } => 12,
+            Label::Owned { sender: Some(Sender::Record(_)), owner: Owner::Host | Owner::Port, .. } => 13,
+            Label::Refused { sender: Some(Sender::Record(_)), .. } => 14,
             Label::NoTrace(Refusal::Frame) => 5,
             Label::NoTrace(_) => 6,
             Label::Cut => 7,

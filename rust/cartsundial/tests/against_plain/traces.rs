@@ -1,17 +1,14 @@
-//! Traces labelled in pieces, over sheets and by indexes.
+//! Traces labelled in pieces, over sheets and by indexes, and with both ends.
 
 use crate::indexes;
 use crate::lent::{hex, Lent};
 use crate::sheets;
 use crate::tally::{Call, Tally};
-use cartsundial::{calls, Annotator, Engine, Refusal};
+use cartsundial::{calls, Annotator, Engine, Id, Refusal};
 use inputs::random::Random;
-use inputs::{audit, trace};
+use inputs::{audit, cards, ends, trace};
 
 type State = [u64; calls::TRACE];
-
-/// A call that takes a piece: state, sheet or index, piece, lines, and how many bytes they are.
-type Take = fn(&mut [u64], &[u8], &[u8], &mut [u8], &mut [u64]) -> u32;
 
 pub fn compare(random: &mut Random, rounds: u64, tally: &mut Tally) {
     for _ in 0..10_000 * rounds {
@@ -38,6 +35,22 @@ pub fn compare(random: &mut Random, rounds: u64, tally: &mut Tally) {
     }
 }
 
+/// The same with both ends.
+pub fn compare_ends(random: &mut Random, rounds: u64, tally: &mut Tally) {
+    for _ in 0..10_000 * rounds {
+        let mut sheet = sheets::any_for_ends(random);
+        cards::enable(&mut sheet, random);
+        let host_id = ends::host_id(&sheet, random);
+        let trace = trace::any_sent(host_id, &sheet, random);
+        follow(host_id, &sheet, &trace, random, tally);
+        for _ in 0..4 {
+            from_any_state(By::Ends(host_id.into(), &sheet), &sheet, random, tally);
+            from_no_state(By::Ends(host_id.into(), &sheet), &sheet, random, tally);
+        }
+        no_host(&sheet, &trace, random, tally);
+    }
+}
+
 /// A host record and a sheet that the audit accepts for it.
 fn accepted(random: &mut Random) -> (Vec<u8>, Vec<u8>) {
     loop {
@@ -54,19 +67,39 @@ enum By<'a> {
     Sheet(&'a [u8]),
     /// That was built, or any bytes.
     Index(&'a [u8]),
+    /// The host's own ID, and a sheet.
+    Ends(u64, &'a [u8]),
 }
 
 impl<'a> By<'a> {
     fn bytes(self) -> &'a [u8] {
         match self {
-            By::Sheet(bytes) | By::Index(bytes) => bytes,
+            By::Sheet(bytes) | By::Index(bytes) | By::Ends(_, bytes) => bytes,
         }
     }
 
-    fn call(self) -> (Call, Take) {
+    fn call(self) -> Call {
         match self {
-            By::Sheet(_) => (Call::Annotate, calls::annotate),
-            By::Index(_) => (Call::Label, calls::label),
+            By::Sheet(_) => Call::Annotate,
+            By::Index(_) => Call::Label,
+            By::Ends(..) => Call::Follow,
+        }
+    }
+
+    /// Asks the library: state, sheet or index, piece, lines, and how many bytes they are.
+    fn take(self, state: &mut [u64], bytes: &[u8], piece: &[u8], lines: &mut [u8], written: &mut [u64]) -> u32 {
+        match self {
+            By::Sheet(_) => calls::annotate(state, bytes, piece, lines, written),
+            By::Index(_) => calls::label(state, bytes, piece, lines, written),
+            By::Ends(host_id, _) => calls::follow(host_id, state, bytes, piece, lines, written),
+        }
+    }
+
+    /// A trace for it.
+    fn trace(self, sheet: &[u8], random: &mut Random) -> Vec<u8> {
+        match self {
+            By::Sheet(_) | By::Index(_) => trace::any(sheet, random),
+            By::Ends(host_id, _) => trace::any_sent(host_id as u16, sheet, random),
         }
     }
 
@@ -76,6 +109,7 @@ impl<'a> By<'a> {
         let fed = match self {
             By::Sheet(sheet) => annotator.feed(sheet, piece, &mut room),
             By::Index(index) => annotator.feed_index(index, piece, &mut room),
+            By::Ends(host_id, sheet) => annotator.feed_ends(host_id, sheet, piece, &mut room),
         };
         room.truncate(fed.unwrap());
         String::from_utf8(room).unwrap()
@@ -86,6 +120,7 @@ impl<'a> By<'a> {
         match self {
             By::Sheet(sheet) => plain::annotate(sheet, trace),
             By::Index(index) => plain::label(index, trace),
+            By::Ends(host_id, sheet) => plain::follow(host_id, sheet, trace).unwrap(),
         }
     }
 }
@@ -102,6 +137,26 @@ pub fn label(host: &[u8], sheet: &[u8], trace: &[u8], random: &mut Random, tally
     let lines = in_pieces(By::Index(index.bytes()), Some((&index).into()), trace, random, tally);
     assert_eq!(lines, plain::annotate(sheet, trace), "{} by the index of {}", hex(trace), hex(sheet));
     whole((&index).into(), trace, &lines, tally);
+}
+
+/// A trace with both ends.
+pub fn follow(host_id: u16, sheet: &[u8], trace: &[u8], random: &mut Random, tally: &mut Tally) {
+    let engine = Engine::both_ends(Id(host_id), sheet);
+    let lines = in_pieces(By::Ends(host_id.into(), sheet), Some(engine), trace, random, tally);
+    whole(engine, trace, &lines, tally);
+}
+
+/// A number above FFFFh, which is no ID of a host: 10, whatever else is asked.
+fn no_host(sheet: &[u8], trace: &[u8], random: &mut Random, tally: &mut Tally) {
+    let host_id = ends::no_host_id(sheet, random);
+    let mut state = Lent::numbers(random.below(8) as usize, random);
+    let mut lines = Lent::bytes(random.below(100) as usize, random);
+    let mut written = Lent::answer(1, random);
+    let before = (state.clone(), lines.clone(), written.clone());
+    let returned = calls::follow(host_id, state.slice(), sheet, trace, lines.slice(), written.slice());
+    tally.count(Call::Follow, returned);
+    assert_eq!(returned, 10, "follow for {host_id:X}");
+    assert!((&state, &lines, &written) == (&before.0, &before.1, &before.2), "follow for {host_id:X}: what was lent");
 }
 
 /// A trace from its first byte to its end, by the call, by the types, and by plain. Returns the lines.
@@ -193,9 +248,8 @@ impl Asked<'_> {
             0 => (state.with(&after(self.state, self.piece)), lines.with(self.lines.as_bytes())),
             _ => (state.clone(), lines.clone()),
         };
-        let (call, asked) = self.by.call();
-        let returned = asked(state.slice(), bytes.slice(), piece.slice(), lines.slice(), written.slice());
-        tally.count(call, returned);
+        let returned = self.by.take(state.slice(), bytes.slice(), piece.slice(), lines.slice(), written.slice());
+        tally.count(self.by.call(), returned);
         assert_eq!(returned, number, "{self}");
         assert!(lines == lines_then, "{self}: the lines");
         assert!(state == state_then, "{self}: the state");
@@ -206,8 +260,9 @@ impl Asked<'_> {
 
 impl std::fmt::Display for Asked<'_> {
     fn fmt(&self, f: &mut std::fmt::Formatter<'_>) -> std::fmt::Result {
-        let call = self.by.call().0;
-        write!(f, "{call:?} {} at {:X?} by {}", hex(self.piece), self.state, hex(self.by.bytes()))
+        let call = self.by.call();
+        let host = if let By::Ends(host_id, _) = self.by { format!(" for {host_id:X}") } else { String::new() };
+        write!(f, "{call:?}{host} {} at {:X?} by {}", hex(self.piece), self.state, hex(self.by.bytes()))
     }
 }
 
@@ -290,7 +345,7 @@ const INSIDE: u64 = 4;
 /// From a state that a trace need not have led to: any record number, and any bytes kept.
 fn from_any_state(by: By<'_>, sheet: &[u8], random: &mut Random, tally: &mut Tally) {
     let state = any_state(random);
-    let trace = trace::any(sheet, random);
+    let trace = by.trace(sheet, random);
     let bytes = if state[0] == START { &trace[..] } else { trace.get(1..).unwrap_or_default() };
     let piece = trace::pieces(bytes, random).first().copied().unwrap_or_default();
     let lines = match (state[0], piece) {
@@ -341,7 +396,7 @@ fn at(state: State) -> plain::Annotator {
 
 /// Numbers that are no state, 10, and fewer than a state has, 11, whatever the rooms.
 fn from_no_state(by: By<'_>, sheet: &[u8], random: &mut Random, tally: &mut Tally) {
-    let piece = &trace::any(sheet, random);
+    let piece = &by.trace(sheet, random);
     let mut numbers = any_state(random).to_vec();
     let number = if random.chance(1, 3) {
         numbers.truncate(random.below(6) as usize);
@@ -354,8 +409,8 @@ fn from_no_state(by: By<'_>, sheet: &[u8], random: &mut Random, tally: &mut Tall
     let mut lines = Lent::bytes(random.below(100) as usize, random);
     let mut written = Lent::answer(1, random);
     let before = (state.clone(), lines.clone(), written.clone());
-    let (call, asked) = by.call();
-    let returned = asked(state.slice(), by.bytes(), piece, lines.slice(), written.slice());
+    let call = by.call();
+    let returned = by.take(state.slice(), by.bytes(), piece, lines.slice(), written.slice());
     tally.count(call, returned);
     assert_eq!(returned, number, "{call:?} {} at {numbers:X?}", hex(piece));
     assert!((&state, &lines, &written) == (&before.0, &before.1, &before.2), "{call:?} at {numbers:X?}: what was lent");
