@@ -155,7 +155,7 @@ pub fn sound(host: &HostRecord, sheet: &[u8]) -> Result<(), Refusal> {
 /// }
 /// assert_eq!(sound_alone(&sheet), Ok(()));
 /// sheet[5 + 0x15] = 0x00;
-/// assert_eq!(sound_alone(&sheet), Err(Refusal::Overlap));
+/// assert_eq!(sound_alone(&sheet), Err(Refusal::NotDisjoint));
 /// ```
 pub fn sound_alone(sheet: &[u8]) -> Result<(), Refusal> {
     accepted(calls::sound_alone(sheet))
