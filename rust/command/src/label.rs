@@ -1,26 +1,31 @@
 //! `label`: a line for each header of a trace.
 
 use crate::arguments::{Arguments, Options};
+use crate::ends;
 use crate::failure::{output_failed, Answer, Failure, Verdict};
 use crate::named::NamedSheet;
 use crate::parts::{Part, Parts};
-use crate::source::{called, open_trace, Source};
+use crate::source::{called, open_trace, read_id, Source};
 use crate::tally::Tally;
-use cartsundial::{index_length, read, Annotator, Engine, Headers, HostRecord, Index, Label, Owner, Refusal};
+use cartsundial::{index_length, read, Annotator, Engine, Headers, HostRecord, Id, Index, Label, Owner, Refusal};
 use std::io::{self, BufWriter, IsTerminal, Write};
 use std::thread;
 
-pub const OPTIONS: Options = Options { flags: &["--names", "--summary"], values: &["--jobs", "--host"] };
+pub const OPTIONS: Options =
+    Options { flags: &["--names", "--both", "--summary"], values: &["--jobs", "--host", "--host-id"] };
 
 pub const HELP: &str = "\
-cartsundial label SHEET TRACE [--names] [--jobs N] [--summary] [--host HOST]
+cartsundial label SHEET TRACE [--names | --both [--host-id ID]] [--jobs N] [--summary] [--host HOST]
 
 A line for each header of a trace, over a sheet or over the plan of a board: the proved lines, those of the program annotate.
 A trace may be of any length. Exit status 1 where the trace itself is refused or cut, 0 whatever the headers get.
 
   --names             each line goes on with the owner's ID and name, its BAR and the offset in it, or with a number's words
+  --both              both ends of each packet, with names: who sent it, by the ID in its header, and who gets it
+  --host-id ID        the host's own ID, for --both; 00:00.0 where none is given
   --jobs N            label parts of the trace side by side: the same lines
-  --summary           at the end, on standard error: how many headers went to whom, and how many have which number
+  --summary           at the end, on standard error: how many headers went to whom, and how many have which number; with --both
+                      who sent how many packets to whom, and how many bytes, as told by the Length of requests
   --host HOST         the sheet's host: a sheet on which an address may have two owners is then refused; of a board it is known
 ";
 
@@ -32,6 +37,7 @@ struct Labels<'a> {
     by: Engine<'a>,
     named: &'a NamedSheet,
     has_names: bool,
+    has_ends: bool,
     has_tally: bool,
 }
 
@@ -42,6 +48,7 @@ pub fn run(arguments: &Arguments) -> Answer {
     }
     let jobs = arguments.value("--jobs").map_or(Ok(1), str::parse).ok().filter(|jobs| (1..=256).contains(jobs));
     let jobs: usize = jobs.ok_or_else(|| Failure::Usage("--jobs has a number from 1 to 256".into()))?;
+    let host_id = host_id(arguments)?;
     let named = Source::read(sheet)?.into_sheet()?;
     let host = arguments.value("--host").map(|file| Source::read(file)?.into_host()).transpose()?;
     // An index gives the same lines as the walk and takes less time. Without a host it is there where no address has two owners.
@@ -49,9 +56,12 @@ pub fn run(arguments: &Arguments) -> Answer {
         Some(host) => Some(indexed(&host, &named)?),
         None => Index::alone(named.sheet.bytes(), room_for_index(&named)).ok(),
     };
-    let by = index.as_ref().map_or(Engine::from(named.sheet.bytes()), Engine::from);
-    let (has_names, has_tally) = (arguments.has("--names"), arguments.has("--summary"));
-    let labels = Labels { by, named: &named, has_names, has_tally };
+    let by = match host_id {
+        Some(id) => Engine::both_ends(id, named.sheet.bytes()),
+        None => index.as_ref().map_or(Engine::from(named.sheet.bytes()), Engine::from),
+    };
+    let (has_names, has_ends, has_tally) = (arguments.has("--names"), host_id.is_some(), arguments.has("--summary"));
+    let labels = Labels { by, named: &named, has_names, has_ends, has_tally };
     let parts = Parts::new(open_trace(trace)?, jobs);
     let (last, tally) = labels.write_all(parts, called(trace))?;
     if has_tally {
@@ -62,6 +72,17 @@ pub fn run(arguments: &Arguments) -> Answer {
         None => Ok(Verdict::Accepted),
         Some(Label::NoTrace(refusal)) => Err(Failure::refused(called(trace), refusal)),
         Some(_) => Err(Failure::Refused(format!("{}: it ends inside a record", called(trace)))),
+    }
+}
+
+/// The host's own ID, with `--both`.
+fn host_id(arguments: &Arguments) -> Result<Option<Id>, Failure> {
+    let id = arguments.value("--host-id").map(read_id).transpose()?;
+    match (arguments.has("--both"), arguments.has("--names")) {
+        (true, true) => Err(Failure::Usage("the lines of --both have names: leave --names out".into())),
+        (true, false) => Ok(Some(id.unwrap_or(Id(0)))),
+        (false, _) if id.is_some() => Err(Failure::Usage("--host-id is for --both".into())),
+        (false, _) => Ok(None),
     }
 }
 
@@ -114,17 +135,22 @@ impl Labels<'_> {
             lines.extend(&room[..length]);
         }
         let mut tally = Tally::default();
-        if !self.has_names && !self.has_tally {
+        if !self.has_names && !self.has_ends && !self.has_tally {
             return (lines, tally);
         }
         let mut named = Vec::new();
         let text = std::str::from_utf8(&lines).expect("lines are text");
         for (line, header) in text.lines().zip(Headers::of_records(part.bytes)) {
             let label = line.parse().expect("a line of the library");
+            if self.has_ends {
+                tally.ends.count(&label, header);
+                named.extend((ends::line(&label, header, self.named) + "\n").into_bytes());
+                continue;
+            }
             tally.count(&label);
             named.extend(format!("{line}{}\n", self.addition(&label, header)).into_bytes());
         }
-        (if self.has_names { named } else { lines }, tally)
+        (if self.has_names || self.has_ends { named } else { lines }, tally)
     }
 
     /// `: 03:00.0 "capture", BAR 0 + 10`, or a number's words.

@@ -5,6 +5,7 @@ mod arguments;
 mod audit;
 mod convert;
 mod decode;
+mod ends;
 mod export;
 mod failure;
 mod faults;
@@ -58,7 +59,7 @@ cartsundial: PCI Express boards planned, sheets judged, packets routed and trace
   audit SHEET --host HOST   whether a sheet that other firmware left is in order, and every address has one owner
   route SHEET HEADER..      where a header goes; --from 03:00.0 for card to card
   decode HEADER..           a header in words
-  label SHEET TRACE         a line for each header of a trace; --names, --jobs N, --summary
+  label SHEET TRACE         a line for each header of a trace; --names, --both, --jobs N, --summary
   ledger TRACE              requests never answered, completions of nothing
   show FILE                 a board, a sheet, a trace or a script in words
   convert FILE              from bytes to text, from text to bytes

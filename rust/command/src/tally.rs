@@ -1,5 +1,6 @@
 //! How many headers of a trace went to whom, and how many have which number.
 
+use crate::ends::Ends;
 use crate::named::NamedSheet;
 use crate::words::short;
 use cartsundial::{Label, Owner, Refusal};
@@ -11,6 +12,8 @@ pub struct Tally {
     every: u64,
     port: u64,
     refused: BTreeMap<Refusal, u64>,
+    /// With both ends these are counted, and nothing else.
+    pub ends: Ends,
 }
 
 impl Tally {
@@ -29,10 +32,14 @@ impl Tally {
         other.refused.iter().for_each(|(refusal, count)| *self.refused.entry(*refusal).or_default() += count);
         self.every += other.every;
         self.port += other.port;
+        self.ends.add(&other.ends);
     }
 
     /// A line for each.
     pub fn shown(&self, named: &NamedSheet) -> String {
+        if !self.ends.is_empty() {
+            return self.ends.shown(named);
+        }
         let owned: u64 = self.records.values().sum::<u64>() + self.every + self.port;
         let refused: u64 = self.refused.values().sum();
         let mut text = format!("{} headers: {owned} with an owner, {refused} refused\n", owned + refused);

@@ -7,7 +7,7 @@ use run::{repository, run, Ran};
 use std::{env, fs};
 
 /// Name, exit status, arguments. Files are named from the repository's root.
-const RUNS: [(&str, i32, &str); 46] = [
+const RUNS: [(&str, i32, &str); 49] = [
     ("plan", 0, "plan tests/command/recorder.txt"),
     ("plan-json", 0, "plan docs/example/board --json"),
     ("plan-lspci", 0, "plan tests/command/recorder.txt --lspci"),
@@ -39,10 +39,17 @@ const RUNS: [(&str, i32, &str); 46] = [
         "route tests/command/recorder.txt --from 03:00.0 400000010300020FF8200010 400000010300020F00100010",
     ),
     ("route-from-nobody", 2, "route tests/command/recorder.txt --from 09:00.0 400000010300020FF8200010"),
+    (
+        "route-sent",
+        0,
+        "route tests/command/recorder.txt --sent 400000010300020F00100010 4A0000010500000400F80200 400000010000020FF8200010",
+    ),
+    ("route-sent-refused-44", 1, "route tests/command/recorder.txt --sent --host-id 00:1F.0 400000010500000F7F3A2000"),
     ("decode", 0, "decode 05000001 0000010F 03000000"),
     ("decode-refused-7", 1, "decode 00000002,0000065F,F8100014"),
     ("label", 0, "label tests/command/recorder.txt docs/example/trace"),
     ("label-names", 0, "label tests/command/recorder.txt docs/example/trace.txt --names"),
+    ("label-both", 0, "label tests/command/recorder.txt docs/example/recorder-trace.txt --both"),
     ("label-board", 2, "label tests/command/recorder.txt docs/example/board"),
     ("ledger", 1, "ledger docs/example/requests --names tests/command/recorder.txt"),
     ("show-board", 0, "show docs/example/board"),
@@ -107,6 +114,10 @@ fn summary() {
     let ran = run(&["label", "tests/command/recorder.txt", "docs/example/trace", "--summary"], b"");
     assert_eq!(ran.out, fs::read(repository().join("docs/example/labels.txt")).unwrap());
     compare("label-summary", &ran.error);
+    let trace = "docs/example/recorder-trace.txt";
+    let ran = run(&["label", "tests/command/recorder.txt", trace, "--both", "--jobs", "3", "--summary"], b"");
+    compare("label-both", std::str::from_utf8(&ran.out).unwrap());
+    compare("label-both-summary", &ran.error);
 }
 
 /// Every subcommand has its help.
