@@ -2,7 +2,7 @@
 
 use crate::named::{address_of, NamedSheet};
 use crate::words::short;
-use cartsundial::{read, Body, Label, Owner, Packet, Refusal, Sender};
+use cartsundial::{read, sender, sent, Arrival, Body, Id, Label, Owner, Packet, Refusal, Sender, Sent};
 use std::collections::BTreeMap;
 
 /// `4 MWr from 3: 03:00.0 "capture" to the host, 7F3A1000`.
@@ -19,6 +19,26 @@ pub fn line(label: &Label, header: &[u8], named: &NamedSheet) -> String {
             format!("{number} {kind} {from}refused {}: {}", refusal.number(), refusal.meaning())
         }
         other => other.to_string(),
+    }
+}
+
+/// `from the host to 4: 03:00.0 "capture", BAR 0 + 10`, of one header; `from the host, no owner` where it is refused.
+pub fn both(header: &[u8], host_id: Id, named: &NamedSheet) -> String {
+    let sheet = named.sheet.bytes();
+    let Ok(sender) = sender(host_id, header, sheet) else { return String::new() };
+    let from = from(sender, named);
+    match sent(host_id, header, sheet) {
+        Err(refusal) => format!("from {from}, {}", refusal.meaning()),
+        Ok(Sent { arrival, .. }) => {
+            let owner = match arrival {
+                Arrival::Function(delivery) => Owner::Function(delivery.record),
+                Arrival::Host { .. } => Owner::Host,
+                Arrival::Every { .. } => Owner::Every,
+                _ => Owner::Port,
+            };
+            let place = place(owner, &arrival.packet(), named).map_or(String::new(), |place| format!(", {place}"));
+            format!("from {from} to {}{place}", to(owner, named))
+        }
     }
 }
 

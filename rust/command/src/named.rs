@@ -1,6 +1,6 @@
 //! A sheet with the names of its functions, and its host record where that is known.
 
-use cartsundial::{Board, Body, Function, HostRecord, Id, Packet, PlacedBar, Refusal, Routing, Sheet};
+use cartsundial::{Board, Body, Function, HostRecord, Packet, PlacedBar, Refusal, Routing, Sheet};
 
 /// A sheet's record, with its length.
 pub const RECORD: usize = 92;
@@ -43,11 +43,6 @@ impl NamedSheet {
     /// The same for a record of the sheet.
     pub fn title_of(&self, record: u16) -> String {
         self.sheet.record(record).map_or_else(|| format!("record {record}"), |function| self.title(&function))
-    }
-
-    /// The same for an ID, which may be nobody's.
-    pub fn title_of_id(&self, id: Id) -> String {
-        self.sheet.function(id).map_or_else(|| id.to_string(), |function| self.title(&function))
     }
 
     /// `BAR 0 + 10`: which BAR of a record holds the packet's address, and where in it. `None` where it goes by an ID.
