@@ -327,8 +327,8 @@ fn not_read() {
         assert_eq!(ran.error.matches("`lspci -vvx`, as root").count(), 1, "{name}: {}", ran.error);
         assert!(!String::from_utf8(ran.out).unwrap().contains("accepted"), "{name}");
         // The same to standard output: nothing comes out.
-        let ran = run(&["import", "-", "--quiet"], text.as_bytes());
-        assert!(ran.out.is_empty() && ran.status > 0, "{name}");
+        let ran = run(&["import", "-"], text.as_bytes());
+        assert!(ran.out.is_empty() && ran.status == 1 && ran.error.contains(words), "{name}: {}", ran.error);
     }
     let (ran, names) = edited("whole", &whole, &[&iomem, &ioports]);
     assert_eq!((ran.status, &names[..]), (0, &FILES.map(String::from)[..]));

@@ -195,6 +195,8 @@ fn write_out(arguments: &Arguments, taken: &[Taken], left_out: &[LeftOut], notes
     match (prefix, taken) {
         (Some(prefix), _) => add_files(&mut outputs, prefix, &roots, left_out),
         (None, [(_, root)]) => print(root.as_ref().map_or(String::new(), |root| sheet_text(root, left_out)))?,
+        // Nothing was read: the verdicts say why, and there is nothing to write.
+        (None, _) if roots.is_empty() => {}
         (None, _) => {
             let names: Vec<String> = taken.iter().map(|((domain, bus), _)| format!("{domain:04x}:{bus:02x}")).collect();
             return Err(Failure::Usage(format!("root buses {}: --out PREFIX writes files for each", names.join(", "))));
