@@ -120,12 +120,12 @@ def plain_words(root):
     return words
 
 
-def turn(text, own, library, pattern):
+def turn(text, own, library, pattern, ours=()):
     """The text with each of the names turned, but for those of a library."""
 
     def at(m):
         w = m[0]
-        if w in own and w not in library and turns(w):
+        if (w in own or w in ours) and w not in library and turns(w):
             return snake(w)
         return w
 
@@ -191,7 +191,7 @@ def code(text, own, library, ours, walk):
             if behind:
                 return snake(w) if w in own and "-" not in w else w
             return snake(w) if w in ours or (w in own and "-" not in w) else w
-        return snake(w) if w in own else w
+        return snake(w) if w in own or w in ours else w
 
     words = ALSO_HERE
     return NAME.sub(at, text)
@@ -204,7 +204,7 @@ def comment(text, own):
 
 
 def turn_rust(text, own):
-    library, _ = imports(text, RUST_USE)
+    library, ours = imports(text, RUST_USE)
     text = in_use(text, own, RUST_USE)
     out, at = [], 0
     for m in CLAUSE.finditer(text):
@@ -215,7 +215,7 @@ def turn_rust(text, own):
             depth += {"{": 1, "}": -1}.get(text[end], 0)
             end += 1
         out.append(text[at : m.end()])
-        out.append(turn(text[m.end() : end], own, library, NAME))
+        out.append(turn(text[m.end() : end], own, library, NAME, ours))
         at = end
     out.append(text[at:])
     text = "".join(out)

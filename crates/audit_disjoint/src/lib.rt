@@ -18,7 +18,7 @@ use sheet_record::places;
 // Some two of a checked sheet's ranges are of one bus and one space, and overlap.
 pub fn not_disjoint(sheet: &[u8]) -> bool
     requires { Checked sheet.now }
-    ensures { result ≡ notDisjointOf (entries_of sheet.now) }
+    ensures { result ≡ not_disjoint_of (entries_of sheet.now) }
 {
     if audit_rising::ranges_rise(sheet) {
         return false;
@@ -31,7 +31,7 @@ pub fn not_disjoint(sheet: &[u8]) -> bool
 
 fn overlaps_by_pairs(sheet: &[u8]) -> bool
     requires { Checked sheet.now }
-    ensures { result ≡ notDisjointOf (entries_of sheet.now) }
+    ensures { result ≡ not_disjoint_of (entries_of sheet.now) }
 {
     let records = sheet::count(sheet);
     let mut k: usize = 0;
@@ -107,7 +107,7 @@ fn space(a: Item) -> u64
 
 // Of one space, and each starts before the other ends.
 pub fn overlap(a: Item, b: Item) -> bool
-    ensures { result ≡ overlapOf (range_of a) (range_of b) }
+    ensures { result ≡ overlap_of (range_of a) (range_of b) }
 {
     (space(a) == space(b)) & ((a.first <= b.last) & (b.first <= a.last))
 }
@@ -115,7 +115,7 @@ pub fn overlap(a: Item, b: Item) -> bool
 // It overlaps one of m ranges, from this one on.
 fn overlaps_any(a: Item, others: &[u64], from: usize, m: usize) -> bool
     requires { 3 * m ≤ length others.now }
-    ensures { result ≡ any (overlapOf (range_of a)) (ranges_from others.now from (m - from)) }
+    ensures { result ≡ any (overlap_of (range_of a)) (ranges_from others.now from (m - from)) }
 {
     let mut j = from;
     while j < m {
@@ -145,7 +145,7 @@ fn any_overlap(own: &[u64], n: usize, others: &[u64], m: usize) -> bool
 // One of n ranges overlaps a later one.
 fn any_pair(own: &[u64], n: usize) -> bool
     requires { 3 * n ≤ length own.now }
-    ensures { result ≡ any_pair overlapOf (ranges_in n own.now) }
+    ensures { result ≡ any_pair overlap_of (ranges_in n own.now) }
 {
     let mut i: usize = 0;
     while i < n {

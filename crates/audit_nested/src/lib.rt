@@ -55,7 +55,7 @@ fn outside_above(
 ) -> bool
     requires { Checked sheet.now × Leads (entries_of sheet.now) table.now × (length part.now ≡ record_size)
         × (breaks ReadBacks (entry_of part.now) ≡ false) × (18 ≤ length own.old) × (18 ≤ length above.old) }
-    ensures { result ≡ outsideAboveOf nesting host (entries_of sheet.now) (entry_of part.now) }
+    ensures { result ≡ outside_above_of nesting host (entries_of sheet.now) (entry_of part.now) }
 {
     let n = sheet_ranges::ranges_of(part, own);
     let m = ranges_above(host, sheet, table, sheet_record::bus_of(part), above);

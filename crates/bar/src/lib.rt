@@ -56,7 +56,7 @@ fn size_of(ones: u64, least: u64, mask: u64) -> u64
 
 // A size of 0 is no size.
 fn sized(pool: Pool, wide: bool, size: u64) -> Slot
-    ensures { result ≡ sizedOf pool wide size }
+    ensures { result ≡ sized_of pool wide size }
 {
     if size == 0 {
         Slot::Bad
@@ -121,7 +121,7 @@ pub fn narrow_slot(r: u32) -> Slot
 
 // Two registers of 32 bits as one number.
 fn joined(low: u32, upper: u32) -> u64
-    ensures { (result ≡ joinedOf low upper) × (result < 2 ^ 64) }
+    ensures { (result ≡ joined_of low upper) × (result < 2 ^ 64) }
 {
     (upper as u64) * 4294967296 + low as u64
 }

@@ -53,7 +53,7 @@ fn is_version(v: u8) -> bool
 // ---- 20: the host first, of 30 bytes, then functions of 6 or more, whose lengths end at the end
 
 fn misframed(board: &[u8]) -> bool
-    ensures { result ≡ isMisframed (parts_of (drop 1 board.now)) }
+    ensures { result ≡ is_misframed (parts_of (drop 1 board.now)) }
 {
     match records::next_at(board, HOST) {
         Next::End => true,

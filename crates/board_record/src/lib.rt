@@ -221,7 +221,7 @@ fn readbacks_of(part: &[u8]) -> [u32; 6]
 // The record breaks the rule.
 pub fn breaks(rule: Rule, part: &[u8]) -> bool
     requires { too_early rule part.now ≡ false }
-    ensures { result ≡ breaksOf rule part.now }
+    ensures { result ≡ breaks_of rule part.now }
 {
     match rule {
         Rule::Length => part.len() < 6,

@@ -235,13 +235,13 @@ fn above(x: u64, y: u64) -> u64
 }
 
 fn least(x: u64, y: usize) -> usize
-    ensures { (result ≡ leastOf x y) × (result ≤ y) }
+    ensures { (result ≡ least_of x y) × (result ≤ y) }
 {
     if x < y as u64 { x as usize } else { y }
 }
 
 fn larger(x: usize, y: usize) -> usize
-    ensures { result ≡ largerOf x y }
+    ensures { result ≡ larger_of x y }
 {
     if x < y { y } else { x }
 }

@@ -303,7 +303,7 @@ fn asked_by_io(header: &[u8]) -> Asked
 }
 
 fn asked_by_config(header: &[u8]) -> Asked
-    requires { (12 ≤ length header.now) × (isConfigRequest (get_or header.now 0 0) ≡ true) }
+    requires { (12 ≤ length header.now) × (is_config_request (get_or header.now 0 0) ≡ true) }
     ensures { Told result header.now }
 {
     let k = tlp_kinds::config_kind(header[0]);

@@ -293,7 +293,7 @@ fn see_at(w: Watched, done: BarsSeen, parent: u16, party: Party, size: u64, alig
 
 fn see(w: Watched, seen: Seen, x: Told) -> Seen
     requires { x.before ≤ x.start }
-    ensures { result ≡ seeOf w seen x }
+    ensures { result ≡ see_of w seen x }
 {
     let out = seen.out;
     let most = seen.most;

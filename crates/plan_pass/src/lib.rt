@@ -81,7 +81,7 @@ fn place_record(
     cursors: &mut [u64],
 ) -> Registers
     requires { Placeable first counts.now cursors.old f
-        × (isBridgeOf f ≡ true → Bridged first counts.now memo.now cursors.old i f.parent) }
+        × (is_bridge_of f ≡ true → Bridged first counts.now memo.now cursors.old i f.parent) }
     ensures { (result ≡ registers_of first counts.now memo.now cursors.old i f)
         × (cursors.new ≡ cursors_next memo.now cursors.old i f) }
 {
@@ -155,7 +155,7 @@ pub fn id_of(bus: u8, devfn: u8) -> u16
 
 // Its BARs, from the cursors of the bus it is on.
 fn own_bars(f: Function, cursors: &[u64]) -> BarsPlaced
-    requires { (3 * f.parent + 3 ≤ length cursors.now) × (any_bad (slots (take (slotCountOf f) f.readbacks)) ≡ false) }
+    requires { (3 * f.parent + 3 ≤ length cursors.now) × (any_bad (slots (take (slot_count_of f) f.readbacks)) ≡ false) }
     ensures { result ≡ bars_in cursors.now f }
 {
     let readbacks = f.readbacks;
@@ -307,7 +307,7 @@ pub fn place_at(
 )
     requires board_value { (next_of (drop at board.now) ≡ Record n) × (header_wrong (take n (drop (at + 2) board.now)) ≡ false) }
     requires placeable { Placeable first counts.now cursors.old (function_at board.now at n)
-        × (isBridgeOf (function_at board.now at n) ≡ true
+        × (is_bridge_of (function_at board.now at n) ≡ true
         → Bridged first counts.now memo.now cursors.old i (function_at board.now at n).parent)
         × (to + stride ≤ length out.old) }
     ensures cursors { cursors.new ≡ cursors_next memo.now cursors.old i (function_at board.now at n) }
@@ -332,7 +332,7 @@ pub fn pass_over(
 )
     requires board_value { (next_of (drop at board.now) ≡ Record n) × (header_wrong (take n (drop (at + 2) board.now)) ≡ false) }
     requires placeable { Placeable first counts.now cursors.old (function_at board.now at n)
-        × (isBridgeOf (function_at board.now at n) ≡ true
+        × (is_bridge_of (function_at board.now at n) ≡ true
         → Bridged first counts.now memo.now cursors.old i (function_at board.now at n).parent) }
     ensures { cursors.new ≡ cursors_next memo.now cursors.old i (function_at board.now at n) }
 {
@@ -352,7 +352,7 @@ fn write_placed(
     to: usize,
 )
     requires placeable { Placeable first counts.now cursors.old f
-        × (isBridgeOf f ≡ true → Bridged first counts.now memo.now cursors.old i f.parent) }
+        × (is_bridge_of f ≡ true → Bridged first counts.now memo.now cursors.old i f.parent) }
     requires stride_in_bounds { to + stride ≤ length out.old }
     ensures cursors { cursors.new ≡ cursors_next memo.now cursors.old i f }
     ensures out { out.new

@@ -272,7 +272,7 @@ fn with_window(q: Pool, e: Extent, inner: Extent) -> Extent
 
 fn grow(e: Extent, size: u64, align: u64) -> Extent
     requires { PowerOfTwo align }
-    ensures { result ≡ capped (growOf e size align) }
+    ensures { result ≡ capped (grow_of e size align) }
 {
     let start = plan_rule::start_at(align, e.end);
     Extent {

@@ -19,7 +19,7 @@ pub enum Space {
 
 // A window's edges are multiples of its pool's granule: 1 MiB of memory, 4 KiB of I/O.
 pub fn granule(q: Pool) -> u64
-    ensures { result ≡ granuleOf q }
+    ensures { result ≡ granule_of q }
 {
     match q {
         Pool::Low => 1048576,

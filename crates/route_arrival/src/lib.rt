@@ -45,7 +45,7 @@ pub fn type_wrong(p: Packet, root: u8) -> bool
 
 // Configuration type 1 becomes type 0 on the last bus. Nothing else changes.
 pub fn arrived(p: Packet) -> Packet
-    ensures { result ≡ arrivedOf p }
+    ensures { result ≡ arrived_of p }
 {
     match p {
         Packet::Memory(k, h, e, a) => Packet::Memory(k, h, e, a),

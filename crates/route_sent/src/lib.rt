@@ -168,7 +168,7 @@ fn send_up(own: u16, p: Packet, sheet: &[u8]) -> Fate
 // ---- answers
 
 fn fate_of(sending: Sending) -> Fate
-    ensures { result ≡ fateOfSending sending }
+    ensures { result ≡ fate_of_sending sending }
 {
     match sending {
         Sending::Delivered(d) => Fate::Delivered(d),

@@ -289,7 +289,7 @@ fn put_next(
 ) -> Place
     requires board_value { (next_of (drop at board.now) ≡ Record n) × (header_wrong (take n (drop (at + 2) board.now)) ≡ false) }
     requires placeable { Placeable boot.root counts.now cursors.old (function_at board.now at n)
-        × (isBridgeOf (function_at board.now at n) ≡ true
+        × (is_bridge_of (function_at board.now at n) ≡ true
         → Bridged boot.root counts.now memo.now cursors.old i (function_at board.now at n).parent) }
     requires n_in_bounds { from.at + write_stride * length
         (writes_in pass 0 (placed_part boot counts.now memo.now cursors.old i (function_at board.now at n)))
@@ -390,7 +390,7 @@ fn put_placed(
 ) -> Place
     requires board_value { (next_of (drop at board.now) ≡ Record n) × (header_wrong (take n (drop (at + 2) board.now)) ≡ false) }
     requires placeable { Placeable boot.root counts.now cursors.old (function_at board.now at n)
-        × (isBridgeOf (function_at board.now at n) ≡ true
+        × (is_bridge_of (function_at board.now at n) ≡ true
         → Bridged boot.root counts.now memo.now cursors.old i (function_at board.now at n).parent) }
     requires n_in_bounds { from.at + write_stride * length
         (register_writes 0 (placed_part boot counts.now memo.now cursors.old i (function_at board.now at n)))

@@ -12,7 +12,7 @@ use sheet_record::{is_bridge, places, window_of};
 // The record breaks the rule.
 pub(crate) fn breaks(rule: Rule, part: &[u8]) -> bool
     requires { length part.now ≡ record_size }
-    ensures { result ≡ breaksOf rule (entry_of part.now) }
+    ensures { result ≡ breaks_of rule (entry_of part.now) }
 {
     match rule {
         Rule::HeaderType => type_wrong(part),

@@ -120,7 +120,7 @@ fn told_by(number: u16) -> Parent
 // With one bridge more.
 fn joined(before: u16, number: u16) -> u16
     requires { 0 < number }
-    ensures { result ≡ joinedOf before number }
+    ensures { result ≡ joined_of before number }
 {
     if before == 0 {
         return number;

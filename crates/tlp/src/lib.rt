@@ -43,7 +43,7 @@ pub enum Writing {
 impl Writing {
     // Document 01's number: 0 when written.
     pub fn number(self) -> u8
-        ensures { result ≡ writingNumber self }
+        ensures { result ≡ writing_number self }
     {
         match self {
             Writing::Written(_) => 0,

@@ -110,7 +110,7 @@ pub fn outcome_at(s: &[u8]) -> Outcome
 
 pub fn unnamed(posted: bool, s: &[u8]) -> bool
     requires { 12 ≤ length s.now }
-    ensures { result ≡ unnamedAt posted s.now }
+    ensures { result ≡ unnamed_at posted s.now }
 {
     let b = s[1];
     (posted & ((b / 128 % 2 == 1) | (b / 8 % 2 == 1))) | (b / 2 % 2 == 1) | (b / 1 % 2 == 1)

@@ -40,7 +40,7 @@ impl Window {
 
     // The closed window of a pool.
     pub fn closed(q: Pool) -> Self
-        ensures { result ≡ closedOf q }
+        ensures { result ≡ closed_of q }
     {
         match q {
             Pool::Low => Self::CLOSED_LOW,
@@ -70,7 +70,7 @@ impl Window {
 
     // The last address, since a foreign sheet's high window can stop at 2^64.
     pub fn last(self, q: Pool) -> u64
-        ensures { result + 1 ≡ stopOf q self }
+        ensures { result + 1 ≡ stop_of q self }
     {
         address(q, self.upper_limit, self.limit) + (pools::granule(q) - 1)
     }
@@ -104,7 +104,7 @@ fn fields(q: Pool) -> u64
 }
 
 fn nibble(q: Pool) -> u64
-    ensures { (result ≡ nibbleOf q) × (result < 16) }
+    ensures { (result ≡ nibble_of q) × (result < 16) }
 {
     match q {
         Pool::Low => 0,
@@ -120,13 +120,13 @@ fn field(q: Pool, a: u64) -> u64
 }
 
 fn register(q: Pool, a: u64) -> u16
-    ensures { result ≡ registerOf q a }
+    ensures { result ≡ register_of q a }
 {
     (field(q, a) * 16 + nibble(q)) as u16
 }
 
 fn upper(q: Pool, a: u64) -> u32
-    ensures { result ≡ upperOf q a }
+    ensures { result ≡ upper_of q a }
 {
     match q {
         Pool::Low => 0,
