@@ -21,7 +21,7 @@ pub const LONGEST: usize = 12;
 
 // What was fed so far. The first bytes are in the caller's room. The stage is the sheet's, after the host record, and a sheet is misframed
 // where a record of another length began.
-#[derive(Drop)]
+#[derive(Clone, Copy)]
 pub struct Feed {
     pub count: usize,
     pub stage: Stage,

@@ -3,7 +3,7 @@
 
 // What is asked of each record, by the numbers that name one: 24, 27, 28, 25, 29, then 50, 51 and 52. `Whole` stands for every other
 // number, which is about the host record or about the sheet as a whole.
-#[derive(Drop)]
+#[derive(Clone, Copy)]
 pub enum Check {
     Whole,
     HeaderType,
@@ -18,7 +18,7 @@ pub enum Check {
 
 // What two records can have in common: an ID (28), as bridges of one bus a bus that both lead to (50), or that the second leads to the bus
 // of the first (50).
-#[derive(Drop)]
+#[derive(Clone, Copy)]
 pub enum Relation {
     SameId,
     SharedBuses,

@@ -3,7 +3,7 @@
 
 // What check 51 asks each BAR and open window to lie in: a window or pool of its own kind, where document 01 puts it, or any of its address
 // space.
-#[derive(Drop)]
+#[derive(Clone, Copy)]
 pub enum Nesting {
     OfKind,
     OfSpace,

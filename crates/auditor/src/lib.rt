@@ -11,7 +11,7 @@ use audit_rule::Nesting;
 use board_record::Host;
 
 // The checks of a sheet under a host: its buses are a tree (50), BARs and open windows are nested (51), and disjoint on each bus (52).
-#[derive(Drop)]
+#[derive(Clone, Copy)]
 pub enum Check {
     Tree,
     Nested,

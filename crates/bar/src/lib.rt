@@ -11,7 +11,7 @@ ghost use Rattle.bar.specs.Values.{value_here, is_bar_value, is_value, values_la
 use pools::Pool;
 
 // One slot of a set. A 64-bit BAR takes its own slot and the next one, its upper half.
-#[derive(Drop)]
+#[derive(Clone, Copy)]
 pub enum Slot {
     Unused,
     Bar(Pool, bool, u64),

@@ -34,7 +34,7 @@ pub const KEPT: usize = LONGEST_BOARD + 1;
 const MOST_COUNTED: usize = 1000;
 
 // What was fed so far. The first bytes are in the caller's room.
-#[derive(Drop)]
+#[derive(Clone, Copy)]
 pub struct Feed {
     pub count: usize,
     pub stage: Stage,
@@ -42,7 +42,7 @@ pub struct Feed {
 }
 
 // The records that began so far, counted up to 1,000, and whether one of them is no host or no function by its length.
-#[derive(Drop)]
+#[derive(Clone, Copy)]
 pub struct Tally {
     pub records: usize,
     pub misframed: bool,

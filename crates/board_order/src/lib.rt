@@ -15,7 +15,7 @@ use records::{MOST_ABOVE, Next};
 const LEVELS: usize = MOST_ABOVE + 2;
 
 // The level of a bus that is open.
-#[derive(Drop)]
+#[derive(Clone, Copy)]
 pub enum Found {
     At(usize),
     Nowhere,

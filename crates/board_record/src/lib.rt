@@ -9,14 +9,14 @@ ghost use Rattle.board_record.specs.Rules.{breaks as breaks_of, too_early};
 use pools::Pool;
 
 // An address pool of the host: its first and its last address. A pool with its base above its last is closed.
-#[derive(Drop)]
+#[derive(Clone, Copy)]
 pub struct Span {
     pub base: u64,
     pub last: u64,
 }
 
 // Record 0.
-#[derive(Drop)]
+#[derive(Clone, Copy)]
 pub struct Host {
     pub first_bus: u8,
     pub last_bus: u8,
@@ -27,7 +27,7 @@ pub struct Host {
 
 // A function record. A type 1 function has two read-backs; the last four are 0. Its spares are a byte of buses and two of low memory in
 // MiB, as one number; any other function has none.
-#[derive(Drop)]
+#[derive(Clone, Copy)]
 pub struct Function {
     pub parent: u16,
     pub devfn: u8,
@@ -38,7 +38,7 @@ pub struct Function {
 }
 
 // The checks of each function record by itself: its length among 20, its header on a board of this version (24) and its read-backs (25).
-#[derive(Drop)]
+#[derive(Clone, Copy)]
 pub enum Rule {
     Length,
     Header(u8),

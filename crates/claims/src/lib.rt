@@ -10,20 +10,20 @@ ghost use Rattle.sheet.specs.SheetLaws.{Checked};
 use pools::Space;
 
 // What a packet is looked for by: the start address of a request, or an ID.
-#[derive(Drop)]
+#[derive(Clone, Copy)]
 pub enum Aim {
     Address(Space, u64),
     Id(u16),
 }
 
 // One claim: a BAR of the record with this number, or a window of that record, to this secondary bus.
-#[derive(Drop)]
+#[derive(Clone, Copy)]
 pub enum Claim {
     Bar(u16),
     Window(u16, u8),
 }
 
-#[derive(Drop)]
+#[derive(Clone, Copy)]
 pub enum Tally {
     Nothing,
     One(Claim),

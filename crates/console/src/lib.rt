@@ -13,7 +13,7 @@ use libc::{STDERR_FILENO, STDIN_FILENO, STDOUT_FILENO};
 pub const PIECES: u64 = u64::MAX;
 
 // The next piece of standard input.
-#[derive(Drop)]
+#[derive(Clone, Copy)]
 pub enum Piece {
     // so many bytes from the start of the room, and the pieces that may still come
     Bytes(usize, u64),
@@ -22,7 +22,7 @@ pub enum Piece {
 }
 
 // A place in standard input: in the piece that the room holds, and the pieces that may still come.
-#[derive(Drop)]
+#[derive(Clone, Copy)]
 pub struct Reader {
     pub at: usize,
     pub count: usize,
@@ -30,7 +30,7 @@ pub struct Reader {
 }
 
 // The next byte of standard input.
-#[derive(Drop)]
+#[derive(Clone, Copy)]
 pub enum Next {
     // the byte, and the place after it
     Byte(u8, Reader),

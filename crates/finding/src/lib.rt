@@ -5,21 +5,21 @@ ghost use Rattle.finding.specs.Places.{wrong_if};
 
 // The number of a record, from 1, and a place in it: 0 to 5 a BAR slot, 6 the low, 7 the high and 8 the I/O window, 9 the bus registers, 10
 // the ID. Both are 0 where there is no record.
-#[derive(Drop)]
+#[derive(Clone, Copy)]
 pub struct Party {
     pub number: usize,
     pub place: u8,
 }
 
 // The one that fails and the one that it meets.
-#[derive(Drop)]
+#[derive(Clone, Copy)]
 pub struct Parties {
     pub party: Party,
     pub other: Party,
 }
 
 // The number of the check that fails, 0 where none does, and who fails it.
-#[derive(Drop)]
+#[derive(Clone, Copy)]
 pub struct Finding {
     pub number: u8,
     pub party: Party,
@@ -27,7 +27,7 @@ pub struct Finding {
 }
 
 // What a check says of one record: that it is right, or wrong at a place, with the other one that it meets there.
-#[derive(Drop)]
+#[derive(Clone, Copy)]
 pub enum Spot {
     Right,
     Wrong(u8, Party),

@@ -20,7 +20,7 @@ use pools::{Pool, Space};
 use sheet_above::Bridges;
 
 // Addresses of a space, from `first` on and before `end`, and the key of address 0.
-#[derive(Drop)]
+#[derive(Clone, Copy)]
 pub struct Segment {
     pub space: Space,
     pub first: u64,
@@ -29,7 +29,7 @@ pub struct Segment {
 }
 
 // The owners that a pass puts in: the BARs that start in a segment, or the IDs.
-#[derive(Drop)]
+#[derive(Clone, Copy)]
 pub enum Pass {
     Bars(Segment),
     Ids,

@@ -15,7 +15,7 @@ use tlp::Reading;
 
 // What a call does: a request opened at a place, its word put there; the word of a request that stays open; a place freed; or the number
 // of the first check that fails, and nothing.
-#[derive(Drop)]
+#[derive(Clone, Copy)]
 pub enum Verdict {
     Opened(usize, u64),
     Kept(usize, u64),
@@ -25,7 +25,7 @@ pub enum Verdict {
 
 // A kind that is a non-posted request, with the three bits that its word keeps of it: a read (4), a configuration request (2), a locked
 // one (1).
-#[derive(Drop)]
+#[derive(Clone, Copy)]
 pub enum Class {
     NonPosted(u8),
     Other,
@@ -33,7 +33,7 @@ pub enum Class {
 
 // What a header asks for: the two halves of the word that opens it, or with the key 0 the number that refuses it. 0 and 0 is not told by
 // the header's bytes alone: it takes a packet.
-#[derive(Drop)]
+#[derive(Clone, Copy)]
 struct Asked {
     key: u32,
     low: u32,

@@ -12,7 +12,7 @@ use text::digits::Digit;
 pub const WORD: usize = 8;
 
 // What the last byte was in its line.
-#[derive(Drop)]
+#[derive(Clone, Copy)]
 pub enum Stage {
     // nothing yet, or a space before the word
     Start,
@@ -31,7 +31,7 @@ pub enum Stage {
 }
 
 // A line that is over.
-#[derive(Drop)]
+#[derive(Clone, Copy)]
 pub enum Ended {
     // a comment or blank
     Passed,

@@ -21,7 +21,7 @@ use pairs::{
 
 // The fields that every packet has. None stands beside the one that follows it among a packet's numbers: the two would be stored one by one
 // and then loaded as a pair, which has to wait for both stores.
-#[derive(Drop)]
+#[derive(Clone, Copy)]
 pub struct Head {
     pub requester: u16,
     pub form: u8,
@@ -35,14 +35,14 @@ pub struct Head {
 }
 
 // Byte enables of a request, four bits each.
-#[derive(Drop)]
+#[derive(Clone, Copy)]
 pub struct Enables {
     pub last: u8,
     pub first: u8,
 }
 
 // What a configuration request asks for. The register is ten bits, the extended four high.
-#[derive(Drop)]
+#[derive(Clone, Copy)]
 pub struct Target {
     pub id: u16,
     pub register: u16,
@@ -50,7 +50,7 @@ pub struct Target {
 
 // What a completion tells. In this order it takes ten bytes: eight would be moved as one number, and a packet, whose fields of another kind
 // then lie across it, would be stored and loaded in pieces that do not match.
-#[derive(Drop)]
+#[derive(Clone, Copy)]
 pub struct Outcome {
     pub status: u8,
     pub completer: u16,
@@ -61,7 +61,7 @@ pub struct Outcome {
 
 // A message has its routing, its code, and bytes 8 to 15 as one number, where a memory request has its enables and its address: what those
 // bytes say is by the routing, and by the code.
-#[derive(Drop)]
+#[derive(Clone, Copy)]
 pub enum Packet {
     Memory(MemoryKind, Head, Enables, u64),
     Io(IoKind, Head, Enables, u64),
@@ -72,7 +72,7 @@ pub enum Packet {
 
 // The verdict on a packet: lawful, with its row of the table of pairs, or the number of the first
 // check that it fails.
-#[derive(Drop)]
+#[derive(Clone, Copy)]
 pub enum Verdict {
     Lawful(Row),
     Refused(u8),

@@ -14,7 +14,7 @@ use pairs::{
 };
 
 // Numbers that were taken for a packet, or the number of the first check that they fail.
-#[derive(Drop)]
+#[derive(Clone, Copy)]
 pub enum Parsed {
     Accepted(Packet),
     Refused(u8),

@@ -3,20 +3,20 @@ ghost use Rattle.std.specs.Prelude.{◌≡◌, ◌<◌};
 ghost use Rattle.pairs.specs.Pairs.{table, kind_named, routing_number, kind_number, key_of, is_pair, is_key, find_pair, find_key};
 ghost use Rattle.pairs.specs.Pairs.{answer_of, pair_of, row_of};
 
-#[derive(Drop)]
+#[derive(Clone, Copy)]
 pub enum MemoryKind {
     MRd,
     MRdLk,
     MWr,
 }
 
-#[derive(Drop)]
+#[derive(Clone, Copy)]
 pub enum IoKind {
     IORd,
     IOWr,
 }
 
-#[derive(Drop)]
+#[derive(Clone, Copy)]
 pub enum ConfigKind {
     CfgRd0,
     CfgWr0,
@@ -24,7 +24,7 @@ pub enum ConfigKind {
     CfgWr1,
 }
 
-#[derive(Drop)]
+#[derive(Clone, Copy)]
 pub enum CompletionKind {
     Cpl,
     CplD,
@@ -32,14 +32,14 @@ pub enum CompletionKind {
     CplDLk,
 }
 
-#[derive(Drop)]
+#[derive(Clone, Copy)]
 pub enum MessageKind {
     Msg,
     MsgD,
 }
 
 // How a message goes, by the last three bits of its Type: 000 to 101. The base specification reserves 110 and 111.
-#[derive(Drop)]
+#[derive(Clone, Copy)]
 pub enum MessageRouting {
     ToRoot,
     ByAddress,
@@ -49,7 +49,7 @@ pub enum MessageRouting {
     Gathered,
 }
 
-#[derive(Drop)]
+#[derive(Clone, Copy)]
 pub enum Kind {
     Memory(MemoryKind),
     Io(IoKind),
@@ -62,7 +62,7 @@ pub enum Kind {
 }
 
 // What a kind is called, a message with its routing: one byte, so that a row is four bytes and a search looks at it by one load.
-#[derive(Drop)]
+#[derive(Clone, Copy)]
 pub enum Name {
     MRd,
     MRdLk,
@@ -96,7 +96,7 @@ pub enum Name {
 
 // One pair: byte 0 of the header, Fmt in bits 7:5 and Type in 4:0, its kind's name, the header's length in dwords (3 or 4),
 // and whether the codec carries it.
-#[derive(Drop)]
+#[derive(Clone, Copy)]
 pub struct Row {
     pub byte: u8,
     pub name: Name,
@@ -105,14 +105,14 @@ pub struct Row {
 }
 
 // What a search of the table finds.
-#[derive(Drop)]
+#[derive(Clone, Copy)]
 pub enum Looked {
     Found(Row),
     Missing,
 }
 
 // What the table says of a byte 0, or of a kind and form.
-#[derive(Drop)]
+#[derive(Clone, Copy)]
 pub enum Pair {
     Carried(Row),
     NotCarried,

@@ -16,7 +16,7 @@ use pools::Pool;
 use window::Window;
 
 // The cursors of one bus: in each pool the end before the next item.
-#[derive(Drop)]
+#[derive(Clone, Copy)]
 pub struct Cursors {
     pub low: u64,
     pub high: u64,
@@ -24,14 +24,14 @@ pub struct Cursors {
 }
 
 // A function's BARs: the values of its registers, 0 past its slots, and the cursors after them.
-#[derive(Drop)]
+#[derive(Clone, Copy)]
 pub struct BarsPlaced {
     pub values: [u32; 6],
     pub cursors: Cursors,
 }
 
 // What lies on a bridge's own bus in each pool, from offset 0.
-#[derive(Drop)]
+#[derive(Clone, Copy)]
 pub struct Extents {
     pub low: Extent,
     pub high: Extent,
@@ -39,7 +39,7 @@ pub struct Extents {
 }
 
 // A bridge's window in one pool: its registers, the cursor of its own bus after it, and that of the bus below, which an open window starts.
-#[derive(Drop)]
+#[derive(Clone, Copy)]
 pub struct WindowPlaced {
     pub window: Window,
     pub cursor: u64,
@@ -47,7 +47,7 @@ pub struct WindowPlaced {
 }
 
 // The three windows, and the cursors of both buses after them.
-#[derive(Drop)]
+#[derive(Clone, Copy)]
 pub struct WindowsPlaced {
     pub low: Window,
     pub high: Window,

@@ -21,14 +21,14 @@ use pools::Pool;
 use records::Next;
 
 // The room lost to alignment before an item.
-#[derive(Drop)]
+#[derive(Clone, Copy)]
 pub struct Loss {
     pub party: Party,
     pub room: u64,
 }
 
 // An item: whether it is on the root bus, its record and place, the end of the one before it, its own start and end.
-#[derive(Drop)]
+#[derive(Clone, Copy)]
 pub struct Told {
     pub root: bool,
     pub party: Party,
@@ -38,7 +38,7 @@ pub struct Told {
 }
 
 // The pool that is looked at.
-#[derive(Drop)]
+#[derive(Clone, Copy)]
 pub struct Watched {
     pub pool: Pool,
     pub closed: bool,
@@ -46,14 +46,14 @@ pub struct Watched {
 }
 
 // Of the items so far: the first on the root bus that runs out of the pool, nobody where none does, and the most room lost.
-#[derive(Drop)]
+#[derive(Clone, Copy)]
 pub struct Seen {
     pub out: Party,
     pub most: Loss,
 }
 
 // What is seen of the items up to one of a record's, and where that one ends.
-#[derive(Drop)]
+#[derive(Clone, Copy)]
 pub struct BarsSeen {
     pub seen: Seen,
     pub end: u64,

@@ -11,7 +11,7 @@ use pools::Pool;
 
 // So many bus numbers, the root bus's among them, and so many bytes of each pool, told up to 2^62: of an open pool from its own base, of a
 // closed one from any multiple of its alignment, which is the root bus's largest in that pool and no less than the granule.
-#[derive(Drop)]
+#[derive(Clone, Copy)]
 pub struct Needs {
     pub buses: u32,
     pub low: u64,

@@ -10,7 +10,7 @@ ghost use Rattle.plan_rule.specs.Pieces.{window_size, window_align};
 use pools::Pool;
 
 // Where a layout ends, and its largest alignment: 0 where there is nothing.
-#[derive(Drop)]
+#[derive(Clone, Copy)]
 pub struct Extent {
     pub end: u64,
     pub align: u64,

@@ -19,7 +19,7 @@ use plan_rule::Extent;
 use pools::Pool;
 
 // How far a walk over the records has come, and what it has laid out in each pool.
-#[derive(Drop)]
+#[derive(Clone, Copy)]
 pub struct Laid {
     pub next: usize,
     pub low: Extent,

@@ -17,7 +17,7 @@ use records::MOST_FUNCTIONS;
 
 // The number of the first check that the board fails, 0 where it is planned; who fails it; of 31 to 33 also before whom most room is lost.
 // A board that fails a check of its own has no needs.
-#[derive(Drop)]
+#[derive(Clone, Copy)]
 pub struct PlanFinding {
     pub number: u8,
     pub party: Party,

@@ -27,7 +27,7 @@ pub fn plan(board: &[u8], sheet: &mut [u8]) -> Planning
 }
 
 // What is known of a lawful board before anything is placed.
-#[derive(Drop)]
+#[derive(Clone, Copy)]
 pub struct Measured {
     pub functions: usize,
     // the bus numbers that its bridges and their spares take

@@ -3,7 +3,7 @@ ghost use Rattle.std.specs.Prelude.{◌≡◌};
 ghost use Rattle.pools.specs.Pools.{granule as granule_of, in_space};
 
 // Low memory, high memory (prefetchable, above 4 GiB) and I/O.
-#[derive(Drop)]
+#[derive(Clone, Copy)]
 pub enum Pool {
     Low,
     High,
@@ -11,7 +11,7 @@ pub enum Pool {
 }
 
 // The address spaces. Memory has two pools, low and high.
-#[derive(Drop)]
+#[derive(Clone, Copy)]
 pub enum Space {
     Memory,
     Io,

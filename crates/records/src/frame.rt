@@ -4,7 +4,7 @@ ghost use Rattle.std.specs.Prelude.{◌≡◌, ◌+◌, ◌-◌, ◌*◌};
 ghost use Rattle.records.specs.Frame.{version_of, inside_of, event_of, stage_after, ending_of};
 
 // Where the next byte falls.
-#[derive(Drop)]
+#[derive(Clone, Copy)]
 pub enum Stage {
     // Before the version byte.
     Start,
@@ -19,7 +19,7 @@ pub enum Stage {
 }
 
 // What a byte is, where it falls.
-#[derive(Drop)]
+#[derive(Clone, Copy)]
 pub enum Event {
     // The version, 1.
     Version,
@@ -36,7 +36,7 @@ pub enum Event {
 }
 
 // What all the bytes are, where they end.
-#[derive(Drop)]
+#[derive(Clone, Copy)]
 pub enum Ending {
     // There was none.
     Empty,

@@ -12,7 +12,7 @@ pub const MOST_ABOVE: usize = 32;
 
 // What stands at a place of the bytes after the version byte: the end, a record whose part has this many bytes, or a length that does
 // not end at or before the end.
-#[derive(Drop)]
+#[derive(Clone, Copy)]
 pub enum Next {
     End,
     Record(usize),

@@ -64,7 +64,7 @@ pub fn root_of(sheet: &[u8]) -> u8
 // ---- the walk
 
 // Where a walk ends: at a record after so many bridges, or refused by number.
-#[derive(Drop)]
+#[derive(Clone, Copy)]
 pub enum Walked {
     Delivered(u16, u8),
     Refused(u8),

@@ -10,7 +10,7 @@ use packet::Packet;
 use route_arrival::Heading;
 
 // The record that gets a packet, by its number, the bridges crossed on the way, and the packet as it arrives.
-#[derive(Drop)]
+#[derive(Clone, Copy)]
 pub struct Delivery {
     pub owner: u16,
     pub bridges: u8,
@@ -18,7 +18,7 @@ pub struct Delivery {
 }
 
 // What becomes of a packet: delivered to one function; to every function, so many; ended at the port; or refused by number.
-#[derive(Drop)]
+#[derive(Clone, Copy)]
 pub enum Routing {
     Delivered(Delivery),
     Broadcast(u16, Packet),
@@ -41,7 +41,7 @@ impl Routing {
 }
 
 // What comes next for a packet after the checks: it is looked for by an address or an ID, or answered.
-#[derive(Drop)]
+#[derive(Clone, Copy)]
 pub enum Next {
     Aimed(Aim),
     Answered(Routing),

@@ -8,7 +8,7 @@ use pairs::{ConfigKind, MessageRouting};
 use pools::Space;
 
 // Where a packet from the host is headed: for who has an address or an ID, up only, to every function, or for the port it came in by.
-#[derive(Drop)]
+#[derive(Clone, Copy)]
 pub enum Heading {
     Aimed(Aim),
     Up,

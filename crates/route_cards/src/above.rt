@@ -10,7 +10,7 @@ use pools::Space;
 use sheet_above::Parent;
 
 // Where a bus with no claim leads: to the host, through the bridge with this number to its own bus, or refused by number.
-#[derive(Drop)]
+#[derive(Clone, Copy)]
 pub enum Up {
     Host,
     Across(u16, u8),

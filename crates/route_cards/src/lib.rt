@@ -22,7 +22,7 @@ use start::Request;
 use tlp::Reading;
 
 // The record that gets a request, by its number, the bridges crossed up and down, and the request as it arrives.
-#[derive(Drop)]
+#[derive(Clone, Copy)]
 pub struct Arrival {
     pub owner: u16,
     pub bridges: u16,
@@ -30,7 +30,7 @@ pub struct Arrival {
 }
 
 // What becomes of a request: delivered to one function; gone up to the host, past so many bridges; or refused by number.
-#[derive(Drop)]
+#[derive(Clone, Copy)]
 pub enum Sending {
     Delivered(Arrival),
     Host(u16, Packet),
@@ -86,7 +86,7 @@ pub fn send_packet(number: u16, p: Packet, sheet: &[u8]) -> Sending
 // ---- the climb
 
 // Where a climb ends: at a record after so many bridges, at the host after so many, or refused by number.
-#[derive(Drop)]
+#[derive(Clone, Copy)]
 enum Climbed {
     Arrives(u16, u16),
     Leaves(u16),

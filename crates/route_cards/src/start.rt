@@ -8,7 +8,7 @@ use packet::Packet;
 use pools::Space;
 
 // A memory or I/O request, in its space from its start address on, or anything else.
-#[derive(Drop)]
+#[derive(Clone, Copy)]
 pub enum Request {
     At(Space, u64),
     Other,

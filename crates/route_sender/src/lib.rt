@@ -10,14 +10,14 @@ use pairs::MessageRouting;
 use tlp::Reading;
 
 // The host, or the function with this record number.
-#[derive(Drop)]
+#[derive(Clone, Copy)]
 pub enum Sender {
     Host,
     Function(u16),
 }
 
 // Who sends it, or refused by the header's number or the sheet's.
-#[derive(Drop)]
+#[derive(Clone, Copy)]
 pub enum SentBy {
     Told(Sender),
     Refused(u8),

@@ -16,14 +16,14 @@ use route::Walked;
 use sheet_above::Parent;
 
 // How a packet goes: looked for by an ID, or only up.
-#[derive(Drop)]
+#[derive(Clone, Copy)]
 pub enum Going {
     ById(u16),
     OnlyUp,
 }
 
 // Where a climb ends: at a record after so many bridges, at the host after so many, or refused by number.
-#[derive(Drop)]
+#[derive(Clone, Copy)]
 pub enum Climbed {
     Arrives(u16, u16),
     Leaves(u16),
@@ -31,7 +31,7 @@ pub enum Climbed {
 }
 
 // Where a bus with no claim leads: to the host, through the bridge with this number to its own bus, or refused by number.
-#[derive(Drop)]
+#[derive(Clone, Copy)]
 enum Up {
     Host,
     Across(u16, u8),

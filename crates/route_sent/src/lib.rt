@@ -22,7 +22,7 @@ use tlp::Reading;
 
 // What becomes of a packet from a function: delivered to another one; gone up to the host, past so many bridges; ended at the port; or
 // refused by number.
-#[derive(Drop)]
+#[derive(Clone, Copy)]
 pub enum Fate {
     Delivered(Arrival),
     Host(u16, Packet),
@@ -32,7 +32,7 @@ pub enum Fate {
 
 // From the host, with what the router answers; from the function with this record number, with what becomes of the packet; or refused
 // before a sender is looked for, by the header's number or the sheet's.
-#[derive(Drop)]
+#[derive(Clone, Copy)]
 pub enum BothEnds {
     FromHost(Routing),
     FromFunction(u16, Fate),

@@ -14,7 +14,7 @@ pub const FRONT: usize = 3;
 pub const LONGEST: usize = 73692;
 
 // What was fed so far: how many of the first three bytes, and what of the board.
-#[derive(Drop)]
+#[derive(Clone, Copy)]
 pub struct Input {
     pub front: usize,
     pub board: Feed,

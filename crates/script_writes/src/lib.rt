@@ -26,7 +26,7 @@ const TARGET: usize = 10;
 const DATA: usize = 14;
 
 // A register's four bytes, in register order.
-#[derive(Drop)]
+#[derive(Clone, Copy)]
 pub struct Dword {
     pub first: u8,
     pub second: u8,
@@ -35,7 +35,7 @@ pub struct Dword {
 }
 
 // The three parts of a script, each over all records before the next.
-#[derive(Drop)]
+#[derive(Clone, Copy)]
 pub enum Pass {
     Buses,
     Registers,
@@ -43,14 +43,14 @@ pub enum Pass {
 }
 
 // What every write has: the boot's requester ID, and the root bus, whose functions get type 0.
-#[derive(Drop)]
+#[derive(Clone, Copy)]
 pub struct Boot {
     pub requester: u16,
     pub root: u8,
 }
 
 // Where the next record goes in the room, and its tag.
-#[derive(Drop)]
+#[derive(Clone, Copy)]
 pub struct Place {
     pub at: usize,
     pub tag: u8,

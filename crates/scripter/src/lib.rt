@@ -28,7 +28,7 @@ use script_writes::{Boot, Dword, Pass, Place};
 use sheet_record::places::STRIDE;
 
 // A script that was written: its length; or the number of the first check that the board fails.
-#[derive(Drop)]
+#[derive(Clone, Copy)]
 pub enum Scripting {
     Written(usize),
     Refused(u8),

@@ -20,7 +20,7 @@ const REGISTERS: usize = 2 + places::REGISTERS;
 const COMMAND: usize = places::COMMAND - places::REGISTERS;
 
 // The checks of each record by itself: 24, 27, 25 and 29.
-#[derive(Drop)]
+#[derive(Clone, Copy)]
 pub enum Rule {
     HeaderType,
     Buses,
@@ -29,21 +29,21 @@ pub enum Rule {
 }
 
 // Where the first record with an ID starts.
-#[derive(Drop)]
+#[derive(Clone, Copy)]
 pub enum Found {
     At(usize),
     Nothing,
 }
 
 // Where the 64 register bytes of the function with an ID start, or the number.
-#[derive(Drop)]
+#[derive(Clone, Copy)]
 pub enum Lookup {
     Registers(usize),
     Refused(u8),
 }
 
 // The ID of a record, or the number.
-#[derive(Drop)]
+#[derive(Clone, Copy)]
 pub enum RecordId {
     Id(u16),
     Refused(u8),

@@ -20,7 +20,7 @@ pub const BUSES: usize = 256;
 pub const SEVERAL: u16 = 65535;
 
 // Who stands above a bus: the host, the bridge of a record, from 0, no bridge, or several.
-#[derive(Drop)]
+#[derive(Clone, Copy)]
 pub enum Parent {
     Host,
     Bridge(usize),
@@ -29,7 +29,7 @@ pub enum Parent {
 }
 
 // How many bridges there are, and whether each enables the space.
-#[derive(Drop)]
+#[derive(Clone, Copy)]
 pub struct Bridges {
     pub count: u8,
     pub memory: bool,

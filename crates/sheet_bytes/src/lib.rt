@@ -45,7 +45,7 @@ const UPPERS: usize = places::UPPER_BASE - places::LOW_BASE;
 const LIMIT: usize = places::LOW_LIMIT - places::LOW_BASE;
 
 // What is planned of one function. A bridge has the first two values and read-backs; buses and windows are a bridge's only.
-#[derive(Drop)]
+#[derive(Clone, Copy)]
 pub struct Registers {
     pub id: u16,
     pub command: u16,

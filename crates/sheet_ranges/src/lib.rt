@@ -15,7 +15,7 @@ use board_record::Host;
 use pools::Pool;
 
 // One range: the number of its pool, its first and its last address.
-#[derive(Drop)]
+#[derive(Clone, Copy)]
 pub struct Item {
     pub pool: u64,
     pub first: u64,

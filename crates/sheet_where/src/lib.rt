@@ -21,7 +21,7 @@ use pools::Pool;
 use sheet_record::places;
 
 // 24, 27, 28, 25 and 29.
-#[derive(Drop)]
+#[derive(Clone, Copy)]
 pub enum Own {
     HeaderType,
     Buses,

@@ -22,14 +22,14 @@ pub const PIECE: usize = MOST_LINES * 14;
 pub const LINES: usize = MOST_LINES * trace_line::LONGEST;
 
 // What a length opens: a sheet of so many bytes, or one longer than a full sheet.
-#[derive(Drop)]
+#[derive(Clone, Copy)]
 pub enum Opening {
     Sheet(usize),
     Long,
 }
 
 // A room filled from standard input, with the pieces that may still come; or the input ends before; or it cannot be read.
-#[derive(Drop)]
+#[derive(Clone, Copy)]
 pub enum Filling {
     Full(u64),
     Short,
@@ -38,7 +38,7 @@ pub enum Filling {
 
 // A sheet read: how long it is, with the pieces that may still come; or its length is above a full sheet's; or the input ends before; or
 // it cannot be read.
-#[derive(Drop)]
+#[derive(Clone, Copy)]
 pub enum SheetRead {
     Whole(usize, u64),
     Long,
@@ -47,7 +47,7 @@ pub enum SheetRead {
 }
 
 // The state after a piece, and whether its lines were written.
-#[derive(Drop)]
+#[derive(Clone, Copy)]
 struct Labelled {
     state: Trace,
     written: bool,

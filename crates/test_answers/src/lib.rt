@@ -4,7 +4,7 @@ use sheet::Lookup;
 use text::{front, put_text};
 
 // What a line asks for.
-#[derive(Drop)]
+#[derive(Clone, Copy)]
 pub enum Verb {
     Board,
     Sheet,
@@ -17,7 +17,7 @@ pub enum Verb {
 }
 
 // How many bytes the answer has, and how many of the lent sheet are the current one.
-#[derive(Drop)]
+#[derive(Clone, Copy)]
 pub struct Answer {
     pub count: usize,
     pub size: usize,

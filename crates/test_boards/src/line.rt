@@ -4,7 +4,7 @@ use board_feed::{Feed, KEPT};
 use lines::{Ended, Stage, WORD};
 use text::{front, put_byte};
 
-#[derive(Drop)]
+#[derive(Clone, Copy)]
 pub struct Line {
     pub stage: Stage,
     pub letters: usize,

@@ -6,7 +6,7 @@ use text::{front, put_byte};
 // A header longer than this keeps its first bytes: the codec looks at 16 at the most.
 pub const KEPT: usize = 64;
 
-#[derive(Drop)]
+#[derive(Clone, Copy)]
 pub struct Line {
     pub stage: Stage,
     pub count: usize,

@@ -7,7 +7,7 @@ use text::{front, put_byte};
 // Enough for the longest board and the longest sheet that pass their checks.
 pub const ROOM: usize = 128 * records::MOST_FUNCTIONS;
 
-#[derive(Drop)]
+#[derive(Clone, Copy)]
 pub struct Line {
     pub stage: Stage,
     pub letters: usize,

@@ -15,7 +15,7 @@ use pairs::{
 };
 
 // A header that was read: its packet, or the number of the first check that it fails.
-#[derive(Drop)]
+#[derive(Clone, Copy)]
 pub enum Reading {
     Accepted(Packet),
     Refused(u8),
@@ -34,7 +34,7 @@ impl Reading {
 }
 
 // A packet that was written: how many bytes, or the number of the first check that it fails.
-#[derive(Drop)]
+#[derive(Clone, Copy)]
 pub enum Writing {
     Written(usize),
     Refused(u8),

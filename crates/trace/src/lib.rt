@@ -14,7 +14,7 @@ use records::{Next, frame};
 pub const FRONT: usize = 16;
 
 // What was fed so far: where the next byte falls, the number of the last whole record, and how many bytes of a record are kept, in `head`.
-#[derive(Drop)]
+#[derive(Clone, Copy)]
 pub struct Trace {
     pub stage: Stage,
     pub number: u64,
@@ -23,7 +23,7 @@ pub struct Trace {
 }
 
 // 0 and how many bytes of lines were put, with the state after the piece; or 11 and none, with the state as it was: the piece is not taken.
-#[derive(Drop)]
+#[derive(Clone, Copy)]
 pub struct Fed {
     pub number: u8,
     pub written: usize,
@@ -31,14 +31,14 @@ pub struct Fed {
 }
 
 // 0 and how many bytes of the last line were put, or 11 and none.
-#[derive(Drop)]
+#[derive(Clone, Copy)]
 pub struct Finished {
     pub number: u8,
     pub written: usize,
 }
 
 // What an event gives: no line, the refusal of another version, or the line of a record that is whole with it.
-#[derive(Drop)]
+#[derive(Clone, Copy)]
 pub enum Emits {
     Nothing,
     Refusal,

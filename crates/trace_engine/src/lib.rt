@@ -8,7 +8,7 @@ use trace_line::Finder;
 
 // An engine, whose bytes are lent beside it. Of both ends it is the host's ID and the sheet's own number, so that who labels many headers
 // over one sheet checks it once.
-#[derive(Drop)]
+#[derive(Clone, Copy)]
 pub enum Engine {
     Owner(Finder),
     Ends(u16, u8),

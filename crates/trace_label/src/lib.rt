@@ -12,7 +12,7 @@ use text::{put_named, put_text};
 
 // What a header is labelled with, made before its line is begun: a space and the kind's name or `-` in a word, where the packet goes, and
 // the owner's number or the refusal's.
-#[derive(Drop)]
+#[derive(Clone, Copy)]
 pub struct Label {
     pub name: u64,
     pub way: u8,

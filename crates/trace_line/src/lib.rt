@@ -16,7 +16,7 @@ use trace_label::Label;
 
 // Who finds a header's owner, whose bytes are lent beside it: a sheet, whose own number is known, so that who labels many headers over
 // one sheet checks it once; or an index.
-#[derive(Drop)]
+#[derive(Clone, Copy)]
 pub enum Finder {
     Sheet(u8),
     Index,

@@ -9,7 +9,7 @@ use records::frame::Stage;
 use trace::Trace;
 
 // 0 and the state that numbers are, or the number of the first check that they fail and a fresh state.
-#[derive(Drop)]
+#[derive(Clone, Copy)]
 pub struct Taken {
     pub number: u8,
     pub state: Trace,

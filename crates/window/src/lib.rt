@@ -7,7 +7,7 @@ ghost use Rattle.window.specs.Window.{start as start_of, stop as stop_of, holds 
 use pools::Pool;
 
 // Base and limit registers as written. Only a high window has upper halves; the others' are 0.
-#[derive(Drop)]
+#[derive(Clone, Copy)]
 pub struct Window {
     pub base: u16,
     pub limit: u16,
