@@ -1,4 +1,6 @@
 // A host record for a sheet of which no host is told.
+#![tactic(auto)]
+
 ghost use Rattle.std.specs.Prelude.{◌≡◌};
 ghost use Rattle.any_host.specs.AnyHost.{any_host};
 

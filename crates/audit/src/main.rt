@@ -1,6 +1,8 @@
 // The 30 bytes of a host record and then a sheet on standard input, to its end; on standard output `accepted`, or `refused N`. An input of
 // any length is answered, from fixed room. Where standard input cannot be read there is no answer; there, and where standard output cannot
 // be written, a message goes to standard error.
+#![tactic(auto)]
+
 use audit_feed::{Feed, KEPT, LONGEST};
 use console::Piece;
 

@@ -1,5 +1,7 @@
 // 52: on each bus all BARs and open windows of one space are disjoint, enabled or not. One pass tells so of ranges that rise, another of
 // most others. Where neither does, each record's ranges are compared among themselves, then with those of every later record on its bus.
+#![tactic(auto)]
+
 ghost use Rattle.std.specs.Prelude.{◌≡◌, false, ◌+◌, ◌-◌, ◌*◌, ◌≤◌, ◌<◌, eqb, length, get_or};
 ghost use Rattle.lists.specs.Lists.{any};
 ghost use Rattle.sheet_record.specs.Places.{id_at, record_size};

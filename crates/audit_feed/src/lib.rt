@@ -1,6 +1,8 @@
 // A host record and then a sheet, an input of any length fed in pieces and audited. As many bytes are kept as the two can have, and one
 // more. Of a longer input the sheet's frame is looked at, which tells its number: 21 or 20, and else 22, since the records, of 90 bytes
 // each, are more than a sheet can have.
+#![tactic(auto)]
+
 ghost use Rattle.std.specs.Prelude.{◌≡◌, ◌++◌, ◌-◌, length, drop};
 ghost use Rattle.std.proofs.lemmas.List.Edits.{sets};
 ghost use Rattle.text.specs.Text.{Put};

@@ -1,4 +1,6 @@
 // The least other record that a record meets: by its ID (28), by the buses that it leads to, or by the bus that it is on (50).
+#![tactic(auto)]
+
 ghost use Rattle.std.specs.Prelude.{◌≡◌, ◌<◌, length};
 ghost use Rattle.sheet_record.specs.Places.{record_size};
 ghost use Rattle.sheet_record.specs.Entry.{entry_of};

@@ -1,5 +1,7 @@
 // 51: each BAR and open window lies in the window above of its own pool, or on the root bus in that pool of the host; or, where it is
 // asked of the address space, in any window above or pool of its space.
+#![tactic(auto)]
+
 ghost use Rattle.std.specs.Prelude.{◌≡◌, false, ◌*◌, ◌≤◌, length};
 ghost use Rattle.lists.specs.Lists.{any};
 ghost use Rattle.sheet_record.specs.Places.{record_size};

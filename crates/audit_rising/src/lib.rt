@@ -1,5 +1,7 @@
 // 50 and 52 told in one pass where all is in order: where the ranges of each bus and pool rise from record to record, as in every planned
 // sheet, no two overlap, and where the buses of each bus's bridges rise, no two share one. Where they do not, these passes tell nothing.
+#![tactic(auto)]
+
 ghost use Rattle.std.specs.Prelude.{◌≡◌, true, false, [], ◌∷◌, map, ◌*◌, ◌≤◌, ◌<◌, length};
 ghost use Rattle.sheet_record.specs.Places.{record_size};
 ghost use Rattle.sheet_record.specs.Entry.{entry_of};

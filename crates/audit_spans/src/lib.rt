@@ -1,6 +1,8 @@
 // 52 told in one pass for ranges in any order: spans of addresses hold all that was taken so far, and a range that meets none of them is
 // taken. One that touches a span widens it, so that ranges side by side need one span. Where there is no room for a span more, or a range
 // meets one, the pass tells nothing.
+#![tactic(auto)]
+
 ghost use Rattle.std.specs.Prelude.{◌≡◌, true, false, [], ◌∷◌, map, ◌+◌, ◌*◌, ◌≤◌, ◌<◌, length, get_or};
 ghost use Rattle.sheet_record.specs.Places.{record_size};
 ghost use Rattle.sheet_record.specs.Entry.{entry_of};

@@ -1,4 +1,6 @@
 // 50: the buses of a checked sheet under a host, by the table of the bridges that lead to them.
+#![tactic(auto)]
+
 ghost use Rattle.std.specs.Prelude.{◌≡◌, ◌&&◌, not, ◌+◌, ◌<◌, length};
 ghost use Rattle.lists.specs.Lists.{any};
 ghost use Rattle.sheet_record.specs.Places.{record_size};

@@ -1,5 +1,7 @@
 // Who fails an audit: the audit's number, and for 24 to 29 and 50 to 52 the first record at which that check fails, its place, and the
 // other one that it meets. It is asked of a sheet that is refused, so it goes by the plainest loops.
+#![tactic(auto)]
+
 ghost use Rattle.std.specs.Prelude.{◌≡◌, false, not, ℕ, ◌*◌, ◌<◌, ◌≤◌, length};
 ghost use Rattle.board_record.specs.declared.Host as hosts;
 ghost use Rattle.board_record.specs.Host.{host_of_part};

@@ -1,5 +1,7 @@
 // Another firmware's sheet checked for a host record: the number of the first check that fails, or 0 where the sheet is accepted; and the
 // same with 51 asked of the address space, 0 where every address has one owner.
+#![tactic(auto)]
+
 ghost use Rattle.std.specs.Prelude.{◌≡◌};
 ghost use Rattle.sheet.specs.Sheet.{entries_of};
 ghost use Rattle.sheet.specs.SheetLaws.{Checked};

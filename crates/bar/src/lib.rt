@@ -1,5 +1,7 @@
 // BARs: what a function's set of six read-backs says of its slots, and what the values in its registers say.
 // A set is six numbers, handed on together; the first n count: 6 for header type 0, 2 for type 1.
+#![tactic(auto)]
+
 ghost use Rattle.std.specs.Prelude.{◌≡◌, true, cond, not, ◌&&◌, ℕ, ◌+◌, ◌^◌, ◌<◌, ◌≤◌, min, ltb, length, get_or, take, drop};
 ghost use Rattle.arith.specs.Powers.{PowerOfTwo};
 ghost use Rattle.bar.specs.Header.{is_bridge, slot_count};

@@ -1,4 +1,6 @@
 // The board, house format: document 01's checks, tried in their order, each over all records before the next.
+#![tactic(auto)]
+
 ghost use Rattle.std.specs.Prelude.{◌≡◌, false, length, drop, ltb};
 ghost use Rattle.records.specs.Records.{parts_of, parts_from, any_part};
 ghost use Rattle.records.specs.Limits.{most_functions};

@@ -1,6 +1,8 @@
 // A board of any length, fed in pieces and planned. As many bytes are kept as a lawful board can have, and one more. Of a longer input only
 // the frame is looked at, which tells its number: 21, 20 or 22, and else 24, since at most 512 functions of 30 bytes do not come to that
 // length.
+#![tactic(auto)]
+
 ghost use Rattle.std.specs.Prelude.{◌≡◌, ◌++◌, length, drop};
 ghost use Rattle.std.proofs.lemmas.List.Edits.{sets};
 ghost use Rattle.board_feed.specs.Feed.{started, fed_of, is_long, frame_number, planning_of, sheet_of, answer_of};

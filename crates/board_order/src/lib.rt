@@ -1,5 +1,7 @@
 // 23: depth-first order, by one pass over the functions with the buses that are open. Level 0 is the host's bus; a bridge opens the level
 // after its own, and a function closes the levels below its parent's.
+#![tactic(auto)]
+
 ghost use Rattle.std.specs.Prelude.{◌≡◌, false, [], map, ◌+◌, ◌≤◌};
 ghost use Rattle.records.specs.Limits.{most_above};
 ghost use Rattle.records.specs.Records.{parts_from, any_part};

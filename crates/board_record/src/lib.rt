@@ -1,5 +1,7 @@
 // One record of a board, as the part after its own length: the host's and its edges (26), a function's fields, and the checks of a function
 // by itself.
+#![tactic(auto)]
+
 ghost use Rattle.std.specs.Prelude.{◌≡◌, false, ◌<◌, length, get_or};
 ghost use Rattle.board_record.specs.Host.{host_length, host_of_part, off_edges, outside as is_outside, pool_wrong, host_wrong};
 ghost use Rattle.board_record.specs.Function.{readbacks_for, spares_for, function_of_part, bridge_length, wrong_for, wrong_in};

@@ -1,4 +1,6 @@
 // Who fails a board's own checks: the first function at which the check of its number fails, in record order, and its place.
+#![tactic(auto)]
+
 ghost use Rattle.std.specs.Prelude.{◌≡◌, false};
 ghost use Rattle.records.specs.Records.{parts_from, any_part};
 ghost use Rattle.bar.specs.Bar.{is_bad};

@@ -1,5 +1,7 @@
 // The C boundary. Each call returns 0 or document 01's number, and a refused call changes nothing that it was lent. A slice passes as a
 // pointer and then a length. An answer slice too short is 11, tried last; numbers past the answer's own are left as they were.
+#![tactic(auto)]
+
 ghost use Rattle.std.specs.Prelude.{◌≡◌, length};
 ghost use Rattle.tlp.specs.Reading.{number_of as reading_number, read_of};
 ghost use Rattle.sheet.specs.Sheet.{sheet_number};

@@ -1,4 +1,6 @@
 // Answers as numbers in a slice that the caller lends. A slice too short is 11 and stays as it was; so do numbers past the answer's own.
+#![tactic(auto)]
+
 ghost use Rattle.std.specs.Prelude.{◌≡◌, ◌≤◌, cond, [], ◌∷◌, ◌++◌, eqb};
 ghost use Rattle.packet_numbers.specs.Numbers.{numbers_of};
 ghost use Rattle.route_list.specs.Counted.{counted};

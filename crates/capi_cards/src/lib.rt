@@ -1,4 +1,6 @@
 // What the C boundary's call for a request from a card does: the answer of `route_cards` as numbers, for a record number of any size.
+#![tactic(auto)]
+
 ghost use Rattle.std.specs.Prelude.{◌≡◌};
 ghost use Rattle.route_cards.specs.Sending.{sending_of};
 ghost use Rattle.capi_answers.specs.Answers.{returned, filled};

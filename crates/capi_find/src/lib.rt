@@ -1,6 +1,8 @@
 // What the C boundary's search by an index does: the router's answer as numbers, from an index's bytes in place of a sheet's. Memory, I/O
 // and configuration requests and completions that nothing refuses go from bytes to numbers with no packet between; all else is answered by
 // the search's own routing.
+#![tactic(auto)]
+
 ghost use Rattle.std.specs.Prelude.{◌≡◌, true, ◌∷◌, ◌++◌, ◌≤◌, length, get_or};
 ghost use Rattle.pairs.specs.declared.Kind.TheVariants.{Config as ConfigOf};
 ghost use Rattle.pairs.specs.Pairs.{kind_number};

@@ -1,5 +1,7 @@
 // What the C boundary's calls on a ledger of open requests do. The ledger is the first 256 numbers of a slice that the caller keeps: fewer
 // are 11, tried first, and numbers past them are left as they were.
+#![tactic(auto)]
+
 ghost use Rattle.std.specs.Prelude.{◌≡◌};
 ghost use Rattle.capi_answers.specs.Answers.{returned, filled};
 ghost use Rattle.capi_ledger.specs.Calls.{open_answer, open_left, complete_answer, complete_left, count_answer};

@@ -1,4 +1,6 @@
 // What the C boundary's calls on a header do: read as twenty numbers, and written from them.
+#![tactic(auto)]
+
 ghost use Rattle.std.specs.Prelude.{◌≡◌, length};
 ghost use Rattle.tlp.specs.Writing.{write_of, room_after};
 ghost use Rattle.capi_answers.specs.Answers.{returned, filled, left_beside};

@@ -1,4 +1,6 @@
 // What the C boundary's call that walks a header over a sheet does: the router's answer as numbers.
+#![tactic(auto)]
+
 ghost use Rattle.std.specs.Prelude.{◌≡◌};
 ghost use Rattle.capi_answers.specs.Answers.{returned, filled};
 ghost use Rattle.capi_route.specs.Calls.{route_answer};

@@ -1,4 +1,6 @@
 // What becomes of a packet, as numbers in a slice that the caller lends, by a walk over a sheet or by an index.
+#![tactic(auto)]
+
 ghost use Rattle.std.specs.Prelude.{◌≡◌};
 ghost use Rattle.route_list.specs.Counted.{counted};
 ghost use Rattle.capi_answers.specs.Answers.{returned, filled};

@@ -1,5 +1,7 @@
 // What the C boundary's call on a write script does. A requester ID above FFFFh or a tag above FFh is 10, tried first; then the planner's
 // number; then 11, where the room is short of the script or the answer slice has no number: the room and the slice then stay.
+#![tactic(auto)]
+
 ghost use Rattle.std.specs.Prelude.{◌≡◌, length};
 ghost use Rattle.capi_answers.specs.Answers.{returned, filled};
 ghost use Rattle.capi_script.specs.Calls.{script_answer, script_left};

@@ -1,4 +1,6 @@
 // What the C boundary's calls on both ends of a packet do: the sender, and both ends, as numbers. A host ID above FFFFh is 10, tried first.
+#![tactic(auto)]
+
 ghost use Rattle.std.specs.Prelude.{◌≡◌, ◌∷◌, ◌++◌};
 ghost use Rattle.packet_numbers.specs.Numbers.{numbers_of};
 ghost use Rattle.route_list.specs.Counted.{counted};

@@ -1,4 +1,6 @@
 // What the C boundary's calls on a sheet's function do: its registers by an ID, an ID by a record number, and its command word rewritten.
+#![tactic(auto)]
+
 ghost use Rattle.std.specs.Prelude.{◌≡◌};
 ghost use Rattle.sheet.specs.Lookup.{lookup_of};
 ghost use Rattle.capi_answers.specs.Answers.{returned, filled};

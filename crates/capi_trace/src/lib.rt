@@ -1,5 +1,7 @@
 // What the C boundary's calls on a trace do. The state is six numbers that the caller keeps; fewer are 11 and numbers that are no state
 // 10, both tried first. Lines that do not fit, and an answer slice of no numbers, are 11: the state, the lines and the slice then stay.
+#![tactic(auto)]
+
 ghost use Rattle.std.specs.Prelude.{◌≡◌, length};
 ghost use Rattle.trace_line.specs.declared.Finder.TheVariants.{Index};
 ghost use Rattle.trace_line.specs.Line.{line_over};

@@ -2,6 +2,8 @@
 // into the slice: the record and its place, the other record and its place; of a board also the buses and the bytes of each pool that it
 // needs, and the alignment of a base of each, which a slice without room for it does without. They are there where the number is a refusal's
 // too. Otherwise a slice that is too short stays, and a number that is 0 becomes 11.
+#![tactic(auto)]
+
 ghost use Rattle.std.specs.Prelude.{◌≡◌, cond, ◌+◌, ◌≤◌, eqb, length};
 ghost use Rattle.std.proofs.lemmas.List.Edits.{sets};
 ghost use Rattle.audit_finding.specs.Finding.{finding_of};

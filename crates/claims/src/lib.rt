@@ -1,4 +1,6 @@
 // The claims to a packet on one bus of a checked sheet, by address or by ID: none, one or several.
+#![tactic(auto)]
+
 mod address;
 mod ids;
 

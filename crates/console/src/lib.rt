@@ -4,6 +4,8 @@
 //
 // A proved loop has to end and nothing says that an input does. So the pieces are counted down from
 // a number that no input uses up, here and in no program: each call answers how many may still come.
+#![tactic(auto)]
+
 ghost use Rattle.std.specs.Prelude.{length};
 ghost use Rattle.console.specs.Console.{Fewer, Nearer};
 

@@ -1,6 +1,8 @@
 // Numbers in bytes: 2, 4 and 8 bytes of a slice read as a number, and a number stored as that many, in both orders.
 // A wider number is two narrower ones, but for the 8 bytes that a search reads key by key. The definitions and their laws stand in
 // specs/Endian and specs/EndianLaws.
+#![tactic(auto)]
+
 ghost use Rattle.std.specs.Prelude.{◌≡◌, ◌+◌, ◌<◌, ◌≤◌, length};
 ghost use Rattle.std.proofs.lemmas.List.Edits.{sets};
 ghost use Rattle.endian.specs.Endian.{be, be_bytes, le, le_bytes};

@@ -1,5 +1,7 @@
 // Who a refusal is about: a record and a place in it and, where two meet, the other one. What is found under each number is said by those
 // who find it.
+#![tactic(auto)]
+
 ghost use Rattle.std.specs.Prelude.{◌≡◌};
 ghost use Rattle.finding.specs.Places.{wrong_if};
 

@@ -1,4 +1,6 @@
 // The second verdict and the index of a sheet of which no host is told. They do not say where the pools of the sheet's own host end.
+#![tactic(auto)]
+
 ghost use Rattle.std.specs.Prelude.{◌≡◌, length};
 ghost use Rattle.index_alone.specs.Alone.{alone_number, alone_build_number, alone_index_after};
 

@@ -1,4 +1,6 @@
 // The index of a sheet, built in a lent slice: of one that the audit accepts, or of one that has one owner for every address.
+#![tactic(auto)]
+
 ghost use Rattle.std.specs.Prelude.{◌≡◌, ◌≤◌, length};
 ghost use Rattle.sheet.specs.Sheet.{entries_of};
 ghost use Rattle.audit_rule.specs.Accepted.{OneOwner};

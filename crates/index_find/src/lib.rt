@@ -1,5 +1,7 @@
 // A key looked for in an index: the word found tells what becomes of a header that no check refuses, with no packet made. For who has a
 // path of its own for a kind.
+#![tactic(auto)]
+
 ghost use Rattle.std.specs.Prelude.{◌≡◌, ◌<◌};
 ghost use Rattle.index_layout.specs.Keys.{no_key, segment_of};
 ghost use Rattle.index_search.specs.Search.{outcome_by};

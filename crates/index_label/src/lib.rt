@@ -1,4 +1,6 @@
 // A header's label by an index, from its bytes and with no packet made, where nothing refuses the header: else it is untold.
+#![tactic(auto)]
+
 ghost use Rattle.std.specs.Prelude.{◌≡◌, true, ◌≤◌, length, get_or};
 ghost use Rattle.packet.specs.declared.Packet.{Packet as PacketOf};
 ghost use Rattle.tlp_kinds.specs.Kinds.{is_memory, is_io, is_config, is_completion};

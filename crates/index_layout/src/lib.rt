@@ -1,5 +1,7 @@
 // Where everything stands in an index of n functions, what the keys of its slots are, and what a slot's word says (docs/FORMATS.md, "Its
 // bytes"). All numbers are little-endian.
+#![tactic(auto)]
+
 ghost use Rattle.std.specs.Prelude.{◌≡◌, ◌<◌, ◌≤◌};
 ghost use Rattle.index_layout.specs.Places.{base_place, shift_place, bucket_place, key_place, word_place};
 ghost use Rattle.index_layout.specs.Keys.{segment_of};

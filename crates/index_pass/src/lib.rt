@@ -1,5 +1,7 @@
 // The owners of an accepted sheet put into an index, as slots. Each of four passes over the records puts those of one segment of the keys
 // behind those that are there: low memory, high memory, I/O, IDs.
+#![tactic(auto)]
+
 ghost use Rattle.std.specs.Prelude.{◌≡◌, false, ◌&&◌, ◌+◌, ◌<◌, ◌≤◌, leb, ltb, length};
 ghost use Rattle.pools.specs.Pools.{in_space};
 ghost use Rattle.bar.specs.Bar.{any_bad};

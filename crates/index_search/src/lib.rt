@@ -1,5 +1,7 @@
 // The search by an index: a header and an index to what the router answers over the sheet that the index was built from. Any bytes may be
 // given as either. Nothing of the index is checked but its length, and the walk over bridges is one slot looked up.
+#![tactic(auto)]
+
 ghost use Rattle.std.specs.Prelude.{◌≡◌, true, ◌<◌, ◌≤◌, length};
 ghost use Rattle.route_answer.specs.Routing.{answer};
 ghost use Rattle.route_answer.specs.Listed.{on_room, listed_after};

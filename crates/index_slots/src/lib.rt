@@ -1,5 +1,7 @@
 // Slots of an index of n functions, in a lent slice: keys in one run of 8 bytes each, words in another, both little-endian. Slot 0 stands
 // before all others; slots 1 and up are put in one by one, and behind the last of them the keys are above all.
+#![tactic(auto)]
+
 ghost use Rattle.std.specs.Prelude.{◌≡◌, ◌+◌, ◌*◌, ◌<◌, ◌≤◌, length};
 ghost use Rattle.std.proofs.lemmas.List.Edits.{sets};
 ghost use Rattle.index_layout.specs.Places.{index_size, most_slots, last_key};

@@ -1,6 +1,8 @@
 // The table of an index and the search by it. Keys are in four segments: low memory, high memory, I/O, IDs. Each segment has 8 n buckets
 // of keys, by a base and a shift of its own, and the table says of each bucket how many slots stand in earlier ones. So a search starts
 // near its slot, and a few keys decide.
+#![tactic(auto)]
+
 ghost use Rattle.std.specs.Prelude.{◌≡◌, ◌+◌, ◌-◌, ◌*◌, ◌<◌, ◌≤◌, length, if◌then◌else◌, nat_le, nat_lt};
 ghost use Rattle.index_layout.specs.Places.{index_size, most_slots, last_key, segment_buckets, buckets};
 ghost use Rattle.index_layout.specs.Keys.{no_key};

@@ -1,5 +1,7 @@
 // The ledger of open requests, document 02's E12: 256 places, a word each, that the caller keeps. A place is free, or holds a non-posted
 // request by its requester ID and tag until completions close it. Any 256 words are a ledger; 256 zeros are an empty one.
+#![tactic(auto)]
+
 ghost use Rattle.std.specs.Prelude.{◌≡◌, true, ◌+◌, ◌≤◌, length, drop, get_or};
 ghost use Rattle.tlp_kinds.specs.Kinds.{is_memory, is_io, is_config as is_config_request};
 ghost use Rattle.ledger.specs.Words.{key_of, key_in, left_in, is_read, is_config, is_locked, place_of, in_use, used_by, empty};

@@ -2,6 +2,8 @@
 // either case with spaces between bytes as one likes; or a comment, or nothing. The state says what
 // the last byte was, so a program keeps letters and bytes in its own room as they come, and looks at
 // the word when the line is over. The definitions stand in specs/Lines.
+#![tactic(auto)]
+
 ghost use Rattle.std.specs.Prelude.{◌≡◌};
 ghost use Rattle.lines.specs.Lines.{first_of, letter_of, between_of, second_of, next_of, ended_of};
 

@@ -1,5 +1,7 @@
 // 52: which of a record's BARs and open windows meets another one on its bus, and the least that it meets. Each record is decoded anew for
 // each one that is compared with it: this is asked only of a sheet that is refused.
+#![tactic(auto)]
+
 ghost use Rattle.std.specs.Prelude.{◌≡◌, false, ℕ, ◌*◌, ◌<◌, ◌≤◌, length, get_or};
 ghost use Rattle.board_record.specs.declared.Host.{Host};
 ghost use Rattle.sheet_record.specs.Places.{record_size};

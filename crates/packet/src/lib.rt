@@ -1,6 +1,8 @@
 // A TLP header as a packet: each kind has exactly the fields that document 01 gives it, so that two
 // packets are the same when they are equal. The checks here look at fields only and are shared by
 // the reader and the writer: the writer's 2 and 10, and rules 4 to 9.
+#![tactic(auto)]
+
 ghost use Rattle.std.specs.Prelude.{◌≡◌, cond, ℕ, ◌<◌};
 ghost use Rattle.pairs.specs.declared.Kind.TheVariants.{Memory as MemoryOf};
 ghost use Rattle.pairs.specs.declared.MemoryKind.{MemoryKind};

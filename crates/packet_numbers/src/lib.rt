@@ -1,6 +1,8 @@
 // A packet as twenty numbers, for callers that have no enums: kind, form, TC, Attr, TD, EP, AT, Length, requester, tag, last enables,
 // first enables, address, target, register, completer, status, BCM, byte count, lower address. A message has its routing, its code and its
 // bytes 8 to 15 where a request has its enables and its address. A field that the kind does not have is 0.
+#![tactic(auto)]
+
 ghost use Rattle.std.specs.Prelude.{◌≡◌, [], ◌∷◌, ◌++◌, ◌+◌, ◌≤◌, length};
 ghost use Rattle.std.proofs.lemmas.List.Edits.{sets};
 ghost use Rattle.packet_numbers.specs.Numbers.{bit as bit_of, message_code, head_numbers, request_numbers, message_numbers};

@@ -1,5 +1,7 @@
 // Numbers taken for a packet: the twenty of packet_numbers, each at most the greatest that its field holds, 0 where the kind has no such
 // field.
+#![tactic(auto)]
+
 ghost use Rattle.std.specs.Prelude.{◌≡◌, false, [], ◌∷◌, ◌≤◌, length, get_or};
 ghost use Rattle.pairs.specs.declared.Kind.TheVariants.{Message as MessageOf};
 ghost use Rattle.packet_numbers.specs.Numbers.{absent};

@@ -1,6 +1,8 @@
 // A packet as text: its kind and form, then each field by name, in a line that the caller ends.
 // Counts and small fields are decimal; IDs, tags, byte enables, registers, addresses, and a message's
 // code and tail are hexadecimal. The text stands in specs/Labels.
+#![tactic(auto)]
+
 ghost use Rattle.std.specs.Prelude.{◌≡◌, get_or, take};
 ghost use Rattle.text.specs.Text.{Put};
 ghost use Rattle.packet_text.specs.Labels.{bit_of, kind_text, marks_text, transaction_text, head_text};

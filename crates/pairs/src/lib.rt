@@ -1,4 +1,6 @@
 // The Fmt and Type pairs of a TLP header's byte 0: one constant table, searched by byte for the reader and by kind and form for the writer.
+#![tactic(auto)]
+
 ghost use Rattle.std.specs.Prelude.{◌≡◌, ◌<◌};
 ghost use Rattle.pairs.specs.Pairs.{table, kind_named, routing_number, kind_number, key_of, is_pair, is_key, find_pair, find_key};
 ghost use Rattle.pairs.specs.Pairs.{answer_of, pair_of, row_of};

@@ -2,6 +2,8 @@
 // `refused N`. An input of any length is answered, from fixed room. Where standard input cannot be
 // read there is no answer; there, and where standard output cannot be written, a message goes to
 // standard error.
+#![tactic(auto)]
+
 use board_feed::{Feed, KEPT};
 use console::Piece;
 

@@ -1,4 +1,6 @@
 // Placing, for one function: from the cursors of its bus, its BARs in slot order and then a bridge's windows, for all three pools at once.
+#![tactic(auto)]
+
 ghost use Rattle.std.specs.Prelude.{◌≡◌, false, ◌+◌, ◌≤◌, ◌<◌, length, take, map};
 ghost use Rattle.std.proofs.lemmas.List.Edits.{sets};
 ghost use Rattle.arith.specs.Powers.{PowerOfTwo};

@@ -1,4 +1,6 @@
 // The items of a lawful board in one pool, in placing order: which runs out of it first, and before which most room is lost to alignment.
+#![tactic(auto)]
+
 ghost use Rattle.std.specs.Prelude.{◌≡◌, true, false, cond, ◌+◌, ◌*◌, ◌<◌, ◌≤◌, max, length, take};
 ghost use Rattle.arith.specs.Powers.{PowerOfTwo};
 ghost use Rattle.pools.specs.Pools.{granule, same_pool};

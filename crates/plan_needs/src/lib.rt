@@ -1,4 +1,6 @@
 // What a lawful board needs of its host: bus numbers, and of each pool bytes and a base.
+#![tactic(auto)]
+
 ghost use Rattle.std.specs.Prelude.{◌≡◌, ◌≤◌, ◌<◌};
 ghost use Rattle.plan_rule.specs.Cap.{cap};
 ghost use Rattle.plan_needs.specs.Bases.{laid_span, laid_host_of};

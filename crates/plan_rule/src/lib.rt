@@ -1,6 +1,8 @@
 // The numbering and placing rule of a board, over whole numbers: definitions and theorems, in specs/. The planner's code meets these
 // definitions, and the sheet that it writes is a layout of them. The code here is what its two passes, sizing and placing, both compute
 // with.
+#![tactic(auto)]
+
 ghost use Rattle.std.specs.Prelude.{◌≡◌, ◌+◌, ◌≤◌, max};
 ghost use Rattle.arith.specs.Align.{align_up};
 ghost use Rattle.arith.specs.Powers.{PowerOfTwo};

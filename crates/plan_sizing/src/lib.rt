@@ -1,5 +1,7 @@
 // Sizing: the first of the planner's two passes. A bus is sized from its functions, and a bridge from its bus, for all three pools at once;
 // what lies below each bridge is stored on the way, so that the placing pass sizes nothing again.
+#![tactic(auto)]
+
 ghost use Rattle.std.specs.Prelude.{◌≡◌, false, ◌+◌, ◌*◌, ◌≤◌, ◌<◌, length, get_or, take};
 ghost use Rattle.std.proofs.lemmas.List.Edits.{sets};
 ghost use Rattle.arith.specs.Powers.{PowerOfTwo};

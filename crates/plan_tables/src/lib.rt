@@ -1,5 +1,7 @@
 // A lawful board's functions, once, into the arrays that the planner's passes read: each parent record, head and set of read-backs. And the
 // bus numbers that they take.
+#![tactic(auto)]
+
 ghost use Rattle.std.specs.Prelude.{◌≡◌, false, List, [], ◌∷◌, ℕ, ◌+◌, ◌*◌, ◌%◌, ◌≤◌, ◌<◌, length, get_or};
 ghost use Rattle.bar.specs.Header.{is_bridge as is_bridge_header};
 ghost use Rattle.std.proofs.lemmas.List.Edits.{sets};

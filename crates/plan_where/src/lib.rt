@@ -1,5 +1,7 @@
 // What does not fit: a board's number, who fails under it, before whom most room is lost to alignment, and what the board needs. Any bytes
 // may be given.
+#![tactic(auto)]
+
 ghost use Rattle.std.specs.Prelude.{◌≡◌, ◌+◌, ◌*◌, ◌≤◌, ◌<◌, length};
 ghost use Rattle.records.specs.Limits.{most_functions};
 ghost use Rattle.board.specs.Board.{board_number, host_of, functions_of};

@@ -1,5 +1,7 @@
 // The planner: a board's bytes to its register sheet, or the number of the first check that the board fails. Any bytes may be given, and
 // any room.
+#![tactic(auto)]
+
 ghost use Rattle.std.specs.Prelude.{◌≡◌, ◌+◌, ◌*◌, ◌≤◌, length};
 ghost use Rattle.records.specs.Limits.{most_functions};
 ghost use Rattle.board.specs.Board.{board_number, host_of, functions_of};

@@ -1,4 +1,6 @@
 // The three address pools of a board, each a value with its granule, and the two address spaces that they lie in.
+#![tactic(auto)]
+
 ghost use Rattle.std.specs.Prelude.{◌≡◌};
 ghost use Rattle.pools.specs.Pools.{granule as granule_of, in_space};
 

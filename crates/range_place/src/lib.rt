@@ -1,4 +1,6 @@
 // At which place of its record a BAR or open window stands, by its index among those that are decoded: slots before windows.
+#![tactic(auto)]
+
 ghost use Rattle.std.specs.Prelude.{◌≡◌, false, cond, [], ◌≤◌, length, get_or};
 ghost use Rattle.window.specs.Window.{is_open};
 ghost use Rattle.sheet_record.specs.Places.{record_size};

@@ -1,5 +1,7 @@
 // Length-first records, the frame of boards and sheets: two bytes of length, then as many bytes. A record is read as the part after its
 // own length. Here all the bytes are at hand; `frame` takes them one by one. And how many records there may be.
+#![tactic(auto)]
+
 pub mod frame;
 
 ghost use Rattle.std.specs.Prelude.{◌≡◌, ◌+◌, ◌≤◌, length, take, drop};

@@ -1,5 +1,7 @@
 // The router: a header and a register sheet to the function that gets the packet, to every function, to the port, or to a number. Any bytes
 // may be given as either.
+#![tactic(auto)]
+
 ghost use Rattle.std.specs.Prelude.{◌≡◌, ◌≤◌, length};
 ghost use Rattle.sheet.specs.Sheet.{sheet_number};
 ghost use Rattle.sheet.specs.SheetLaws.{Checked};

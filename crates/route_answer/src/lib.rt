@@ -1,5 +1,7 @@
 // What becomes of a packet, for all who route: the checks before it is looked for, the answer where it is delivered, and a broadcast's
 // list.
+#![tactic(auto)]
+
 ghost use Rattle.std.specs.Prelude.{◌≡◌, length};
 ghost use Rattle.route_answer.specs.Routing.{number_of, arrives, Goes};
 ghost use Rattle.route_answer.specs.declared.Routing.TheVariants.{Delivered};

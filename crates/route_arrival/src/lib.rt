@@ -1,4 +1,6 @@
 // A packet on its way: what it is looked for by, whether its configuration type is wrong, and how it arrives.
+#![tactic(auto)]
+
 ghost use Rattle.std.specs.Prelude.{◌≡◌};
 ghost use Rattle.route_arrival.specs.Arrival.{id_in, heading_of, message_heading, kind_wrong, type_wrong, last_kind, arrived as arrived_of};
 

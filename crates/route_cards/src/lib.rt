@@ -1,5 +1,7 @@
 // Card to card: a header that starts at a function of a register sheet, named by record, to the function that gets it, to the host, or to a
 // number. Any bytes may be given as header and sheet, and any number as record.
+#![tactic(auto)]
+
 mod above;
 mod holds;
 mod start;

@@ -1,4 +1,6 @@
 // A broadcast's list: the record numbers of a sheet, in order, put into a lent slice.
+#![tactic(auto)]
+
 ghost use Rattle.std.specs.Prelude.{◌≡◌, ◌+◌, ◌≤◌, length};
 ghost use Rattle.std.proofs.lemmas.List.Edits.{sets};
 ghost use Rattle.route_list.specs.Counted.{counted};

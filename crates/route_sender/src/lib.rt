@@ -1,5 +1,7 @@
 // Who sends a packet, the host or a function, by the host's own ID, a header and a register sheet. Any bytes may be given as header and
 // sheet, and any number as the ID.
+#![tactic(auto)]
+
 ghost use Rattle.std.specs.Prelude.{◌≡◌};
 ghost use Rattle.sheet.specs.Sheet.{sheet_number};
 ghost use Rattle.route_sender.specs.Sender.{named_by, is_broadcast, starts_at_host, named_in, sender_of, sent_by_of, number_of};

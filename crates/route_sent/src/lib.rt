@@ -1,5 +1,7 @@
 // Both ends of a packet: a header and a register sheet to who sends it, the host or a function, and to who gets it. Any bytes may be given
 // as header and sheet, and any number as the host's ID.
+#![tactic(auto)]
+
 mod climb;
 
 ghost use Rattle.std.specs.Prelude.{◌≡◌, length};

@@ -1,6 +1,8 @@
 // A requester ID in two bytes, a tag in one and then a board on standard input, to its end; on standard output the board's write script,
 // or `refused N`. An input of any length is answered, from fixed room. Where standard input cannot be read there is no answer; there, and
 // where standard output cannot be written, a message goes to standard error.
+#![tactic(auto)]
+
 use board_feed::KEPT;
 use console::Piece;
 use script_feed::{FRONT, Input, LONGEST};

@@ -1,5 +1,7 @@
 // The boot's requester ID and first tag and then a board, an input of any length fed in pieces, and the board's script. The first three
 // bytes and the first bytes of the board are kept, each in room that the caller lends.
+#![tactic(auto)]
+
 ghost use Rattle.std.specs.Prelude.{◌≡◌, ◌++◌, ◌-◌, length, drop};
 ghost use Rattle.script_feed.specs.Program.{front_size};
 ghost use Rattle.script_feed.specs.Feed.{started, fed_of, front_after, kept_after, scripting_of, room_of, answer_of};

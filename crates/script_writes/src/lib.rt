@@ -1,5 +1,7 @@
 // One record's configuration writes as script records: each a length, twelve header bytes and four data bytes. The definitions stand in
 // specs/Writes and specs/Script.
+#![tactic(auto)]
+
 ghost use Rattle.std.specs.Prelude.{◌≡◌, ℕ, ◌+◌, ◌*◌, ◌/◌, ◌%◌, ◌≤◌, ◌<◌, [], ◌∷◌, length};
 ghost use Rattle.std.proofs.lemmas.List.Edits.{sets};
 ghost use Rattle.sheet_record.specs.Places.{record_size};

@@ -1,6 +1,8 @@
 // The write script: a board's bytes to the plan as configuration writes, or the number. No sheet is kept: each part of the script is a
 // pass over the board of its own, and the one that writes BARs and windows places the records, laid out one at a time, so the call takes no
 // more stack than the planner.
+#![tactic(auto)]
+
 ghost use Rattle.std.specs.Prelude.{◌≡◌, false, true, ℕ, ◌+◌, ◌*◌, ◌≤◌, ◌<◌, length, take, drop};
 ghost use Rattle.std.proofs.lemmas.List.Edits.{sets};
 ghost use Rattle.records.specs.Limits.{most_functions};

@@ -1,5 +1,7 @@
 // The register sheet: its checks, by number, and the lookup. A sheet is the version byte 1 and then a record for each function, each after
 // its own two-byte length.
+#![tactic(auto)]
+
 mod rules;
 
 ghost use Rattle.std.specs.Prelude.{◌≡◌, ◌+◌, ◌≤◌, length, drop};

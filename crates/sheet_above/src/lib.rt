@@ -1,6 +1,8 @@
 // The bridge above a bus of a checked sheet: the one whose secondary bus it is, told as none, one or several, and the host on the root bus.
 // One definition (specs/Parents.antt) and two ways to it: who asks for every function has a table of all buses, filled by one pass over the
 // records; who asks for one bus has a search over them. By the table also all bridges above a bus: how many, and whether each is enabled.
+#![tactic(auto)]
+
 ghost use Rattle.std.specs.Prelude.{◌≡◌, ◌≤◌, ◌<◌, length, replicate};
 ghost use Rattle.sheet_record.specs.Places.{record_size};
 ghost use Rattle.sheet_record.specs.Entry.{entry_of};

@@ -1,4 +1,6 @@
 // The sheet as bytes: one function's record written at its place, all bytes of it, in stores of two, four and eight bytes.
+#![tactic(auto)]
+
 ghost use Rattle.std.specs.Prelude.{◌≡◌, [], ◌∷◌, ◌++◌, ◌+◌, ◌<◌, ◌≤◌, length};
 ghost use Rattle.std.proofs.lemmas.List.Edits.{sets};
 ghost use Rattle.endian.specs.Endian.{be_bytes, le_bytes};

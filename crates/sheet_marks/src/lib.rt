@@ -1,4 +1,6 @@
 // The IDs that were met so far: a bit for each of the 65,536 IDs, 64 to a word.
+#![tactic(auto)]
+
 ghost use Rattle.std.specs.Prelude.{◌≡◌, ◌≤◌, length};
 ghost use Rattle.sheet_marks.specs.Marks.{is_marked, marked};
 

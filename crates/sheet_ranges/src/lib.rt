@@ -1,5 +1,7 @@
 // A record's ranges put into a lent slice of numbers, so that it is decoded once: a function's BARs and open windows, and a host's open
 // pools. A range takes three numbers: its pool, its first and its last address, since a foreign sheet's range can end at 2^64.
+#![tactic(auto)]
+
 ghost use Rattle.std.specs.Prelude.{◌≡◌, true, false, [], ◌∷◌, ◌++◌, ◌+◌, ◌*◌, ◌≤◌, leb, length};
 ghost use Rattle.lists.specs.Lists.{one_if};
 ghost use Rattle.sheet_record.specs.Places.{record_size};

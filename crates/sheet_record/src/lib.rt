@@ -1,5 +1,7 @@
 // One record of a sheet, field by field. Every function here gets the record's part, the bytes after its own length: the ID, the
 // configuration header and the six read-backs.
+#![tactic(auto)]
+
 pub mod places;
 pub mod spaces;
 

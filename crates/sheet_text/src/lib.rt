@@ -1,5 +1,7 @@
 // A plan printed whole, as document 01 prints it, into lent bytes. Each call stores what fits from a place on and answers the next place,
 // and asks nothing of its caller. The definitions stand in specs/Listing.
+#![tactic(auto)]
+
 ghost use Rattle.std.specs.Prelude.{◌≡◌, true, false, [], ◌∷◌, ◌++◌, ◌≤◌, length};
 ghost use Rattle.text.specs.Text.{Put, hexadecimal};
 ghost use Rattle.sheet_record.specs.Places.{record_size};

@@ -1,5 +1,7 @@
 // 24 to 29: the first record of a sheet that fails one of the sheet's own checks, and where. A check goes over all records before the next
 // starts, so what is looked for is the first record that fails a given one.
+#![tactic(auto)]
+
 ghost use Rattle.std.specs.Prelude.{◌≡◌, false, ◌+◌, ◌<◌, length};
 ghost use Rattle.bar.specs.Values.{is_value, is_bar_value};
 ghost use Rattle.bar.specs.Bar.{SizedSlot};

@@ -1,6 +1,8 @@
 // Both ends of a trace on the standard streams: the two bytes of the host's ID, then as the annotator has it, a two-byte length, a sheet of
 // so many bytes and a trace to the end of input; its lines as they come. specs/Program says what is printed. It stops where the annotator
 // does.
+#![tactic(auto)]
+
 use stream_trace::{Filling, SheetRead};
 use trace_engine::Engine;
 

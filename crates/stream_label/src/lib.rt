@@ -1,6 +1,8 @@
 // The labeller on the standard streams: the 30 bytes of a host record, a two-byte length, a sheet of so many bytes, then a trace to the end
 // of input. The annotator's lines, for a sheet that is accepted for the host: each header is looked up in an index, which is built once.
 // specs/Program says what is printed. It stops where the annotator does.
+#![tactic(auto)]
+
 ghost use Rattle.std.specs.Prelude.{◌≡◌, length};
 ghost use Rattle.board_record.specs.Host.{host_length};
 ghost use Rattle.stream_label.specs.Indexed.{Indexed};

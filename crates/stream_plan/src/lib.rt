@@ -1,4 +1,6 @@
 // The plan of a board that was fed, on standard output: what the two programs that plan share.
+#![tactic(auto)]
+
 use board_feed::{Feed, KEPT};
 use sheet_text::LONGEST;
 

@@ -1,6 +1,8 @@
 // The annotator on the standard streams: a two-byte length, a sheet of so many bytes, then a trace to the end of input; its lines as they
 // come. specs/Program says what is printed. Where standard input cannot be read or standard output cannot be written it stops, and a
 // message goes to standard error.
+#![tactic(auto)]
+
 ghost use Rattle.std.specs.Prelude.{◌≡◌, true, ◌+◌, ◌≤◌, ◌<◌, length};
 ghost use Rattle.trace.specs.Trace.{state_of};
 ghost use Rattle.trace_engine.specs.Engine.{Ready, longest_line};

@@ -1,4 +1,6 @@
 // The answer to a line of test_routes' script, put into lent bytes from their start.
+#![tactic(auto)]
+
 use plan_answer::Planning;
 use sheet::Lookup;
 use text::{front, put_text};

@@ -1,5 +1,7 @@
 // Where a header's packet goes, as the answer to a line of test_routes' script, and the short answers, each put into lent bytes from their
 // start.
+#![tactic(auto)]
+
 use packet::Packet;
 use route_answer::{Delivery, Routing};
 use route_cards::{Arrival, Sending};

@@ -7,6 +7,8 @@
 // last line may lack its newline. Where standard input cannot be read, what was read of the last
 // line has no answer; there, and where standard output cannot be written, a message goes to standard
 // error and the program ends.
+#![tactic(auto)]
+
 mod line;
 
 use board_feed::KEPT;

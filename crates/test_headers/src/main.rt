@@ -7,6 +7,8 @@
 // newline. Where standard input cannot be read, what was read of the last line has no answer; there,
 // and where standard output cannot be written, a message goes to standard error and the program
 // ends.
+#![tactic(auto)]
+
 mod answer;
 mod line;
 

@@ -1,6 +1,8 @@
 // Text put into lent bytes: a byte, a word, a number in decimal and in upper-case hexadecimal.
 // Each call stores what fits from a place on and answers the next place, so a line is a chain of
 // calls that asks nothing of its caller. The definitions stand in specs/Text.
+#![tactic(auto)]
+
 pub mod digits;
 
 ghost use Rattle.std.specs.Prelude.{◌≡◌, ◌+◌, ◌<◌, ◌≤◌, [], ◌∷◌, ◌++◌, length, take};

@@ -1,5 +1,7 @@
 // The header codec: any bytes are read as a packet or refused by number, and a packet is written as
 // the layout's bytes or refused by number.
+#![tactic(auto)]
+
 ghost use Rattle.std.specs.Prelude.{◌≡◌, ◌≤◌, ◌*◌, length};
 ghost use Rattle.pairs.specs.declared.Kind.TheVariants.{Memory, Io, Config, Completion, Message};
 ghost use Rattle.pairs.specs.declared.Pair.TheVariants.{Carried};

@@ -1,4 +1,6 @@
 // The fields of a header that is long enough, each at its place in the bytes.
+#![tactic(auto)]
+
 ghost use Rattle.std.specs.Prelude.{◌≡◌, ◌+◌, ◌≤◌, ◌<◌, ◌*◌, length, eqb, cond};
 ghost use Rattle.endian.specs.Endian.{be};
 ghost use Rattle.tlp_fields.specs.Fields.{

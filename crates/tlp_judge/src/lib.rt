@@ -1,5 +1,7 @@
 // The number that reading a header answers, with no packet made of it. A lawful header passes one branch for each rule; whatever a branch
 // turns away is read, for its number.
+#![tactic(auto)]
+
 ghost use Rattle.std.specs.Prelude.{◌≡◌, true, ◌≤◌, ◌<◌, length, get_or};
 ghost use Rattle.packet.specs.Rules.{is_first, is_last, enables_lawful};
 ghost use Rattle.tlp.specs.Reading.{number_of as reading_number, read_of};

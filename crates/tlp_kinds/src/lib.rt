@@ -1,5 +1,7 @@
 // The kinds that byte 0 tells by comparison, each with the table's row as its proof: memory, I/O and configuration requests, and
 // completions. Who has a path of its own for a kind needs no search in the table, and no packet.
+#![tactic(auto)]
+
 ghost use Rattle.std.specs.Prelude.{◌≡◌};
 ghost use Rattle.tlp_kinds.specs.Kinds.{is_memory, memory_kind, memory_form, is_io, io_kind, is_config, config_kind, is_completion};
 ghost use Rattle.tlp_kinds.specs.Kinds.{completion_kind};

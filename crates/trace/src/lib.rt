@@ -1,6 +1,8 @@
 // A trace, taken byte by byte: version byte 1, then length-first records of header bytes, the frame of `records::frame`. A record gets
 // its number and its line with its last byte; of the record under way its first 16 bytes are kept. What a record's line says is not
 // decided here.
+#![tactic(auto)]
+
 ghost use Rattle.std.specs.Prelude.{◌≡◌, ◌<◌, length, drop};
 ghost use Rattle.trace.specs.Annotated.{front_length};
 ghost use Rattle.trace.specs.Trace.{tracing, fresh, line_at, emitted_by, number_by, kept_by, head_by, kept_after, head_after, next_in};

@@ -1,5 +1,7 @@
 // A record's line of a trace with both ends: its number, the header's kind as read, who sends the packet and who gets it, as
 // `4 MWr from 3 to host`, `6 MRd from host to 4` or `7 MWr from 3 refused 44`.
+#![tactic(auto)]
+
 ghost use Rattle.std.specs.Prelude.{◌≡◌, ◌++◌};
 ghost use Rattle.text.specs.Text.{Put, ascii};
 ghost use Rattle.packet.specs.Fields.{kind_of};

@@ -1,5 +1,7 @@
 // What a record's line tells, by one of three engines: who owns the packet, looked up in a sheet or in an index; or both its ends, over a
 // sheet and with the host's own ID.
+#![tactic(auto)]
+
 ghost use Rattle.std.specs.Prelude.{◌≡◌, ◌/◌};
 ghost use Rattle.text.specs.Text.{Put};
 ghost use Rattle.trace_engine.specs.Engine.{Ready, line_of, longest_of};

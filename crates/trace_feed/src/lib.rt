@@ -1,5 +1,7 @@
 // A trace fed in pieces and labelled by one engine: a line for each record that ends in a piece. A piece may hold no bytes. A piece whose
 // lines do not fit is not taken: fed again with more room, or in smaller pieces, it comes to the same lines.
+#![tactic(auto)]
+
 ghost use Rattle.std.specs.Prelude.{◌≡◌, ◌≤◌, length, leb};
 ghost use Rattle.text.specs.Text.{Put};
 ghost use Rattle.trace.specs.Trace.{text_of, lines_of};

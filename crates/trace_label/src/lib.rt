@@ -1,4 +1,6 @@
 // A header's label as the code holds it: the kind's name in a word, and where the packet goes as a number; and the label as text.
+#![tactic(auto)]
+
 ghost use Rattle.std.specs.Prelude.{◌≡◌, ◌++◌, ◌%◌, ◌≤◌};
 ghost use Rattle.text.specs.Text.{Put, ascii};
 ghost use Rattle.packet_text.specs.Labels.{kind_text};

@@ -1,5 +1,7 @@
 // A record's line of a trace: its number, the header's kind as read, and where the packet goes, as `1 MRd owner 2` or
 // `2 IOWr refused 40`, looked up in a sheet or in an index.
+#![tactic(auto)]
+
 ghost use Rattle.std.specs.Prelude.{◌≡◌};
 ghost use Rattle.text.specs.Text.{Put};
 ghost use Rattle.sheet.specs.Sheet.{sheet_number};

@@ -1,5 +1,7 @@
 // A trace's state as six numbers, for callers that have no enums: the stage and its value, the number of the last whole record, how many
 // bytes are kept, and the 16 kept bytes as two big-endian numbers. Six zeros are a fresh state.
+#![tactic(auto)]
+
 ghost use Rattle.std.specs.Prelude.{◌≡◌, true, ◌≤◌, length};
 ghost use Rattle.std.proofs.lemmas.List.Edits.{sets};
 ghost use Rattle.trace_numbers.specs.Numbers.{stage_number, stage_value, numbers_of};

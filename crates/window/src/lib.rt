@@ -1,4 +1,6 @@
 // A bridge's windows: the registers of one window, the range they stand for, and the one spelling of a closed window of each pool.
+#![tactic(auto)]
+
 ghost use Rattle.std.specs.Prelude.{◌≡◌, ◌+◌, ◌-◌, ◌<◌, ◌≤◌};
 ghost use Rattle.window.specs.Window.{closed as closed_of, fields as fields_of, nibble as nibble_of, field as field_of};
 ghost use Rattle.window.specs.Window.{register as register_of, upper as upper_of, opened as opened_of, address as address_of};

@@ -1,0 +1,10 @@
+-- `bar::slot_count` meets its contract: two slots for a bridge, six for another function. Assumes nothing.
+use mathlib.Core.Path.{sym, ◌∙◌}
+use native.Mathlib.Omega.{arith}
+use Rattle.bar.proofs.slot_count.Goals as goal
+
+pub returns-then-is_bridge : goal.returns-then-is_bridge
+returns-then-is_bridge c = (rw (sym c.is_bridge.ensures ∙ c.if-is_bridge.true), omega arith)
+
+pub returns-else-is_bridge : goal.returns-else-is_bridge
+returns-else-is_bridge c = (rw (sym c.is_bridge.ensures ∙ c.if-is_bridge.false), omega arith)
