@@ -1,0 +1,27 @@
+-- `audit_tree::first_elsewhere` meets its contract. Assumes nothing.
+use mathlib.Core.Path.{sym, ap, ◌∙◌}
+use native.Mathlib.Omega.{arith}
+use lib.ListN.{length}
+use Prim.Native.Nat.{◌≤◌}
+use Rattle.sheet.specs.Sheet.{sheet_length}
+use Rattle.sheet.specs.IndexLaws.{record_fits, length_part}
+use Rattle.audit_tree.specs.TreeLaws.{first_none, first_here}
+use Rattle.audit_tree.proofs.first_elsewhere.Goals as goal
+use Rattle.audit_tree.proofs.first_elsewhere.Goals.{Else-count-eq0}
+
+-- there is a first record
+fits : (c : Else-count-eq0) → sheet_length 1 ≤ length c.args.sheet.now
+fits c = record_fits _ c.requires 0 (omega (arith, c.count.ensures, c.if-count-eq0.false))
+
+pub returns-then-count-eq0 : goal.returns-then-count-eq0
+returns-then-count-eq0 c = sym (first_none _ c.requires _ _ c.count.ensures c.if-count-eq0.true)
+
+pub part-requires : goal.part-requires
+part-requires c = fits (goal.at.part-requires c).Else-count-eq0
+
+pub bus_of-requires : goal.bus_of-requires
+bus_of-requires c = ap length c.part.ensures ∙ length_part c.args.sheet.now 0 (fits (goal.at.bus_of-requires c).Else-count-eq0)
+
+pub returns : goal.returns
+returns c = sym (first_here _ c.requires _ _ c.count.ensures c.if-count-eq0.false _ c.part.ensures _
+    c.bus_of.ensures)

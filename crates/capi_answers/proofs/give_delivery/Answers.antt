@@ -1,0 +1,21 @@
+-- `capi_answers::give_delivery` meets its contract: 22 numbers where the slice has room for them, and nothing else. Assumes nothing.
+use lib.ListN.{set, length-set}
+use mathlib.Core.List.{◌∷◌}
+use native.Mathlib.Omega.{arith}
+use Rattle.capi_answers.specs.AnswersLaws.{answered_short, answered_filled}
+use Rattle.packet_numbers.specs.Numbers.{numbers_of}
+use Rattle.packet_numbers.specs.NumbersLaws.{length_numbers_of}
+use Rattle.capi_answers.proofs.give_delivery.Goals as goal
+
+pub returns-then-out : goal.returns-then-out
+returns-then-out c = answered_short (c.args.owner ∷ c.args.bridges ∷ numbers_of c.args.p) c.args.out.now (omega (arith, length_numbers_of c.args.p))
+
+pub bounds-out-1 : goal.bounds-out-1
+bounds-out-1 c = simp length-set (omega arith)
+
+pub shape_of-out : goal.shape_of-out
+shape_of-out c = omega (arith, c.put_packet.auto.0, length-set (set c.args.out.now 0 c.args.owner) 1 c.args.bridges, length-set c.args.out.now 0 c.args.owner)
+
+pub returns : goal.returns
+returns c = answered_filled (c.args.owner ∷ c.args.bridges ∷ numbers_of c.args.p) c.args.out.now (omega (arith, length_numbers_of c.args.p))
+    c.put_packet.ensures

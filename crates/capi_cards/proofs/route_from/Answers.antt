@@ -1,0 +1,12 @@
+-- `capi_cards::route_from` meets its contract: by what becomes of the request. Assumes nothing.
+use mathlib.Core.Path.{sym, ◌∙◌}
+use Rattle.capi_cards.proofs.route_from.Goals as goal
+
+pub returns-in-Delivered : goal.returns-in-Delivered
+returns-in-Delivered c = rw (sym c.send.ensures ∙ c.in-Delivered.is) c.give_delivery.ensures
+
+pub returns-in-Host : goal.returns-in-Host
+returns-in-Host c = rw (sym c.send.ensures ∙ c.in-Host.is) c.give_delivery-in-Host.ensures
+
+pub returns-in-Refused : goal.returns-in-Refused
+returns-in-Refused c = let e = sym c.send.ensures ∙ c.in-Refused.is in (rw e, rw e)

@@ -1,0 +1,33 @@
+-- `capi_find::give_request` meets its contract: 22 numbers where the slice has room for them, and nothing else. Assumes nothing.
+use native.Mathlib.Omega.{arith}
+use Prim.Native.Nat.{ℕ}
+use mathlib.Core.List.{List, ◌∷◌, ◌++◌}
+use lib.ListN.{set, length-set}
+use Rattle.packet.specs.declared.Head.{Head}
+use Rattle.packet.specs.declared.Enables.{Enables}
+use Rattle.packet_numbers.specs.Numbers.{head_numbers, request_numbers, absent}
+use Rattle.index_layout.specs.Words.{record_in, bridges_in}
+use Rattle.capi_answers.specs.AnswersLaws.{answered_short, answered_filled}
+use Rattle.capi_find.proofs.give_request.Goals as goal
+
+abbrev numbers : ℕ → ℕ → Head → Enables → ℕ → ℕ → ℕ → List ℕ
+numbers word kind h e address target register =
+    record_in word ∷ bridges_in word ∷ (head_numbers kind h ++ (request_numbers e address target register ++ absent))
+
+pub returns-then-out : goal.returns-then-out
+returns-then-out c = answered_short (numbers c.args.word c.args.kind c.args.h c.args.e c.args.address c.args.target c.args.register) c.args.out.now (omega arith)
+
+pub bounds-out-1 : goal.bounds-out-1
+bounds-out-1 c = simp length-set (omega arith)
+
+pub shape_of-out : goal.shape_of-out
+shape_of-out c = omega (
+  arith,
+  c.put_request.auto.0,
+  length-set (set c.args.out.now 0 c.record_in.result) 1 c.bridges_in.result,
+  length-set c.args.out.now 0 c.record_in.result,
+)
+
+pub returns : goal.returns
+returns c = answered_filled (numbers c.args.word c.args.kind c.args.h c.args.e c.args.address c.args.target c.args.register) c.args.out.now (omega arith)
+    (rw (c.record_in.ensures.0, c.bridges_in.ensures.0) at c.put_request.ensures)

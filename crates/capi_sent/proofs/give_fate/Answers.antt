@@ -1,0 +1,11 @@
+-- `capi_sent::give_fate` meets its contract: by what becomes of the packet. Assumes nothing.
+use Rattle.capi_sent.proofs.give_fate.Goals as goal
+
+pub returns-in-Delivered : goal.returns-in-Delivered
+returns-in-Delivered c = rw c.in-Delivered.is c.give_ends.ensures
+
+pub returns-in-Host : goal.returns-in-Host
+returns-in-Host c = rw c.in-Host.is c.give_ends-in-Host.ensures
+
+pub returns-in-Port : goal.returns-in-Port
+returns-in-Port c = rw c.in-Port.is c.give_ends-in-Port.ensures

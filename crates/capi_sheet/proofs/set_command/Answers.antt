@@ -1,0 +1,14 @@
+-- `capi_sheet::set_command` meets its contract: a command word too wide, an ID that no function has, and the sheet's own call.
+-- Assumes nothing.
+use Rattle.capi_sheet.specs.CallsLaws.{command_too_wide, command_unowned, commanded}
+use Rattle.capi_sheet.proofs.set_command.Goals as goal
+
+pub returns-then-command-gt-WORD : goal.returns-then-command-gt-WORD
+returns-then-command-gt-WORD c = command_too_wide c.args.sheet.now c.args.id c.args.command c.if-command-gt-WORD.true
+
+pub returns-then-id-gt-WORD : goal.returns-then-id-gt-WORD
+returns-then-id-gt-WORD c = command_unowned c.args.sheet.now c.args.id c.args.command c.if-command-gt-WORD.false c.unowned.result
+    (λ i. (c.type_inv.sheet i).fits) c.if-id-gt-WORD.true c.unowned.ensures
+
+pub returns : goal.returns
+returns c = commanded c.args.sheet.now c.args.id c.args.command c.if-command-gt-WORD.false _ _ c.set_command.ensures

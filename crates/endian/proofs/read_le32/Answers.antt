@@ -1,0 +1,7 @@
+-- `endian::read_le32` meets its contract: the law is `le_add` at 2 and 2 bytes. Assumes nothing.
+use native.Mathlib.Omega.{arith}
+use Rattle.endian.specs.EndianLaws.{le_add}
+use Rattle.endian.proofs.read_le32.Goals as goal
+
+pub returns : goal.returns
+returns c = (omega (arith, le_add 2 2 c.args.s.now c.args.at), omega arith)

@@ -1,0 +1,6 @@
+-- `packet::pick` meets its contract. Assumes nothing.
+use Rattle.packet.specs.RulesLaws.{picked}
+use Rattle.packet.proofs.pick.Goals as goal
+
+pub returns : goal.returns
+returns c = picked c.args.test c.args.x c.args.y

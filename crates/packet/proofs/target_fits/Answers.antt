@@ -1,0 +1,8 @@
+-- `packet::target_fits` meets its contract. Assumes nothing.
+use Prim.Native.Nat.{◌<◌}
+use borrow.Author.Tests.{lt-ltb}
+use native.Mathlib.Omega.{arith}
+use Rattle.packet.proofs.target_fits.Goals as goal
+
+pub returns : goal.returns
+returns c = let f : c.args.t.id < 65536 = omega arith in rw (lt-ltb _ _ f)

@@ -1,0 +1,9 @@
+-- `packet_parsing::enables_from` meets its contract: the fields stand at their places, and what was tested to fit is cast whole. Assumes
+-- nothing.
+use borrow.Author.Rules.{rules}
+use Rattle.packet_parsing.specs.Parsing.{enables_from}
+use Rattle.packet_parsing.proofs.enables_from.Goals as goal
+
+pub returns : goal.returns
+unfolding enables_from
+returns c = search rules

@@ -1,0 +1,12 @@
+-- `plan_where::measure` meets its contract. Assumes nothing.
+use native.Mathlib.Omega.{arith}
+use Rattle.planner.specs.FilledLaws.{measurable, measured}
+use Rattle.plan_where.proofs.measure.Goals as goal
+
+pub count_and_size-requires : goal.count_and_size-requires
+count_and_size-requires c = measurable _ c.requires.0 (record { parents = omega arith; heads = omega arith; readbacks = omega arith }) c.fill-n.ensures _ _
+    c.requires.1.0 c.requires.1.1
+
+pub returns : goal.returns
+returns c = measured _ c.requires.0 (record { parents = omega arith; heads = omega arith; readbacks = omega arith }) c.fill-n.ensures _ _
+    c.requires.1.0 c.requires.1.1 c.count_and_size.ensures

@@ -1,0 +1,6 @@
+-- `route::route_listed`: the router's answer with its list, which is the sheet's. Assumes nothing.
+use Rattle.route.specs.ListedLaws.{route_listed}
+use Rattle.route.proofs.route_listed.Goals as goal
+
+pub returns : goal.returns
+returns c = route_listed _ _ _ _ c.route.ensures _ _ c.listed.ensures

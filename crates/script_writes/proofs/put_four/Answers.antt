@@ -1,0 +1,21 @@
+-- `script_writes::put_four` meets its contract. Four stores are `sets` of the four bytes, by computation. Assumes nothing.
+use mathlib.Core.Path.{◌≡◌}
+use Prim.Native.Nat.{suc, ◌+◌}
+use native.Mathlib.Numerals.{add-one}
+use native.Mathlib.Omega.{arith}
+use lib.ListN.{length-set}
+use Rattle.script_writes.proofs.put_four.Goals as goal
+
+pub bounds-room-at-2 : goal.bounds-room-at-2
+bounds-room-at-2 c = simp length-set (omega arith)
+
+pub bounds-room-at-3 : goal.bounds-room-at-3
+bounds-room-at-3 c = simp length-set (omega arith)
+
+pub bounds-room-at-4 : goal.bounds-room-at-4
+bounds-room-at-4 c = simp length-set (omega arith)
+
+pub returns : goal.returns
+returns c = let second : c.args.at + 2 ≡ suc (suc c.args.at) = omega arith in
+    let third : c.args.at + 3 ≡ suc (suc (suc c.args.at)) = omega arith in
+    rw (add-one c.args.at, second, third)

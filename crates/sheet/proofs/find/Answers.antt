@@ -1,0 +1,25 @@
+-- `sheet::find` meets its contract: the sheet's number, then what the search finds. Assumes nothing.
+use mathlib.Core.Path.{sym, ap, ◌∙◌}
+use native.Mathlib.Omega.{arith}
+use Rattle.sheet.specs.Lookup.{placed}
+use Rattle.sheet.specs.SheetLaws.{checked_of_zero}
+use Rattle.sheet.specs.LookupLaws.{found_at, lookup_bad, lookup_good}
+use Rattle.sheet.proofs.find.Goals as goal
+
+pub returns-then-n-ne0 : goal.returns-then-n-ne0
+returns-then-n-ne0 c = lookup_bad _ _ _ c.check-n.ensures c.if-n-ne0.true
+
+pub find_from-requires : goal.find_from-requires
+find_from-requires c = (checked_of_zero _ (sym c.check-n.ensures ∙ c.if-n-ne0.false)).framed
+
+pub overflow_add-result : goal.overflow_add-result
+overflow_add-result c = let f = (checked_of_zero _ (sym c.check-n.ensures ∙ c.if-n-ne0.false)).framed in
+    omega (arith, (found_at _ 1 _ _ f (sym c.find_from.ensures ∙ c.in-At.is)).fits)
+
+pub returns-in-At : goal.returns-in-At
+returns-in-At c = ap placed (sym c.in-At.is) ∙ lookup_good _ _ _ c.check-n.ensures c.if-n-ne0.false _
+    c.find_from.ensures
+
+pub returns-in-Nothing : goal.returns-in-Nothing
+returns-in-Nothing c = ap placed (sym c.in-Nothing.is) ∙ lookup_good _ _ _ c.check-n.ensures c.if-n-ne0.false _
+    c.find_from.ensures

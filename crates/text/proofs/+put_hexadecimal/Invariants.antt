@@ -1,0 +1,4 @@
+use Rattle.text.proofs.+put_hexadecimal.Given as goal
+
+abbrev pub decreases-put_hexadecimal : goal.decreases-put_hexadecimal
+decreases-put_hexadecimal l = l.width

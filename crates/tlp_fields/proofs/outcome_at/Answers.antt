@@ -1,0 +1,7 @@
+-- `tlp_fields::outcome_at` meets its contract. Assumes nothing.
+use Rattle.tlp_fields.specs.Fields.{outcome_at}
+use Rattle.tlp_fields.proofs.outcome_at.Goals as goal
+
+pub returns : goal.returns
+unfolding outcome_at
+returns c = rw (c.id_at-completer.ensures, c.wide.ensures.0, c.wide-2.ensures.0)

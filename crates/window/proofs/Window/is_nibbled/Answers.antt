@@ -1,0 +1,7 @@
+-- `Window::is_nibbled` compares both low nibbles with the pool's. Assumes nothing.
+use Rattle.window.specs.Window.{is_nibbled}
+use Rattle.window.proofs.Window.is_nibbled.Goals as goal
+
+pub returns : goal.returns
+unfolding is_nibbled
+returns c = rw (c.nibble-expected.ensures.0, c.wide16.ensures.0, c.wide16-2.ensures.0)
