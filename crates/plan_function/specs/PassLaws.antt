@@ -114,11 +114,11 @@ place_split c k (g ∷ fs) (suc i) f z e =
     })
 
 -- a record's own pieces, by its index
-abbrev pub field_own : List Function → ℕ → Function → List Piece
-field_own fs i f = own_pieces (suc i) f (pieces (suc (suc i)) (drop (suc i) fs))
+abbrev pub own_at : List Function → ℕ → Function → List Piece
+own_at fs i f = own_pieces (suc i) f (pieces (suc (suc i)) (drop (suc i) fs))
 
 pub cursors_at_step : (h : Host) (fs : List Function) (i : ℕ) (f : Function) → IsAt fs i f
-    → cursors_at h fs (suc i) ≡ cursors_after (cursors_at h fs i) (field_own fs i f)
+    → cursors_at h fs (suc i) ≡ cursors_after (cursors_at h fs i) (own_at fs i f)
 cursors_at_step h fs i f e = let s : 1 + i ≡ suc i = omega arith in rw s at (cursors_from_step (from_bases h) 1 fs i f e)
 
 pub cursors_at_start : (h : Host) (fs : List Function) → cursors_at h fs 0 ≡ from_bases h
@@ -126,6 +126,6 @@ unfolding cursors_from
 cursors_at_start h fs = refl
 
 pub record_split : (h : Host) (fs : List Function) → Lawful fs → (i : ℕ) (f : Function) → IsAt fs i f
-    → Split (suc i) (place (cursors_at h fs i) (field_own fs i f)) (placed h fs)
+    → Split (suc i) (place (cursors_at h fs i) (own_at fs i f)) (placed h fs)
 unfolding placed
 record_split h fs lawful i f e = let s : 1 + i ≡ suc i = omega arith in rw s at (place_split (from_bases h) 1 fs i f lawful.sized e)

@@ -14,10 +14,10 @@ use Rattle.pools.specs.Pools.{in_space}
 use Rattle.plan_rule.specs.Pools.{Pool, low, high, io}
 use Rattle.plan_rule.specs.Records.{Bar, Host, Function, Lawful, Sized}
 use Rattle.plan_rule.specs.RecordLaws.{IsAt}
-use Rattle.plan_rule.specs.Layout.{bar, window, Piece, Placed, is_window}
+use Rattle.plan_rule.specs.Layout.{bar, window, Piece, Placed, is_window, start_at}
 use Rattle.plan_rule.specs.Pieces.{bar_piece, bar_pieces, window_over, content_of, window_pieces, own_pieces, pieces}
 use Rattle.plan_rule.specs.PieceLaws.{own_pieces_lem, pieces_owner}
-use Rattle.plan_rule.specs.Placing.{Cursors, place, placed, from_bases}
+use Rattle.plan_rule.specs.Placing.{Cursors, moved, place, placed, from_bases}
 use Rattle.walk.specs.Ranges.{Range}
 use Rattle.plan_good.specs.Spaces.{range_pool}
 use Rattle.plan_good.specs.Registers.{range_of, is_bar_of, is_window_of, bars_of}
@@ -26,7 +26,7 @@ use Rattle.plan_good.specs.Items.{bar_of_is}
 pieces_placed : (c : Cursors) (ps : List Piece) → map (λ (x : Placed). x.piece) (place c ps) ≡ ps
 unfolding place
 pieces_placed c [] = refl
-pieces_placed c (p ∷ ps) = ap (p ∷◌) (pieces_placed _ ps)
+pieces_placed c (p ∷ ps) = ap (p ∷◌) (pieces_placed (moved c p (start_at (c p.bus p.pool) p)) ps)
 
 -- ---- of all pieces, one record's
 

@@ -46,7 +46,7 @@ function c = function_of_part (part c)
 
 -- the level of its parent, told of the parent that was read
 level : (c : In-At)
-    → found_in (function c.before.before.before.before.before).parent
+    → found_in (function_of_part c.part_at-part.result.now).parent
     c.loop-n.buses
     c.loop-n.levels
     ≡ At c.in-At.i
@@ -57,7 +57,7 @@ level c =
 -- the parent's level is among those that are open
 room : (c : In-At) → c.in-At.i < most_above + 2
 room c =
-    omega (arith, lt_of_found (function c.before.before.before.before.before).parent c.loop-n.buses c.loop-n.levels _ (level c), c.loop-n.invariant.0)
+    omega (arith, lt_of_found (function_of_part c.part_at-part.result.now).parent c.loop-n.buses c.loop-n.levels _ (level c), c.loop-n.invariant.0)
 
 -- a function that is in its place
 placed : (c : Else-unplaced)
@@ -67,14 +67,14 @@ placed : (c : Else-unplaced)
     (get_or c.loop-n.shared
     c.in-At.i 0)
     c.in-At.i
-    (function c.before.before.before.before.before.before.before)
+    (function_of_part c.part_at-part.result.now)
     ≡ false
 placed c = sym c.unplaced.ensures ∙ c.if-unplaced.false
 
 -- has a level after its own
 shallow : (c : Else-unplaced) → c.in-At.i ≤ most_above
 shallow c =
-    shallow_of_placed _ _ _ (function c.before.before.before.before.before.before.before) (placed c)
+    shallow_of_placed _ _ _ (function_of_part c.part_at-part.result.now) (placed c)
 
 pub loop-n-init : goal.loop-n-init
 unfolding deepest

@@ -36,10 +36,10 @@ pub bounds-out-1 : goal.bounds-out-1
 bounds-out-1 c = simp length-set (omega arith)
 
 pub put_list-requires : goal.put_list-requires
-put_list-requires c = omega (arith, c.put_packet.auto.0, length-set (set c.args.out.now 0 0) 1 c.args.functions, length-set c.args.out.now 0 0)
+put_list-requires c = omega (arith, c.put_packet.auto.out, length-set (set c.args.out.now 0 0) 1 c.args.functions, length-set c.args.out.now 0 0)
 
 pub shape_of-out : goal.shape_of-out
-shape_of-out c = omega (arith, c.put_list.auto.0, c.put_packet.auto.0, length-set (set c.args.out.now 0 0) 1 c.args.functions, length-set c.args.out.now 0 0)
+shape_of-out c = omega (arith, c.put_list.auto.list, c.put_packet.auto.out, length-set (set c.args.out.now 0 0) 1 c.args.functions, length-set c.args.out.now 0 0)
 
 pub returns : goal.returns
 returns c = let list = counted 1 c.args.functions in

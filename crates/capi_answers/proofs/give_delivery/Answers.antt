@@ -14,7 +14,7 @@ pub bounds-out-1 : goal.bounds-out-1
 bounds-out-1 c = simp length-set (omega arith)
 
 pub shape_of-out : goal.shape_of-out
-shape_of-out c = omega (arith, c.put_packet.auto.0, length-set (set c.args.out.now 0 c.args.owner) 1 c.args.bridges, length-set c.args.out.now 0 c.args.owner)
+shape_of-out c = omega (arith, c.put_packet.auto.out, length-set (set c.args.out.now 0 c.args.owner) 1 c.args.bridges, length-set c.args.out.now 0 c.args.owner)
 
 pub returns : goal.returns
 returns c = answered_filled (c.args.owner ∷ c.args.bridges ∷ numbers_of c.args.p) c.args.out.now (omega (arith, length_numbers_of c.args.p))

@@ -23,7 +23,7 @@ bounds-out-1 c = simp length-set (omega arith)
 pub shape_of-out : goal.shape_of-out
 shape_of-out c = omega (
   arith,
-  c.put_request.auto.0,
+  c.put_request.auto.out,
   length-set (set c.args.out.now 0 c.record_in.result) 1 c.bridges_in.result,
   length-set c.args.out.now 0 c.record_in.result,
 )

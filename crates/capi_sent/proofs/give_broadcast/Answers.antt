@@ -41,10 +41,10 @@ pub bounds-out-3 : goal.bounds-out-3
 bounds-out-3 c = simp length-set (omega arith)
 
 pub put_list-requires : goal.put_list-requires
-put_list-requires c = omega (arith, c.put_packet.auto.0, length-set (set (set (set c.args.out.now 0 0) 1 3) 2 0) 3 c.args.functions, length-set (set (set c.args.out.now 0 0) 1 3) 2 0, length-set (set c.args.out.now 0 0) 1 3, length-set c.args.out.now 0 0)
+put_list-requires c = omega (arith, c.put_packet.auto.out, length-set (set (set (set c.args.out.now 0 0) 1 3) 2 0) 3 c.args.functions, length-set (set (set c.args.out.now 0 0) 1 3) 2 0, length-set (set c.args.out.now 0 0) 1 3, length-set c.args.out.now 0 0)
 
 pub shape_of-out : goal.shape_of-out
-shape_of-out c = omega (arith, c.put_list.auto.0, c.put_packet.auto.0, length-set (set (set (set c.args.out.now 0 0) 1 3) 2 0) 3 c.args.functions, length-set (set (set c.args.out.now 0 0) 1 3) 2 0, length-set (set c.args.out.now 0 0) 1 3, length-set c.args.out.now 0 0)
+shape_of-out c = omega (arith, c.put_list.auto.list, c.put_packet.auto.out, length-set (set (set (set c.args.out.now 0 0) 1 3) 2 0) 3 c.args.functions, length-set (set (set c.args.out.now 0 0) 1 3) 2 0, length-set (set c.args.out.now 0 0) 1 3, length-set c.args.out.now 0 0)
 
 pub returns : goal.returns
 returns c = answered_filled (whole c.args.functions c.args.p) c.args.out.now (omega (arith, length_whole c.args.functions c.args.p)) (sets_append c.args.out.now 0 24 (front c.args.functions c.args.p) (counted 1 c.args.functions) (length_front c.args.functions c.args.p) c.put_packet.ensures c.put_list.ensures)

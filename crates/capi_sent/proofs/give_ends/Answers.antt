@@ -20,7 +20,7 @@ pub bounds-out-3 : goal.bounds-out-3
 bounds-out-3 c = simp length-set (omega arith)
 
 pub shape_of-out : goal.shape_of-out
-shape_of-out c = omega (arith, c.put_packet.auto.0, length-set (set (set (set c.args.out.now 0 c.args.from) 1 c.args.goal) 2 c.args.owner) 3 c.args.bridges, length-set (set (set c.args.out.now 0 c.args.from) 1 c.args.goal) 2 c.args.owner, length-set (set c.args.out.now 0 c.args.from) 1 c.args.goal, length-set c.args.out.now 0 c.args.from)
+shape_of-out c = omega (arith, c.put_packet.auto.out, length-set (set (set (set c.args.out.now 0 c.args.from) 1 c.args.goal) 2 c.args.owner) 3 c.args.bridges, length-set (set (set c.args.out.now 0 c.args.from) 1 c.args.goal) 2 c.args.owner, length-set (set c.args.out.now 0 c.args.from) 1 c.args.goal, length-set c.args.out.now 0 c.args.from)
 
 pub returns : goal.returns
 returns c = answered_filled (c.args.from ∷ c.args.goal ∷ c.args.owner ∷ c.args.bridges ∷ numbers_of c.args.p) c.args.out.now (omega (arith, length_numbers_of c.args.p)) c.put_packet.ensures

@@ -5,7 +5,7 @@ use borrow.Author.Tests.{lt-ltb, le-ltb}
 use Rattle.capi_trace.proofs.follow.Goals as goal
 
 pub returns-then-host_id-gt-LAST_ID : goal.returns-then-host_id-gt-LAST_ID
-returns-then-host_id-gt-LAST_ID c = rw (lt-ltb 65535 c.args.host-id c.if-host_id-gt-LAST_ID.true) (refl, (refl, (refl, refl)))
+returns-then-host_id-gt-LAST_ID c = rw (lt-ltb 65535 c.args.host_id c.if-host_id-gt-LAST_ID.true) (refl, (refl, (refl, refl)))
 
 pub returns : goal.returns
-returns c = rw (le-ltb 65535 c.args.host-id c.if-host_id-gt-LAST_ID.false) c.take.ensures
+returns c = rw (le-ltb 65535 c.args.host_id c.if-host_id-gt-LAST_ID.false) c.take.ensures

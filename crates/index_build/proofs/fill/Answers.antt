@@ -5,12 +5,12 @@ use Rattle.index_build.specs.BuildLaws.{filled}
 use Rattle.index_build.proofs.fill.Goals as goal
 
 pub sort-requires : goal.sort-requires
-sort-requires c = (omega (arith, c.put_all-count.ensures.1, passes_room c.args.root c.args.sheet.now, c.requires.1), omega (arith, c.put_all-count.auto.0, c.clear.auto.0, c.requires.2))
+sort-requires c = (omega (arith, c.put_all-count.ensures.1, passes_room c.args.root c.args.sheet.now, c.requires.1), omega (arith, c.put_all-count.auto.index, c.clear.auto.index, c.requires.2))
 
 pub finish-requires : goal.finish-requires
 finish-requires c = (
   omega (arith, c.put_all-count.ensures.1, passes_room c.args.root c.args.sheet.now, c.requires.1),
-  omega (arith, c.sort.auto.0, c.put_all-count.auto.0, c.clear.auto.0, c.requires.2),
+  omega (arith, c.sort.auto.index, c.put_all-count.auto.index, c.clear.auto.index, c.requires.2),
 )
 
 pub returns : goal.returns

@@ -63,7 +63,7 @@ loop-i-preserved c = (
   placing_next _ _ _ _ _ _ _ c.loop-i.invariant.1 _ _
       (slots_step _ _ _ _ _ _ _ _ (inside (goal.at.loop-i-preserved c).In-loop-i) c.slot_at-x.ensures c.span-i.ensures.0 c.loop-i.invariant.0
       c.value_here-value.ensures)
-      _ _ c.put_bar-at.auto.0 c.put_bar-at.ensures.0 c.put_bar-at.ensures.1,
+      _ _ c.put_bar-at.auto.index c.put_bar-at.ensures.0 c.put_bar-at.ensures.1,
 )
 
 pub shape_of-index : goal.shape_of-index

@@ -58,7 +58,7 @@ pub loop-k-preserved : goal.loop-k-preserved
 loop-k-preserved c = placing_next _ _ _ _ _ _ _ c.loop-k.invariant _ _
     (pass_step _ c.requires.0.checked.framed _ (here (goal.at.loop-k-preserved c).In-loop-k) _ c.part-part.ensures _ _ c.bus_of.ensures _
     c.bridges_above-bridges.ensures c.args.pass)
-    _ _ c.put_record-at.auto.0 c.put_record-at.ensures.0 c.put_record-at.ensures.1
+    _ _ c.put_record-at.auto.index c.put_record-at.ensures.0 c.put_record-at.ensures.1
 
 pub shape_of-index : goal.shape_of-index
 shape_of-index c = c.loop-k.invariant.same_length

@@ -13,7 +13,7 @@ pub put_head-requires : goal.put_head-requires
 put_head-requires c = omega arith
 
 pub shape_of-index : goal.shape_of-index
-shape_of-index c = omega (arith, c.put_head.auto.0, c.fill_table-width.auto.0, c.put_segments.auto.0)
+shape_of-index c = omega (arith, c.put_head.auto.index, c.fill_table-width.auto.index, c.put_segments.auto.index)
 
 pub returns : goal.returns
 unfolding finished

@@ -7,7 +7,7 @@ pub write_le16-requires-2 : goal.write_le16-requires-2
 write_le16-requires-2 c = simp length-set (omega arith)
 
 pub shape_of-index : goal.shape_of-index
-shape_of-index c = omega (arith, c.write_le16-2.auto.0, c.write_le16.auto.0, length-set c.write_le16.new.0 2 c.args.root)
+shape_of-index c = omega (arith, c.write_le16-2.auto.out, c.write_le16.auto.out, length-set c.write_le16.new.out 2 c.args.root)
 
 pub returns : goal.returns
 unfolding headed

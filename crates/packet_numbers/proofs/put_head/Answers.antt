@@ -6,7 +6,7 @@ use Rattle.endian.specs.SetsLaws.{sets_append}
 use Rattle.packet_numbers.proofs.put_head.Goals as goal
 
 pub put_five-requires-2 : goal.put_five-requires-2
-put_five-requires-2 c = omega (arith, c.put_five.auto.0, c.requires)
+put_five-requires-2 c = omega (arith, c.put_five.auto.out, c.requires)
 
 pub returns : goal.returns
 returns c = rw (← c.bit-td.ensures, ← c.bit-ep.ensures)

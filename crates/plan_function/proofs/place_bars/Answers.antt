@@ -79,7 +79,7 @@ loop-i-preserved-then-is_paired c = let six : length c.args.set ≡ 6 = search r
     let good = not_bad c.args.set c.args.n (ends_of c.kept-at.result) c.loop-i.values c.loop-i.at c.loop-i.i c.loop-i.invariant c.loop-i-test.true c.requires.0 six c.wide_slot-x.result e in
     rw (sym (pair_span _ _ _ c.wide_slot-x.ensures good))
     (placing_step c.args.set c.args.n (ends_of c.kept-at.result) c.loop-i.values c.loop-i.at c.loop-i.i c.loop-i.invariant c.loop-i-test.true c.requires.0 six
-    c.wide_slot-x.result e c.bar_start.result c.value_of-v.result c.put_registers.new.0
+    c.wide_slot-x.result e c.bar_start.result c.value_of-v.result c.put_registers.new.values
     c.after_bar-at.result
     c.bar_start.ensures.0 c.value_of-v.ensures c.put_registers.ensures c.after_bar-at.ensures)
 
@@ -115,7 +115,7 @@ loop-i-preserved-then-is_memory c = let six : length c.args.set ≡ 6 = search r
     c.is_paired.ensures.0 c.if-is_paired.false c.narrow_slot-x.ensures in
     rw (sym (single_span _ _ c.narrow_slot-x.ensures))
     (placing_step c.args.set c.args.n (ends_of c.kept-at.result) c.loop-i.values c.loop-i.at c.loop-i.i c.loop-i.invariant c.loop-i-test.true c.requires.0 six
-    c.narrow_slot-x.result e c.bar_start-then-is_memory.result c.value_of-v-then-is_memory.result c.put_registers-then-is_memory.new.0
+    c.narrow_slot-x.result e c.bar_start-then-is_memory.result c.value_of-v-then-is_memory.result c.put_registers-then-is_memory.new.values
     c.after_bar-at-then-is_memory.result
     c.bar_start-then-is_memory.ensures.0 c.value_of-v-then-is_memory.ensures c.put_registers-then-is_memory.ensures c.after_bar-at-then-is_memory.ensures)
 
@@ -149,7 +149,7 @@ loop-i-preserved c = let six : length c.args.set ≡ 6 = search rules in
     c.if-is_paired.false c.slot_at-x.ensures in
     rw (sym one)
     (placing_step c.args.set c.args.n (ends_of c.kept-at.result) c.loop-i.values c.loop-i.at c.loop-i.i c.loop-i.invariant c.loop-i-test.true c.requires.0 six
-    c.slot_at-x.result c.slot_at-x.ensures c.bar_start-in-loop-i.result c.value_of-v-in-loop-i.result c.put_registers-in-loop-i.new.0
+    c.slot_at-x.result c.slot_at-x.ensures c.bar_start-in-loop-i.result c.value_of-v-in-loop-i.result c.put_registers-in-loop-i.new.values
     c.after_bar-at-in-loop-i.result
     c.bar_start-in-loop-i.ensures.0 c.value_of-v-in-loop-i.ensures c.put_registers-in-loop-i.ensures c.after_bar-at-in-loop-i.ensures)
 

@@ -59,4 +59,4 @@ loop-seen-preserved c = let e = sym c.next_at.ensures ∙ c.in-Record.is in
     rw (add-one c.loop-seen.i)
     (walked_turn c.requires c.loop-seen.invariant _ e c.function_at-f.ensures c.see_next-seen.ensures
     (c.pass_over.ensures ∙ ap (λ (f : Function). cursors_next c.args.memo.now c.loop-seen.cursors c.loop-seen.i f) (sym c.function_at-f.ensures))
-    (omega (arith, c.pass_over.auto.1.1.1.1.1.1.1.0)))
+    (omega (arith, c.pass_over.auto.cursors)))

@@ -22,7 +22,7 @@ loop-b-smaller c = omega arith
 pub loop-b-preserved : goal.loop-b-preserved
 loop-b-preserved c = (
   omega arith,
-  omega (arith, c.store_cursors.auto.0, c.loop-b.invariant.1),
+  omega (arith, c.store_cursors.auto.cursors, c.loop-b.invariant.1),
   rw (add-one c.loop-b.b)
       (filled_next c.loop-b.cursors _ c.args.base c.loop-b.b c.loop-b.invariant.2 (omega (arith, c.requires, c.loop-b.invariant.1, c.loop-b-test.true))
       c.store_cursors.ensures),

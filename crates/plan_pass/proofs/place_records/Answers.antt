@@ -19,7 +19,7 @@ shape_of-cursors-in-End c = c.loop-n.invariant.cursors-length
 
 -- src/lib.rt:65:17
 pub shape_of-sheet-in-End : goal.shape_of-sheet-in-End
-shape_of-sheet-in-End c = c.loop-n.invariant.sheet-length
+shape_of-sheet-in-End c = c.loop-n.invariant.sheet_length
 
 -- src/lib.rt:65:17
 pub returns-in-End : goal.returns-in-End
@@ -31,7 +31,7 @@ shape_of-cursors-in-Broken c = c.loop-n.invariant.cursors-length
 
 -- src/lib.rt:68:17
 pub shape_of-sheet-in-Broken : goal.shape_of-sheet-in-Broken
-shape_of-sheet-in-Broken c = c.loop-n.invariant.sheet-length
+shape_of-sheet-in-Broken c = c.loop-n.invariant.sheet_length
 
 -- src/lib.rt:68:17
 pub returns-in-Broken : goal.returns-in-Broken
@@ -79,4 +79,4 @@ loop-n-smaller c = let e = sym c.next_at.ensures ∙ c.in-Record.is in
 pub loop-n-preserved : goal.loop-n-preserved
 loop-n-preserved c = let e = sym c.next_at.ensures ∙ c.in-Record.is in
     rw (add-one c.loop-n.i)
-    (standing_turn c.requires c.loop-n.invariant _ e c.place_at.ensures.0 c.place_at.ensures.1 (omega (arith, c.place_at.auto.1.1.1.1.1.1.1.0)))
+    (standing_turn c.requires c.loop-n.invariant _ e c.place_at.ensures.0 c.place_at.ensures.1 (omega (arith, c.place_at.auto.cursors)))

@@ -63,7 +63,7 @@ pub function_size-with_spare-inner-requires : goal.function_size-with_spare-inne
 function_size-with_spare-inner-requires t c = (bus_whole c.requires.0 c.requires.1 c.laid_from-inside.ensures c.bus_size-bus.ensures, c.spare_at.ensures.1)
 
 pub function_size-store-requires : goal.function_size-store-requires
-function_size-store-requires t c = omega (arith, c.requires.0.room, c.requires.1, c.bus_size-bus.auto.1.1.1.0)
+function_size-store-requires t c = omega (arith, c.requires.0.room, c.requires.1, c.bus_size-bus.auto.memo)
 
 pub function_size-with_windows-requires : goal.function_size-with_windows-requires
 function_size-with_windows-requires t c = inner_align_power c.requires.0 c.requires.1 c.laid_from-inside.ensures c.bus_size-bus.ensures c.spare_at.ensures.0

@@ -54,4 +54,4 @@ loop-next-smaller c = let e = sym c.next_at.ensures ∙ c.in-Record.is in
 pub loop-next-preserved : goal.loop-next-preserved
 loop-next-preserved c = let e = sym c.next_at.ensures ∙ c.in-Record.is in
     rw (add-one c.loop-next.i)
-    (passed_turn c.requires c.loop-next.invariant _ e c.put_next-next.ensures.0 c.put_next-next.auto.1.1.1.1.1.1.1.0 c.put_next-next.ensures.1)
+    (passed_turn c.requires c.loop-next.invariant _ e c.put_next-next.ensures.0 c.put_next-next.auto.cursors c.put_next-next.ensures.1)

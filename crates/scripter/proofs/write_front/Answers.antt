@@ -11,13 +11,13 @@ pub write_pass-requires : goal.write_pass-requires
 write_pass-requires c = (
   c.requires.0,
   (
-    omega (arith, c.write_pass-next.auto.1.1.1.1.1.0, c.requires.1.0),
+    omega (arith, c.write_pass-next.auto.cursors, c.requires.1.0),
     fits_registers c.args.board.now c.args.room.now c.args.from c.requires.1.1 c.write_pass-next.ensures,
   ),
 )
 
 pub shape_of-cursors : goal.shape_of-cursors
-shape_of-cursors c = omega (arith, c.write_pass-next.auto.1.1.1.1.1.0, c.write_pass.auto.1.1.1.1.1.0)
+shape_of-cursors c = omega (arith, c.write_pass-next.auto.cursors, c.write_pass.auto.cursors)
 
 pub shape_of-room : goal.shape_of-room
 shape_of-room c = omega (arith, wrote_length c.write_pass-next.ensures, wrote_length c.write_pass.ensures)

@@ -10,12 +10,12 @@ fill_cursors-requires c = omega (arith, c.requires.1.0)
 pub pass_records-requires : goal.pass_records-requires
 pass_records-requires c = passing_of _ _ _ _ _ _ _ c.requires.0.0 c.requires.0.1 c.bases_of.ensures c.fill_cursors.ensures (omega (
   arith,
-  c.fill_cursors.auto.0,
+  c.fill_cursors.auto.cursors,
   c.requires.1.0,
 )) c.requires.1.1
 
 pub shape_of-cursors : goal.shape_of-cursors
-shape_of-cursors c = omega (arith, c.fill_cursors.auto.0, c.pass_records.auto.1.1.1.1.0)
+shape_of-cursors c = omega (arith, c.fill_cursors.auto.cursors, c.pass_records.auto.cursors)
 
 pub shape_of-room : goal.shape_of-room
 shape_of-room c = wrote_length c.pass_records.ensures

@@ -12,7 +12,7 @@ pub write_pass-requires : goal.write_pass-requires
 write_pass-requires c = (
   (c.requires.0, refl),
   (
-    omega (arith, c.write_front-next.auto.1.1.1.1.0),
+    omega (arith, c.write_front-next.auto.cursors),
     fits_commands c.args.board.now c.requires.1 c.write_front-next.ensures,
   ),
 )

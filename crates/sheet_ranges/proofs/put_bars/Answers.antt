@@ -51,7 +51,7 @@ pub loop-i-preserved : goal.loop-i-preserved
 loop-i-preserved c = (
   omega (arith, c.put_bar-n.ensures.1, c.span-i.ensures.1, c.loop-i.invariant.0),
   omega (arith, c.put_bar-n.ensures.1, c.loop-i.invariant.0, c.loop-i-test.true),
-  omega (arith, c.put_bar-n.auto.0, c.loop-i.invariant.2),
+  omega (arith, c.put_bar-n.auto.room, c.loop-i.invariant.2),
   lawful_next _ _ _ _ _ (inside (goal.at.loop-i-preserved c).In-loop-i) c.slot_at-x.ensures c.value_here-value.ensures c.loop-i.invariant.3 _ c.span-i.ensures.0,
   bars_turn _ _ _ _ _ (inside (goal.at.loop-i-preserved c).In-loop-i) c.slot_at-x.ensures c.value_here-value.ensures c.loop-i.invariant.3 _ c.span-i.ensures.0 _ _ _ _
       c.put_bar-n.ensures.0

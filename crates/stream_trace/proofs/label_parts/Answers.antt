@@ -29,7 +29,7 @@ loop-i-preserved c = let room = length c.loop-i.lines in
       c.part_end-end.ensures.1,
       part_sound c.args.engine c.args.bytes.now c.loop-i.t c.args.piece.now c.loop-i.i _ room _ _ c.loop-i.invariant.1 c.part_end-end.ensures.0 c.part_end-end.ensures.1 is c.part_end-end.ensures.2 c.feed_by-fed.ensures.0,
       part_state c.args.engine c.args.bytes.now c.loop-i.t c.args.piece.now c.loop-i.i _ room _ _ c.loop-i.invariant.1 c.part_end-end.ensures.0 c.part_end-end.ensures.1 is c.part_end-end.ensures.2 c.feed_by-fed.ensures.0 ∙ c.loop-i.invariant.2,
-      omega (arith, c.loop-i.invariant.3, c.feed_by-fed.auto.1.1.1.1.0),
+      omega (arith, c.loop-i.invariant.3, c.feed_by-fed.auto.out),
     )
 
 pub shape_of-lines : goal.shape_of-lines

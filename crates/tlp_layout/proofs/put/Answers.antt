@@ -15,7 +15,7 @@ put_front-requires c = let long = size_of_lawful c.args.row c.args.p c.requires.
 
 pub put_body-requires : goal.put_body-requires
 put_body-requires c = let long = size_of_lawful c.args.row c.args.p c.requires.0 in
-    (c.requires.0, omega (arith, long, c.put_front.auto.1.1.0, c.requires.1), omega (arith, c.put_front.auto.1.1.0, c.requires.1))
+    (c.requires.0, omega (arith, long, c.put_front.auto.room, c.requires.1), omega (arith, c.put_front.auto.room, c.requires.1))
 
 pub returns : goal.returns
 returns c = let h = head_of c.args.p in

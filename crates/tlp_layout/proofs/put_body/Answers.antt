@@ -13,7 +13,7 @@ put_request-requires c = let b = memory_of_lawful _ _ _ _ _ (rw c.in-Memory.is a
 
 pub put_address-requires : goal.put_address-requires
 put_address-requires c = let whole = rw c.in-Memory.is at c.requires.2 in
-    omega (arith, c.put_request.auto.1.1.0, c.requires.1)
+    omega (arith, c.put_request.auto.room, c.requires.1)
 
 pub put_request-requires-in-Io : goal.put_request-requires-in-Io
 put_request-requires-in-Io c = let b = io_of_lawful _ _ _ _ _ (rw c.in-Io.is at c.requires.0) in
@@ -21,7 +21,7 @@ put_request-requires-in-Io c = let b = io_of_lawful _ _ _ _ _ (rw c.in-Io.is at 
 
 pub put_address-requires-in-Io : goal.put_address-requires-in-Io
 put_address-requires-in-Io c = let whole = rw c.in-Io.is at c.requires.2 in
-    omega (arith, c.put_request-in-Io.auto.1.1.0, c.requires.1)
+    omega (arith, c.put_request-in-Io.auto.room, c.requires.1)
 
 pub put_request-requires-in-Config : goal.put_request-requires-in-Config
 put_request-requires-in-Config c = let b = config_of_lawful _ _ _ _ _ (rw c.in-Config.is at c.requires.0) in
@@ -29,7 +29,7 @@ put_request-requires-in-Config c = let b = config_of_lawful _ _ _ _ _ (rw c.in-C
 
 pub put_target-requires : goal.put_target-requires
 put_target-requires c = let b = config_of_lawful _ _ _ _ _ (rw c.in-Config.is at c.requires.0) in
-    (omega (arith, c.put_request-in-Config.auto.1.1.0, c.requires.1), b.2)
+    (omega (arith, c.put_request-in-Config.auto.room, c.requires.1), b.2)
 
 pub put_completion-requires : goal.put_completion-requires
 put_completion-requires c = let b = completion_of_lawful _ _ _ _ (rw c.in-Completion.is at c.requires.0) in
@@ -41,7 +41,7 @@ put_message-requires c = c.requires.1
 pub write_be64-requires : goal.write_be64-requires
 write_be64-requires c = let four = form_of_message _ _ _ _ _ _ (rw c.in-Message.is at c.requires.0) in
     let whole = rw c.in-Message.is at c.requires.2 in
-    omega (arith, c.put_message.auto.1.1.0, four)
+    omega (arith, c.put_message.auto.room, four)
 
 pub returns-in-Memory : goal.returns-in-Memory
 returns-in-Memory c = rw c.in-Memory.is

@@ -7,4 +7,4 @@ returns-in-Accepted c = label_put _ _ _ _ c.read.ensures _ c.in-Accepted.is _ c.
 
 pub returns-in-Refused : goal.returns-in-Refused
 unfolding ascii
-returns-in-Refused c = rw (← label_refused c.args.host-id c.args.sheet.now c.args.header.now c.read.result c.read.ensures c.in-Refused.n c.in-Refused.is) c.put_named.ensures
+returns-in-Refused c = rw (← label_refused c.args.host_id c.args.sheet.now c.args.header.now c.read.result c.read.ensures c.in-Refused.n c.in-Refused.is) c.put_named.ensures
