@@ -17,7 +17,7 @@ parent c = c.parent_in.ensures _ c.requires.0 c.requires.1
 -- a bridge that does has its record in the sheet
 inside : (c : In-Bridge)
     → c.in-Bridge.k < length (entries_of c.args.sheet.now)
-inside c = ((parent c.before.before.before).whole _ c.in-Bridge.is).inside
+inside c = ((c.parent_in.ensures _ c.requires.0 c.requires.1).whole _ c.in-Bridge.is).inside
 
 pub part-requires : goal.part-requires
 part-requires c = part_fits _ c.requires.0 _ (inside (goal.at.part-requires c).In-Bridge)

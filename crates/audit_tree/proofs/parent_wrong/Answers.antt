@@ -20,7 +20,7 @@ fits : (c : In-Bridge)
     → sheet_length (c.in-Bridge.k + 1)
     ≤ length c.args.sheet.now
 fits c =
-    record_fits _ c.requires.0.framed _ ((parent c.before.before.before).whole _ c.in-Bridge.is).inside
+    record_fits _ c.requires.0.framed _ ((c.parent_in.ensures _ c.requires.0 c.requires.1).whole _ c.in-Bridge.is).inside
 
 pub parent_in-requires : goal.parent_in-requires
 parent_in-requires c = c.requires.1.size

@@ -1,9 +1,12 @@
 -- `board::check` meets its contract: one lemma for each check that is passed, then each number by the test that gave it. Assumes nothing.
+use Rattle.std.specs.Prelude.{not}
 use Prim.Native.Nat.{ℕ}
 use mathlib.Core.Path.{◌≡◌, sym, ap, ◌∙◌}
-use mathlib.Core.Bool.{false}
-use mathlib.Core.List.{List, map}
+use mathlib.Core.Bool.{true, false}
+use mathlib.Core.List.{List, [], map}
 use lib.ListN.{length, get_or, take, drop}
+use lib.Dec.{ltb}
+use Rattle.records.specs.Limits.{most_functions}
 use borrow.Author.Tests.{eq-eqb}
 use Rattle.lists.specs.Lists.{any}
 use Rattle.records.specs.Records.{parts_of, parts_from, any_part}
@@ -14,97 +17,124 @@ use Rattle.board_record.specs.declared.Rule.TheVariants.{Header, ReadBacks}
 use Rattle.board_record.specs.Host.{host_of_part, host_wrong, host_length, host_at, functions_at}
 use Rattle.board_record.specs.Function.{function_of_part, wrong_in, header_wrong, readbacks_wrong}
 use Rattle.board.specs.PassLaws.{any_never}
-use Rattle.board.specs.Board.{misframed, from_readbacks, from_order, from_edges, from_headers, from_count, from_frame}
+use Rattle.board.specs.Board.{is_version, any_misplaced, misframed, from_readbacks, from_order, from_edges, from_headers, from_count, from_frame}
 use Rattle.board.specs.Board.{board_number}
 use Rattle.board.specs.BoardLaws.{any_map, host_of_framed, breaks_of_framed, framed, past_version, past_count, past_headers}
 use Rattle.board.specs.BoardLaws.{other_version, right_parts, past_edges, past_order, none_misplaced, some_misplaced}
 use Rattle.board.proofs.check.Goals as goal
-use Rattle.board.proofs.check.Goals.{After-any_breaks, After-any_breaks-2, After-host_wrong, Else-any_breaks, Else-first_misplaced-ne0, Else-host_wrong, Else-misframed, Else-not-is_version, Else-too_many, Start}
+use Rattle.board.proofs.check.Goals.{After-any_breaks, After-any_breaks-2, After-host_wrong, Else-any_breaks, Else-first_misplaced-ne0, Else-host_wrong, Else-misframed, Else-not-is_version, Else-too_many}
 
--- the start of the call, from each check that is passed
-abbrev start-2 : Else-not-is_version → Start
-start-2 c = c.before.before.before.before.before
+-- a board's version, its host and its functions
+abbrev version : List ℕ → ℕ
+version s = get_or s 0 0
 
-abbrev start-3 : Else-misframed → Start
-start-3 c = start-2 c.before.before
+abbrev host : List ℕ → Host
+host s = host_of_part (take host_length (drop 3 s))
 
-abbrev start-4 : Else-too_many → Start
-start-4 c = start-3 c.before.before
+abbrev parts : List ℕ → List (List ℕ)
+parts s = parts_from s functions_at
 
-abbrev start-5 : Else-any_breaks → Start
-start-5 c = start-4 c.before.before
+abbrev functions : List ℕ → List Function
+functions s = map function_of_part (parts s)
 
-abbrev start-6 : Else-host_wrong → Start
-start-6 c = start-5 c.before.before.before.before
+-- what each check that is passed leaves of the number
+module _ (s : List ℕ) (some : length s ≡ 0 → ⊥) (right : is_version (version s) ≡ true) where
+  after-version : board_number s ≡ from_frame (version s) (parts_of (drop 1 s))
+  after-version = past_version s some right
 
-abbrev start-7 : Else-first_misplaced-ne0 → Start
-start-7 c = start-6 c.before.before
+  module _ (whole : misframed (parts_of (drop 1 s)) ≡ false) where
+    after-frame : board_number s ≡ from_count (version s) (host s) (parts s)
+    after-frame = after-version ∙ framed s (version s) whole
 
--- the board's bytes, its host and its functions
-abbrev bytes : Start → List ℕ
-bytes c = c.args.board.now
+    module _ (few : ltb most_functions (length (parts s)) ≡ false) where
+      after-count : board_number s ≡ from_headers (version s) (host s) (parts s)
+      after-count = after-frame ∙ past_count _ _ _ few
 
-abbrev host : Start → Host
-host c = host_of_part (take host_length (drop 3 (bytes c)))
+      module _ (headers : any_part (wrong_in (version s)) (parts s) ≡ false) where
+        after-headers : board_number s ≡ from_edges (host s) (functions s)
+        after-headers = after-count ∙ past_headers _ _ _ headers
 
-abbrev functions : Start → List Function
-functions c = map function_of_part (parts_from (bytes c) functions_at)
+        module _ (edges : host_wrong (host s) ≡ false) where
+          after-edges : board_number s ≡ from_order (functions s)
+          after-edges = after-headers ∙ past_edges _ _ edges
 
--- its version
-abbrev version : Start → ℕ
-version c = get_or (bytes c) 0 0
+          after-order : any_misplaced 0 [] (functions s) ≡ false → board_number s ≡ from_readbacks (functions s)
+          after-order order = after-edges ∙ past_order _ order
 
-past-2 : (c : Else-not-is_version) → board_number (bytes (start-2 c)) ≡ from_frame (version (start-2 c)) (parts_of (drop 1 (bytes (start-2 c))))
-past-2 c =
-    past_version (bytes (start-2 c)) c.if-board-eq0.false
-    (sym c.is_version.ensures ∙ c.if-not-is_version.false)
+-- the same of the call's own tests
+right-2 : (c : Else-not-is_version) → is_version (version c.args.board.now) ≡ true
+right-2 c = sym c.is_version.ensures ∙ (ap not c.if-not-is_version.false)
 
-whole : (c : Else-misframed) → misframed (parts_of (drop 1 (bytes (start-3 c)))) ≡ false
+past-2 : (c : Else-not-is_version) → board_number c.args.board.now ≡ from_frame (version c.args.board.now) (parts_of (drop 1 c.args.board.now))
+past-2 c = after-version _ c.if-board-eq0.false (right-2 c)
+
+whole : (c : Else-misframed) → misframed (parts_of (drop 1 c.args.board.now)) ≡ false
 whole c = sym c.misframed.ensures ∙ c.if-misframed.false
 
 past-3 : (c : Else-misframed)
-    → board_number (bytes (start-3 c)) ≡ from_count (version (start-3 c)) (host (start-3 c)) (parts_from (bytes (start-3 c)) functions_at)
-past-3 c = past-2 c.before.before ∙ framed (bytes (start-3 c)) (version (start-3 c)) (whole c)
+    → board_number c.args.board.now ≡ from_count (version c.args.board.now) (host c.args.board.now) (parts c.args.board.now)
+past-3 c = after-frame _ c.if-board-eq0.false (sym c.is_version.ensures ∙ (ap not c.if-not-is_version.false)) (whole c)
 
 past-4 : (c : Else-too_many)
-    → board_number (bytes (start-4 c)) ≡ from_headers (version (start-4 c)) (host (start-4 c)) (parts_from (bytes (start-4 c)) functions_at)
-past-4 c = past-3 c.before.before ∙ past_count _ _ _ (sym c.too_many.ensures ∙ c.if-too_many.false)
+    → board_number c.args.board.now ≡ from_headers (version c.args.board.now) (host c.args.board.now) (parts c.args.board.now)
+past-4 c =
+    after-count _ c.if-board-eq0.false (sym c.is_version.ensures ∙ (ap not c.if-not-is_version.false)) (sym c.misframed.ensures ∙ c.if-misframed.false)
+    (sym c.too_many.ensures ∙ c.if-too_many.false)
 
-headers : (c : After-any_breaks)
-    → c.any_breaks.result ≡ any_part (wrong_in (version (start-4 c.before))) (parts_from (bytes (start-4 c.before)) functions_at)
+headers : (c : After-any_breaks) → c.any_breaks.result ≡ any_part (wrong_in (version c.args.board.now)) (parts c.args.board.now)
 headers c =
     c.any_breaks.ensures
-    ∙ breaks_of_framed (bytes (start-4 c.before)) (Header (version (start-4 c.before))) (whole c.before.before.before)
+    ∙ breaks_of_framed c.args.board.now (Header (version c.args.board.now)) (sym c.misframed.ensures ∙ c.if-misframed.false)
+
+headers-5 : (c : Else-any_breaks) → any_part (wrong_in (version c.args.board.now)) (parts c.args.board.now) ≡ false
+headers-5 c =
+    sym (c.any_breaks.ensures
+    ∙ breaks_of_framed c.args.board.now (Header (version c.args.board.now)) (sym c.misframed.ensures ∙ c.if-misframed.false))
+    ∙ c.if-any_breaks.false
 
 -- every record is one of some version
-records-right : (c : Else-any_breaks) → any_part header_wrong (parts_from (bytes (start-5 c)) functions_at) ≡ false
-records-right c = right_parts (version (start-5 c)) (parts_from (bytes (start-5 c)) functions_at) (sym (headers c.before) ∙ c.if-any_breaks.false)
+records-right : (c : Else-any_breaks) → any_part header_wrong (parts c.args.board.now) ≡ false
+records-right c = right_parts (version c.args.board.now) (parts c.args.board.now) (headers-5 c)
 
-past-5 : (c : Else-any_breaks) → board_number (bytes (start-5 c)) ≡ from_edges (host (start-5 c)) (functions (start-5 c))
-past-5 c = past-4 c.before.before ∙ past_headers _ _ _ (sym (headers c.before) ∙ c.if-any_breaks.false)
+past-5 : (c : Else-any_breaks) → board_number c.args.board.now ≡ from_edges (host c.args.board.now) (functions c.args.board.now)
+past-5 c =
+    after-headers _ c.if-board-eq0.false (sym c.is_version.ensures ∙ (ap not c.if-not-is_version.false)) (sym c.misframed.ensures ∙ c.if-misframed.false)
+    (sym c.too_many.ensures ∙ c.if-too_many.false) (headers-5 c)
 
-edges : (c : After-host_wrong) → c.host_wrong.result ≡ host_wrong (host (start-5 c.before.before.before))
+edges : (c : After-host_wrong) → c.host_wrong.result ≡ host_wrong (host c.args.board.now)
 edges c = c.host_wrong.ensures ∙ ap host_wrong (c.host_of.ensures ∙ ap host_of_part c.part_at.ensures)
 
-past-6 : (c : Else-host_wrong) → board_number (bytes (start-6 c)) ≡ from_order (functions (start-6 c))
-past-6 c = past-5 c.before.before.before.before ∙ past_edges _ _ (sym (edges c.before) ∙ c.if-host_wrong.false)
+past-6 : (c : Else-host_wrong) → board_number c.args.board.now ≡ from_order (functions c.args.board.now)
+past-6 c =
+    after-edges _ c.if-board-eq0.false (sym c.is_version.ensures ∙ (ap not c.if-not-is_version.false)) (sym c.misframed.ensures ∙ c.if-misframed.false)
+    (sym c.too_many.ensures ∙ c.if-too_many.false)
+    (sym (c.any_breaks.ensures
+    ∙ breaks_of_framed c.args.board.now (Header (version c.args.board.now)) (sym c.misframed.ensures ∙ c.if-misframed.false))
+    ∙ c.if-any_breaks.false)
+    (sym (c.host_wrong.ensures ∙ ap host_wrong (c.host_of.ensures ∙ ap host_of_part c.part_at.ensures)) ∙ c.if-host_wrong.false)
 
-past-7 : (c : Else-first_misplaced-ne0) → board_number (bytes (start-7 c)) ≡ from_readbacks (functions (start-7 c))
-past-7 c = past-6 c.before.before ∙ past_order _ (none_misplaced _ _ c.first_misplaced.ensures c.if-first_misplaced-ne0.false)
+past-7 : (c : Else-first_misplaced-ne0) → board_number c.args.board.now ≡ from_readbacks (functions c.args.board.now)
+past-7 c =
+    after-order _ c.if-board-eq0.false (sym c.is_version.ensures ∙ (ap not c.if-not-is_version.false)) (sym c.misframed.ensures ∙ c.if-misframed.false)
+    (sym c.too_many.ensures ∙ c.if-too_many.false)
+    (sym (c.any_breaks.ensures
+    ∙ breaks_of_framed c.args.board.now (Header (version c.args.board.now)) (sym c.misframed.ensures ∙ c.if-misframed.false))
+    ∙ c.if-any_breaks.false)
+    (sym (c.host_wrong.ensures ∙ ap host_wrong (c.host_of.ensures ∙ ap host_of_part c.part_at.ensures)) ∙ c.if-host_wrong.false)
+    (none_misplaced _ _ c.first_misplaced.ensures c.if-first_misplaced-ne0.false)
 
-readbacks : (c : After-any_breaks-2) → c.any_breaks-2.result ≡ any readbacks_wrong (functions (start-7 c.before))
+readbacks : (c : After-any_breaks-2) → c.any_breaks-2.result ≡ any readbacks_wrong (functions c.args.board.now)
 readbacks c =
-    let s = bytes (start-7 c.before) in
-    let w = whole c.before.before.before.before.before.before.before.before.before.before.before in
-    c.any_breaks-2.ensures ∙ breaks_of_framed s ReadBacks w ∙ sym (any_map readbacks_wrong function_of_part (parts_from s functions_at))
+    c.any_breaks-2.ensures ∙ breaks_of_framed c.args.board.now ReadBacks (sym c.misframed.ensures ∙ c.if-misframed.false)
+    ∙ sym (any_map readbacks_wrong function_of_part (parts c.args.board.now))
 
 pub returns-then-board-eq0 : goal.returns-then-board-eq0
 unfolding board_number
-returns-then-board-eq0 c = sym (rw (eq-eqb (length (bytes (goal.at.returns-then-board-eq0 c).Start)) 0 c.if-board-eq0.true))
+returns-then-board-eq0 c = sym (rw (eq-eqb (length c.args.board.now) 0 c.if-board-eq0.true))
 
 pub returns-then-not-is_version : goal.returns-then-not-is_version
-returns-then-not-is_version c = sym (other_version (bytes (goal.at.returns-then-not-is_version c).Start) c.if-board-eq0.false
-    (sym c.is_version.ensures ∙ c.if-not-is_version.true))
+returns-then-not-is_version c = sym (other_version c.args.board.now c.if-board-eq0.false
+    (sym c.is_version.ensures ∙ (ap not c.if-not-is_version.true)))
 
 pub returns-then-misframed : goal.returns-then-misframed
 unfolding from_frame
@@ -115,17 +145,17 @@ unfolding from_count
 returns-then-too_many c = sym (past-3 (goal.at.returns-then-too_many c).Else-misframed ∙ rw (sym c.too_many.ensures ∙ c.if-too_many.true))
 
 pub any_breaks-requires : goal.any_breaks-requires
-any_breaks-requires c = any_never (parts_from (bytes (start-4 (goal.at.any_breaks-requires c).Else-too_many)) functions_at)
+any_breaks-requires c = any_never (parts_from c.args.board.now functions_at)
 
 pub returns-then-any_breaks : goal.returns-then-any_breaks
 unfolding from_headers
 returns-then-any_breaks c = sym (past-4 (goal.at.returns-then-any_breaks c).Else-too_many ∙ rw (sym (headers (goal.at.returns-then-any_breaks c).After-any_breaks) ∙ c.if-any_breaks.true))
 
 pub part_at-requires : goal.part_at-requires
-part_at-requires c = let s = bytes (start-5 (goal.at.part_at-requires c).Else-any_breaks) in fits_at s host_at host_length (host_of_framed s (whole (goal.at.part_at-requires c).Else-misframed))
+part_at-requires c = let s = c.args.board.now in fits_at s host_at host_length (host_of_framed s (whole (goal.at.part_at-requires c).Else-misframed))
 
 pub host_of-requires : goal.host_of-requires
-host_of-requires c = let s = bytes (start-5 (goal.at.host_of-requires c).Else-any_breaks) in
+host_of-requires c = let s = c.args.board.now in
     ap length c.part_at.ensures ∙ length_part s host_at host_length (host_of_framed s (whole (goal.at.host_of-requires c).Else-misframed))
 
 pub returns-then-host_wrong : goal.returns-then-host_wrong

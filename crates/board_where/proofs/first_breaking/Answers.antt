@@ -36,7 +36,7 @@ in-time : (c : After-part_at-part)
     → too_early c.args.rule c.part_at-part.result.now ≡ false
 in-time c =
     let early = too_early c.args.rule in
-    ap early c.part_at-part.ensures ∙ none_here early (bytes c.before) (cursor c.before) _ (found c.before) c.loop-n.invariant.1
+    ap early c.part_at-part.ensures ∙ none_here early c.args.board.now c.loop-n.at _ (sym c.next_at.ensures ∙ c.in-Record.is) c.loop-n.invariant.1
 
 pub loop-n-init : goal.loop-n-init
 loop-n-init c = (omega arith, c.requires, refl)

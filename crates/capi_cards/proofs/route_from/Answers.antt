@@ -9,4 +9,4 @@ pub returns-in-Host : goal.returns-in-Host
 returns-in-Host c = rw (sym c.send.ensures ∙ c.in-Host.is) c.give_delivery-in-Host.ensures
 
 pub returns-in-Refused : goal.returns-in-Refused
-returns-in-Refused c = let e = sym c.send.ensures ∙ c.in-Refused.is in (rw e, rw e)
+returns-in-Refused c = let e = sym c.send.ensures ∙ c.in-Refused.is in record { value = rw e; answer_after = rw e }

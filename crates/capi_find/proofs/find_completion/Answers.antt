@@ -33,7 +33,7 @@ pub returns-then-record_in-eq0 : goal.returns-then-record_in-eq0
 returns-then-record_in-eq0 c = let e =
     find_none _ _ (no_owner_lem _ c.args.index.now _ _ (accepted (goal.at.returns-then-record_in-eq0 c).Else-completion_rules-ne0) refl refl (lt-ltb c.completion_head_at-h.result.requester id_size (omega arith))
     _ c.word_for-word.ensures (sym c.record_in.ensures.0 ∙ c.if-record_in-eq0.true)) in
-    (rw e, rw e)
+    record { value = rw e; answer_after = rw e }
 
 pub returns : goal.returns
 returns c = let e =

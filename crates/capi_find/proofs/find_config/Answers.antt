@@ -35,7 +35,7 @@ returns-then-record_in-eq0 c = let e =
     find_none _ _ (no_owner_lem _ _ _ _ (accepted (goal.at.returns-then-record_in-eq0 c).Else-config_rules-ne0) refl
     (sym c.type_wrong.ensures ∙ c.if-type_wrong.false)
     (lt-ltb c.target_at-t.result.id id_size (omega arith)) _ c.word_for-word.ensures (sym c.record_in.ensures.0 ∙ c.if-record_in-eq0.true)) in
-    (rw e, rw e)
+    record { value = rw e; answer_after = rw e }
 
 pub returns : goal.returns
 returns c = let e =

@@ -26,7 +26,7 @@ accepted c =
 
 pub returns-then-a-ge-IO_SIZE : goal.returns-then-a-ge-IO_SIZE
 returns-then-a-ge-IO_SIZE c = let e = find_none _ _ (out_of_reach _ c.args.index.now _ _ (accepted (goal.at.returns-then-a-ge-IO_SIZE c).Else-io_rules-ne0) refl refl (le-ltb _ _ c.if-a-ge-IO_SIZE.true)) in
-    (rw e, rw e)
+    record { value = rw e; answer_after = rw e }
 
 pub word_for-word-requires : goal.word_for-word-requires
 word_for-word-requires c = (sym (segment_io (io_base + c.address_at-a.result) (omega arith) (omega (arith, c.if-a-ge-IO_SIZE.false))), omega (arith, c.if-a-ge-IO_SIZE.false))
@@ -34,7 +34,7 @@ word_for-word-requires c = (sym (segment_io (io_base + c.address_at-a.result) (o
 pub returns-then-record_in-eq0 : goal.returns-then-record_in-eq0
 returns-then-record_in-eq0 c = let e = find_none _ _ (no_owner_lem _ _ _ _ (accepted (goal.at.returns-then-record_in-eq0 c).Else-io_rules-ne0) refl refl (lt-ltb _ _ c.if-a-ge-IO_SIZE.false)
     _ c.word_for-word.ensures (sym c.record_in.ensures.0 ∙ c.if-record_in-eq0.true)) in
-    (rw e, rw e)
+    record { value = rw e; answer_after = rw e }
 
 pub returns : goal.returns
 returns c = let e = find_owned _ _ (owned _ _ _ _ (accepted (goal.at.returns c).Else-io_rules-ne0) refl refl (lt-ltb _ _ c.if-a-ge-IO_SIZE.false)

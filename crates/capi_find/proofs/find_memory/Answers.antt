@@ -24,12 +24,12 @@ accepted c =
 
 pub returns-then-a-ge-MEMORY_END : goal.returns-then-a-ge-MEMORY_END
 returns-then-a-ge-MEMORY_END c = let e = find_none _ _ (out_of_reach _ c.args.index.now _ _ (accepted (goal.at.returns-then-a-ge-MEMORY_END c).Else-memory_rules-ne0) refl refl (le-ltb _ _ c.if-a-ge-MEMORY_END.true)) in
-    (rw e, rw e)
+    record { value = rw e; answer_after = rw e }
 
 pub returns-then-record_in-eq0 : goal.returns-then-record_in-eq0
 returns-then-record_in-eq0 c = let e = find_none _ _ (no_owner_lem _ _ _ _ (accepted (goal.at.returns-then-record_in-eq0 c).Else-memory_rules-ne0) refl refl (lt-ltb _ _ c.if-a-ge-MEMORY_END.false)
     _ c.word_for-word.ensures (sym c.record_in.ensures.0 ∙ c.if-record_in-eq0.true)) in
-    (rw e, rw e)
+    record { value = rw e; answer_after = rw e }
 
 pub returns : goal.returns
 returns c = let e = find_owned _ _ (owned _ _ _ _ (accepted (goal.at.returns c).Else-memory_rules-ne0) refl refl (lt-ltb _ _ c.if-a-ge-MEMORY_END.false)

@@ -6,4 +6,4 @@ pub returns-in-Accepted : goal.returns-in-Accepted
 returns-in-Accepted c = rw (sym c.read.ensures ∙ c.in-Accepted.is) c.give_packet.ensures
 
 pub returns-in-Refused : goal.returns-in-Refused
-returns-in-Refused c = let e = sym c.read.ensures ∙ c.in-Refused.is in (rw e, rw e)
+returns-in-Refused c = let e = sym c.read.ensures ∙ c.in-Refused.is in record { value = rw e; packet_after = rw e }

@@ -9,10 +9,10 @@ pub slice_bounds-write-end-2 : goal.slice_bounds-write-end-2
 slice_bounds-write-end-2 c = sym (length-take-le _ _ (omega arith))
 
 pub returns-in-Written : goal.returns-in-Written
-returns-in-Written c = wrote c.args.p c.args.room.now c.args.written.now c.space_for-space.result c.space_for-space.ensures.1 c.write.result c.write.ensures.0 _
+returns-in-Written c = wrote c.args.p c.args.room.now c.args.written.now c.space_for-space.result c.space_for-space.ensures.value c.write.result c.write.ensures.0 _
     c.write.ensures.1 _ _ (rw c.in-Written.is c.give_one.ensures)
 
 pub returns-in-Refused : goal.returns-in-Refused
-returns-in-Refused c = wrote c.args.p c.args.room.now c.args.written.now c.space_for-space.result c.space_for-space.ensures.1 c.write.result c.write.ensures.0 _
+returns-in-Refused c = wrote c.args.p c.args.room.now c.args.written.now c.space_for-space.result c.space_for-space.ensures.value c.write.result c.write.ensures.0 _
     c.write.ensures.1 _ _
     (rw c.in-Refused.is (refl, refl))

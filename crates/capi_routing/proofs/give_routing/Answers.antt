@@ -11,4 +11,4 @@ pub returns-in-Port : goal.returns-in-Port
 returns-in-Port c = rw c.in-Port.is c.give_delivery-in-Port.ensures
 
 pub returns-in-Refused : goal.returns-in-Refused
-returns-in-Refused c = (rw c.in-Refused.is, rw c.in-Refused.is)
+returns-in-Refused c = record { value = rw c.in-Refused.is; out_after = rw c.in-Refused.is }

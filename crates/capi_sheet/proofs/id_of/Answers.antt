@@ -6,4 +6,4 @@ pub returns-in-Id : goal.returns-in-Id
 returns-in-Id c = rw (sym c.id_of.ensures ∙ c.in-Id.is) c.give_one.ensures
 
 pub returns-in-Refused : goal.returns-in-Refused
-returns-in-Refused c = let e = sym c.id_of.ensures ∙ c.in-Refused.is in (rw e, rw e)
+returns-in-Refused c = let e = sym c.id_of.ensures ∙ c.in-Refused.is in record { value = rw e; id_after = rw e }

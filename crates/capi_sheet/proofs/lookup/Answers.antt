@@ -6,4 +6,4 @@ pub returns-in-Registers : goal.returns-in-Registers
 returns-in-Registers c = rw (sym c.find.ensures ∙ c.in-Registers.is) c.give_one.ensures
 
 pub returns-in-Refused : goal.returns-in-Refused
-returns-in-Refused c = let e = sym c.find.ensures ∙ c.in-Refused.is in (rw e, rw e)
+returns-in-Refused c = let e = sym c.find.ensures ∙ c.in-Refused.is in record { value = rw e; offset_after = rw e }

@@ -6,7 +6,7 @@ use Rattle.index_alone.proofs.build_alone.Goals as goal
 
 pub returns-then-n-ne0 : goal.returns-then-n-ne0
 returns-then-n-ne0 c = let kept = refused_build c.args.sheet.now c.args.index.now (λ z. c.if-n-ne0.true (c.check-n.ensures ∙ z)) in
-    (c.check-n.ensures ∙ sym kept.0, sym kept.1)
+    record { number = c.check-n.ensures ∙ sym kept.0; content = sym kept.1 }
 
 pub root_of-requires : goal.root_of-requires
 root_of-requires c = checked_of_zero _ (sym c.check-n.ensures ∙ c.if-n-ne0.false)

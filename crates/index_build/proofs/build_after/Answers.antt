@@ -25,10 +25,7 @@ abbrev start-index : Else-verdict-ne0 → List ℕ
 start-index c = c.args.index.now
 
 pub returns-then-verdict-ne0 : goal.returns-then-verdict-ne0
-returns-then-verdict-ne0 c = (
-  sym (verdict_refused _ c.args.index.now _ c.if-verdict-ne0.true),
-  sym (refused_stays c.args.host.now _ c.args.index.now _ c.if-verdict-ne0.true),
-)
+returns-then-verdict-ne0 c = record { number = sym (verdict_refused _ c.args.index.now _ c.if-verdict-ne0.true); content = sym (refused_stays c.args.host.now _ c.args.index.now _ c.if-verdict-ne0.true) }
 
 pub count-n-requires : goal.count-n-requires
 count-n-requires c = framed _ _ (start-index (goal.at.count-n-requires c).Else-verdict-ne0) _ c.if-verdict-ne0.false (bytes (goal.at.count-n-requires c).Else-verdict-ne0) (owned (goal.at.count-n-requires c).Else-verdict-ne0)
@@ -40,12 +37,12 @@ pub overflow_add-n : goal.overflow_add-n
 overflow_add-n c = omega (arith, c.count-n.ensures, few _ _ (start-index (goal.at.overflow_add-n c).Else-verdict-ne0) _ c.if-verdict-ne0.false (bytes (goal.at.overflow_add-n c).Else-verdict-ne0) (owned (goal.at.overflow_add-n c).Else-verdict-ne0))
 
 pub returns-then-index-n : goal.returns-then-index-n
-returns-then-index-n c = (
-  sym (too_short _ _ (start-index (goal.at.returns-then-index-n c).Else-verdict-ne0) _ c.if-verdict-ne0.false (bytes (goal.at.returns-then-index-n c).Else-verdict-ne0) (owned (goal.at.returns-then-index-n c).Else-verdict-ne0) _ c.count-n.ensures
-      c.if-index-n.true),
-  sym (short_stays _ _ (start-index (goal.at.returns-then-index-n c).Else-verdict-ne0) _ c.if-verdict-ne0.false (bytes (goal.at.returns-then-index-n c).Else-verdict-ne0) (owned (goal.at.returns-then-index-n c).Else-verdict-ne0) _ c.count-n.ensures
-      c.if-index-n.true),
-)
+returns-then-index-n c = record {
+  number = sym (too_short _ _ (start-index (goal.at.returns-then-index-n c).Else-verdict-ne0) _ c.if-verdict-ne0.false (bytes (goal.at.returns-then-index-n c).Else-verdict-ne0) (owned (goal.at.returns-then-index-n c).Else-verdict-ne0) _ c.count-n.ensures
+      c.if-index-n.true);
+  content = sym (short_stays _ _ (start-index (goal.at.returns-then-index-n c).Else-verdict-ne0) _ c.if-verdict-ne0.false (bytes (goal.at.returns-then-index-n c).Else-verdict-ne0) (owned (goal.at.returns-then-index-n c).Else-verdict-ne0) _ c.count-n.ensures
+      c.if-index-n.true);
+}
 
 pub host_of-h-requires : goal.host_of-h-requires
 host_of-h-requires c = (owned (goal.at.host_of-h-requires c).Else-verdict-ne0).host-size
@@ -61,9 +58,9 @@ fill-requires c = (
 )
 
 pub returns : goal.returns
-returns c = (
-  sym (built_number _ _ (start-index (goal.at.returns c).Else-verdict-ne0) _ c.if-verdict-ne0.false (bytes (goal.at.returns c).Else-verdict-ne0) (owned (goal.at.returns c).Else-verdict-ne0) _ c.count-n.ensures
-      c.if-index-n.false),
-  built_bytes _ _ (start-index (goal.at.returns c).Else-verdict-ne0) _ c.if-verdict-ne0.false (bytes (goal.at.returns c).Else-verdict-ne0) (owned (goal.at.returns c).Else-verdict-ne0) _ c.count-n.ensures
-      c.if-index-n.false _ (ap (λ (h : Host). h.first_bus) c.host_of-h.ensures) _ c.fill.ensures,
-)
+returns c = record {
+  number = sym (built_number _ _ (start-index (goal.at.returns c).Else-verdict-ne0) _ c.if-verdict-ne0.false (bytes (goal.at.returns c).Else-verdict-ne0) (owned (goal.at.returns c).Else-verdict-ne0) _ c.count-n.ensures
+      c.if-index-n.false);
+  content = built_bytes _ _ (start-index (goal.at.returns c).Else-verdict-ne0) _ c.if-verdict-ne0.false (bytes (goal.at.returns c).Else-verdict-ne0) (owned (goal.at.returns c).Else-verdict-ne0) _ c.count-n.ensures
+      c.if-index-n.false _ (ap (λ (h : Host). h.first_bus) c.host_of-h.ensures) _ c.fill.ensures;
+}

@@ -36,7 +36,7 @@ see_next-seen-requires c = let e = sym c.next_at.ensures ∙ c.in-Record.is in
 
 pub pass_over-requires : goal.pass_over-requires
 pass_over-requires c = let e = sym c.next_at.ensures ∙ c.in-Record.is in
-    ((e, header_right c.requires c.loop-seen.invariant _ e), (turn_placeable c.requires c.loop-seen.invariant _ e refl, turn_bridged c.requires c.loop-seen.invariant _ e refl))
+    record { board_value = (e, header_right c.requires c.loop-seen.invariant _ e); placeable = (turn_placeable c.requires c.loop-seen.invariant _ e refl, turn_bridged c.requires c.loop-seen.invariant _ e refl) }
 
 pub overflow_add-at : goal.overflow_add-at
 overflow_add-at c = let e = sym c.next_at.ensures ∙ c.in-Record.is in

@@ -49,10 +49,7 @@ overflow_add-to c = let e = sym c.next_at.ensures ∙ c.in-Record.is in
 
 -- src/lib.rt:72:17
 pub place_at-requires : goal.place_at-requires
-place_at-requires c = let e = sym c.next_at.ensures ∙ c.in-Record.is in (
-  (e, header_right c.requires c.loop-n.invariant _ e),
-  (turn_placeable c.requires c.loop-n.invariant _ e, turn_bridged c.requires c.loop-n.invariant _ e, omega (arith, turn_room c.requires c.loop-n.invariant _ e)),
-)
+place_at-requires c = let e = sym c.next_at.ensures ∙ c.in-Record.is in record { board_value = (e, header_right c.requires c.loop-n.invariant _ e); placeable = (turn_placeable c.requires c.loop-n.invariant _ e, turn_bridged c.requires c.loop-n.invariant _ e, omega (arith, turn_room c.requires c.loop-n.invariant _ e)) }
 
 -- src/lib.rt:75:22
 pub overflow_add-at : goal.overflow_add-at
@@ -79,4 +76,4 @@ loop-n-smaller c = let e = sym c.next_at.ensures ∙ c.in-Record.is in
 pub loop-n-preserved : goal.loop-n-preserved
 loop-n-preserved c = let e = sym c.next_at.ensures ∙ c.in-Record.is in
     rw (add-one c.loop-n.i)
-    (standing_turn c.requires c.loop-n.invariant _ e c.place_at.ensures.0 c.place_at.ensures.1 (omega (arith, c.place_at.auto.cursors)))
+    (standing_turn c.requires c.loop-n.invariant _ e c.place_at.ensures.cursors c.place_at.ensures.out (omega (arith, c.place_at.auto.cursors)))

@@ -10,12 +10,12 @@ use Rattle.plan_pass.proofs.write_placed.Goals as goal
 pub write_record-requires : goal.write_record-requires
 write_record-requires c = let io = io_bytes c.args.first c.args.counts.now c.args.memo.now c.args.cursors.now c.args.i c.args.f _
     c.place_record-r.ensures.0 in
-    (c.requires.1, io.0, io.1)
+    (c.requires.stride_in_bounds, io.0, io.1)
 
 -- src/lib.rt:376:1
 pub returns : goal.returns
-returns c = (
-  c.place_record-r.ensures.1,
-  c.write_record.ensures
-      ∙ ap (λ (r : Registers). sets c.args.out.now c.args.to (record_bytes (planned_of r))) c.place_record-r.ensures.0,
-)
+returns c = record {
+  cursors = c.place_record-r.ensures.1;
+  out = c.write_record.ensures
+      ∙ ap (λ (r : Registers). sets c.args.out.now c.args.to (record_bytes (planned_of r))) c.place_record-r.ensures.0;
+}

@@ -4,9 +4,9 @@ use Rattle.planner.specs.FilledLaws.{measurable, measured}
 use Rattle.planner.proofs.measure.Goals as goal
 
 pub count_and_size-requires : goal.count_and_size-requires
-count_and_size-requires c = measurable _ c.requires.0 (record { parents = omega arith; heads = omega arith; readbacks = omega arith }) c.fill-n.ensures _ _
-    c.requires.1.0 c.requires.1.1
+count_and_size-requires c = measurable _ c.requires.board_value (record { parents = omega arith; heads = omega arith; readbacks = omega arith }) c.fill-n.ensures _ _
+    c.requires.most_functions_in_bounds.0 c.requires.most_functions_in_bounds.1
 
 pub returns : goal.returns
-returns c = measured _ c.requires.0 (record { parents = omega arith; heads = omega arith; readbacks = omega arith }) c.fill-n.ensures _ _
-    c.requires.1.0 c.requires.1.1 c.count_and_size.ensures
+returns c = measured _ c.requires.board_value (record { parents = omega arith; heads = omega arith; readbacks = omega arith }) c.fill-n.ensures _ _
+    c.requires.most_functions_in_bounds.0 c.requires.most_functions_in_bounds.1 c.count_and_size.ensures

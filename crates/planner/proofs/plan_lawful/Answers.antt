@@ -17,7 +17,7 @@ host_of-host-requires c = ap length c.part_at.ensures ∙ length_part c.args.boa
     (accepted_of_zero c.args.board.now c.requires).host-record
 
 pub measure-m-requires : goal.measure-m-requires
-measure-m-requires c = (c.requires, (omega arith, omega arith))
+measure-m-requires c = record { board_value = c.requires; most_functions_in_bounds = (omega arith, omega arith) }
 
 pub refusal-n-requires : goal.refusal-n-requires
 refusal-n-requires c = c.measure-m.ensures.few-buses

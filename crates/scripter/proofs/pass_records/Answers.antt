@@ -33,7 +33,7 @@ returns-in-Broken c = passed_broken c.requires c.loop-next.invariant (sym c.next
 
 pub put_next-next-requires : goal.put_next-next-requires
 put_next-next-requires c = let e = sym c.next_at.ensures ∙ c.in-Record.is in
-    ((e, pass_header c.requires c.loop-next.invariant _ e), ((pass_placeable c.requires c.loop-next.invariant _ e, pass_bridged c.requires c.loop-next.invariant _ e), pass_room c.requires c.loop-next.invariant _ e))
+    record { board_value = (e, pass_header c.requires c.loop-next.invariant _ e); placeable = (pass_placeable c.requires c.loop-next.invariant _ e, pass_bridged c.requires c.loop-next.invariant _ e); n_in_bounds = pass_room c.requires c.loop-next.invariant _ e }
 
 pub overflow_add-at : goal.overflow_add-at
 overflow_add-at c = let e = sym c.next_at.ensures ∙ c.in-Record.is in
@@ -54,4 +54,4 @@ loop-next-smaller c = let e = sym c.next_at.ensures ∙ c.in-Record.is in
 pub loop-next-preserved : goal.loop-next-preserved
 loop-next-preserved c = let e = sym c.next_at.ensures ∙ c.in-Record.is in
     rw (add-one c.loop-next.i)
-    (passed_turn c.requires c.loop-next.invariant _ e c.put_next-next.ensures.0 c.put_next-next.auto.cursors c.put_next-next.ensures.1)
+    (passed_turn c.requires c.loop-next.invariant _ e c.put_next-next.ensures.cursors c.put_next-next.auto.cursors c.put_next-next.ensures.room)

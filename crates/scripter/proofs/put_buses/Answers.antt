@@ -1,4 +1,6 @@
 -- `scripter::put_buses` meets its contract. Assumes nothing.
+use Rattle.std.proofs.Common.{ap}
+use Rattle.std.specs.Prelude.{not}
 use mathlib.Core.Path.{◌≡◌, refl, sym, ◌∙◌}
 use mathlib.Core.Bool.{true}
 use Prim.Native.Nat.{◌+◌, ◌*◌, ◌%◌, ◌<◌}
@@ -11,32 +13,32 @@ use Rattle.scripter.proofs.put_buses.Goals.{Else-not-is_bridge}
 
 -- it is a bridge
 bridge : (c : Else-not-is_bridge) → is_bridge (function_of_part c.args.part.now) ≡ true
-bridge c = sym c.is_bridge.ensures ∙ c.if-not-is_bridge.false
+bridge c = sym c.is_bridge.ensures ∙ (ap not c.if-not-is_bridge.false)
 
 pub returns-then-not-is_bridge : goal.returns-then-not-is_bridge
-returns-then-not-is_bridge c = λ k. wrote_if_not _ _ (sym c.is_bridge.ensures ∙ c.if-not-is_bridge.true)
+returns-then-not-is_bridge c = λ k. wrote_if_not _ _ (sym c.is_bridge.ensures ∙ (ap not c.if-not-is_bridge.true))
 
 pub number_at-primary-requires : goal.number_at-primary-requires
-number_at-primary-requires c = rw c.parent_of-parent.ensures c.requires.0.1.own
+number_at-primary-requires c = rw c.parent_of-parent.ensures c.requires.part_value.1.own
 
 pub last_below-last-requires : goal.last_below-last-requires
-last_below-last-requires c = c.requires.0.1.stored (bridge (goal.at.last_below-last-requires c).Else-not-is_bridge)
+last_below-last-requires c = c.requires.part_value.1.stored (bridge (goal.at.last_below-last-requires c).Else-not-is_bridge)
 
 pub overflow_add-i : goal.overflow_add-i
-overflow_add-i c = omega (arith, c.requires.0.1.stored (bridge (goal.at.overflow_add-i c).Else-not-is_bridge), c.well-formed.1.1.1.0.1)
+overflow_add-i c = omega (arith, c.requires.part_value.1.stored (bridge (goal.at.overflow_add-i c).Else-not-is_bridge), c.well-formed.1.1.1.0.1)
 
 pub overflow_add-i-2 : goal.overflow_add-i-2
-overflow_add-i-2 c = omega (arith, c.requires.0.1.stored (bridge (goal.at.overflow_add-i-2 c).Else-not-is_bridge), c.well-formed.1.1.1.0.1)
+overflow_add-i-2 c = omega (arith, c.requires.part_value.1.stored (bridge (goal.at.overflow_add-i-2 c).Else-not-is_bridge), c.well-formed.1.1.1.0.1)
 
 pub number_at-requires : goal.number_at-requires
-number_at-requires c = rw (add-one c.args.i) (c.requires.0.1.below (bridge (goal.at.number_at-requires c).Else-not-is_bridge))
+number_at-requires c = rw (add-one c.args.i) (c.requires.part_value.1.below (bridge (goal.at.number_at-requires c).Else-not-is_bridge))
 
 pub number_at-requires-2 : goal.number_at-requires-2
 number_at-requires-2 c = rw (c.last_below-last.ensures, c.parent_of-parent.ensures)
-    (c.requires.0.1.last (bridge (goal.at.number_at-requires-2 c).Else-not-is_bridge))
+    (c.requires.part_value.1.last (bridge (goal.at.number_at-requires-2 c).Else-not-is_bridge))
 
 pub put_known-requires : goal.put_known-requires
-put_known-requires c = let h = room_if _ _ _ 1 _ (bridge (goal.at.put_known-requires c).Else-not-is_bridge) refl c.requires.1 in
+put_known-requires c = let h = room_if _ _ _ 1 _ (bridge (goal.at.put_known-requires c).Else-not-is_bridge) refl c.requires.part_in_bounds in
     (record { inside = omega arith; aligned = refl }, omega (arith, h))
 
 pub returns : goal.returns

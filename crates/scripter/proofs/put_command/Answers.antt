@@ -5,7 +5,7 @@ use native.Mathlib.Omega.{arith}
 use Rattle.scripter.proofs.put_command.Goals as goal
 
 pub number_at-bus-requires : goal.number_at-bus-requires
-number_at-bus-requires c = rw c.parent_of-parent.ensures c.requires.0.1
+number_at-bus-requires c = rw c.parent_of-parent.ensures c.requires.part_value.1
 
 pub returns : goal.returns
 returns c = let small : c.id_of-id.result < 65536 = omega arith in

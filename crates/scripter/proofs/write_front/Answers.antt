@@ -5,16 +5,16 @@ use Rattle.script_writes.specs.Wrote.{wrote_length}
 use Rattle.scripter.proofs.write_front.Goals as goal
 
 pub write_pass-next-requires : goal.write_pass-next-requires
-write_pass-next-requires c = (c.requires.0, (c.requires.1.0, fits_buses c.args.board.now c.args.room.now c.args.from c.requires.1.1))
+write_pass-next-requires c = record { placing = c.requires.placing; cursors_len = (c.requires.cursors_len.0, fits_buses c.args.board.now c.args.room.now c.args.from c.requires.cursors_len.1) }
 
 pub write_pass-requires : goal.write_pass-requires
-write_pass-requires c = (
-  c.requires.0,
-  (
-    omega (arith, c.write_pass-next.auto.cursors, c.requires.1.0),
-    fits_registers c.args.board.now c.args.room.now c.args.from c.requires.1.1 c.write_pass-next.ensures,
-  ),
-)
+write_pass-requires c = record {
+  placing = c.requires.placing;
+  cursors_len = (
+    omega (arith, c.write_pass-next.auto.cursors, c.requires.cursors_len.0),
+    fits_registers c.args.board.now c.args.room.now c.args.from c.requires.cursors_len.1 c.write_pass-next.ensures,
+  );
+}
 
 pub shape_of-cursors : goal.shape_of-cursors
 shape_of-cursors c = omega (arith, c.write_pass-next.auto.cursors, c.write_pass.auto.cursors)

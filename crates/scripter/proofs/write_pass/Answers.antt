@@ -5,14 +5,14 @@ use Rattle.script_writes.specs.Wrote.{wrote_length}
 use Rattle.scripter.proofs.write_pass.Goals as goal
 
 pub fill_cursors-requires : goal.fill_cursors-requires
-fill_cursors-requires c = omega (arith, c.requires.1.0)
+fill_cursors-requires c = omega (arith, c.requires.cursors_len.0)
 
 pub pass_records-requires : goal.pass_records-requires
-pass_records-requires c = passing_of _ _ _ _ _ _ _ c.requires.0.0 c.requires.0.1 c.bases_of.ensures c.fill_cursors.ensures (omega (
+pass_records-requires c = passing_of _ _ _ _ _ _ _ c.requires.placing.0 c.requires.placing.1 c.bases_of.ensures c.fill_cursors.ensures (omega (
   arith,
   c.fill_cursors.auto.cursors,
-  c.requires.1.0,
-)) c.requires.1.1
+  c.requires.cursors_len.0,
+)) c.requires.cursors_len.1
 
 pub shape_of-cursors : goal.shape_of-cursors
 shape_of-cursors c = omega (arith, c.fill_cursors.auto.cursors, c.pass_records.auto.cursors)

@@ -6,16 +6,16 @@ use Rattle.script_writes.specs.Wrote.{wrote_length}
 use Rattle.scripter.proofs.write_passes.Goals as goal
 
 pub write_front-next-requires : goal.write_front-next-requires
-write_front-next-requires c = ((c.requires.0, refl), (refl, fits_front c.args.board.now c.args.room.now c.requires.1))
+write_front-next-requires c = record { placing = (c.requires.0, refl); cursors_len = (refl, fits_front c.args.board.now c.args.room.now c.requires.1) }
 
 pub write_pass-requires : goal.write_pass-requires
-write_pass-requires c = (
-  (c.requires.0, refl),
-  (
+write_pass-requires c = record {
+  placing = (c.requires.0, refl);
+  cursors_len = (
     omega (arith, c.write_front-next.auto.cursors),
     fits_commands c.args.board.now c.requires.1 c.write_front-next.ensures,
-  ),
-)
+  );
+}
 
 pub shape_of-room : goal.shape_of-room
 shape_of-room c = omega (arith, wrote_length c.write_front-next.ensures, wrote_length c.write_pass.ensures)

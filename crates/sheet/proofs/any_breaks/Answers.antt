@@ -19,10 +19,16 @@ pub overflow_add-start : goal.overflow_add-start
 overflow_add-start c = omega arith
 
 pub overflow_add-end : goal.overflow_add-end
-overflow_add-end c = omega (arith, (here (goal.at.overflow_add-end c).In-loop-at).ranges)
+overflow_add-end c = omega (arith, (here (goal.at.overflow_add-end c).In-loop-at).fits)
 
 pub slice_bounds-breaks-count : goal.slice_bounds-breaks-count
 slice_bounds-breaks-count c = omega arith
+
+pub slice_bounds-breaks-start : goal.slice_bounds-breaks-start
+slice_bounds-breaks-start c = omega arith
+
+pub slice_bounds-breaks-end : goal.slice_bounds-breaks-end
+slice_bounds-breaks-end c = omega (arith, (here (goal.at.slice_bounds-breaks-end c).In-loop-at).fits)
 
 pub breaks-requires : goal.breaks-requires
 breaks-requires c = part_sized _ _ (here (goal.at.breaks-requires c).In-loop-at)

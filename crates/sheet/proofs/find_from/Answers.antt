@@ -19,10 +19,16 @@ pub overflow_add-start : goal.overflow_add-start
 overflow_add-start c = omega arith
 
 pub overflow_add-end : goal.overflow_add-end
-overflow_add-end c = omega (arith, (here (goal.at.overflow_add-end c).In-loop-at).ranges)
+overflow_add-end c = omega (arith, (here (goal.at.overflow_add-end c).In-loop-at).fits)
 
 pub slice_bounds-id_of-count : goal.slice_bounds-id_of-count
 slice_bounds-id_of-count c = omega arith
+
+pub slice_bounds-id_of-start : goal.slice_bounds-id_of-start
+slice_bounds-id_of-start c = omega arith
+
+pub slice_bounds-id_of-end : goal.slice_bounds-id_of-end
+slice_bounds-id_of-end c = omega (arith, (here (goal.at.slice_bounds-id_of-end c).In-loop-at).fits)
 
 pub id_of-requires : goal.id_of-requires
 id_of-requires c = part_sized _ _ (here (goal.at.id_of-requires c).In-loop-at)

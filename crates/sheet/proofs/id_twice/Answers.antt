@@ -21,10 +21,16 @@ pub overflow_add-start : goal.overflow_add-start
 overflow_add-start c = omega arith
 
 pub overflow_add-end : goal.overflow_add-end
-overflow_add-end c = omega (arith, (here (goal.at.overflow_add-end c).In-loop-at).ranges)
+overflow_add-end c = omega (arith, (here (goal.at.overflow_add-end c).In-loop-at).fits)
 
 pub slice_bounds-id_of-count : goal.slice_bounds-id_of-count
 slice_bounds-id_of-count c = omega arith
+
+pub slice_bounds-id_of-start : goal.slice_bounds-id_of-start
+slice_bounds-id_of-start c = omega arith
+
+pub slice_bounds-id_of-end : goal.slice_bounds-id_of-end
+slice_bounds-id_of-end c = omega (arith, (here (goal.at.slice_bounds-id_of-end c).In-loop-at).fits)
 
 pub id_of-id-requires : goal.id_of-id-requires
 id_of-id-requires c = part_sized _ _ (here (goal.at.id_of-id-requires c).In-loop-at)
@@ -37,19 +43,19 @@ test_and_mark-requires c = omega (arith, c.loop-at.invariant.3)
 
 pub returns-then-test_and_mark : goal.returns-then-test_and_mark
 returns-then-test_and_mark c = sym
-    (read_hit _ _ (here (goal.at.returns-then-test_and_mark c).In-loop-at) _ c.loop-at.invariant.2 _ c.id_of-id.ensures (sym c.test_and_mark.ensures.0 ∙ c.if-test_and_mark.true))
+    (read_hit _ _ (here (goal.at.returns-then-test_and_mark c).In-loop-at) _ c.loop-at.invariant.2 _ c.id_of-id.ensures (sym c.test_and_mark.ensures.answer ∙ c.if-test_and_mark.true))
 
 pub loop-at-smaller : goal.loop-at-smaller
-loop-at-smaller c = omega (arith, (here (goal.at.loop-at-smaller c).In-loop-at).ranges)
+loop-at-smaller c = omega (arith, (here (goal.at.loop-at-smaller c).In-loop-at).fits)
 
 pub loop-at-preserved : goal.loop-at-preserved
 loop-at-preserved c = let h = here (goal.at.loop-at-preserved c).In-loop-at in
     let small : c.id_of-id.result / 64 < length c.loop-at.seen = omega (arith, c.loop-at.invariant.3) in (
       h.fits,
       h.rest,
-      read_miss _ _ h _ c.loop-at.invariant.2 _ c.id_of-id.ensures _ (sym c.test_and_mark.ensures.0 ∙ c.if-test_and_mark.false) small
-          c.test_and_mark.ensures.1,
-      omega (arith, c.loop-at.invariant.3, c.test_and_mark.auto.seen),
+      read_miss _ _ h _ c.loop-at.invariant.2 _ c.id_of-id.ensures _ (sym c.test_and_mark.ensures.answer ∙ c.if-test_and_mark.false) small
+          c.test_and_mark.ensures.content,
+      omega (arith, c.loop-at.invariant.3, c.test_and_mark.auto.0),
     )
 
 pub returns : goal.returns

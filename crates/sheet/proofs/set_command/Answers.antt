@@ -12,7 +12,7 @@ write_le16-requires c = omega (arith, registers_fit _ _ _ (sym c.find.ensures �
 
 pub returns-in-Registers : goal.returns-in-Registers
 returns-in-Registers c = let e = sym c.find.ensures ∙ c.in-Registers.is in
-    (rw e, rw e c.write_le16.ensures)
+    record { number = rw e; content = rw e c.write_le16.ensures }
 
 pub returns-in-Refused : goal.returns-in-Refused
-returns-in-Refused c = let e = sym c.find.ensures ∙ c.in-Refused.is in (rw e, rw e)
+returns-in-Refused c = let e = sym c.find.ensures ∙ c.in-Refused.is in record { number = rw e; content = rw e }

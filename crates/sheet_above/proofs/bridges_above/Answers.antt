@@ -21,7 +21,7 @@ told c = c.parent_in.ensures _ c.requires.0.checked c.requires.0.leads
 inside : (c : In-Bridge)
     → c.in-Bridge.k < length (entries_of c.args.sheet.now)
 inside c =
-    bridge_inside _ _ _ c.requires.0 _ _ _ _ _ c.loop-k.invariant _ (told c.before.before.before) _
+    bridge_inside _ _ _ c.requires.0 _ _ _ _ _ c.loop-k.invariant _ (c.parent_in.ensures _ c.requires.0.checked c.requires.0.leads) _
     c.in-Bridge.is
 
 pub loop-k-init : goal.loop-k-init

@@ -7,6 +7,6 @@ use Rattle.sheet_text.proofs.put_bridge.Goals as goal
 
 pub returns : goal.returns
 unfolding ascii
-returns c = rw (bridge_text_of_bridge _ c.requires.1 _ c.values_of-values.ensures)
+returns c = rw (bridge_text_of_bridge _ c.requires.part_value _ c.values_of-values.ensures)
     (put_append (put_append (put_append c.put_bars-next.ensures c.put_buses-next.ensures) c.put_windows-next.ensures)
     c.put_byte.ensures)

@@ -3,4 +3,4 @@ use Rattle.sheet_text.specs.ListingLaws.{buses_of_bridge}
 use Rattle.sheet_text.proofs.put_buses.Goals as goal
 
 pub returns : goal.returns
-returns c = rw (buses_of_bridge _ c.requires.1 _ _ _ c.primary_of.ensures c.secondary_of.ensures c.subordinate_of.ensures) c.put_words.ensures
+returns c = rw (buses_of_bridge _ c.requires.part_value _ _ _ c.primary_of.ensures c.secondary_of.ensures c.subordinate_of.ensures) c.put_words.ensures

@@ -6,4 +6,4 @@ use Rattle.sheet_text.proofs.put_end.Goals as goal
 
 pub returns : goal.returns
 unfolding ascii
-returns c = rw (end_text_of_end _ c.requires.1 _ c.values_of-values.ensures) (put_append c.put_bars-next.ensures c.put_byte.ensures)
+returns c = rw (end_text_of_end _ c.requires.part_value _ c.values_of-values.ensures) (put_append c.put_bars-next.ensures c.put_byte.ensures)

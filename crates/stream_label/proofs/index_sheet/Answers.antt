@@ -4,4 +4,4 @@ use Rattle.stream_label.proofs.index_sheet.Goals as goal
 
 pub returns : goal.returns
 returns c = indexed c.args.host.now c.args.sheet.now _ (λ i. (c.type_inv.host i).fits)
-    (λ i. (c.type_inv.sheet i).fits) c.build-arg-1.given.0.1 _ _ c.build.ensures.0 c.build.ensures.1
+    (λ i. (c.type_inv.sheet i).fits) c.build-arg-1.given.0.1 _ _ c.build.ensures.number c.build.ensures.content

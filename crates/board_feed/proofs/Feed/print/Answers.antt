@@ -7,5 +7,5 @@ use Rattle.board_feed.proofs.Feed.print.Goals as goal
 
 pub returns : goal.returns
 unfolding answer_of
-returns c = let w = put_whole (omega (arith, c.put_planning-arg-1.given.0.1, c.put_planning.ensures.1)) c.put_planning.ensures.0 in
+returns c = let w = put_whole (omega (arith, c.put_planning-arg-1.given.0.1, c.put_planning.ensures.fits)) c.put_planning.ensures.put in
     rw (← c.plan-planning.ensures.0, ← c.plan-planning.ensures.1) (w.0, rw w.0 w.1, refl)
