@@ -1,5 +1,4 @@
 -- `board::check` meets its contract: one lemma for each check that is passed, then each number by the test that gave it. Assumes nothing.
-use Rattle.std.specs.Prelude.{not}
 use Prim.Native.Nat.{ℕ}
 use mathlib.Core.Path.{◌≡◌, sym, ap, ◌∙◌}
 use mathlib.Core.Bool.{true, false}
@@ -63,7 +62,7 @@ module _ (s : List ℕ) (some : length s ≡ 0 → ⊥) (right : is_version (ver
 
 -- the same of the call's own tests
 right-2 : (c : Else-not-is_version) → is_version (version c.args.board.now) ≡ true
-right-2 c = sym c.is_version.ensures ∙ (ap not c.if-not-is_version.false)
+right-2 c = sym c.is_version.ensures ∙ c.if-not-is_version.false
 
 past-2 : (c : Else-not-is_version) → board_number c.args.board.now ≡ from_frame (version c.args.board.now) (parts_of (drop 1 c.args.board.now))
 past-2 c = after-version _ c.if-board-eq0.false (right-2 c)
@@ -73,12 +72,12 @@ whole c = sym c.misframed.ensures ∙ c.if-misframed.false
 
 past-3 : (c : Else-misframed)
     → board_number c.args.board.now ≡ from_count (version c.args.board.now) (host c.args.board.now) (parts c.args.board.now)
-past-3 c = after-frame _ c.if-board-eq0.false (sym c.is_version.ensures ∙ (ap not c.if-not-is_version.false)) (whole c)
+past-3 c = after-frame _ c.if-board-eq0.false (sym c.is_version.ensures ∙ c.if-not-is_version.false) (whole c)
 
 past-4 : (c : Else-too_many)
     → board_number c.args.board.now ≡ from_headers (version c.args.board.now) (host c.args.board.now) (parts c.args.board.now)
 past-4 c =
-    after-count _ c.if-board-eq0.false (sym c.is_version.ensures ∙ (ap not c.if-not-is_version.false)) (sym c.misframed.ensures ∙ c.if-misframed.false)
+    after-count _ c.if-board-eq0.false (sym c.is_version.ensures ∙ c.if-not-is_version.false) (sym c.misframed.ensures ∙ c.if-misframed.false)
     (sym c.too_many.ensures ∙ c.if-too_many.false)
 
 headers : (c : After-any_breaks) → c.any_breaks.result ≡ any_part (wrong_in (version c.args.board.now)) (parts c.args.board.now)
@@ -98,7 +97,7 @@ records-right c = right_parts (version c.args.board.now) (parts c.args.board.now
 
 past-5 : (c : Else-any_breaks) → board_number c.args.board.now ≡ from_edges (host c.args.board.now) (functions c.args.board.now)
 past-5 c =
-    after-headers _ c.if-board-eq0.false (sym c.is_version.ensures ∙ (ap not c.if-not-is_version.false)) (sym c.misframed.ensures ∙ c.if-misframed.false)
+    after-headers _ c.if-board-eq0.false (sym c.is_version.ensures ∙ c.if-not-is_version.false) (sym c.misframed.ensures ∙ c.if-misframed.false)
     (sym c.too_many.ensures ∙ c.if-too_many.false) (headers-5 c)
 
 edges : (c : After-host_wrong) → c.host_wrong.result ≡ host_wrong (host c.args.board.now)
@@ -106,7 +105,7 @@ edges c = c.host_wrong.ensures ∙ ap host_wrong (c.host_of.ensures ∙ ap host_
 
 past-6 : (c : Else-host_wrong) → board_number c.args.board.now ≡ from_order (functions c.args.board.now)
 past-6 c =
-    after-edges _ c.if-board-eq0.false (sym c.is_version.ensures ∙ (ap not c.if-not-is_version.false)) (sym c.misframed.ensures ∙ c.if-misframed.false)
+    after-edges _ c.if-board-eq0.false (sym c.is_version.ensures ∙ c.if-not-is_version.false) (sym c.misframed.ensures ∙ c.if-misframed.false)
     (sym c.too_many.ensures ∙ c.if-too_many.false)
     (sym (c.any_breaks.ensures
     ∙ breaks_of_framed c.args.board.now (Header (version c.args.board.now)) (sym c.misframed.ensures ∙ c.if-misframed.false))
@@ -115,7 +114,7 @@ past-6 c =
 
 past-7 : (c : Else-first_misplaced-ne0) → board_number c.args.board.now ≡ from_readbacks (functions c.args.board.now)
 past-7 c =
-    after-order _ c.if-board-eq0.false (sym c.is_version.ensures ∙ (ap not c.if-not-is_version.false)) (sym c.misframed.ensures ∙ c.if-misframed.false)
+    after-order _ c.if-board-eq0.false (sym c.is_version.ensures ∙ c.if-not-is_version.false) (sym c.misframed.ensures ∙ c.if-misframed.false)
     (sym c.too_many.ensures ∙ c.if-too_many.false)
     (sym (c.any_breaks.ensures
     ∙ breaks_of_framed c.args.board.now (Header (version c.args.board.now)) (sym c.misframed.ensures ∙ c.if-misframed.false))
@@ -134,7 +133,7 @@ returns-then-board-eq0 c = sym (rw (eq-eqb (length c.args.board.now) 0 c.if-boar
 
 pub returns-then-not-is_version : goal.returns-then-not-is_version
 returns-then-not-is_version c = sym (other_version c.args.board.now c.if-board-eq0.false
-    (sym c.is_version.ensures ∙ (ap not c.if-not-is_version.true)))
+    (sym c.is_version.ensures ∙ c.if-not-is_version.true))
 
 pub returns-then-misframed : goal.returns-then-misframed
 unfolding from_frame

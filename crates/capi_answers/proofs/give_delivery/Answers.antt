@@ -8,7 +8,8 @@ use Rattle.packet_numbers.specs.NumbersLaws.{length_numbers_of}
 use Rattle.capi_answers.proofs.give_delivery.Goals as goal
 
 pub returns-then-out : goal.returns-then-out
-returns-then-out c = answered_short (c.args.owner ∷ c.args.bridges ∷ numbers_of c.args.p) c.args.out.now (omega (arith, length_numbers_of c.args.p))
+returns-then-out c = let both = answered_short (c.args.owner ∷ c.args.bridges ∷ numbers_of c.args.p) c.args.out.now (omega (arith, length_numbers_of c.args.p)) in
+    record { value = both.0; out_after = both.1 }
 
 pub bounds-out-1 : goal.bounds-out-1
 bounds-out-1 c = simp length-set (omega arith)
@@ -17,5 +18,6 @@ pub shape_of-out : goal.shape_of-out
 shape_of-out c = omega (arith, c.put_packet.auto.out, length-set (set c.args.out.now 0 c.args.owner) 1 c.args.bridges, length-set c.args.out.now 0 c.args.owner)
 
 pub returns : goal.returns
-returns c = answered_filled (c.args.owner ∷ c.args.bridges ∷ numbers_of c.args.p) c.args.out.now (omega (arith, length_numbers_of c.args.p))
-    c.put_packet.ensures
+returns c = let both = answered_filled (c.args.owner ∷ c.args.bridges ∷ numbers_of c.args.p) c.args.out.now (omega (arith, length_numbers_of c.args.p))
+    c.put_packet.ensures in
+    record { value = both.0; out_after = both.1 }

@@ -40,4 +40,4 @@ returns c = let e =
     find_owned _ _ (owned _ c.args.index.now _ _ (accepted (goal.at.returns c).Else-completion_rules-ne0) refl refl (lt-ltb c.completion_head_at-h.result.requester id_size (omega arith))
     _ c.word_for-word.ensures (λ z. c.if-record_in-eq0.false (c.record_in.ensures.0 ∙ z)))
     _ (numbers_completion _ _ _ _ c.kind_number.ensures) in
-    rw e c.give_completion.ensures
+    record { value = rw e c.give_completion.ensures.value; answer_after = rw e c.give_completion.ensures.out_after }

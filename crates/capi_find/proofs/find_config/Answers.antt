@@ -43,4 +43,4 @@ returns c = let e =
     (sym c.type_wrong.ensures ∙ c.if-type_wrong.false)
     (lt-ltb c.target_at-t.result.id id_size (omega arith)) _ c.word_for-word.ensures (λ z. c.if-record_in-eq0.false (c.record_in.ensures.0 ∙ z)))
     _ (numbers_config _ _ _ _ _ c.arrived_number.ensures) in
-    rw e c.give_request.ensures
+    record { value = rw e c.give_request.ensures.value; answer_after = rw e c.give_request.ensures.out_after }

@@ -40,4 +40,4 @@ pub returns : goal.returns
 returns c = let e = find_owned _ _ (owned _ _ _ _ (accepted (goal.at.returns c).Else-io_rules-ne0) refl refl (lt-ltb _ _ c.if-a-ge-IO_SIZE.false)
     _ c.word_for-word.ensures (λ z. c.if-record_in-eq0.false (c.record_in.ensures.0 ∙ z)))
     _ (numbers_io _ _ _ _ _ c.kind_number.ensures) in
-    rw e c.give_request.ensures
+    record { value = rw e c.give_request.ensures.value; answer_after = rw e c.give_request.ensures.out_after }

@@ -14,7 +14,8 @@ abbrev numbers : ℕ → ℕ → Head → Outcome → List ℕ
 numbers word kind h o = record_in word ∷ bridges_in word ∷ (head_numbers kind h ++ (absent ++ outcome_numbers o))
 
 pub returns-then-out : goal.returns-then-out
-returns-then-out c = answered_short (numbers c.args.word c.args.kind c.args.h c.args.o) c.args.out.now (omega arith)
+returns-then-out c = let both = answered_short (numbers c.args.word c.args.kind c.args.h c.args.o) c.args.out.now (omega arith) in
+    record { value = both.0; out_after = both.1 }
 
 pub bounds-out-1 : goal.bounds-out-1
 bounds-out-1 c = simp length-set (omega arith)
@@ -28,5 +29,6 @@ shape_of-out c = omega (
 )
 
 pub returns : goal.returns
-returns c = answered_filled (numbers c.args.word c.args.kind c.args.h c.args.o) c.args.out.now (omega arith)
-    (rw (c.record_in.ensures.0, c.bridges_in.ensures.0) at c.put_completion.ensures)
+returns c = let both = answered_filled (numbers c.args.word c.args.kind c.args.h c.args.o) c.args.out.now (omega arith)
+    (rw (c.record_in.ensures.0, c.bridges_in.ensures.0) at c.put_completion.ensures) in
+    record { value = both.0; out_after = both.1 }

@@ -15,7 +15,8 @@ numbers word kind h e address target register =
     record_in word ∷ bridges_in word ∷ (head_numbers kind h ++ (request_numbers e address target register ++ absent))
 
 pub returns-then-out : goal.returns-then-out
-returns-then-out c = answered_short (numbers c.args.word c.args.kind c.args.h c.args.e c.args.address c.args.target c.args.register) c.args.out.now (omega arith)
+returns-then-out c = let both = answered_short (numbers c.args.word c.args.kind c.args.h c.args.e c.args.address c.args.target c.args.register) c.args.out.now (omega arith) in
+    record { value = both.0; out_after = both.1 }
 
 pub bounds-out-1 : goal.bounds-out-1
 bounds-out-1 c = simp length-set (omega arith)
@@ -29,5 +30,6 @@ shape_of-out c = omega (
 )
 
 pub returns : goal.returns
-returns c = answered_filled (numbers c.args.word c.args.kind c.args.h c.args.e c.args.address c.args.target c.args.register) c.args.out.now (omega arith)
-    (rw (c.record_in.ensures.0, c.bridges_in.ensures.0) at c.put_request.ensures)
+returns c = let both = answered_filled (numbers c.args.word c.args.kind c.args.h c.args.e c.args.address c.args.target c.args.register) c.args.out.now (omega arith)
+    (rw (c.record_in.ensures.0, c.bridges_in.ensures.0) at c.put_request.ensures) in
+    record { value = both.0; out_after = both.1 }

@@ -26,10 +26,12 @@ length_whole : (functions : ℕ) (p : Packet) → length (whole functions p) ≡
 length_whole functions p = omega (arith, length-append (numbers_of p) (counted 1 functions), length_numbers_of p, length_counted 1 functions)
 
 pub returns-then-out-front : goal.returns-then-out-front
-returns-then-out-front c = answered_short (whole c.args.functions c.args.p) c.args.out.now (omega (arith, length_whole c.args.functions c.args.p))
+returns-then-out-front c = let both = answered_short (whole c.args.functions c.args.p) c.args.out.now (omega (arith, length_whole c.args.functions c.args.p)) in
+    record { value = both.0; out_after = both.1 }
 
 pub returns-then-out-front-2 : goal.returns-then-out-front-2
-returns-then-out-front-2 c = answered_short (whole c.args.functions c.args.p) c.args.out.now (omega (arith, length_whole c.args.functions c.args.p))
+returns-then-out-front-2 c = let both = answered_short (whole c.args.functions c.args.p) c.args.out.now (omega (arith, length_whole c.args.functions c.args.p)) in
+    record { value = both.0; out_after = both.1 }
 
 pub bounds-out-1 : goal.bounds-out-1
 bounds-out-1 c = simp length-set (omega arith)
@@ -47,4 +49,5 @@ pub shape_of-out : goal.shape_of-out
 shape_of-out c = omega (arith, c.put_list.auto.list, c.put_packet.auto.out, length-set (set (set (set c.args.out.now 0 0) 1 3) 2 0) 3 c.args.functions, length-set (set (set c.args.out.now 0 0) 1 3) 2 0, length-set (set c.args.out.now 0 0) 1 3, length-set c.args.out.now 0 0)
 
 pub returns : goal.returns
-returns c = answered_filled (whole c.args.functions c.args.p) c.args.out.now (omega (arith, length_whole c.args.functions c.args.p)) (sets_append c.args.out.now 0 24 (front c.args.functions c.args.p) (counted 1 c.args.functions) (length_front c.args.functions c.args.p) c.put_packet.ensures c.put_list.ensures)
+returns c = let both = answered_filled (whole c.args.functions c.args.p) c.args.out.now (omega (arith, length_whole c.args.functions c.args.p)) (sets_append c.args.out.now 0 24 (front c.args.functions c.args.p) (counted 1 c.args.functions) (length_front c.args.functions c.args.p) c.put_packet.ensures c.put_list.ensures) in
+    record { value = both.0; out_after = both.1 }

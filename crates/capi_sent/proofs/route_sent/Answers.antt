@@ -5,13 +5,17 @@ use Rattle.capi_sent.specs.CallsLaws.{id_wide, ends_answered}
 use Rattle.capi_sent.proofs.route_sent.Goals as goal
 
 pub returns-then-host_id-gt-LAST_ID : goal.returns-then-host_id-gt-LAST_ID
-returns-then-host_id-gt-LAST_ID c = id_wide c.args.host_id _ _ c.if-host_id-gt-LAST_ID.true
+returns-then-host_id-gt-LAST_ID c = let both = id_wide c.args.host_id _ _ c.if-host_id-gt-LAST_ID.true in
+    record { value = both.0; answer_after = both.1 }
 
 pub returns-in-FromHost : goal.returns-in-FromHost
-returns-in-FromHost c = ends_answered c.args.host_id _ _ _ c.if-host_id-gt-LAST_ID.false (FromHost c.in-FromHost.r) (sym c.in-FromHost.is ∙ c.route_sent.ensures) _ _ c.give_routing.ensures
+returns-in-FromHost c = let both = ends_answered c.args.host_id _ _ _ c.if-host_id-gt-LAST_ID.false (FromHost c.in-FromHost.r) (sym c.in-FromHost.is ∙ c.route_sent.ensures) _ _ c.give_routing.ensures in
+    record { value = both.0; answer_after = both.1 }
 
 pub returns-in-FromFunction : goal.returns-in-FromFunction
-returns-in-FromFunction c = ends_answered c.args.host_id _ _ _ c.if-host_id-gt-LAST_ID.false (FromFunction c.in-FromFunction.number c.in-FromFunction.f) (sym c.in-FromFunction.is ∙ c.route_sent.ensures) _ _ c.give_fate.ensures
+returns-in-FromFunction c = let both = ends_answered c.args.host_id _ _ _ c.if-host_id-gt-LAST_ID.false (FromFunction c.in-FromFunction.number c.in-FromFunction.f) (sym c.in-FromFunction.is ∙ c.route_sent.ensures) _ _ c.give_fate.ensures in
+    record { value = both.0; answer_after = both.1 }
 
 pub returns-in-Refused : goal.returns-in-Refused
-returns-in-Refused c = ends_answered c.args.host_id _ _ _ c.if-host_id-gt-LAST_ID.false (Refused c.in-Refused.n) (sym c.in-Refused.is ∙ c.route_sent.ensures) _ _ (refl, refl)
+returns-in-Refused c = let both = ends_answered c.args.host_id _ _ _ c.if-host_id-gt-LAST_ID.false (Refused c.in-Refused.n) (sym c.in-Refused.is ∙ c.route_sent.ensures) _ _ (refl, refl) in
+    record { value = both.0; answer_after = both.1 }

@@ -4,11 +4,14 @@ use Rattle.capi_sheet.specs.CallsLaws.{command_too_wide, command_unowned, comman
 use Rattle.capi_sheet.proofs.set_command.Goals as goal
 
 pub returns-then-command-gt-WORD : goal.returns-then-command-gt-WORD
-returns-then-command-gt-WORD c = command_too_wide c.args.sheet.now c.args.id c.args.command c.if-command-gt-WORD.true
+returns-then-command-gt-WORD c = let both = command_too_wide c.args.sheet.now c.args.id c.args.command c.if-command-gt-WORD.true in
+    record { value = both.0; sheet_after = both.1 }
 
 pub returns-then-id-gt-WORD : goal.returns-then-id-gt-WORD
-returns-then-id-gt-WORD c = command_unowned c.args.sheet.now c.args.id c.args.command c.if-command-gt-WORD.false c.unowned.result
-    (λ i. (c.type_inv.sheet i).fits) c.if-id-gt-WORD.true c.unowned.ensures
+returns-then-id-gt-WORD c = let both = command_unowned c.args.sheet.now c.args.id c.args.command c.if-command-gt-WORD.false c.unowned.result
+    (λ i. (c.type_inv.sheet i).fits) c.if-id-gt-WORD.true c.unowned.ensures in
+    record { value = both.0; sheet_after = both.1 }
 
 pub returns : goal.returns
-returns c = commanded c.args.sheet.now c.args.id c.args.command c.if-command-gt-WORD.false _ _ c.set_command.ensures
+returns c = let both = commanded c.args.sheet.now c.args.id c.args.command c.if-command-gt-WORD.false _ _ c.set_command.ensures in
+    record { value = both.0; sheet_after = both.1 }

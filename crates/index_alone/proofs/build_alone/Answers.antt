@@ -12,5 +12,6 @@ pub root_of-requires : goal.root_of-requires
 root_of-requires c = checked_of_zero _ (sym c.check-n.ensures ∙ c.if-n-ne0.false)
 
 pub returns : goal.returns
-returns c = checked_build c.args.sheet.now c.args.index.now (sym c.check-n.ensures ∙ c.if-n-ne0.false) _
-    c.root_of.ensures _ c.any_host-host.ensures _ _ c.build_sound.ensures
+returns c = let both = checked_build c.args.sheet.now c.args.index.now (sym c.check-n.ensures ∙ c.if-n-ne0.false) _
+    c.root_of.ensures _ c.any_host-host.ensures _ _ c.build_sound.ensures in
+    record { number = both.0; content = both.1 }

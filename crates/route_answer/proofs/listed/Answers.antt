@@ -4,16 +4,21 @@ use Rattle.route_answer.specs.ListedLaws.{listed_delivered, listed_short, listed
 use Rattle.route_answer.proofs.listed.Goals as goal
 
 pub returns-then-list-size : goal.returns-then-list-size
-returns-then-list-size c = listed_short _ _ _ _ c.in-Broadcast.is c.if-list-size.true
+returns-then-list-size c = let both = listed_short _ _ _ _ c.in-Broadcast.is c.if-list-size.true in
+    record { value = both.0; list_after = both.1 }
 
 pub returns-in-Delivered : goal.returns-in-Delivered
-returns-in-Delivered c = listed_delivered _ _ _ c.in-Delivered.is
+returns-in-Delivered c = let both = listed_delivered _ _ _ c.in-Delivered.is in
+    record { value = both.0; list_after = both.1 }
 
 pub returns-else-list-size : goal.returns-else-list-size
-returns-else-list-size c = listed_whole _ _ _ _ c.in-Broadcast.is _ c.if-list-size.false c.put_list.ensures
+returns-else-list-size c = let both = listed_whole _ _ _ _ c.in-Broadcast.is _ c.if-list-size.false c.put_list.ensures in
+    record { value = both.0; list_after = both.1 }
 
 pub returns-in-Port : goal.returns-in-Port
-returns-in-Port c = listed_port _ _ _ c.in-Port.is
+returns-in-Port c = let both = listed_port _ _ _ c.in-Port.is in
+    record { value = both.0; list_after = both.1 }
 
 pub returns-in-Refused : goal.returns-in-Refused
-returns-in-Refused c = listed_refused _ _ _ c.in-Refused.is
+returns-in-Refused c = let both = listed_refused _ _ _ c.in-Refused.is in
+    record { value = both.0; list_after = both.1 }

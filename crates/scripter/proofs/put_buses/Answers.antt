@@ -1,6 +1,4 @@
 -- `scripter::put_buses` meets its contract. Assumes nothing.
-use Rattle.std.proofs.Common.{ap}
-use Rattle.std.specs.Prelude.{not}
 use mathlib.Core.Path.{◌≡◌, refl, sym, ◌∙◌}
 use mathlib.Core.Bool.{true}
 use Prim.Native.Nat.{◌+◌, ◌*◌, ◌%◌, ◌<◌}
@@ -13,10 +11,10 @@ use Rattle.scripter.proofs.put_buses.Goals.{Else-not-is_bridge}
 
 -- it is a bridge
 bridge : (c : Else-not-is_bridge) → is_bridge (function_of_part c.args.part.now) ≡ true
-bridge c = sym c.is_bridge.ensures ∙ (ap not c.if-not-is_bridge.false)
+bridge c = sym c.is_bridge.ensures ∙ c.if-not-is_bridge.false
 
 pub returns-then-not-is_bridge : goal.returns-then-not-is_bridge
-returns-then-not-is_bridge c = λ k. wrote_if_not _ _ (sym c.is_bridge.ensures ∙ (ap not c.if-not-is_bridge.true))
+returns-then-not-is_bridge c = λ k. wrote_if_not _ _ (sym c.is_bridge.ensures ∙ c.if-not-is_bridge.true)
 
 pub number_at-primary-requires : goal.number_at-primary-requires
 number_at-primary-requires c = rw c.parent_of-parent.ensures c.requires.part_value.1.own
