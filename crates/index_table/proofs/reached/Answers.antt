@@ -5,7 +5,7 @@ use Rattle.index_table.proofs.reached.Goals as goal
 
 pub returns : goal.returns
 returns c = (
-  bit_leb c.wrapping_sub_u64.result c.args.key c.args.a c.wrapping_sub_u64.ensures (omega arith)
+  bit_leb c.wrapping_sub_u64.result c.args.key c.args.a c.wrapping_sub_u64.ensures.value (omega arith)
       (omega arith) (omega arith),
   omega arith,
 )

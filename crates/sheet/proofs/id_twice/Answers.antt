@@ -55,7 +55,7 @@ loop-at-preserved c = let h = here (goal.at.loop-at-preserved c).In-loop-at in
       h.rest,
       read_miss _ _ h _ c.loop-at.invariant.2 _ c.id_of-id.ensures _ (sym c.test_and_mark.ensures.answer ∙ c.if-test_and_mark.false) small
           c.test_and_mark.ensures.content,
-      omega (arith, c.loop-at.invariant.3, c.test_and_mark.auto.0),
+      omega (arith, c.loop-at.invariant.3, c.test_and_mark.auto.seen),
     )
 
 pub returns : goal.returns

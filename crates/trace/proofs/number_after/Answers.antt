@@ -4,4 +4,4 @@ use Rattle.trace.proofs.number_after.Goals as goal
 
 pub returns-in-Line : goal.returns-in-Line
 unfolding number_after
-returns-in-Line c = rw c.in-Line.is c.wrapping_add_u64.ensures
+returns-in-Line c = rw c.in-Line.is c.wrapping_add_u64.ensures.value
