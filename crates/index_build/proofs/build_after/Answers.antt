@@ -45,7 +45,7 @@ returns-then-index-n c = record {
 }
 
 pub host_of-h-requires : goal.host_of-h-requires
-host_of-h-requires c = (owned (goal.at.host_of-h-requires c).Else-verdict-ne0).host-size
+host_of-h-requires c = (owned (goal.at.host_of-h-requires c).Else-verdict-ne0).host_size
 
 pub fill-requires : goal.fill-requires
 fill-requires c = (

@@ -15,13 +15,13 @@ pub loop-seen-init : goal.loop-seen-init
 loop-seen-init c = walked_start _ _ c.requires c.nothing_seen-seen.ensures
 
 pub shape_of-cursors-in-End : goal.shape_of-cursors-in-End
-shape_of-cursors-in-End c = c.loop-seen.invariant.cursors-length
+shape_of-cursors-in-End c = c.loop-seen.invariant.cursors_length
 
 pub returns-in-End : goal.returns-in-End
 returns-in-End c = finished_end c.requires c.loop-seen.invariant (sym c.next_at.ensures ∙ c.in-End.is)
 
 pub shape_of-cursors-in-Broken : goal.shape_of-cursors-in-Broken
-shape_of-cursors-in-Broken c = c.loop-seen.invariant.cursors-length
+shape_of-cursors-in-Broken c = c.loop-seen.invariant.cursors_length
 
 pub returns-in-Broken : goal.returns-in-Broken
 returns-in-Broken c = finished_broken c.requires c.loop-seen.invariant (sym c.next_at.ensures ∙ c.in-Broken.is)

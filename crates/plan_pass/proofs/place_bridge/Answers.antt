@@ -8,7 +8,7 @@ pub bridge_registers-r-requires : goal.bridge_registers-r-requires
 bridge_registers-r-requires c = (
   c.requires.0.numbered,
   c.requires.1.numbered,
-  rw c.last_below.ensures c.requires.1.last-numbered,
+  rw c.last_below.ensures c.requires.1.last_numbered,
 )
 
 pub store_cursors-requires : goal.store_cursors-requires

@@ -15,7 +15,7 @@ loop-n-init c = standing_start c.args.board.now c.requires
 
 -- src/lib.rt:65:17
 pub shape_of-cursors-in-End : goal.shape_of-cursors-in-End
-shape_of-cursors-in-End c = c.loop-n.invariant.cursors-length
+shape_of-cursors-in-End c = c.loop-n.invariant.cursors_length
 
 -- src/lib.rt:65:17
 pub shape_of-sheet-in-End : goal.shape_of-sheet-in-End
@@ -27,7 +27,7 @@ returns-in-End c = finished_end c.requires c.loop-n.invariant (sym c.next_at.ens
 
 -- src/lib.rt:68:17
 pub shape_of-cursors-in-Broken : goal.shape_of-cursors-in-Broken
-shape_of-cursors-in-Broken c = c.loop-n.invariant.cursors-length
+shape_of-cursors-in-Broken c = c.loop-n.invariant.cursors_length
 
 -- src/lib.rt:68:17
 pub shape_of-sheet-in-Broken : goal.shape_of-sheet-in-Broken

@@ -15,4 +15,4 @@ slice_bounds-sets-end c = sym (length-take-le _ _ c.requires.arrays.readbacks)
 
 pub size_board-root-requires : goal.size_board-root-requires
 size_board-root-requires c = let few = length-take-le c.args.n c.args.parents.now c.requires.arrays.parents in
-    (c.requires.board, omega (arith, few, c.requires.memo-room))
+    (c.requires.board, omega (arith, few, c.requires.memo_room))

@@ -10,17 +10,17 @@ use Rattle.planner.specs.PlanLaws.{lawful_sheet}
 use Rattle.planner.proofs.plan_lawful.Goals as goal
 
 pub part_at-requires : goal.part_at-requires
-part_at-requires c = fits_at c.args.board.now host_at host_length (accepted_of_zero c.args.board.now c.requires).host-record
+part_at-requires c = fits_at c.args.board.now host_at host_length (accepted_of_zero c.args.board.now c.requires).host_record_lem
 
 pub host_of-host-requires : goal.host_of-host-requires
 host_of-host-requires c = ap length c.part_at.ensures ∙ length_part c.args.board.now host_at host_length
-    (accepted_of_zero c.args.board.now c.requires).host-record
+    (accepted_of_zero c.args.board.now c.requires).host_record_lem
 
 pub measure-m-requires : goal.measure-m-requires
 measure-m-requires c = record { board_value = c.requires; most_functions_in_bounds = (omega arith, omega arith) }
 
 pub refusal-n-requires : goal.refusal-n-requires
-refusal-n-requires c = c.measure-m.ensures.few-buses
+refusal-n-requires c = c.measure-m.ensures.few_buses
 
 pub returns-then-n-ne0 : goal.returns-then-n-ne0
 returns-then-n-ne0 c = (

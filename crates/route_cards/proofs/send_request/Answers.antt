@@ -13,7 +13,7 @@ whole : (c : After-part-part) → length c.part-part.result.now ≡ record_size
 whole c = sized _ c.requires.0 _ c.requires.1.is-record _ c.part-part.ensures
 
 pub overflow_sub-number : goal.overflow_sub-number
-overflow_sub-number c = omega (arith, c.requires.1.is-record.from-1)
+overflow_sub-number c = omega (arith, c.requires.1.is-record.from_1)
 
 pub part-part-requires : goal.part-part-requires
 part-part-requires c = part_fits _ c.requires.0 _ c.requires.1.is-record

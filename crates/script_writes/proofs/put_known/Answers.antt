@@ -16,5 +16,5 @@ returns c = let requester : c.args.boot.requester < 65536 = omega arith in
     let bytes : List ℕ = c.args.dword.first ∷ c.args.dword.second ∷ c.args.dword.third ∷ c.args.dword.fourth ∷ [] in
     λ k.
     wrote_one {bytes = header ++ bytes} (known_write k c.args.id c.args.offset c.args.enables c.args.dword)
-    (record { requester = requester; tag = tag; id = id; offset = c.requires.0; bytes-are = refl })
+    (record { requester = requester; tag = tag; id = id; offset = c.requires.0; bytes_are = refl })
     (sets_append c.args.room.now c.args.from.at 14 header bytes refl c.put_header.ensures c.put_four.ensures)

@@ -16,5 +16,5 @@ returns c = let requester : c.args.boot.requester < 65536 = omega arith in
     let bytes : List ℕ = data_of c.args.part.now c.args.offset c.args.enables in
     λ k.
     wrote_one {bytes = header ++ bytes} (write_of k c.args.part.now c.args.offset c.args.enables)
-    (record { requester = requester; tag = tag; id = omega (arith, c.id_of-id.ensures); offset = c.requires.1; bytes-are = rw c.id_of-id.ensures })
+    (record { requester = requester; tag = tag; id = omega (arith, c.id_of-id.ensures); offset = c.requires.1; bytes_are = rw c.id_of-id.ensures })
     (sets_append c.args.room.now c.args.from.at 14 header bytes refl c.put_header.ensures c.put_data.ensures)

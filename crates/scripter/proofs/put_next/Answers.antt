@@ -21,7 +21,7 @@ put_buses-requires c = let room = rw c.in-Buses.is at c.requires.n_in_bounds in
           own = c.requires.placeable.0.numbered;
           below = λ b. (c.requires.placeable.1 b).numbered;
           stored = λ b. (c.requires.placeable.1 b).stored;
-          last = λ b. (c.requires.placeable.1 b).last-numbered;
+          last = λ b. (c.requires.placeable.1 b).last_numbered;
         }),
       ),
       rw c.part_at-part.ensures (omega (arith, room, ws)),

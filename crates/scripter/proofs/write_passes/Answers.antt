@@ -21,4 +21,4 @@ pub shape_of-room : goal.shape_of-room
 shape_of-room c = omega (arith, wrote_length c.write_front-next.ensures, wrote_length c.write_pass.ensures)
 
 pub returns : goal.returns
-returns c = all_written c.args.board.now c.requires.1 c.write_front-next.ensures c.args.requester (boot_is c.args.board.now c.args.host c.args.requester c.requires.0.host-read) c.write_pass.ensures
+returns c = all_written c.args.board.now c.requires.1 c.write_front-next.ensures c.args.requester (boot_is c.args.board.now c.args.host c.args.requester c.requires.0.host_read) c.write_pass.ensures

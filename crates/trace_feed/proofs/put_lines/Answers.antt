@@ -80,7 +80,7 @@ loop-i-preserved c = let kept = ap length c.keep-kept.ensures.1 ∙ length_head 
     )
 
 pub shape_of-out : goal.shape_of-out
-shape_of-out c = c.loop-i.invariant.1.same-room
+shape_of-out c = c.loop-i.invariant.1.same_room
 
 pub returns : goal.returns
 returns c = let line = line_of c.args.engine c.args.bytes.now in
