@@ -9,7 +9,7 @@ returns-then-command-gt-WORD c = let both = command_too_wide c.args.sheet.now c.
 
 pub returns-then-id-gt-WORD : goal.returns-then-id-gt-WORD
 returns-then-id-gt-WORD c = let both = command_unowned c.args.sheet.now c.args.id c.args.command c.if-command-gt-WORD.false c.unowned.result
-    (λ i. (c.type_inv.sheet i).fits) c.if-id-gt-WORD.true c.unowned.ensures in
+    (λ i. (c.slice_known-1.given i).fits) c.if-id-gt-WORD.true c.unowned.ensures in
     record { value = both.0; sheet_after = both.1 }
 
 pub returns : goal.returns
