@@ -156,7 +156,7 @@ disjoint_of_test sp k (e ∷ es) t =
         let c = y.owner.entry in
         let one_bus : bus e ≡ bus c = sym (bus_of_own sp k e m) ∙ same ∙ ap (λ (g : Registers). g.node.bus) y.owner.function_is in
         let apart = all_elim _ es (all_of_none (overlap_on_bus e) es none) y.owner.in_sheet in
-        apart_of_overlap sp i.range j.range x.1 y.of_space
+        apart_of_overlap sp i.range j.range x.1 y.is_of_space
         (no_overlap (ranges_of e) (ranges_of c) (rw (eq-eqb (bus e) (bus c) one_bus) at apart) i.range j.range x.0 y.in_ranges)
 
 test_of_disjoint : (k : ℕ) (es : List Entry) → ((sp : Space) → Pairwise ApartOnBus (items (functions_from sp k es))) → not_disjoint es ≡ false

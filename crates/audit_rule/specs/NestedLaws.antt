@@ -71,7 +71,7 @@ module _ (t : Nesting) (h : Host) (es : List Entry) (rise : BridgesRise (nodes_f
           let at : bus o.owner.entry ≡ root = sym (bus_of_lem i o.owner) ∙ on in
           let p : parent_in h es o.owner.entry ≡ under_host = rw (eq-eqb (bus o.owner.entry) root at) in
           subst (Some (Lies t i.range)) (keep_root sp)
-          (lies_of_any t sp i.range o.of_space (ranges_above h under_host)
+          (lies_of_any t sp i.range o.is_of_space (ranges_above h under_host)
           (lies o.owner.entry o.owner.in_sheet i.range o.in_ranges under_host p))
 
       in_window : (i : Item) → i ∈ items fs → (g : Registers) → g ∈ fs → bridges_to i.owner.node.bus (nodes fs) ≡ g.node ∷ []
@@ -106,7 +106,7 @@ module _ (t : Nesting) (h : Host) (es : List Entry) (rise : BridgesRise (nodes_f
               let windows_are : windows_of sp b ≡ g.windows =
               ap (windows_of sp) (sym same) ∙ ap (λ (f : Registers). f.windows) (sym c.function_is) in
               subst (Some (Lies t i.range)) (keep_above sp b ∙ windows_are)
-              (lies_of_any t sp i.range o.of_space (ranges_above h (under_bridge b))
+              (lies_of_any t sp i.range o.is_of_space (ranges_above h (under_bridge b))
               (lies e o.owner.in_sheet i.range o.in_ranges (under_bridge b) p))
 
       nested_of_test : NestedBy (Lies t) (host_for sp h) fs

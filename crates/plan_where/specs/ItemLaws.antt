@@ -100,14 +100,14 @@ module _ (h : Host) (fs : List Function) (lawful : Lawful fs) (q : Pool) where
 
   -- the root bus item named is the first that runs out of its pool
   pub record NamedOut (party : Party) : Type 0 where
-    pub first_out_lem : FirstOf (runs_out h q) (items_of h fs)
+    pub is_first_out : FirstOf (runs_out h q) (items_of h fs)
     pub party_is : party ≡ party_of first_out.one
 
   pub named_out : out_of_pool h fs q ≡ true → NamedOut (first_out h fs q)
   unfolding first_out
   named_out e =
       let f = first_of_any (runs_out h q) (items_of h fs) (some_out ∙ e) in
-      record { first_out_lem = f; party_is = first_is (runs_out h q) party_of nobody (items_of h fs) f }
+      record { is_first_out = f; party_is = first_is (runs_out h q) party_of nobody (items_of h fs) f }
 
 -- ## The most room lost
 

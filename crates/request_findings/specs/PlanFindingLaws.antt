@@ -206,11 +206,11 @@ module _ (b : List ℕ) where
   pub runs_out_of : (q : Pool) → (plan_finding_of b).number ≡ refusal q → RunsOut (host_in b) (functions_in b) q (plan_finding_of b).party
   runs_out_of q e =
       let n = named_out h fs (lawful_of_accepted b (of_host e (refusal_large q))) q (own_out q e) in
-      let x = n.first_out.one in
+      let x = n.is_first_out.one in
       let past = ltb (suc (h.last q)) (item_end x) in
-      let both = both_of_and (is_on 0 q x.piece) (is_closed h q || past) n.first_out.passes in
+      let both = both_of_and (is_on 0 q x.piece) (is_closed h q || past) n.is_first_out.passes in
       record {
-        first = n.first_out;
+        first = n.is_first_out;
         party_is = (parties_of q e).0 ∙ n.party_is;
         on_root_lem = on_of_is_on 0 q x.piece both.0;
         past =

@@ -52,7 +52,7 @@ module _ (sp : Space) where
   pub record ItemOf (es : List Entry) (i : Item) : Type 0 where
     pub owner : FunctionOf es i.owner
     pub in_ranges : i.range ∈ ranges_of owner.entry
-    pub of_space_lem : of_space sp i.range ≡ true
+    pub is_of_space : of_space sp i.range ≡ true
 
   pub item_range : (k : ℕ) (es : List Entry) {i : Item} → i ∈ items (functions_from sp k es) → ItemOf es i
   item_range k es {i} m = go (item_elim (functions_from sp k es) m)
@@ -62,7 +62,7 @@ module _ (sp : Space) where
           let own = subst (λ (f : Registers). i.range ∈ f.bars ++ open_windows f) o.function_is n in
           let kept = keep_elim (of_space sp) (ranges_of o.entry)
           (subst (λ (rs : List Range). i.range ∈ rs) (sym (keep_ranges sp o.number o.entry)) own) in
-          record { owner = o; in_ranges = kept.0; of_space_lem = kept.1 }
+          record { owner = o; in_ranges = kept.0; is_of_space = kept.1 }
 
       go : BarOf (functions_from sp k es) i ⊎ WindowOf (functions_from sp k es) i → ItemOf es i
       go (inl b) = from (function_elim k es b.in_sheet) (Memᴰ.append_left (open_windows i.owner) b.in_bars)

@@ -28,4 +28,4 @@ returns-in-52 c = c.first_failing-in-52.ensures ∙ ap (λ (x : Check). first_fa
     (sym (check_52 _ c.in-52.is))
 
 pub returns-in_default : goal.returns-in_default
-returns-in_default c = nobody_under _ _ _ c.requires.0 c.in_default.rest.0.0.1 c.in_default.rest.0.1 c.in_default.rest.1
+returns-in_default c = nobody_under _ _ _ c.requires.0 c.in_default.in_default-own.rest.0.0.1 c.in_default.in_default-own.rest.0.1 c.in_default.in_default-own.rest.1

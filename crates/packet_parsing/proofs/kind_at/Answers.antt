@@ -63,5 +63,5 @@ returns-in-13 c = rw (c.in-13.is, c.routing_at.ensures)
 
 pub returns-in_default : goal.returns-in_default
 unfolding kind_at kinds
-returns-in_default c = let e : c.args.n ≡ 14 = omega (arith, le_of_none 14 c.args.n c.in_default.rest, c.requires) in
+returns-in_default c = let e : c.args.n ≡ 14 = omega (arith, le_of_none 14 c.args.n c.in_default.in_default-own.rest, c.requires) in
     rw (e, c.routing_at-in_default.ensures)

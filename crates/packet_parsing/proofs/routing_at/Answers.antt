@@ -33,4 +33,4 @@ returns-in-5 c = rw c.in-5.is
 
 pub returns-in_default : goal.returns-in_default
 unfolding routing_at routings
-returns-in_default c = sym (get_or-eq_default routings ToRoot (le_of_none 6 c.args.n c.in_default.rest))
+returns-in_default c = sym (get_or-eq_default routings ToRoot (le_of_none 6 c.args.n c.in_default.in_default-own.rest))

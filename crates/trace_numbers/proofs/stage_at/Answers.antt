@@ -10,7 +10,7 @@ overflow_cast-result c = let h = byte_of_length c.args.number c.args.value c.req
     omega arith
 
 pub overflow_cast-result-in_default : goal.overflow_cast-result-in_default
-overflow_cast-result-in_default c = let inner = inner_of_stage c.args.number c.args.value c.requires (omega (arith, c.in_default.rest)) in
+overflow_cast-result-in_default c = let inner = inner_of_stage c.args.number c.args.value c.requires (omega (arith, c.in_default.in_default-own.rest)) in
     omega (arith, inner.word)
 
 pub returns-in-0 : goal.returns-in-0
@@ -31,4 +31,4 @@ returns-in-3 c = rw c.in-3.is
 
 pub returns-in_default : goal.returns-in_default
 unfolding stage_at stages
-returns-in_default c = rw (inner_of_stage c.args.number c.args.value c.requires (omega (arith, c.in_default.rest))).last
+returns-in_default c = rw (inner_of_stage c.args.number c.args.value c.requires (omega (arith, c.in_default.in_default-own.rest))).last
