@@ -2,9 +2,9 @@
 // answered, from fixed room.
 #![tactic(auto)]
 
-fn main() {
+fn main(rt: HostRuntime) {
     let mut sheet = [0u8; sheet::FULL];
     let mut piece = [0u8; stream_trace::PIECE];
     let mut lines = [0u8; stream_trace::LINES];
-    stream_trace::annotate(&mut sheet, &mut piece, &mut lines);
+    stream_trace::annotate(rt, &mut sheet, &mut piece, &mut lines);
 }

@@ -6,24 +6,27 @@
 use audit_feed::{Feed, KEPT, LONGEST};
 use console::Piece;
 
-fn main() {
-    let mut piece = io::buffer();
+// Room for a piece of input.
+const PIECE: usize = 4096;
+
+fn main(rt: HostRuntime) {
+    let mut piece = [0u8; PIECE];
     let mut kept = [0u8; KEPT];
-    audit(&mut piece, &mut kept);
+    audit(rt, &mut piece, &mut kept);
 }
 
 // Takes the input in pieces to its end, and prints its audit.
-fn audit(piece: &mut [u8], kept: &mut [u8; KEPT]) {
+fn audit(rt: HostRuntime, piece: &mut [u8], kept: &mut [u8; KEPT]) {
     let mut input = Feed::start();
     let mut left = console::PIECES;
     loop {
-        match console::read_piece(left, piece) {
+        match console::read_piece(rt, left, piece) {
             Piece::Bytes(count, fewer) => {
                 input = input.feed(text::front(piece, count), kept);
                 left = fewer;
             }
             Piece::End => {
-                print(input, kept);
+                print(rt, input, kept);
                 return;
             }
             Piece::Failed => {
@@ -33,12 +36,12 @@ fn audit(piece: &mut [u8], kept: &mut [u8; KEPT]) {
     }
 }
 
-fn print(input: Feed, kept: &[u8; KEPT]) {
+fn print(rt: HostRuntime, input: Feed, kept: &[u8; KEPT]) {
     let mut answer = [0u8; LONGEST];
     let n = input.print(kept, &mut answer);
-    print_front(&answer, n);
+    print_front(rt, &answer, n);
 }
 
-fn print_front(answer: &[u8; LONGEST], count: usize) {
-    console::print(text::front(answer, count));
+fn print_front(rt: HostRuntime, answer: &[u8; LONGEST], count: usize) {
+    console::print(rt, text::front(answer, count));
 }

@@ -9,7 +9,7 @@
 ghost use Rattle.std.specs.Prelude.{length};
 ghost use Rattle.console.specs.Console.{Fewer, Nearer};
 
-use libc::{STDERR_FILENO, STDIN_FILENO, STDOUT_FILENO};
+use std::io::Read;
 
 // The pieces that may come.
 pub const PIECES: u64 = u64::MAX;
@@ -40,23 +40,26 @@ pub enum Next {
     Failed,
 }
 
-pub fn read_piece(left: u64, room: &mut [u8]) -> Piece
+pub fn read_piece(rt: HostRuntime, left: u64, room: &mut [u8]) -> Piece
     ensures { Fewer left (length room.old) result }
 {
     if left == 0 {
-        report_not_read();
+        report_not_read(rt);
         return Piece::Failed;
     }
-    let got = libc::read(STDIN_FILENO, room);
-    if got < 0 {
-        report_not_read();
-        return Piece::Failed;
+    let mut input = rt.stdin();
+    match input.read(room) {
+        Ok(count) => {
+            if count == 0 {
+                return Piece::End;
+            }
+            Piece::Bytes(count, left - 1)
+        }
+        Err(_) => {
+            report_not_read(rt);
+            Piece::Failed
+        }
     }
-    let count = io::count(got, room);
-    if count == 0 {
-        return Piece::End;
-    }
-    Piece::Bytes(count, left - 1)
 }
 
 impl Reader {
@@ -69,7 +72,7 @@ impl Reader {
     }
 
     // The same room is lent each time: it holds the piece that the place is in.
-    pub fn byte(self, room: &mut [u8]) -> Next
+    pub fn byte(self, rt: HostRuntime, room: &mut [u8]) -> Next
         ensures { Nearer self result }
     {
         let at = self.at;
@@ -87,7 +90,7 @@ impl Reader {
                 );
             }
         }
-        match read_piece(left, room) {
+        match read_piece(rt, left, room) {
             Piece::Bytes(more, fewer) => Next::Byte(
                 room[0],
                 Reader {
@@ -103,18 +106,19 @@ impl Reader {
 }
 
 // Whether all of it was written.
-pub fn print(bytes: &[u8]) -> bool {
-    if io::write_all(STDOUT_FILENO, bytes) {
+pub fn print(rt: HostRuntime, bytes: &[u8]) -> bool {
+    if rt.stdout().write_all(bytes).is_ok() {
         return true;
     }
-    report(b"standard output could not be written\n");
+    report(rt, b"standard output could not be written\n");
     false
 }
 
-fn report_not_read() {
-    report(b"standard input could not be read\n");
+fn report_not_read(rt: HostRuntime) {
+    report(rt, b"standard input could not be read\n");
 }
 
-fn report(message: &[u8]) {
-    io::write_all(STDERR_FILENO, message);
+// Where standard error can't be written either, nothing is left to say it on.
+fn report(rt: HostRuntime, message: &[u8]) {
+    let _ = rt.stderr().write_all(message);
 }

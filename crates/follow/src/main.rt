@@ -2,9 +2,9 @@
 // An input of any length is answered, from fixed room.
 #![tactic(auto)]
 
-fn main() {
+fn main(rt: HostRuntime) {
     let mut sheet = [0u8; sheet::FULL];
     let mut piece = [0u8; stream_follow::PIECE];
     let mut lines = [0u8; stream_follow::LINES];
-    stream_follow::follow(&mut sheet, &mut piece, &mut lines);
+    stream_follow::follow(rt, &mut sheet, &mut piece, &mut lines);
 }

@@ -2,10 +2,10 @@
 // index. An input of any length is answered, from fixed room.
 #![tactic(auto)]
 
-fn main() {
+fn main(rt: HostRuntime) {
     let mut sheet = [0u8; sheet::FULL];
     let mut index = [0u8; stream_label::INDEX];
     let mut piece = [0u8; stream_label::PIECE];
     let mut lines = [0u8; stream_label::LINES];
-    stream_label::label(&mut sheet, &mut index, &mut piece, &mut lines);
+    stream_label::label(rt, &mut sheet, &mut index, &mut piece, &mut lines);
 }

@@ -7,24 +7,27 @@
 use board_feed::{Feed, KEPT};
 use console::Piece;
 
-fn main() {
-    let mut piece = io::buffer();
+// Room for a piece of input.
+const PIECE: usize = 4096;
+
+fn main(rt: HostRuntime) {
+    let mut piece = [0u8; PIECE];
     let mut kept = [0u8; KEPT];
-    plan(&mut piece, &mut kept);
+    plan(rt, &mut piece, &mut kept);
 }
 
 // Takes the input in pieces to its end, and prints its plan.
-fn plan(piece: &mut [u8], kept: &mut [u8; KEPT]) {
+fn plan(rt: HostRuntime, piece: &mut [u8], kept: &mut [u8; KEPT]) {
     let mut input = Feed::start();
     let mut left = console::PIECES;
     loop {
-        match console::read_piece(left, piece) {
+        match console::read_piece(rt, left, piece) {
             Piece::Bytes(count, fewer) => {
                 input = input.feed(text::front(piece, count), kept);
                 left = fewer;
             }
             Piece::End => {
-                stream_plan::print(input, kept);
+                stream_plan::print(rt, input, kept);
                 return;
             }
             Piece::Failed => {

@@ -7,25 +7,28 @@ use board_feed::KEPT;
 use console::Piece;
 use script_feed::{FRONT, Input, LONGEST};
 
-fn main() {
-    let mut piece = io::buffer();
+// Room for a piece of input.
+const PIECE: usize = 4096;
+
+fn main(rt: HostRuntime) {
+    let mut piece = [0u8; PIECE];
     let mut front = [0u8; FRONT];
     let mut kept = [0u8; KEPT];
-    script(&mut piece, &mut front, &mut kept);
+    script(rt, &mut piece, &mut front, &mut kept);
 }
 
 // Takes the input in pieces to its end, and prints its script.
-fn script(piece: &mut [u8], front: &mut [u8; FRONT], kept: &mut [u8; KEPT]) {
+fn script(rt: HostRuntime, piece: &mut [u8], front: &mut [u8; FRONT], kept: &mut [u8; KEPT]) {
     let mut input = Input::start();
     let mut left = console::PIECES;
     loop {
-        match console::read_piece(left, piece) {
+        match console::read_piece(rt, left, piece) {
             Piece::Bytes(count, fewer) => {
                 input = input.feed(text::front(piece, count), front, kept);
                 left = fewer;
             }
             Piece::End => {
-                print(input, front, kept);
+                print(rt, input, front, kept);
                 return;
             }
             Piece::Failed => {
@@ -35,12 +38,12 @@ fn script(piece: &mut [u8], front: &mut [u8; FRONT], kept: &mut [u8; KEPT]) {
     }
 }
 
-fn print(input: Input, front: &[u8; FRONT], kept: &[u8; KEPT]) {
+fn print(rt: HostRuntime, input: Input, front: &[u8; FRONT], kept: &[u8; KEPT]) {
     let mut answer = [0u8; LONGEST];
     let n = input.print(front, kept, &mut answer);
-    print_front(&answer, n);
+    print_front(rt, &answer, n);
 }
 
-fn print_front(answer: &[u8; LONGEST], count: usize) {
-    console::print(text::front(answer, count));
+fn print_front(rt: HostRuntime, answer: &[u8; LONGEST], count: usize) {
+    console::print(rt, text::front(answer, count));
 }

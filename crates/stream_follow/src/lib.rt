@@ -6,9 +6,8 @@
 use stream_trace::{Filling, SheetRead};
 use trace_engine::Engine;
 
-// Where bytes are held: as in the annotator (`stream_trace`) the sheet, 8,192 bytes, 4,096, 51, 16 and 16; 9 for a kind's name, the two
-// bytes of the ID and of the length, a piece of the trace and its lines. With a full sheet of 47,105 bytes that is 65,534 of the 65,536
-// allowed.
+// Where bytes are held: as in the annotator (`stream_trace`) the sheet, 8,192 bytes, 51, 16 and 16; 9 for a kind's name, the two bytes of
+// the ID and of the length, a piece of the trace and its lines. With a full sheet of 47,105 bytes that is 61,438 of the 65,536 allowed.
 // A piece of ordinary records, each 12 bytes after its length, has lines that fit by their count, so that none is routed twice.
 pub const MOST_LINES: usize = 93;
 
@@ -16,15 +15,20 @@ pub const PIECE: usize = MOST_LINES * 14;
 
 pub const LINES: usize = MOST_LINES * trace_ends::LONGEST;
 
-pub fn follow(sheet: &mut [u8; sheet::FULL], piece: &mut [u8; PIECE], lines: &mut [u8; LINES]) {
+pub fn follow(
+    rt: HostRuntime,
+    sheet: &mut [u8; sheet::FULL],
+    piece: &mut [u8; PIECE],
+    lines: &mut [u8; LINES],
+) {
     let mut id = [0u8; 2];
-    match stream_trace::fill(console::PIECES, &mut id) {
+    match stream_trace::fill(rt, console::PIECES, &mut id) {
         Filling::Full(left) => {
             let host_id = endian::read_be16(&id, 0) as u16;
-            follow_from(left, host_id, sheet, piece, lines);
+            follow_from(rt, left, host_id, sheet, piece, lines);
         }
         Filling::Short => {
-            console::print(b"refused 20\n");
+            console::print(rt, b"refused 20\n");
         }
         Filling::Failed => {}
     }
@@ -32,21 +36,22 @@ pub fn follow(sheet: &mut [u8; sheet::FULL], piece: &mut [u8; PIECE], lines: &mu
 
 // With the host's ID: a sheet, and the trace over it.
 fn follow_from(
+    rt: HostRuntime,
     start: u64,
     host_id: u16,
     sheet: &mut [u8; sheet::FULL],
     piece: &mut [u8; PIECE],
     lines: &mut [u8; LINES],
 ) {
-    match stream_trace::read_sheet(start, sheet) {
+    match stream_trace::read_sheet(rt, start, sheet) {
         SheetRead::Whole(size, left) => {
-            read_over(left, host_id, text::front(sheet, size), piece, lines);
+            read_over(rt, left, host_id, text::front(sheet, size), piece, lines);
         }
         SheetRead::Long => {
-            console::print(b"refused 22\n");
+            console::print(rt, b"refused 22\n");
         }
         SheetRead::Short => {
-            console::print(b"refused 20\n");
+            console::print(rt, b"refused 20\n");
         }
         SheetRead::Failed => {}
     }
@@ -54,6 +59,7 @@ fn follow_from(
 
 // The trace over a sheet, which is checked once in all.
 fn read_over(
+    rt: HostRuntime,
     start: u64,
     host_id: u16,
     sheet: &[u8],
@@ -61,5 +67,5 @@ fn read_over(
     lines: &mut [u8; LINES],
 ) {
     let engine = Engine::Ends(host_id, sheet::check(sheet));
-    stream_trace::read_trace(start, engine, sheet, piece, lines);
+    stream_trace::read_trace(rt, start, engine, sheet, piece, lines);
 }

@@ -13,8 +13,8 @@ use trace_line::Finder;
 
 // The index of a full sheet, 1,024 bytes and 256 a function: 132,096 for 512 functions, which E4's 64 KiB cannot hold, so this program
 // stands beside the annotator. Its memory is fixed too: the index, a full sheet of 47,105 bytes, a piece of 16,384 and its lines (327,720),
-// the host record, 8,192 bytes in which the sheet's check marks IDs, 9,216 for the tables by bus of audit and build, 4,096 in which `io`
-// goes on after a short write, and under 1,000 for ranges and lines under way: less than 546,000 bytes.
+// the host record, 8,192 bytes in which the sheet's check marks IDs, 9,216 for the tables by bus of audit and build, and under 1,000 for
+// ranges and lines under way: less than 546,000 bytes.
 pub const INDEX: usize = index_layout::LEAST + index_layout::EACH * records::MOST_FUNCTIONS;
 
 // A record takes two bytes at least, so the lines of any piece fit: none is counted before it is labelled.
@@ -23,18 +23,19 @@ pub const PIECE: usize = 16384;
 pub const LINES: usize = (PIECE / 2 + 1) * trace_line::LONGEST;
 
 pub fn label(
+    rt: HostRuntime,
     sheet: &mut [u8; sheet::FULL],
     index: &mut [u8; INDEX],
     piece: &mut [u8; PIECE],
     lines: &mut [u8; LINES],
 ) {
     let mut host = [0u8; board_record::HOST_LENGTH];
-    match stream_trace::fill(console::PIECES, &mut host) {
+    match stream_trace::fill(rt, console::PIECES, &mut host) {
         Filling::Full(left) => {
-            label_under(left, &host, sheet, index, piece, lines);
+            label_under(rt, left, &host, sheet, index, piece, lines);
         }
         Filling::Short => {
-            print_refused(20, lines);
+            print_refused(rt, 20, lines);
         }
         Filling::Failed => {}
     }
@@ -42,6 +43,7 @@ pub fn label(
 
 // Under a host record, whose own check comes before anything of the sheet.
 fn label_under(
+    rt: HostRuntime,
     start: u64,
     host: &[u8],
     sheet: &mut [u8; sheet::FULL],
@@ -52,24 +54,33 @@ fn label_under(
     requires { length host.now ≡ host_length }
 {
     if board_record::host_wrong(board_record::host_of(host)) {
-        print_refused(26, lines);
+        print_refused(rt, 26, lines);
         return;
     }
-    match stream_trace::read_sheet(start, sheet) {
+    match stream_trace::read_sheet(rt, start, sheet) {
         SheetRead::Whole(size, left) => {
-            label_sheet(left, host, text::front(sheet, size), index, piece, lines);
+            label_sheet(
+                rt,
+                left,
+                host,
+                text::front(sheet, size),
+                index,
+                piece,
+                lines,
+            );
         }
         SheetRead::Long => {
-            print_refused(22, lines);
+            print_refused(rt, 22, lines);
         }
         SheetRead::Short => {
-            print_refused(20, lines);
+            print_refused(rt, 20, lines);
         }
         SheetRead::Failed => {}
     }
 }
 
 fn label_sheet(
+    rt: HostRuntime,
     start: u64,
     host: &[u8],
     sheet: &[u8],
@@ -79,11 +90,11 @@ fn label_sheet(
 ) {
     let number = index_sheet(host, sheet, index);
     if number != 0 {
-        print_refused(number, lines);
+        print_refused(rt, number, lines);
         return;
     }
     let engine = Engine::Owner(Finder::Index);
-    stream_trace::read_trace(start, engine, index, piece, lines);
+    stream_trace::read_trace(rt, start, engine, index, piece, lines);
 }
 
 // The audit's number; where it is 0, the sheet's index. There is room for any, so no build gives 11.
@@ -94,7 +105,7 @@ fn index_sheet(host: &[u8], sheet: &[u8], index: &mut [u8; INDEX]) -> u8
 }
 
 // The one line of an input that is refused.
-fn print_refused(number: u8, lines: &mut [u8; LINES]) {
+fn print_refused(rt: HostRuntime, number: u8, lines: &mut [u8; LINES]) {
     let size = text::put_refusal(lines, 0, number);
-    console::print(text::front(lines, size));
+    console::print(rt, text::front(lines, size));
 }

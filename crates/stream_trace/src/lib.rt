@@ -13,9 +13,9 @@ use trace::Trace;
 use trace_engine::Engine;
 use trace_line::Finder;
 
-// Where bytes are held: the sheet, a piece of the trace, its lines; 8,192 bytes in which the sheet's check marks IDs, 4,096 in which `io`
-// goes on after a short write, 51 for a line that is measured; 16 kept of a record, 16 that clear them and 8 for a kind's name. With a full
-// sheet of 47,105 bytes that is 65,532 of the 65,536 allowed.
+// Where bytes are held: the sheet, a piece of the trace, its lines; 8,192 bytes in which the sheet's check marks IDs, 51 for a line that is
+// measured; 16 kept of a record, 16 that clear them and 8 for a kind's name. With a full sheet of 47,105 bytes that is 61,436 of the 65,536
+// allowed.
 // A piece of ordinary records, each 12 bytes after its length, has lines that fit by their count, so that none is routed twice.
 pub const MOST_LINES: usize = 112;
 
@@ -55,29 +55,34 @@ struct Labelled {
     written: bool,
 }
 
-pub fn annotate(sheet: &mut [u8; sheet::FULL], piece: &mut [u8; PIECE], lines: &mut [u8; LINES]) {
-    match read_sheet(console::PIECES, sheet) {
+pub fn annotate(
+    rt: HostRuntime,
+    sheet: &mut [u8; sheet::FULL],
+    piece: &mut [u8; PIECE],
+    lines: &mut [u8; LINES],
+) {
+    match read_sheet(rt, console::PIECES, sheet) {
         SheetRead::Whole(size, left) => {
-            read_over(left, text::front(sheet, size), piece, lines);
+            read_over(rt, left, text::front(sheet, size), piece, lines);
         }
         SheetRead::Long => {
-            console::print(b"refused 22\n");
+            console::print(rt, b"refused 22\n");
         }
         SheetRead::Short => {
-            console::print(b"refused 20\n");
+            console::print(rt, b"refused 20\n");
         }
         SheetRead::Failed => {}
     }
 }
 
 // A length, and a sheet of so many bytes.
-pub fn read_sheet(start: u64, sheet: &mut [u8; sheet::FULL]) -> SheetRead {
+pub fn read_sheet(rt: HostRuntime, start: u64, sheet: &mut [u8; sheet::FULL]) -> SheetRead {
     let mut length = [0u8; 2];
-    match fill(start, &mut length) {
+    match fill(rt, start, &mut length) {
         Filling::Full(left) => {
             let size = endian::read_be16(&length, 0) as usize;
             match opening_of(size) {
-                Opening::Sheet(n) => fill_sheet(left, n, sheet),
+                Opening::Sheet(n) => fill_sheet(rt, left, n, sheet),
                 Opening::Long => SheetRead::Long,
             }
         }
@@ -95,10 +100,10 @@ fn opening_of(size: usize) -> Opening
     Opening::Sheet(size)
 }
 
-fn fill_sheet(start: u64, size: usize, sheet: &mut [u8]) -> SheetRead
+fn fill_sheet(rt: HostRuntime, start: u64, size: usize, sheet: &mut [u8]) -> SheetRead
     requires { size ≤ length sheet.old }
 {
-    match fill(start, &mut sheet[..size]) {
+    match fill(rt, start, &mut sheet[..size]) {
         Filling::Full(left) => SheetRead::Whole(size, left),
         Filling::Short => SheetRead::Short,
         Filling::Failed => SheetRead::Failed,
@@ -106,21 +111,34 @@ fn fill_sheet(start: u64, size: usize, sheet: &mut [u8]) -> SheetRead
 }
 
 // The trace over a sheet, which is checked once in all.
-fn read_over(start: u64, sheet: &[u8], piece: &mut [u8; PIECE], lines: &mut [u8; LINES]) {
+fn read_over(
+    rt: HostRuntime,
+    start: u64,
+    sheet: &[u8],
+    piece: &mut [u8; PIECE],
+    lines: &mut [u8; LINES],
+) {
     let finder = Finder::Sheet(sheet::check(sheet));
-    read_trace(start, Engine::Owner(finder), sheet, piece, lines);
+    read_trace(rt, start, Engine::Owner(finder), sheet, piece, lines);
 }
 
 // The trace to its end, by an engine, in pieces of any size, with room for any line.
-pub fn read_trace(start: u64, engine: Engine, bytes: &[u8], piece: &mut [u8], lines: &mut [u8])
+pub fn read_trace(
+    rt: HostRuntime,
+    start: u64,
+    engine: Engine,
+    bytes: &[u8],
+    piece: &mut [u8],
+    lines: &mut [u8],
+)
     requires { Ready engine bytes.now × (longest_line ≤ length lines.old) }
 {
     let mut t = Trace::start();
     let mut left = start;
     loop {
-        match console::read_piece(left, piece) {
+        match console::read_piece(rt, left, piece) {
             Piece::Bytes(count, fewer) => {
-                let labelled = label(t, engine, bytes, text::front(piece, count), lines);
+                let labelled = label(rt, t, engine, bytes, text::front(piece, count), lines);
                 if !labelled.written {
                     return;
                 }
@@ -128,7 +146,7 @@ pub fn read_trace(start: u64, engine: Engine, bytes: &[u8], piece: &mut [u8], li
                 left = fewer;
             }
             Piece::End => {
-                finish(t, lines);
+                finish(rt, t, lines);
                 return;
             }
             Piece::Failed => {
@@ -138,26 +156,34 @@ pub fn read_trace(start: u64, engine: Engine, bytes: &[u8], piece: &mut [u8], li
     }
 }
 
-fn finish(t: Trace, lines: &mut [u8]) {
+fn finish(rt: HostRuntime, t: Trace, lines: &mut [u8]) {
     let finished = trace::finish(t, lines);
-    console::print(text::front(lines, finished.written));
+    console::print(rt, text::front(lines, finished.written));
 }
 
 // A piece whose lines do not fit at once is taken in parts, each of no more bytes than lines fit.
-fn label(t: Trace, engine: Engine, bytes: &[u8], piece: &[u8], lines: &mut [u8]) -> Labelled
+fn label(
+    rt: HostRuntime,
+    t: Trace,
+    engine: Engine,
+    bytes: &[u8],
+    piece: &[u8],
+    lines: &mut [u8],
+) -> Labelled
     requires { Ready engine bytes.now × (longest_line ≤ length lines.old) }
     ensures { result.written ≡ true → result.state ≡ state_of t piece.now }
 {
     let fed = trace_feed::feed_by(t, engine, bytes, piece, lines);
     if fed.number == 0 {
         let state = fed.state;
-        let written = console::print(text::front(lines, fed.written));
+        let written = console::print(rt, text::front(lines, fed.written));
         return Labelled { state, written };
     }
-    label_parts(t, engine, bytes, piece, lines)
+    label_parts(rt, t, engine, bytes, piece, lines)
 }
 
 fn label_parts(
+    rt: HostRuntime,
     start: Trace,
     engine: Engine,
     bytes: &[u8],
@@ -174,7 +200,7 @@ fn label_parts(
         let end = part_end(i, piece.len(), most);
         let fed = trace_feed::feed_by(t, engine, bytes, &piece[i..end], lines);
         t = fed.state;
-        if !console::print(text::front(lines, fed.written)) {
+        if !console::print(rt, text::front(lines, fed.written)) {
             return Labelled {
                 state: t,
                 written: false,
@@ -200,11 +226,11 @@ fn part_end(from: usize, size: usize, most: usize) -> usize
 }
 
 // Reads until the room is full.
-pub fn fill(start: u64, room: &mut [u8]) -> Filling {
+pub fn fill(rt: HostRuntime, start: u64, room: &mut [u8]) -> Filling {
     let mut left = start;
     let mut at = 0;
     while at < room.len() {
-        match console::read_piece(left, &mut room[at..]) {
+        match console::read_piece(rt, left, &mut room[at..]) {
             Piece::Bytes(count, fewer) => {
                 at += count;
                 left = fewer;

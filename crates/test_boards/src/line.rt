@@ -22,9 +22,15 @@ pub fn start(written: bool) -> Line {
     }
 }
 
-pub fn take(line: Line, byte: u8, word: &mut [u8; WORD], kept: &mut [u8; KEPT]) -> Line {
+pub fn take(
+    rt: HostRuntime,
+    line: Line,
+    byte: u8,
+    word: &mut [u8; WORD],
+    kept: &mut [u8; KEPT],
+) -> Line {
     if byte == b'\n' {
-        return start(end(line, word, kept));
+        return start(end(rt, line, word, kept));
     }
     let before = line.stage;
     let stage = lines::next(before, byte);
@@ -44,24 +50,24 @@ pub fn take(line: Line, byte: u8, word: &mut [u8; WORD], kept: &mut [u8; KEPT]) 
 }
 
 // Answers the line, unless it is a comment or blank, and says whether the answer could be written.
-pub fn end(line: Line, word: &[u8; WORD], kept: &[u8; KEPT]) -> bool {
+pub fn end(rt: HostRuntime, line: Line, word: &[u8; WORD], kept: &[u8; KEPT]) -> bool {
     let stage = line.stage;
     match lines::end(stage) {
         Ended::Passed => true,
-        Ended::Whole => answer(line, word, kept),
-        Ended::Wrong => print_wrong(),
+        Ended::Whole => answer(rt, line, word, kept),
+        Ended::Wrong => print_wrong(rt),
     }
 }
 
-fn answer(line: Line, word: &[u8; WORD], kept: &[u8; KEPT]) -> bool {
+fn answer(rt: HostRuntime, line: Line, word: &[u8; WORD], kept: &[u8; KEPT]) -> bool {
     if check::same(front(word, line.letters), b"board") {
-        return stream_plan::print(line.input, kept);
+        return stream_plan::print(rt, line.input, kept);
     }
-    print_wrong()
+    print_wrong(rt)
 }
 
-fn print_wrong() -> bool {
-    console::print(b"not a line\n")
+fn print_wrong(rt: HostRuntime) -> bool {
+    console::print(rt, b"not a line\n")
 }
 
 fn fed(input: Feed, byte: u8, kept: &mut [u8; KEPT]) -> Feed {

@@ -15,25 +15,28 @@ use board_feed::KEPT;
 use console::{Next, Reader};
 use lines::WORD;
 
-fn main() {
-    let mut piece = io::buffer();
+// Room for a piece of input.
+const PIECE: usize = 4096;
+
+fn main(rt: HostRuntime) {
+    let mut piece = [0u8; PIECE];
     let mut word = [0u8; WORD];
     let mut kept = [0u8; KEPT];
-    answer_lines(&mut piece, &mut word, &mut kept);
+    answer_lines(rt, &mut piece, &mut word, &mut kept);
 }
 
 // Answers each line, and what stands after the last newline.
-fn answer_lines(piece: &mut [u8], word: &mut [u8; WORD], kept: &mut [u8; KEPT]) {
+fn answer_lines(rt: HostRuntime, piece: &mut [u8], word: &mut [u8; WORD], kept: &mut [u8; KEPT]) {
     let mut reader = Reader::start();
     let mut line = line::start(true);
     while line.written {
-        match reader.byte(piece) {
+        match reader.byte(rt, piece) {
             Next::Byte(byte, after) => {
-                line = line::take(line, byte, word, kept);
+                line = line::take(rt, line, byte, word, kept);
                 reader = after;
             }
             Next::End => {
-                line::end(line, word, kept);
+                line::end(rt, line, word, kept);
                 return;
             }
             Next::Failed => {

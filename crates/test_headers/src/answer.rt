@@ -5,10 +5,10 @@ use text::{front, put_text};
 use tlp::{Reading, Writing};
 
 // Whether the answer could be written. The longest has 131 bytes.
-pub fn print(header: &[u8]) -> bool {
+pub fn print(rt: HostRuntime, header: &[u8]) -> bool {
     let mut line = [0u8; 256];
     let n = put_answer(&mut line, header);
-    console::print(front(&line, n))
+    console::print(rt, front(&line, n))
 }
 
 fn put_answer(out: &mut [u8], header: &[u8]) -> usize {

@@ -22,9 +22,9 @@ pub fn start(written: bool) -> Line {
     }
 }
 
-pub fn take(line: Line, byte: u8, header: &mut [u8; KEPT]) -> Line {
+pub fn take(rt: HostRuntime, line: Line, byte: u8, header: &mut [u8; KEPT]) -> Line {
     if byte == b'\n' {
-        return start(end(line, header));
+        return start(end(rt, line, header));
     }
     let before = line.stage;
     let stage = next(before, byte);
@@ -39,25 +39,25 @@ pub fn take(line: Line, byte: u8, header: &mut [u8; KEPT]) -> Line {
 }
 
 // Answers the line, unless it is a comment or blank, and says whether the answer could be written.
-pub fn end(line: Line, header: &[u8; KEPT]) -> bool {
+pub fn end(rt: HostRuntime, line: Line, header: &[u8; KEPT]) -> bool {
     let stage = line.stage;
     match lines::end(stage) {
         Ended::Passed => true,
-        Ended::Whole => answer_whole(line, header),
-        Ended::Wrong => console::print(b"not hexadecimal\n"),
+        Ended::Whole => answer_whole(rt, line, header),
+        Ended::Wrong => console::print(rt, b"not hexadecimal\n"),
     }
 }
 
 // The header of no bytes is `-`; other lines of none are blank.
-fn answer_whole(line: Line, header: &[u8; KEPT]) -> bool {
+fn answer_whole(rt: HostRuntime, line: Line, header: &[u8; KEPT]) -> bool {
     let stage = line.stage;
     if let Stage::Letter(_) = stage {
-        return answer::print(front(header, 0));
+        return answer::print(rt, front(header, 0));
     }
     if line.count == 0 {
         return true;
     }
-    answer::print(front(header, line.count))
+    answer::print(rt, front(header, line.count))
 }
 
 // No word comes first, so `#` and `-` count as the first byte only. `-` stands alone.

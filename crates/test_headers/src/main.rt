@@ -14,24 +14,27 @@ mod line;
 
 use console::{Next, Reader};
 
-fn main() {
-    let mut piece = io::large_buffer();
+// Room for a piece of input.
+const PIECE: usize = 65536;
+
+fn main(rt: HostRuntime) {
+    let mut piece = [0u8; PIECE];
     let mut header = [0u8; line::KEPT];
-    answer_lines(&mut piece, &mut header);
+    answer_lines(rt, &mut piece, &mut header);
 }
 
 // Answers each line, and what stands after the last newline.
-fn answer_lines(piece: &mut [u8], header: &mut [u8; line::KEPT]) {
+fn answer_lines(rt: HostRuntime, piece: &mut [u8], header: &mut [u8; line::KEPT]) {
     let mut reader = Reader::start();
     let mut line = line::start(true);
     while line.written {
-        match reader.byte(piece) {
+        match reader.byte(rt, piece) {
             Next::Byte(byte, after) => {
-                line = line::take(line, byte, header);
+                line = line::take(rt, line, byte, header);
                 reader = after;
             }
             Next::End => {
-                line::end(line, header);
+                line::end(rt, line, header);
                 return;
             }
             Next::Failed => {

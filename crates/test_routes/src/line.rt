@@ -32,6 +32,7 @@ pub fn start(size: usize, written: bool) -> Line {
 }
 
 pub fn take(
+    rt: HostRuntime,
     line: Line,
     byte: u8,
     word: &mut [u8; WORD],
@@ -39,7 +40,7 @@ pub fn take(
     sheet: &mut [u8; ROOM],
 ) -> Line {
     if byte == b'\n' {
-        return end(line, word, room, sheet);
+        return end(rt, line, word, room, sheet);
     }
     let before = line.stage;
     let stage = lines::next(before, byte);
@@ -71,10 +72,16 @@ fn with_byte(line: Line, value: u8, room: &mut [u8; ROOM]) -> Line {
 }
 
 // Answers the line, unless it is a comment or blank, and begins the next.
-pub fn end(line: Line, word: &[u8; WORD], room: &[u8; ROOM], sheet: &mut [u8; ROOM]) -> Line {
+pub fn end(
+    rt: HostRuntime,
+    line: Line,
+    word: &[u8; WORD],
+    room: &[u8; ROOM],
+    sheet: &mut [u8; ROOM],
+) -> Line {
     let mut out = [0u8; LONGEST];
     let answer = put_answer(&mut out, line, word, room, sheet);
-    start(answer.size, console::print(front(&out, answer.count)))
+    start(answer.size, console::print(rt, front(&out, answer.count)))
 }
 
 fn put_answer(

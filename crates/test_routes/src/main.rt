@@ -25,16 +25,20 @@ use console::{Next, Reader};
 use line::ROOM;
 use lines::WORD;
 
-fn main() {
-    let mut piece = io::large_buffer();
+// Room for a piece of input.
+const PIECE: usize = 65536;
+
+fn main(rt: HostRuntime) {
+    let mut piece = [0u8; PIECE];
     let mut word = [0u8; WORD];
     let mut room = [0u8; ROOM];
     let mut sheet = [0u8; ROOM];
-    answer_lines(&mut piece, &mut word, &mut room, &mut sheet);
+    answer_lines(rt, &mut piece, &mut word, &mut room, &mut sheet);
 }
 
 // Answers each line, and what stands after the last newline.
 fn answer_lines(
+    rt: HostRuntime,
     piece: &mut [u8],
     word: &mut [u8; WORD],
     room: &mut [u8; ROOM],
@@ -43,13 +47,13 @@ fn answer_lines(
     let mut reader = Reader::start();
     let mut line = line::start(0, true);
     while line.written {
-        match reader.byte(piece) {
+        match reader.byte(rt, piece) {
             Next::Byte(byte, after) => {
-                line = line::take(line, byte, word, room, sheet);
+                line = line::take(rt, line, byte, word, room, sheet);
                 reader = after;
             }
             Next::End => {
-                line::end(line, word, room, sheet);
+                line::end(rt, line, word, room, sheet);
                 return;
             }
             Next::Failed => {
