@@ -5,7 +5,7 @@ use Rattle.claims.specs.declared.Aim.{Aim}
 use Rattle.route_arrival.specs.declared.Heading.{Heading}
 use Rattle.route_arrival.specs.declared.Heading.TheVariants.{Aimed, Up, Every, Port}
 use Rattle.route_answer.specs.Routing.{headed_over, route_over}
-use Rattle.route_answer.specs.OnwardLaws.{no_functions, wrong_type, headed_as}
+use Rattle.route_answer.specs.OnwardLaws.{no_functions, wrong_type_lem, headed_as}
 use Rattle.route_answer.proofs.onward.Goals as goal
 use Rattle.route_answer.proofs.onward.Goals.{After-heading_of}
 
@@ -21,7 +21,7 @@ pub returns-then-functions-eq0 : goal.returns-then-functions-eq0
 returns-then-functions-eq0 c = no_functions c.args.p _ c.args.root c.if-functions-eq0.true
 
 pub returns-then-type_wrong : goal.returns-then-type_wrong
-returns-then-type_wrong c = wrong_type c.args.p _ c.args.root c.if-functions-eq0.false _ c.type_wrong.ensures c.if-type_wrong.true
+returns-then-type_wrong c = wrong_type_lem c.args.p _ c.args.root c.if-functions-eq0.false _ c.type_wrong.ensures c.if-type_wrong.true
 
 pub returns-in-Aimed : goal.returns-in-Aimed
 returns-in-Aimed c = past (goal.at.returns-in-Aimed c).After-heading_of (Aimed _) c.in-Aimed.is
