@@ -24,14 +24,14 @@ use Rattle.board_record.specs.Host.{host_of_part, is_open, outside, off_edges, p
 use Rattle.walk.specs.Ranges.{Range, Within}
 use Rattle.walk.specs.Registers.{Node, Registers, items, root_of}
 use Rattle.walk.specs.Good.{Tree, NestedBy, Disjoint}
-use Rattle.walk.specs.Delivery.{root_is_first}
+use Rattle.walk.proofs.Delivery.{root_is_first}
 use Rattle.sheet_record.specs.Entry.{Entry}
 use Rattle.sheet.specs.Sheet.{entries_of, sheet_number}
 use Rattle.sheet.specs.Spaces.{registers_of, nodes_of, functions_from, nodes_from}
-use Rattle.sheet.specs.SheetLaws.{passes_of_zero}
+use Rattle.sheet.proofs.SheetLaws.{passes_of_zero}
 use Rattle.sheet_ranges.specs.Ranges.{open_pool, pools_of}
 use Rattle.route.specs.Route.{root}
-use Rattle.route.specs.RouteLaws.{length_nodes}
+use Rattle.route.proofs.RouteLaws.{length_nodes}
 use Rattle.audit_rule.specs.Host.{host_for}
 use Rattle.audit_rule.specs.Accepted.{OneOwner}
 use Rattle.any_host.specs.AnyHost.{widest_bytes, any_host, host_alone}

@@ -10,8 +10,8 @@ use Rattle.walk.specs.Ranges.{Range}
 use Rattle.sheet_record.specs.Places.{id_at}
 use Rattle.sheet_record.specs.Entry.{Entry, bus_of, entry_of, bus}
 use Rattle.sheet.specs.Sheet.{Framed, entries_from, entries_of, part_at, record_at}
-use Rattle.sheet.specs.CheckLaws.{entries_past, count_entries}
-use Rattle.sheet.specs.IndexLaws.{entries_index}
+use Rattle.sheet.proofs.CheckLaws.{entries_past, count_entries}
+use Rattle.sheet.proofs.IndexLaws.{entries_index}
 use Rattle.sheet_ranges.specs.Ranges.{ranges_of, overlap, space_number}
 use Rattle.sheet_ranges.specs.declared.Item.{Item}
 use Rattle.sheet_ranges.specs.Items.{pool_with, range_of, item_at, ranges_from}

@@ -8,7 +8,7 @@ ghost use Rattle.sheet_record.specs.Places.{id_at, record_size};
 ghost use Rattle.sheet_record.specs.Entry.{entry_of};
 ghost use Rattle.sheet.specs.declared.Rule.TheVariants.{ReadBacks};
 ghost use Rattle.sheet.specs.Sheet.{breaks, part_at, record_at, entries_from, entries_of};
-ghost use Rattle.sheet.specs.SheetLaws.{Checked};
+ghost use Rattle.sheet.proofs.SheetLaws.{Checked};
 ghost use Rattle.sheet_ranges.specs.Ranges.{overlap as overlap_of, space_number};
 ghost use Rattle.sheet_ranges.specs.Items.{range_of, ranges_from, ranges_in};
 ghost use Rattle.audit_rule.specs.Audit.{any_pair, any_overlap, not_disjoint as not_disjoint_of};

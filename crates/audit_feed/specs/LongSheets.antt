@@ -15,8 +15,8 @@ use Rattle.records.specs.Frame.{version_of, stage_after, stage_of, heard_of, end
 use Rattle.records.specs.FrameLaws.{stage_other, heard_whole, ending_parts}
 use Rattle.sheet_record.specs.Places.{record_size}
 use Rattle.sheet.specs.Sheet.{Framed, full_sheet, all_sized, is_framed, entries_of, from22, from20, from21, sheet_number}
-use Rattle.sheet.specs.FrameLaws.{length_framed}
-use Rattle.sheet.specs.IndexLaws.{length_entries}
+use Rattle.sheet.proofs.FrameLaws.{length_framed}
+use Rattle.sheet.proofs.IndexLaws.{length_entries}
 use Rattle.audit_feed.specs.Feed.{heard_by, number_at}
 
 -- ## What is noted of whole records

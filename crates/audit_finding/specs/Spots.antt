@@ -7,8 +7,8 @@ use Rattle.lists.specs.Lists.{any}
 use Rattle.board_record.specs.declared.Host.{Host}
 use Rattle.sheet_record.specs.Entry.{Entry, entry_of}
 use Rattle.sheet.specs.Sheet.{Framed, entries_from, entries_of, part_at, record_at}
-use Rattle.sheet.specs.CheckLaws.{count_entries, entries_past}
-use Rattle.sheet.specs.IndexLaws.{entries_index}
+use Rattle.sheet.proofs.CheckLaws.{count_entries, entries_past}
+use Rattle.sheet.proofs.IndexLaws.{entries_index}
 use Rattle.finding.specs.declared.Party.{Party}
 use Rattle.finding.specs.declared.Parties.{Parties}
 use Rattle.finding.specs.declared.Spot.{Spot}

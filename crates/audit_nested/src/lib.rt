@@ -8,7 +8,7 @@ ghost use Rattle.sheet_record.specs.Places.{record_size};
 ghost use Rattle.sheet_record.specs.Entry.{entry_of};
 ghost use Rattle.sheet.specs.declared.Rule.TheVariants.{ReadBacks};
 ghost use Rattle.sheet.specs.Sheet.{breaks, entries_of};
-ghost use Rattle.sheet.specs.SheetLaws.{Checked};
+ghost use Rattle.sheet.proofs.SheetLaws.{Checked};
 ghost use Rattle.sheet_above.specs.Parents.{parent_of};
 ghost use Rattle.sheet_above.specs.Table.{Leads};
 ghost use Rattle.sheet_ranges.specs.Items.{range_of, ranges_in};

@@ -6,8 +6,8 @@ use mathlib.Core.List.{List, [], ◌∷◌, ◌++◌, map, flat_map}
 use Rattle.walk.specs.Ranges.{Range}
 use Rattle.sheet_record.specs.Entry.{Entry, entry_of, bus_of, header_of, is_bridge, secondary_of, subordinate_of, bridges}
 use Rattle.sheet.specs.Sheet.{Framed, entries_from, entries_of, part_at, record_at}
-use Rattle.sheet.specs.CheckLaws.{count_entries, entries_past}
-use Rattle.sheet.specs.IndexLaws.{entries_index}
+use Rattle.sheet.proofs.CheckLaws.{count_entries, entries_past}
+use Rattle.sheet.proofs.IndexLaws.{entries_index}
 use Rattle.sheet_ranges.specs.Ranges.{ranges_of}
 use Rattle.sheet_ranges.specs.declared.Item.{Item}
 use Rattle.sheet_ranges.specs.Items.{range_of, item_at, ranges_from, ranges_in}

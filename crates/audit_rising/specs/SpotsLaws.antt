@@ -12,7 +12,7 @@ use Rattle.walk.specs.Ranges.{Range, Pool, buses, low, high, io}
 use Rattle.sheet_record.specs.Entry.{Entry, bus, bridges}
 use Rattle.sheet_ranges.specs.Ranges.{ranges_of, pool_number, space_number, overlap}
 use Rattle.audit_rule.specs.Audit.{any_pair, any_overlap, overlap_on_bus, buses_shared, not_disjoint}
-use Rattle.audit_rule.specs.PairLaws.{none_of_pairwise}
+use Rattle.audit_rule.proofs.PairLaws.{none_of_pairwise}
 use Rattle.audit_rising.specs.Rising.{Spot, spot, Clear}
 use Rattle.audit_rising.specs.Spots.{sided, spot_of, spots_of, buses_of}
 

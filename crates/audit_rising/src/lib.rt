@@ -7,7 +7,7 @@ ghost use Rattle.sheet_record.specs.Places.{record_size};
 ghost use Rattle.sheet_record.specs.Entry.{entry_of};
 ghost use Rattle.sheet.specs.declared.Rule.TheVariants.{ReadBacks};
 ghost use Rattle.sheet.specs.Sheet.{Framed, breaks, entries_of};
-ghost use Rattle.sheet.specs.SheetLaws.{Checked};
+ghost use Rattle.sheet.proofs.SheetLaws.{Checked};
 ghost use Rattle.sheet_ranges.specs.Items.{range_of, ranges_in};
 ghost use Rattle.audit_rule.specs.Audit.{any_pair, buses_shared, not_disjoint};
 ghost use Rattle.audit_rising.specs.Rising.{Takes, spot};

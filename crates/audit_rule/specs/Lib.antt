@@ -5,12 +5,3 @@ pub mod Host
 pub mod Accepted
 pub mod Audit
 pub mod Examples
-pub mod LeadersLaws
-pub mod PairLaws
-pub mod PassLaws
-pub mod InsideLaws
-pub mod TreeLaws
-pub mod NestedLaws
-pub mod DisjointLaws
-pub mod AuditLaws
-pub mod AcceptedLaws

@@ -9,8 +9,8 @@ use Rattle.lists.specs.ListLaws.{all_of}
 use Rattle.lists.specs.KeepLaws.{none_of_all}
 use Rattle.sheet_record.specs.Entry.{Entry, entry_of, bus_of, header_of, is_bridge, secondary_of, subordinate_of, bus, bridges}
 use Rattle.sheet.specs.Sheet.{Framed, entries_of, part_at}
-use Rattle.sheet.specs.CheckLaws.{count_entries, entries_past}
-use Rattle.sheet.specs.IndexLaws.{entries_index}
+use Rattle.sheet.proofs.CheckLaws.{count_entries, entries_past}
+use Rattle.sheet.proofs.IndexLaws.{entries_index}
 use Rattle.sheet_above.specs.Parents.{parent_of}
 use Rattle.sheet_above.specs.declared.Parent.{Parent}
 use Rattle.sheet_above.specs.declared.Parent.TheVariants.{Host, Bridge, Nothing, Several}

@@ -6,7 +6,7 @@ ghost use Rattle.lists.specs.Lists.{any};
 ghost use Rattle.sheet_record.specs.Places.{record_size};
 ghost use Rattle.sheet_record.specs.Entry.{bus, bridges, entry_of};
 ghost use Rattle.sheet.specs.Sheet.{Framed, entries_from, entries_of, part_at, record_at};
-ghost use Rattle.sheet.specs.SheetLaws.{Checked};
+ghost use Rattle.sheet.proofs.SheetLaws.{Checked};
 ghost use Rattle.sheet_above.specs.Parents.{parent_of};
 ghost use Rattle.sheet_above.specs.Table.{Leads};
 ghost use Rattle.audit_rule.specs.Audit.{any_pair, first_elsewhere, buses_in, parent_wrong, way_up_wrong, buses_shared, not_tree};

@@ -2,7 +2,7 @@
 use Rattle.std.specs.Prelude.{◌≡◌, Bool, not, List, ℕ}
 use Rattle.walk.specs.Ranges.{Range}
 use Rattle.sheet.specs.Sheet.{entries_of}
-use Rattle.sheet.specs.SheetLaws.{Checked}
+use Rattle.sheet.proofs.SheetLaws.{Checked}
 use Rattle.sheet_above.specs.Parents.{parent_of}
 use Rattle.audit_rule.specs.declared.Nesting.TheVariants.{OfKind}
 use Rattle.audit_rule.specs.Audit.{outside_all}

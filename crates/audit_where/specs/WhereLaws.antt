@@ -6,7 +6,7 @@ use Rattle.board_record.specs.declared.Host.{Host}
 use Rattle.board_record.specs.Host.{host_length, host_of_part}
 use Rattle.sheet_record.specs.Entry.{Entry}
 use Rattle.sheet.specs.Sheet.{Framed, entries_of}
-use Rattle.sheet.specs.SheetLaws.{Checked, checked_of_zero}
+use Rattle.sheet.proofs.SheetLaws.{Checked, checked_of_zero}
 use Rattle.audit_rule.specs.Audit.{audit_number}
 use Rattle.finding.specs.declared.Parties.{Parties}
 use Rattle.finding.specs.Places.{nobodies}

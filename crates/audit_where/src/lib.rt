@@ -9,7 +9,7 @@ ghost use Rattle.sheet_record.specs.Entry.{entry_of};
 ghost use Rattle.sheet_record.specs.Places.{record_size};
 ghost use Rattle.sheet.specs.declared.Rule.TheVariants.{ReadBacks};
 ghost use Rattle.sheet.specs.Sheet.{Framed, entries_of, breaks};
-ghost use Rattle.sheet.specs.SheetLaws.{Checked};
+ghost use Rattle.sheet.proofs.SheetLaws.{Checked};
 ghost use Rattle.audit_rule.specs.Audit.{audit_number};
 ghost use Rattle.sheet_ranges.specs.Ranges.{ranges_of};
 ghost use Rattle.sheet_above.specs.Table.{Leads};

@@ -4,7 +4,7 @@
 
 ghost use Rattle.std.specs.Prelude.{◌≡◌};
 ghost use Rattle.sheet.specs.Sheet.{entries_of};
-ghost use Rattle.sheet.specs.SheetLaws.{Checked};
+ghost use Rattle.sheet.proofs.SheetLaws.{Checked};
 ghost use Rattle.sheet_above.specs.Table.{Leads};
 ghost use Rattle.audit_rule.specs.Audit.{from50, number_by, audit_number, sound_number};
 ghost use Rattle.auditor.specs.Checks.{fails as fails_of};

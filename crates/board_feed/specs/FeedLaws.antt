@@ -21,7 +21,8 @@ use Rattle.board.specs.Board.{board_number}
 use Rattle.plan_answer.specs.declared.Planning.{Planning}
 use Rattle.plan_answer.specs.declared.Planning.TheVariants.{Refused}
 use Rattle.plan_answer.specs.Plan.{planning, sheet_as, sheet_after}
-use Rattle.sheet_text.specs.BoardText.{board_text, planner_prints}
+use Rattle.sheet_text.specs.BoardText.{board_text}
+use Rattle.sheet_text.proofs.BoardText.{planner_prints}
 use Rattle.board_feed.specs.declared.Feed.{Feed}
 use Rattle.board_feed.specs.declared.Tally.{Tally}
 use Rattle.board_feed.specs.Tally.{most_bytes, fresh, whole_number, number_at}

@@ -18,7 +18,7 @@ use Rattle.board_record.specs.Function.{function_of_part, wrong_in, header_wrong
 use Rattle.board_order.specs.Order.{any_misplaced, first_misplaced}
 use Rattle.board.specs.Board.{misframed, is_version, from_readbacks, from_order, from_edges, from_headers, from_count, from_frame}
 use Rattle.board.specs.Board.{from_version, board_number, host_of, functions_of}
-use Rattle.board.specs.BoardLaws.{host_of_framed, right_parts}
+use Rattle.board.proofs.BoardLaws.{host_of_framed, right_parts}
 use Rattle.finding.specs.declared.Party.{Party}
 use Rattle.finding.specs.Places.{function_id, nobody}
 use Rattle.board_where.specs.Where.{party_of, first_breaking, function_parts, failing_under, failing_of}

@@ -4,7 +4,7 @@ use Rattle.route_cards.specs.declared.Sending.{Sending}
 use Rattle.route_cards.specs.declared.Sending.TheVariants.{Delivered, Host, Refused}
 use Rattle.route_cards.specs.Sending.{sending_of}
 use Rattle.route_cards.specs.NumberLaws as sending_numbers
-use Rattle.capi_answers.specs.AnswersLaws.{Numbered}
+use Rattle.capi_answers.proofs.AnswersLaws.{Numbered}
 use Rattle.capi_cards.specs.Calls.{on_sending, send_answer}
 
 pub numbered_sending : (number : ℕ) (header sheet : List ℕ) → Numbered (send_answer number header sheet)

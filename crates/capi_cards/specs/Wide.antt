@@ -8,7 +8,7 @@ use Rattle.tlp.specs.declared.Reading.TheVariants.{Accepted, Refused}
 use Rattle.tlp.specs.Reading.{read_of}
 use Rattle.records.specs.Limits.{most_functions}
 use Rattle.sheet.specs.Sheet.{sheet_number}
-use Rattle.sheet.specs.SheetLaws.{checked_of_zero}
+use Rattle.sheet.proofs.SheetLaws.{checked_of_zero}
 use Rattle.route_cards.specs.Sending.{sending_of}
 use Rattle.route_cards.specs.RequestLaws.{header_first, sheet_next, no_start_45}
 

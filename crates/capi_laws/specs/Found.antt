@@ -8,7 +8,7 @@ use Rattle.route_answer.specs.declared.Routing.{Routing}
 use Rattle.route.specs.Route.{route_of}
 use Rattle.index_search.specs.Search.{search_of}
 use Rattle.index_build.specs.Build.{build_number, sound_build_number, index_after, sound_index_after}
-use Rattle.index_build.specs.BuiltLaws.{search_is_route, sound_search_is_route}
+use Rattle.index_build.proofs.BuiltLaws.{search_is_route, sound_search_is_route}
 use Rattle.capi_routing.specs.Routing.{on_routing}
 use Rattle.capi_find.specs.Calls.{find_answer}
 use Rattle.capi_route.specs.Calls.{route_answer}

@@ -4,7 +4,7 @@ use Rattle.std.specs.Prelude.{ℕ, ◌≡◌, List, length}
 use Rattle.std.proofs.Common.{ap}
 use Rattle.endian.specs.Endian.{Bytes}
 use Rattle.index_build.specs.Build.{build_number, sound_build_number, index_after, sound_index_after}
-use Rattle.index_build.specs.BuiltLaws.{search_is_route, sound_search_is_route}
+use Rattle.index_build.proofs.BuiltLaws.{search_is_route, sound_search_is_route}
 use Rattle.route.specs.Route.{route_of}
 use Rattle.index_search.specs.Search.{search_of}
 use Rattle.trace_line.specs.declared.Finder.TheVariants.{Index}

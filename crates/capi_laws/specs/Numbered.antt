@@ -20,14 +20,14 @@ use Rattle.sheet.specs.declared.RecordId.TheVariants.{Id, Refused as NoRecord}
 use Rattle.sheet.specs.declared.Lookup.{Lookup}
 use Rattle.sheet.specs.declared.Lookup.TheVariants.{Registers, Refused as NotFound}
 use Rattle.sheet.specs.Lookup.{lookup_of, record_id}
-use Rattle.sheet.specs.NumberLaws as sheet_numbers
+use Rattle.sheet.proofs.NumberLaws as sheet_numbers
 use Rattle.route_list.specs.Counted.{counted}
 use Rattle.route_answer.specs.declared.Routing.{Routing}
 use Rattle.route_answer.specs.declared.Routing.TheVariants.{Delivered, Broadcast, Port, Refused as NotDelivered}
-use Rattle.route_answer.specs.NumberLaws.{Numbered as NumberedRouting}
+use Rattle.route_answer.proofs.NumberLaws.{Numbered as NumberedRouting}
 use Rattle.route.specs.Route.{route_of}
 use Rattle.route.specs.Listed.{list_of}
-use Rattle.route.specs.NumberLaws as route_numbers
+use Rattle.route.proofs.NumberLaws as route_numbers
 use Rattle.index_search.specs.Search.{search_of}
 use Rattle.index_search.specs.NumberLaws.{numbered_search}
 use Rattle.plan_answer.specs.declared.Planning.{Planning}
@@ -39,7 +39,7 @@ use Rattle.trace_ends.specs.Ends.{line_ends}
 use Rattle.trace_numbers.specs.Parsing.{Parsed as ParsedState, Accepted as State, Refused as NoState, trace_of}
 use Rattle.trace_numbers.specs.NumbersLaws.{NumberedParsed as NumberedParsedState, numbered_trace_of}
 use Rattle.capi_answers.specs.Answers.{refuses, gives}
-use Rattle.capi_answers.specs.AnswersLaws.{Numbered}
+use Rattle.capi_answers.proofs.AnswersLaws.{Numbered}
 use Rattle.capi_routing.specs.Routing.{on_routing}
 use Rattle.capi_trace.specs.Calls.{on_lines, piece_on, piece_answer, no_host_id, follow_answer, end_on, end_answer}
 use Rattle.capi_find.specs.Calls.{find_answer}

@@ -19,7 +19,7 @@ use Rattle.any_host.specs.AnyHost.{host_alone}
 use Rattle.index_build.specs.Build.{build_number, sound_build_number, index_after, sound_index_after}
 use Rattle.index_alone.specs.Alone.{alone_build_number, alone_index_after}
 use Rattle.capi_answers.specs.Answers.{Answer, returned, filled}
-use Rattle.capi_answers.specs.AnswersLaws.{one_given, refused_keeps_slice}
+use Rattle.capi_answers.proofs.AnswersLaws.{one_given, refused_keeps_slice}
 use Rattle.capi_trace.specs.Calls.{piece_answer, state_left, lines_left, follow_answer, follow_state, follow_lines, end_answer, end_left}
 use Rattle.capi_script.specs.Calls.{script_answer, script_left}
 use Rattle.capi_script.specs.Refused.{refused_keeps_script}

@@ -4,12 +4,12 @@ use Rattle.std.specs.Prelude.{ℕ, ◌≤◌, ◌≡◌, refl, List, [], ◌∷�
 use Rattle.std.proofs.Common.{arith, ap, ◌∙◌, ⊎_elim, le-ltb, ne_eqb}
 use Rattle.endian.specs.Endian.{Bytes}
 use Rattle.pairs.specs.declared.Row.{Row}
-use Rattle.pairs.specs.PairsLaws.{row_pair}
+use Rattle.pairs.proofs.PairsLaws.{row_pair}
 use Rattle.packet.specs.declared.Packet.{Packet}
 use Rattle.packet.specs.Fields.{kind_of, head_of}
 use Rattle.packet.specs.declared.Verdict.TheVariants.{Lawful}
 use Rattle.packet.specs.Verdict.{verdict_of}
-use Rattle.packet.specs.VerdictLaws.{lawful_elim}
+use Rattle.packet.proofs.VerdictLaws.{lawful_elim}
 use Rattle.packet_parsing.specs.declared.Parsed.{Parsed}
 use Rattle.packet_parsing.specs.declared.Parsed.TheVariants.{Accepted as Taken, Refused as NotTaken}
 use Rattle.packet_numbers.specs.Numbers.{numbers_of}
@@ -25,7 +25,7 @@ use Rattle.tlp_layout.specs.Layout.{size}
 use Rattle.tlp.specs.Writing.{write_of, room_after}
 use Rattle.tlp.specs.RoundTrip.{read_write, write_read, read_lawful}
 use Rattle.capi_answers.specs.Answers.{returned, filled}
-use Rattle.capi_answers.specs.AnswersLaws.{Given, given_of_zero}
+use Rattle.capi_answers.proofs.AnswersLaws.{Given, given_of_zero}
 use Rattle.capi_laws.specs.Numbered.{numbered_read, numbered_write}
 use Rattle.capi_packet.specs.Calls.{on_reading, read_answer, on_writing, on_parsed, write_answer, room_left}
 

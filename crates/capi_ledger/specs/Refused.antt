@@ -3,7 +3,7 @@ use Rattle.std.specs.Prelude.{ℕ, ◌≡◌, refl, Bool, true, false, cond, Lis
 use Rattle.std.proofs.Common.{ap, ◌∙◌, take-append-drop}
 use Rattle.ledger.specs.declared.Verdict.{Verdict}
 use Rattle.ledger.specs.Ledger.{number_of, words_after, opening_of, completing_of}
-use Rattle.ledger.specs.SentencesLaws.{refused_same}
+use Rattle.ledger.proofs.SentencesLaws.{refused_same}
 use Rattle.capi_ledger.specs.Calls.{places, open_answer, open_left, complete_answer, complete_left}
 
 keeps : (numbers : List ℕ) (v : Verdict) (short : Bool) → ¬ (cond short 11 (number_of v) ≡ 0)

@@ -23,7 +23,7 @@ use Rattle.tlp_layout.specs.LayoutLaws.{size_of_lawful}
 use Rattle.tlp_layout.specs.Layout.{size}
 use Rattle.tlp.specs.Writing.{write_of, room_after}
 use Rattle.capi_answers.specs.Answers.{refuses, returned, filled, left_beside}
-use Rattle.capi_answers.specs.AnswersLaws.{Answered, answered_short}
+use Rattle.capi_answers.proofs.AnswersLaws.{Answered, answered_short}
 use Rattle.capi_packet.specs.Calls.{on_writing, on_parsed, room_of}
 
 -- the number with no room for the answer

@@ -9,7 +9,7 @@ use Rattle.plan_answer.specs.declared.Planning.{Planning}
 use Rattle.plan_answer.specs.declared.Planning.TheVariants.{Planned, Refused as NotPlanned}
 use Rattle.plan_answer.specs.Plan.{on_room, on_board, planning, number_of as planning_number, sheet_after}
 use Rattle.capi_answers.specs.Answers.{returned, filled}
-use Rattle.capi_answers.specs.AnswersLaws.{Answered, answered_short}
+use Rattle.capi_answers.proofs.AnswersLaws.{Answered, answered_short}
 use Rattle.capi_plan.specs.Calls.{on_planning, plan_answer, sheet_left}
 
 -- the sheet, the answer and the length's slice after, together

@@ -7,9 +7,9 @@ use Rattle.route_answer.specs.declared.Routing.{Routing}
 use Rattle.route_answer.specs.declared.Routing.TheVariants.{Delivered, Broadcast, Port, Refused as NotDelivered}
 use Rattle.route.specs.Route.{route_of}
 use Rattle.route.specs.Listed.{list_of}
-use Rattle.route.specs.ListedLaws.{list_of_broadcast}
+use Rattle.route.proofs.ListedLaws.{list_of_broadcast}
 use Rattle.capi_answers.specs.Answers.{Answer, gives, returned, filled}
-use Rattle.capi_answers.specs.AnswersLaws.{Answered}
+use Rattle.capi_answers.proofs.AnswersLaws.{Answered}
 use Rattle.capi_routing.specs.Routing.{on_routing}
 use Rattle.capi_route.specs.Calls.{route_answer}
 

@@ -8,7 +8,7 @@ use Rattle.scripter.specs.declared.Scripting.TheVariants.{Written, Refused}
 use Rattle.scripter.specs.Scripting.{scripting, room_as, room_after}
 use Rattle.scripter.specs.NumberLaws.{Numbered as NumberedScripting, numbered_scripting}
 use Rattle.capi_answers.specs.Answers.{refuses, returned, left_beside}
-use Rattle.capi_answers.specs.AnswersLaws.{one_given, Numbered}
+use Rattle.capi_answers.proofs.AnswersLaws.{one_given, Numbered}
 use Rattle.capi_script.specs.Calls.{too_wide, on_scripting, script_answer, script_left}
 
 pub refused_keeps_script : (board : List ℕ) (requester tag : ℕ) (room written : List ℕ)

@@ -7,7 +7,7 @@ use Rattle.route_answer.specs.declared.Routing.{Routing}
 use Rattle.route_answer.specs.declared.Routing.TheVariants.{Delivered as Routed, Broadcast, Port as RoutedPort, Refused as NotRouted}
 use Rattle.route.specs.Route.{route_of}
 use Rattle.route.specs.Listed.{list_of}
-use Rattle.route.specs.ListedLaws.{list_of_broadcast}
+use Rattle.route.proofs.ListedLaws.{list_of_broadcast}
 use Rattle.route_sender.specs.declared.Sender.{Sender}
 use Rattle.route_sender.specs.declared.SentBy.{SentBy}
 use Rattle.route_sender.specs.declared.SentBy.TheVariants.{Told}
@@ -15,9 +15,9 @@ use Rattle.route_sender.specs.Sender.{sent_by_of}
 use Rattle.route_sent.specs.declared.BothEnds.{BothEnds}
 use Rattle.route_sent.specs.declared.BothEnds.TheVariants.{FromHost, FromFunction, Refused as NotSent}
 use Rattle.route_sent.specs.BothEnds.{both_ends_of}
-use Rattle.route_sent.specs.RequestLaws.{host_routed}
+use Rattle.route_sent.proofs.RequestLaws.{host_routed}
 use Rattle.capi_answers.specs.Answers.{Answer, refuses, gives, returned, filled}
-use Rattle.capi_answers.specs.AnswersLaws.{Answered}
+use Rattle.capi_answers.proofs.AnswersLaws.{Answered}
 use Rattle.capi_sent.specs.Calls.{below_host, sender_number, on_sent_by, sender_answer, on_routing, on_ends, ends_answer}
 
 -- ## The host's ID

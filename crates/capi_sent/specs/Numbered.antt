@@ -3,7 +3,7 @@ use Rattle.std.specs.Prelude.{ℕ, Bool, true, false, cond, List, ltb}
 use Rattle.std.proofs.Common.{arith}
 use Rattle.route_answer.specs.declared.Routing.{Routing}
 use Rattle.route_answer.specs.declared.Routing.TheVariants.{Delivered as Routed, Broadcast, Port as RoutedPort, Refused as NotRouted}
-use Rattle.route_answer.specs.NumberLaws as routing_numbers
+use Rattle.route_answer.proofs.NumberLaws as routing_numbers
 use Rattle.route.specs.Listed.{list_of}
 use Rattle.route_sender.specs.declared.SentBy.{SentBy}
 use Rattle.route_sender.specs.declared.SentBy.TheVariants.{Told, Refused as NotTold}
@@ -14,9 +14,9 @@ use Rattle.route_sent.specs.declared.Fate.TheVariants.{Delivered, Host, Port, Re
 use Rattle.route_sent.specs.declared.BothEnds.{BothEnds}
 use Rattle.route_sent.specs.declared.BothEnds.TheVariants.{FromHost, FromFunction, Refused as NotSent}
 use Rattle.route_sent.specs.BothEnds.{both_ends_of}
-use Rattle.route_sent.specs.NumberLaws as ends_numbers
+use Rattle.route_sent.proofs.NumberLaws as ends_numbers
 use Rattle.capi_answers.specs.Answers.{Answer, refuses}
-use Rattle.capi_answers.specs.AnswersLaws.{Numbered}
+use Rattle.capi_answers.proofs.AnswersLaws.{Numbered}
 use Rattle.capi_sent.specs.Calls.{below_host, on_sent_by, sender_answer, on_routing, on_fate, on_ends, ends_answer}
 
 numbered_below : (host_id : ℕ) (a : Answer) → Numbered a → Numbered (below_host host_id a)

@@ -8,10 +8,10 @@ use Rattle.sheet.specs.declared.Found.{Found}
 use Rattle.sheet.specs.declared.Found.TheVariants.{At, Nothing}
 use Rattle.sheet.specs.declared.Lookup.TheVariants.{Refused as NotFound}
 use Rattle.sheet.specs.Sheet.{Framed, entries_of, find_from, sheet_number}
-use Rattle.sheet.specs.SheetLaws.{checked_of_zero}
+use Rattle.sheet.proofs.SheetLaws.{checked_of_zero}
 use Rattle.sheet.specs.Lookup.{placed, lookup_of, lookup_number, with_command}
-use Rattle.sheet.specs.LookupLaws.{found_at}
-use Rattle.sheet.specs.CheckLaws.{part_from}
+use Rattle.sheet.proofs.LookupLaws.{found_at}
+use Rattle.sheet.proofs.CheckLaws.{part_from}
 use Rattle.capi_sheet.specs.Calls.{unowned_of, word, command_number, command_left}
 
 -- ## An ID above FFFFh

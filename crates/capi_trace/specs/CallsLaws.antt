@@ -12,7 +12,7 @@ use Rattle.trace_numbers.specs.Numbers.{numbers_of}
 use Rattle.trace_numbers.specs.Parsing.{size, Accepted, trace_of, taken_as}
 use Rattle.trace_numbers.specs.NumbersLaws.{length_numbers_of, enough_of_accepted, accepted_of_zero, refused_of_number}
 use Rattle.capi_answers.specs.Answers.{gives, returned, filled}
-use Rattle.capi_answers.specs.AnswersLaws.{Answered, answered_short, left_same}
+use Rattle.capi_answers.proofs.AnswersLaws.{Answered, answered_short, left_same}
 use Rattle.capi_trace.specs.Calls.{on_fed, piece_answer, state_left, lines_left, on_finished, end_answer, end_left}
 
 -- ## A piece

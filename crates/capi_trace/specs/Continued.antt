@@ -16,7 +16,7 @@ use Rattle.trace.specs.declared.Fed.{Fed}
 use Rattle.trace.specs.Annotated.{annotated}
 use Rattle.trace.specs.Trace.{fresh, state_of, lines_of, end_line}
 use Rattle.trace.specs.Feed.{text_put, taken_fed, refused_fed, fed_of, finished_of, finished_put}
-use Rattle.trace.specs.FeedLaws.{Call, taken, state_called, lines_called, calls_told}
+use Rattle.trace.proofs.FeedLaws.{Call, taken, state_called, lines_called, calls_told}
 use Rattle.trace_numbers.specs.Numbers.{numbers_of}
 use Rattle.trace_numbers.specs.Parsing.{size}
 use Rattle.trace_numbers.specs.NumbersLaws.{length_numbers_of}

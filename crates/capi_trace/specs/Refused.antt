@@ -13,7 +13,7 @@ use Rattle.trace_ends.specs.Ends.{line_ends}
 use Rattle.trace_numbers.specs.Numbers.{numbers_of}
 use Rattle.trace_numbers.specs.Parsing.{size, Parsed, Accepted, Refused, trace_of}
 use Rattle.capi_answers.specs.Answers.{refuses, returned}
-use Rattle.capi_answers.specs.AnswersLaws.{one_given}
+use Rattle.capi_answers.proofs.AnswersLaws.{one_given}
 use Rattle.capi_trace.specs.Calls.{on_fed, piece_on, piece_answer, state_put, state_on, state_left, lines_on, lines_left}
 use Rattle.capi_trace.specs.Calls.{no_host_id, follow_answer, follow_state, follow_lines}
 use Rattle.capi_trace.specs.Calls.{on_finished, end_on, end_answer, last_on, end_left}

@@ -17,8 +17,8 @@ use Rattle.window.specs.Window as windows
 use Rattle.walk.specs.Registers.{window, Claim}
 use Rattle.walk.specs.Tally as tallies
 use Rattle.walk.specs.Tally.{join, hits_of}
-use Rattle.walk.specs.TallyLaws.{join_append, join_several}
-use Rattle.walk.specs.SearchLaws.{hits_nil, hits_append}
+use Rattle.walk.proofs.TallyLaws.{join_append, join_several}
+use Rattle.walk.proofs.SearchLaws.{hits_nil, hits_append}
 use Rattle.sheet_record.specs.Spaces.{bar_here, bar_holds, open_range}
 use Rattle.sheet_record.specs.Entry.{header_of, is_bridge, secondary_of, window_of, entry_of}
 use Rattle.sheet_record.specs.SpacesLaws.{bars_at, bars_step, bars_end_lem, bar_hits, window_hits}

@@ -8,18 +8,19 @@ use mathlib.Core.List.{List, [], ◌∷◌, map}
 use borrow.Author.Tests.{eq-eqb, ne_eqb, eqb-true}
 use Rattle.lists.specs.Lists.{keep}
 use Rattle.lists.specs.KeepLaws.{keep_nil, keep_yes, keep_no}
-use Rattle.walk.specs.Ranges.{buses, holds, holds_last}
+use Rattle.walk.specs.Ranges.{buses, holds}
+use Rattle.walk.proofs.Ranges.{holds_last}
 use Rattle.walk.specs.Registers.{window, Node, Claim, bar}
 use Rattle.walk.specs.Tally.{none, Tally, one, join}
-use Rattle.walk.specs.TallyLaws.{join_append}
+use Rattle.walk.proofs.TallyLaws.{join_append}
 use Rattle.walk.specs.Good.{bus_range}
 use Rattle.walk.specs.Ids.{has_id, leads_toward, bridge_claim, first_of, tally_by_id}
 use Rattle.sheet_record.specs.Spaces.{node_of}
 use Rattle.sheet_record.specs.Entry.{id_of, bus_of, header_of, is_bridge, secondary_of, subordinate_of, entry_of}
 use Rattle.sheet.specs.Sheet.{entries_from, entries_of, part_at, record_at}
-use Rattle.sheet.specs.CheckLaws.{entries_past, count_entries}
-use Rattle.sheet.specs.IndexLaws.{entries_index}
-use Rattle.sheet.specs.SheetLaws.{Checked}
+use Rattle.sheet.proofs.CheckLaws.{entries_past, count_entries}
+use Rattle.sheet.proofs.IndexLaws.{entries_index}
+use Rattle.sheet.proofs.SheetLaws.{Checked}
 use Rattle.sheet.specs.Spaces.{nodes_from, nodes_of}
 use Rattle.claims.specs.HitsLaws.{join_nil}
 

@@ -7,14 +7,14 @@ use Rattle.lists.specs.Lists.{◌∈◌, keep}
 use Rattle.lists.specs.KeepLaws.{keep_elim}
 use Rattle.pools.specs.declared.Space.{Space}
 use Rattle.walk.specs.Registers.{Node, bar}
-use Rattle.walk.specs.RegistersLaws.{node_mem}
+use Rattle.walk.proofs.RegistersLaws.{node_mem}
 use Rattle.walk.specs.Tally.{none, one, join, tally_on}
-use Rattle.walk.specs.TallyLaws.{claims_of_one, bar_of_tally}
+use Rattle.walk.proofs.TallyLaws.{claims_of_one, bar_of_tally}
 use Rattle.walk.specs.Ids.{has_id, leads_toward, bridge_claim, first_of, tally_by_id}
 use Rattle.sheet_record.specs.Entry.{Entry}
 use Rattle.sheet_record.specs.Spaces.{node_of}
 use Rattle.sheet.specs.Sheet.{entries_of}
-use Rattle.sheet.specs.SheetLaws.{nodes_functions}
+use Rattle.sheet.proofs.SheetLaws.{nodes_functions}
 use Rattle.sheet.specs.Spaces.{nodes_from, nodes_of, registers_of, enabled_of}
 use Rattle.claims.specs.declared.Aim.{Aim}
 use Rattle.claims.specs.declared.Aim.TheVariants.{Address, Id}

@@ -12,14 +12,14 @@ use Rattle.bar.specs.BarLaws.{length_first}
 use Rattle.walk.specs.Ranges.{Range}
 use Rattle.walk.specs.Registers.{Registers, Claim, bar}
 use Rattle.walk.specs.Tally.{none, Tally, join, hits_of, claims_of, claims_on, tally_on}
-use Rattle.walk.specs.SearchLaws.{claims_nil, claims_cons, claims_of_here, claims_of_other}
+use Rattle.walk.proofs.SearchLaws.{claims_nil, claims_cons, claims_of_here, claims_of_other}
 use Rattle.sheet_record.specs.EntryLaws.{bars_entry}
 use Rattle.sheet_record.specs.Spaces.{bars_of, function_of}
 use Rattle.sheet_record.specs.Places.{values_at, readbacks_at, record_size}
 use Rattle.sheet_record.specs.Entry.{dwords, header_of, is_bridge, slot_count, entry_of}
 use Rattle.sheet.specs.Sheet.{entries_from, entries_of, part_at, sheet_length, record_at}
-use Rattle.sheet.specs.IndexLaws.{length_part, record_fits, functions_index, functions_end, enabled_index}
-use Rattle.sheet.specs.SheetLaws.{Checked, lawful_index}
+use Rattle.sheet.proofs.IndexLaws.{length_part, record_fits, functions_index, functions_end, enabled_index}
+use Rattle.sheet.proofs.SheetLaws.{Checked, lawful_index}
 use Rattle.sheet.specs.Spaces.{functions_from, enabled_of}
 use Rattle.sheet_record.specs.SpacesLaws.{bars_at}
 use Rattle.claims.specs.declared.Aim.TheVariants.{Address}

@@ -4,7 +4,7 @@ ghost use Rattle.bar.specs.Bar.{slot_here};
 ghost use Rattle.walk.specs.Tally.{join};
 ghost use Rattle.sheet_record.specs.Places.{record_size};
 ghost use Rattle.sheet.specs.Sheet.{entries_of};
-ghost use Rattle.sheet.specs.SheetLaws.{Checked};
+ghost use Rattle.sheet.proofs.SheetLaws.{Checked};
 ghost use Rattle.claims.specs.declared.Aim.TheVariants.{Address};
 ghost use Rattle.claims.specs.Claims.{tally_of, tally_for};
 ghost use Rattle.claims.specs.Search.{is_live, window_claim, window_claims};

@@ -5,7 +5,7 @@ ghost use Rattle.walk.specs.Tally.{none, join};
 ghost use Rattle.walk.specs.Ids.{has_id, leads_toward, bridge_claim, first_of};
 ghost use Rattle.sheet_record.specs.Places.{record_size};
 ghost use Rattle.sheet_record.specs.Entry.{entry_of};
-ghost use Rattle.sheet.specs.SheetLaws.{Checked};
+ghost use Rattle.sheet.proofs.SheetLaws.{Checked};
 ghost use Rattle.sheet_record.specs.Spaces.{node_of};
 ghost use Rattle.sheet.specs.Spaces.{nodes_of};
 ghost use Rattle.claims.specs.declared.Aim.TheVariants.{Id};

@@ -7,7 +7,7 @@ mod ids;
 ghost use Rattle.std.specs.Prelude.{◌≡◌, [], ◌∷◌};
 ghost use Rattle.walk.specs.Tally.{join};
 ghost use Rattle.claims.specs.Claims.{claim_of, tally_of, is_several, tally_for};
-ghost use Rattle.sheet.specs.SheetLaws.{Checked};
+ghost use Rattle.sheet.proofs.SheetLaws.{Checked};
 
 use pools::Space;
 

@@ -1,13 +1,9 @@
 -- Document 03, E15, worked: a bridge with a function and another bridge behind it, a function behind that one, and one function beside the
 -- first. Assumes nothing.
-use Rattle.std.specs.Prelude.{◌≡◌, refl, true, false, List, [], ◌∷◌, ℕ}
-use Rattle.lists.specs.Lists.{keep}
+use Rattle.std.specs.Prelude.{◌≡◌, true, false, List, [], ◌∷◌, ℕ}
 use Rattle.walk.specs.Registers.{Node}
-use Rattle.walk.specs.Tally.{join}
-use Rattle.walk.specs.Walk.{walk_over, walk_from}
-use Rattle.walk.specs.Ids.{tally_by_id}
-use Rattle.walk.specs.Climb.{Sent, arrives, leaves, stops, climb_over, climb_from, climb_beside}
-use Rattle.climb_ids.specs.ById.{tally_beside_by_id, up_unless, climb_by_id, sent_to_other, sent_up, sent_by_id}
+use Rattle.walk.specs.Climb.{Sent, arrives, leaves, stops}
+use Rattle.climb_ids.specs.ById.{sent_up, sent_by_id}
 
 abbrev endpoint : ℕ → ℕ → ℕ → Node
 endpoint n bus d = record { number = n; bus = bus; devfn = d; bridge = false; secondary = 0; subordinate = 0 }
@@ -54,34 +50,3 @@ pub record Worked : Type 0 where
   pub two_claims : sent_by_id 0xFFFF torn 0 2 0x10 0x100 ≡ stops 41
   pub a_message_two_above : sent_up torn 0 0x100 ≡ stops 41
   pub a_message_none_above : sent_up torn 0 0x400 ≡ stops 40
-
-pub examples : Worked
-unfolding sent_by_id sent_to_other climb_by_id sent_up climb_beside climb_from climb_over tally_beside_by_id tally_by_id up_unless walk_from walk_over join keep
-examples =
-    record {
-      to_the_host = refl;
-      beside_the_bridge = refl;
-      down_again = refl;
-      down_two = refl;
-      to_a_bridge_come_through = refl;
-      to_the_upper_bridge = refl;
-      own_id = refl;
-      own_id_on_the_root_bus = refl;
-      nobody_on_its_bus = refl;
-      nobody_on_an_empty_bus = refl;
-      from_a_bridge_down = refl;
-      from_a_bridge_beside = refl;
-      from_a_bridge_up = refl;
-      to_the_host_by_its_id = refl;
-      to_the_host_not_beside = refl;
-      to_the_host_past_a_bridge = refl;
-      to_the_host_two_above = refl;
-      to_the_host_none_above = refl;
-      a_message_up = refl;
-      a_message_up_from_the_root_bus = refl;
-      two_above = refl;
-      none_above = refl;
-      two_claims = refl;
-      a_message_two_above = refl;
-      a_message_none_above = refl;
-    }

@@ -11,7 +11,6 @@ use Rattle.tlp.specs.declared.Writing.TheVariants.{Written}
 use Rattle.tlp.specs.Reading.{read_of}
 use Rattle.tlp_layout.specs.Layout.{size}
 use Rattle.tlp.specs.Writing.{write_of, room_after}
-use Rattle.tlp.specs.RoundTrip.{read_write, write_read, lawful_read_iff}
 
 pub record Demand2 : Type 0 where
   -- what was written is read back as the same packet, whatever follows it in the room
@@ -22,6 +21,3 @@ pub record Demand2 : Type 0 where
       → (write_of p (length room) ≡ Written (size p)) × (room_after p room ≡ take (size p) s ++ drop (size p) room)
   -- lawful packets and accepted headers are the same things
   pub lawful_is_read : (p : Packet) → ((row : Row) × (verdict_of p ≡ Lawful row)) ↔ ((s : List ℕ) × Bytes s × (read_of s ≡ Accepted p))
-
-pub demand_2 : Demand2
-demand_2 = record { written_is_read_back = read_write; read_is_written_back = write_read; lawful_is_read = lawful_read_iff }

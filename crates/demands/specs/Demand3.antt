@@ -16,7 +16,7 @@ use Rattle.records.specs.Limits.{most_above}
 use Rattle.plan_rule.specs.Pools.{Pool, low, high, io}
 use Rattle.plan_rule.specs.Records.{Host, Function}
 use Rattle.plan_rule.specs.Placing.{placed}
-use Rattle.plan_rule.specs.Placed.{WellPlaced}
+use Rattle.plan_rule.proofs.Placed.{WellPlaced}
 use Rattle.plan_rule.specs.Above.{above_by_parents}
 use Rattle.board.specs.Board.{board_number, host_of, functions_of}
 use Rattle.board.specs.ToPlacing.{to_host, to_placing, devfn_of}
@@ -26,7 +26,7 @@ use Rattle.sheet.specs.Sheet.{sheet_number, sheet_length}
 use Rattle.sheet.specs.Spaces.{registers_of, enabled_of}
 use Rattle.sheet.specs.Commands.{SameButCommands}
 use Rattle.plan_good.specs.Registers.{plan_registers, plan_host}
-use Rattle.plan_good.specs.RefusedExactly.{BusesRunOut, PoolRunsOut}
+use Rattle.plan_good.proofs.RefusedExactly.{BusesRunOut, PoolRunsOut}
 use Rattle.plan_good.specs.NestedAndApart.{NestedAndApart}
 use Rattle.plan_good.specs.Delivery.{BarHolds, OwnsAsPlaced}
 use Rattle.plan_answer.specs.declared.Planning.TheVariants.{Planned, Refused}

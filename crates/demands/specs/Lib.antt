@@ -2,7 +2,4 @@
 pub mod Examples
 pub mod Demand2
 pub mod Demand3
-pub mod RoutedLaws
-pub mod Demand3Laws
 pub mod ById
-pub mod ByIdLaws

@@ -1,3 +1,2 @@
 -- The second verdict and the index of a sheet of which no host is told.
 pub mod Alone
-pub mod AloneLaws

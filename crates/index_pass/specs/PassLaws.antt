@@ -17,16 +17,16 @@ use Rattle.sheet_record.specs.Entry as entries
 use Rattle.sheet_record.specs.Entry.{entry_of, bus_of, command_of}
 use Rattle.sheet_record.specs.Spaces.{node_of, slots_of, bars_of, enables}
 use Rattle.sheet.specs.Sheet.{Framed, entries_of, part_at}
-use Rattle.sheet.specs.SheetLaws.{Checked, lawful_index}
-use Rattle.sheet.specs.IndexLaws.{enabled_index}
+use Rattle.sheet.proofs.SheetLaws.{Checked, lawful_index}
+use Rattle.sheet.proofs.IndexLaws.{enabled_index}
 use Rattle.sheet.specs.Spaces.{nodes_of, enabled_of}
 use Rattle.index_rule.specs.Owners.{Owner, is_live, bar_owner, id_owner, moved, starts_in, owned_of}
 use Rattle.sheet_above.specs.declared.Bridges.{Bridges}
 use Rattle.sheet_above.specs.Bridges.{all_enabled, bridges_over}
 use Rattle.sheet_above.specs.BridgesLaws.{bus_of_part}
 use Rattle.index_rule.specs.Owners.{id_owners, low_memory, high_memory, ports, owners_below, exponent_over, exponent_of}
-use Rattle.index_rule.specs.CountLaws.{seven_each}
-use Rattle.index_rule.specs.PassLaws.{taken, owned_after, ids_after, owned_start, ids_start, owned_end, ids_end, owned_step, ids_step}
+use Rattle.index_rule.proofs.CountLaws.{seven_each}
+use Rattle.index_rule.proofs.PassLaws.{taken, owned_after, ids_after, owned_start, ids_start, owned_end, ids_end, owned_step, ids_step}
 use Rattle.index_layout.specs.Places.{most_slots}
 use Rattle.index_layout.specs.Keys.{low_end, memory_end, io_size, io_base, id_base, no_key}
 use Rattle.index_layout.specs.Words.{word_from, word_end}

@@ -4,16 +4,3 @@
 pub mod Owners
 pub mod Insert
 pub mod Search
-pub mod InsertLaws
-pub mod Answered
-pub mod OwnedLaws
-pub mod IdsLaws
-pub mod PoolsLaws
-pub mod BarsLaws
-pub mod CountLaws
-pub mod PassLaws
-pub mod WordLaws
-pub mod SearchLaws
-pub mod FitsLaws
-pub mod LineLaws
-pub mod IndexLaws

@@ -8,11 +8,11 @@ use Rattle.tlp.specs.declared.Reading.TheVariants.{Accepted, Refused as NotRead}
 use Rattle.tlp.specs.Reading.{read_of}
 use Rattle.tlp.specs.NumberLaws.{NumberedReading, numbered_read}
 use Rattle.walk.specs.Walk.{Outcome, delivered, refused, no_owner}
-use Rattle.walk.specs.NumberLaws.{NumberedOutcome}
+use Rattle.walk.proofs.NumberLaws.{NumberedOutcome}
 use Rattle.claims.specs.declared.Aim.{Aim}
 use Rattle.route_answer.specs.declared.Routing.{Routing}
 use Rattle.route_answer.specs.declared.Routing.TheVariants.{Refused}
-use Rattle.route_answer.specs.NumberLaws.{Numbered, numbered_over}
+use Rattle.route_answer.proofs.NumberLaws.{Numbered, numbered_over}
 use Rattle.index_rule.specs.Owners.{key_of, in_reach}
 use Rattle.index_rule.specs.Search.{is_over}
 use Rattle.index_layout.specs.Keys.{segment_of}

@@ -13,11 +13,11 @@ use Rattle.claims.specs.declared.Aim.{Aim}
 use Rattle.route_answer.specs.declared.Routing.{Routing}
 use Rattle.route_answer.specs.Routing.{route_over}
 use Rattle.route_answer.specs.Listed.{on_room, listed_after}
-use Rattle.route_answer.specs.OnwardLaws.{route_agree}
+use Rattle.route_answer.proofs.OnwardLaws.{route_agree}
 use Rattle.route.specs.Route.{walked, root, route_packet, from_sheet, route_of, from_reading as from_reading_over}
-use Rattle.route.specs.RouteLaws.{packet_over}
+use Rattle.route.proofs.RouteLaws.{packet_over}
 use Rattle.route.specs.Listed.{list_after}
-use Rattle.route.specs.ListedLaws.{listed_over_sheet}
+use Rattle.route.proofs.ListedLaws.{listed_over_sheet}
 use Rattle.index_search.specs.Search.{functions_in, root_in, outcome_in, search_packet, from_reading, search_of}
 
 -- an index of a sheet: as many functions, the same root bus if there are any, and what the walk from it comes to

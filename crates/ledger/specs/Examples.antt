@@ -1,13 +1,6 @@
 -- A worked history: a ledger of two places, the calls made on it in turn, and the number of each. Assumes nothing.
-use Rattle.std.specs.Prelude.{ℕ, ◌*◌, ◌≡◌, refl, List, [], ◌∷◌, map}
-use Rattle.endian.specs.Endian.{be}
-use Rattle.pairs.specs.Pairs.{table, first, find_pair, pair_of}
-use Rattle.packet.specs.Rules.{reserved_set, fixed_wrong, upper_zero, enables_wrong, crosses_page, status_wrong, from_rule5, from_rule6, from_rule7}
-use Rattle.packet.specs.Rules.{from_rule8, from_rule9, rule_number}
-use Rattle.tlp_fields.specs.Fields.{head_at, enables_at, address_at, target_at, outcome_at, unnamed, unnamed_target, unnamed_lower}
-use Rattle.tlp.specs.Reading.{judged, read_of}
-use Rattle.ledger.specs.Words.{place_of}
-use Rattle.ledger.specs.Ledger.{number_of, words_after, on_request, opening_of, disagrees, on_success, settled, on_completion, completing_of}
+use Rattle.std.specs.Prelude.{ℕ, ◌*◌, List, [], ◌∷◌}
+use Rattle.ledger.specs.Ledger.{number_of, words_after}
 use Rattle.ledger.specs.History.{Call, opens, completes, verdict_of}
 
 -- byte 0, tag, Length and byte enables of a request, and byte 0, tag, Length and status of a completion, all of requester 12 34
@@ -54,9 +47,3 @@ rows =
 unfoldable pub numbers : List ℕ → List Call → List ℕ
 numbers ws [] = []
 numbers ws (c ∷ cs) = let v = verdict_of c ws in number_of v ∷ numbers (words_after v ws) cs
-
-pub examples : numbers (0 ∷ 0 ∷ []) (map (λ r. r.call) rows) ≡ map (λ r. r.number) rows
-unfolding numbers be table first find_pair pair_of reserved_set fixed_wrong upper_zero enables_wrong crosses_page status_wrong from_rule5 from_rule6
-    from_rule7 from_rule8 from_rule9 rule_number head_at enables_at address_at target_at outcome_at unnamed unnamed_target unnamed_lower judged read_of
-    place_of on_request opening_of disagrees on_success settled on_completion completing_of
-examples = refl

@@ -8,7 +8,7 @@ ghost use Rattle.sheet_record.specs.Places.{record_size};
 ghost use Rattle.sheet_record.specs.Entry.{entry_of};
 ghost use Rattle.sheet.specs.declared.Rule.TheVariants.{ReadBacks};
 ghost use Rattle.sheet.specs.Sheet.{entries_of, part_at, breaks};
-ghost use Rattle.sheet.specs.SheetLaws.{Checked};
+ghost use Rattle.sheet.proofs.SheetLaws.{Checked};
 ghost use Rattle.sheet_ranges.specs.Ranges.{ranges_of, overlap};
 ghost use Rattle.sheet_ranges.specs.Items.{range_of, ranges_in};
 ghost use Rattle.audit_finding.specs.declared.Check.TheVariants.{Overlaps};

@@ -1,10 +1,6 @@
 -- What document 01 says of a packet's fields, whatever the bytes.
 pub mod Fields
 pub mod Widths
-pub mod WidthsLaws
 pub mod Rules
 pub mod RulesLaws
-pub mod Patterns
 pub mod Verdict
-pub mod VerdictLaws
-pub mod NumberLaws

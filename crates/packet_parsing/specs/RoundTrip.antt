@@ -21,7 +21,7 @@ use Rattle.pairs.specs.declared.Row.{Row}
 use Rattle.pairs.specs.declared.Pair.{Pair}
 use Rattle.pairs.specs.declared.Pair.TheVariants.{Carried, NotCarried, Unknown}
 use Rattle.pairs.specs.Pairs.{routing_number, kind_number, row_of}
-use Rattle.pairs.specs.PairsLaws.{row_pair}
+use Rattle.pairs.proofs.PairsLaws.{row_pair}
 use Rattle.packet.specs.declared.Head.{Head}
 use Rattle.packet.specs.declared.Packet.{Packet}
 use Rattle.packet.specs.declared.Packet.TheVariants.{Memory, Io, Config, Completion, Message}
@@ -29,9 +29,9 @@ use Rattle.packet.specs.declared.Verdict.TheVariants.{Lawful}
 use Rattle.packet.specs.Fields.{kind_of, head_of}
 use Rattle.packet.specs.Verdict.{verdict_of}
 use Rattle.packet.specs.Widths.{length_fits}
-use Rattle.packet.specs.WidthsLaws.{length_in_elim, address_fits_elim, fields_fit_elim}
-use Rattle.packet.specs.VerdictLaws.{lawful_elim, head_of_lawful, memory_of_lawful, io_of_lawful, config_of_lawful, completion_of_lawful}
-use Rattle.packet.specs.VerdictLaws.{message_of_lawful}
+use Rattle.packet.proofs.WidthsLaws.{length_in_elim, address_fits_elim, fields_fit_elim}
+use Rattle.packet.proofs.VerdictLaws.{lawful_elim, head_of_lawful, memory_of_lawful, io_of_lawful, config_of_lawful, completion_of_lawful}
+use Rattle.packet.proofs.VerdictLaws.{message_of_lawful}
 use Rattle.packet_parsing.specs.declared.Parsed.{Parsed}
 use Rattle.packet_parsing.specs.declared.Parsed.TheVariants.{Accepted, Refused}
 use Rattle.packet_numbers.specs.Numbers.{size, bit, message_code, kind_code, head_numbers, body_numbers, numbers_of}

@@ -7,7 +7,7 @@ use Rattle.refusals.specs.RefusalsLaws.{refusal, either, unless_zero}
 use Rattle.plan_rule.specs.Records as placing
 use Rattle.plan_rule.specs.Refusals.{out_of_buses, out_of_pool, refusal_of}
 use Rattle.board.specs.Board.{board_number, host_of, functions_of}
-use Rattle.board.specs.NumberLaws.{board_number_lem}
+use Rattle.board.proofs.NumberLaws.{board_number_lem}
 use Rattle.board.specs.ToPlacing.{to_host, to_placing}
 use Rattle.sheet.specs.Sheet.{sheet_length}
 use Rattle.plan_answer.specs.declared.Planning.{Planning}

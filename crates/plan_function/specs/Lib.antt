@@ -4,10 +4,3 @@ pub mod Registers
 pub mod Function
 pub mod Pass
 pub mod Kept
-pub mod PassLaws
-pub mod FunctionLaws
-pub mod JoinLaws
-pub mod CapLaws
-pub mod KeptLaws
-pub mod WordLaws
-pub mod LoopLaws

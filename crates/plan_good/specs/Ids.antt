@@ -1,25 +1,8 @@
 -- IDs of a planned board differ, since siblings rise in device/function and different parents have different buses (28). Assumes nothing.
 use Rattle.std.specs.Prelude.{◌≡◌, List, ℕ, ◌≤◌, ◌<◌, length}
-use Rattle.std.proofs.Common.{sym, ◌∙◌, arith}
-use Rattle.plan_rule.specs.Records.{Host, Function, Lawful}
+use Rattle.plan_rule.specs.Records.{Function}
 use Rattle.plan_rule.specs.Preorder.{parent_of}
-use Rattle.lists.specs.ListLaws.{pairwise_map, pairwise_imp_members}
-use Rattle.walk.specs.Ids.{DistinctIds}
-use Rattle.plan_good.specs.Registers.{plan_node, plan_rows, plan_nodes}
-use Rattle.plan_good.specs.Rows.{numbers_rise}
-use Rattle.plan_good.specs.BusRanges.{row_of, same_parent}
 
 -- "siblings in rising device/function order": of two records with one parent the later has the greater device/function
 abbrev pub SiblingsRise : List Function → (ℕ → ℕ) → Type 0
 SiblingsRise fs devfn = (j k : ℕ) → 0 < j → j < k → k ≤ length fs → parent_of fs j ≡ parent_of fs k → devfn j < devfn k
-
-pub planned_ids_lem : (h : Host) (fs : List Function) → Lawful fs → (devfn : ℕ → ℕ) → SiblingsRise fs devfn → DistinctIds (plan_nodes h fs devfn)
-planned_ids_lem h fs lawful devfn rise =
-    pairwise_map _ (plan_node devfn) (plan_rows h fs)
-    (pairwise_imp_members _ _ (plan_rows h fs)
-    (λ x y m n earlier bus id.
-    let r = row_of h.first_bus fs lawful m in
-    let s = row_of h.first_bus fs lawful n in
-    let parents = sym r.parent_is ∙ same_parent h.first_bus fs lawful r s bus ∙ s.parent_is in
-    omega (arith, rise x.number y.number r.from_1 earlier s.in_list parents))
-    (numbers_rise h.first_bus fs))

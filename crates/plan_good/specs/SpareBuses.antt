@@ -2,8 +2,8 @@
 -- And document 01 of a bridge without spares: its subordinate is the greatest number at or below it. Assumes nothing.
 use Rattle.std.specs.Prelude.{◌≡◌, ◌⊎◌, true, List, ℕ, suc, ◌+◌, ◌≤◌, ◌<◌, drop}
 use Rattle.plan_rule.specs.Records.{Function, run}
-use Rattle.plan_rule.specs.RecordLaws.{IsAt}
-use Rattle.plan_rule.specs.Preorder.{AtOrAbove}
+use Rattle.plan_rule.proofs.RecordLaws.{IsAt}
+use Rattle.plan_rule.proofs.Preorder.{AtOrAbove}
 use Rattle.plan_rule.specs.Numbering.{bridges, bus_number, subordinate_of}
 
 -- f is a bridge, record i + 1

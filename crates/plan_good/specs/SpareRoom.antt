@@ -8,9 +8,9 @@ use Rattle.plan_rule.specs.Pools.{low, granule}
 use Rattle.plan_rule.specs.Records.{Host, Function}
 use Rattle.plan_rule.specs.Layout.{Piece, Placed, end_of, select, layout_end, largest_align}
 use Rattle.plan_rule.specs.Pieces.{window_align, pieces}
-use Rattle.plan_rule.specs.PieceLaws.{WindowOf}
+use Rattle.plan_rule.proofs.PieceLaws.{WindowOf}
 use Rattle.plan_rule.specs.Placing.{placed}
-use Rattle.plan_rule.specs.Placed.{Holds}
+use Rattle.plan_rule.proofs.Placed.{Holds}
 use Rattle.plan_good.specs.Delivery.{BarHolds}
 
 -- f's spare room, in addresses

@@ -8,10 +8,10 @@ use borrow.Author.Tests.{eq-eqb}
 use Rattle.arith.specs.BoolLaws.{true_or_false}
 use Rattle.lists.specs.Lists.{All, keep}
 use Rattle.plan_rule.specs.Pools.{Pool, same_pool}
-use Rattle.plan_rule.specs.PoolLaws.{eq_of_same_pool}
+use Rattle.plan_rule.proofs.PoolLaws.{eq_of_same_pool}
 use Rattle.plan_rule.specs.Layout.{Piece, select, end_at, layout_end}
 use Rattle.plan_rule.specs.Placing.{Cursors, is_window_of, cursors_after}
-use Rattle.plan_rule.specs.PlacingLaws.{after}
+use Rattle.plan_rule.proofs.PlacingLaws.{after}
 use Rattle.plan_items.specs.declared.Told.{Told}
 use Rattle.plan_items.specs.Items.{Item, item_at, items_from}
 use Rattle.plan_items.specs.Walk.{told_of}

@@ -19,7 +19,7 @@ use Rattle.board.specs.ToPlacing.{to_host, to_placing}
 use Rattle.plan_sizing.specs.Memo.{laid_at}
 use Rattle.plan_function.specs.Kept.{extent_in}
 use Rattle.plan_function.specs.Pass.{cursors_at}
-use Rattle.plan_function.specs.LoopLaws.{Agrees}
+use Rattle.plan_function.proofs.LoopLaws.{Agrees}
 use Rattle.plan_pass.specs.Step.{extents_in}
 use Rattle.plan_pass.specs.StepLaws.{ends_in, Prepared}
 use Rattle.plan_needs.specs.Bases.{laid_host}

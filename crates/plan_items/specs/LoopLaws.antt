@@ -19,37 +19,38 @@ use Rattle.lists.specs.ListLaws.{all_drop, drop_suc}
 use Rattle.lists.specs.KeepLaws.{map_keep_append}
 use Rattle.plan_rule.specs.Records as placing
 use Rattle.plan_rule.specs.Records.{Sized}
-use Rattle.plan_rule.specs.RecordLaws.{IsAt}
+use Rattle.plan_rule.proofs.RecordLaws.{IsAt}
 use Rattle.plan_rule.specs.Layout.{Piece}
 use Rattle.plan_rule.specs.Pieces.{pieces}
-use Rattle.plan_rule.specs.PieceLaws.{BarsSized, pieces_shaped}
+use Rattle.plan_rule.proofs.PieceLaws.{BarsSized, pieces_shaped}
 use Rattle.plan_rule.specs.Placing.{Cursors, cursors_after}
 use Rattle.plan_rule.specs.declared.Extent.{Extent}
 use Rattle.plan_rule.specs.Sizing.{bus_laid}
-use Rattle.plan_rule.specs.Cap.{cap, capped}
+use Rattle.plan_rule.specs.Cap.{cap}
+use Rattle.plan_rule.proofs.Cap.{capped}
 use Rattle.board_record.specs.declared.Host.{Host}
 use Rattle.board_record.specs.declared.Function.{Function}
 use Rattle.board_record.specs.Function.{is_bridge, slot_count, function_of_part, header_wrong}
 use Rattle.board_record.specs.Host.{functions_at}
 use Rattle.board.specs.Board.{host_of, functions_of}
-use Rattle.board.specs.BoardLaws.{accepted_of_zero}
+use Rattle.board.proofs.BoardLaws.{accepted_of_zero}
 use Rattle.board.specs.ToPlacing.{to_host, to_function, to_placing}
 use Rattle.plan_sizing.specs.declared.Laid.{Laid}
 use Rattle.plan_function.specs.declared.Cursors as kept
 use Rattle.plan_function.specs.Kept.{ends_of, extent_in}
-use Rattle.plan_function.specs.KeptLaws.{all_sized_lem}
+use Rattle.plan_function.proofs.KeptLaws.{all_sized_lem}
 use Rattle.plan_function.specs.Pass.{cursors_at}
-use Rattle.plan_function.specs.PassLaws.{own_at, cursors_at_start, cursors_at_step}
-use Rattle.plan_function.specs.JoinLaws.{inside_of, parent_lt}
-use Rattle.plan_function.specs.LoopLaws.{agrees_start}
-use Rattle.plan_good.specs.Boards.{open_ends_low}
+use Rattle.plan_function.proofs.PassLaws.{own_at, cursors_at_start, cursors_at_step}
+use Rattle.plan_function.proofs.JoinLaws.{inside_of, parent_lt}
+use Rattle.plan_function.proofs.LoopLaws.{agrees_start}
+use Rattle.plan_good.proofs.Boards.{open_ends_low}
 use Rattle.plan_pass.specs.Step.{extents_in, cursors_next, Placeable, Bridged}
 use Rattle.plan_pass.specs.StepLaws.{ends_in, map_drop, RecordAt, is_at_of_record, Prepared, record_agrees, record_placeable, record_bridged}
 use Rattle.plan_pass.specs.LoopLaws.{length_functions}
 use Rattle.plan_pass.specs.Loop.{most_buses, bases_for, Filled}
-use Rattle.plan_sheet.specs.Accepted.{board_of_accepted}
+use Rattle.plan_sheet.proofs.Accepted.{board_of_accepted}
 use Rattle.plan_needs.specs.Bases.{laid_host_of}
-use Rattle.plan_needs.specs.BasesLaws.{laid_base}
+use Rattle.plan_needs.proofs.BasesLaws.{laid_base}
 use Rattle.plan_items.specs.declared.Told.{Told}
 use Rattle.plan_items.specs.declared.Watched.{Watched}
 use Rattle.plan_items.specs.declared.Seen.{Seen}

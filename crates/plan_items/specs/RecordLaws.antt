@@ -15,17 +15,18 @@ use Rattle.plan_bars.specs.Bars.{bars_from}
 use Rattle.plan_rule.specs.Pools.{Pool, granule, same_pool}
 use Rattle.plan_rule.specs.Records as placing
 use Rattle.plan_rule.specs.Records.{Function}
-use Rattle.plan_rule.specs.RecordLaws.{false_of_not}
+use Rattle.plan_rule.proofs.RecordLaws.{false_of_not}
 use Rattle.plan_rule.specs.Layout.{Piece, select, end_at, layout_end}
-use Rattle.plan_rule.specs.LayoutLaws.{HasAlign}
+use Rattle.plan_rule.proofs.LayoutLaws.{HasAlign}
 use Rattle.plan_rule.specs.Pieces.{window_piece, bar_piece, bar_pieces, own_pieces}
-use Rattle.plan_rule.specs.PieceLaws.{Own, BarsSized, own_pieces_lem, Shaped, window_of_is}
+use Rattle.plan_rule.proofs.PieceLaws.{Own, BarsSized, own_pieces_lem, Shaped, window_of_is}
 use Rattle.plan_rule.specs.Placing.{Cursors, is_window_of}
 use Rattle.plan_rule.specs.declared.Extent.{Extent}
 use Rattle.plan_rule.specs.Sizing.{nothing, extend, with_spare, window_for}
-use Rattle.plan_rule.specs.Cap.{cap, capped, cap_align}
-use Rattle.plan_function.specs.CapLaws.{size_pos}
-use Rattle.plan_function.specs.FunctionLaws.{select_own}
+use Rattle.plan_rule.specs.Cap.{cap}
+use Rattle.plan_rule.proofs.Cap.{capped, cap_align}
+use Rattle.plan_function.proofs.CapLaws.{size_pos}
+use Rattle.plan_function.proofs.FunctionLaws.{select_own}
 use Rattle.plan_items.specs.declared.Told.{Told}
 use Rattle.plan_items.specs.Items.{item_at, items_from, place_of}
 use Rattle.plan_items.specs.Walk.{told_of, told_at, bars_told, bars_end, window_told}

@@ -11,9 +11,10 @@ use Rattle.lists.specs.Lists.{All, keep}
 use Rattle.plan_rule.specs.Pools.{Pool, same_pool}
 use Rattle.plan_rule.specs.Records.{Host, Function, Sized}
 use Rattle.plan_rule.specs.Pieces.{pieces}
-use Rattle.plan_rule.specs.PieceLaws.{pieces_owner}
+use Rattle.plan_rule.proofs.PieceLaws.{pieces_owner}
 use Rattle.plan_rule.specs.Placing.{from_bases}
-use Rattle.plan_rule.specs.Cap.{cap, cap_past}
+use Rattle.plan_rule.specs.Cap.{cap}
+use Rattle.plan_rule.proofs.Cap.{cap_past}
 use Rattle.plan_good.specs.Boards.{OpenEndsLow}
 use Rattle.plan_needs.specs.Bases.{is_closed, laid_host}
 use Rattle.finding.specs.declared.Party.{Party}

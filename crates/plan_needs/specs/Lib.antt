@@ -3,6 +3,3 @@
 pub mod Bases
 pub mod Needs
 pub mod Measured
-pub mod BasesLaws
-pub mod MeasuredLaws
-pub mod NeedsLaws

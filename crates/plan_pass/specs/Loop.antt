@@ -12,8 +12,8 @@ use Rattle.board.specs.Board.{board_number, host_of, functions_of}
 use Rattle.board.specs.ToPlacing.{to_host, to_placing}
 use Rattle.plan_function.specs.declared.Cursors.{Cursors}
 use Rattle.plan_function.specs.Kept.{ends_of}
-use Rattle.plan_function.specs.JoinLaws.{Room}
-use Rattle.plan_function.specs.LoopLaws.{Agrees}
+use Rattle.plan_function.proofs.JoinLaws.{Room}
+use Rattle.plan_function.proofs.LoopLaws.{Agrees}
 use Rattle.sheet.specs.Sheet.{sheet_length}
 use Rattle.sheet_bytes.specs.Layout.{Planned, sheet_bytes}
 use Rattle.plan_answer.specs.Plan.{plan_of}

@@ -27,7 +27,7 @@ use Rattle.board_record.specs.declared.Function.{Function}
 use Rattle.board_record.specs.Function.{is_bridge, function_of_part, header_wrong}
 use Rattle.board_record.specs.Host.{functions_at}
 use Rattle.board.specs.Board.{host_of, functions_of}
-use Rattle.board.specs.BoardLaws.{accepted_of_zero}
+use Rattle.board.proofs.BoardLaws.{accepted_of_zero}
 use Rattle.board.specs.ToPlacing.{to_host, to_placing}
 use Rattle.plan_sizing.specs.Memo.{laid_at}
 use Rattle.plan_rule.specs.declared.Extent.{Extent}
@@ -35,11 +35,11 @@ use Rattle.plan_rule.specs.Cap.{cap}
 use Rattle.plan_function.specs.Function.{window_at, is_empty, window_start, window_stop}
 use Rattle.plan_function.specs.declared.Cursors.{Cursors}
 use Rattle.plan_function.specs.Kept.{ends_of, kept_window}
-use Rattle.plan_function.specs.LoopLaws.{agrees_start}
+use Rattle.plan_function.proofs.LoopLaws.{agrees_start}
 use Rattle.sheet.specs.Sheet.{sheet_length}
 use Rattle.sheet_bytes.specs.declared.Registers.{Registers}
 use Rattle.sheet_bytes.specs.Layout.{Planned, planned_of, record_bytes, sheet_bytes}
-use Rattle.sheet_bytes.specs.LayoutLaws.{sets_sheet_bytes_snoc}
+use Rattle.sheet_bytes.proofs.LayoutLaws.{sets_sheet_bytes_snoc}
 use Rattle.plan_answer.specs.Plan.{entry_for, planned_from, plan_of}
 use Rattle.plan_pass.specs.Step.{ends_list, extents_in, bars_in, leaf_registers, bridge_registers, registers_of, cursors_next, Placeable}
 use Rattle.plan_pass.specs.Step.{Bridged}

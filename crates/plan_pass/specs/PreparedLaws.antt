@@ -8,16 +8,16 @@ use Rattle.records.specs.Records.{parts_from}
 use Rattle.bar.specs.Bar.{any_bad}
 use Rattle.lists.specs.Lists.{any}
 use Rattle.plan_rule.specs.Numbering.{bridges, over}
-use Rattle.plan_rule.specs.NumberingLaws.{bridges_split}
-use Rattle.plan_rule.specs.Numbered.{over_le}
+use Rattle.plan_rule.proofs.NumberingLaws.{bridges_split}
+use Rattle.plan_rule.proofs.Numbered.{over_le}
 use Rattle.board_record.specs.declared.Function.{Function}
 use Rattle.board_record.specs.Function.{is_bridge, function_of_part, spare_low, readbacks_wrong}
 use Rattle.board_record.specs.FunctionLaws.{length_readbacks}
 use Rattle.board_record.specs.Host.{functions_at}
 use Rattle.board.specs.Board.{board_number, functions_of}
-use Rattle.board.specs.BoardLaws.{accepted_of_zero}
+use Rattle.board.proofs.BoardLaws.{accepted_of_zero}
 use Rattle.board.specs.ToPlacing.{to_function, to_placing}
-use Rattle.board.specs.ToPlacingLaws.{lawful_of_accepted}
+use Rattle.board.proofs.ToPlacingLaws.{lawful_of_accepted}
 use Rattle.plan_sizing.specs.Memo.{laid_at, below}
 use Rattle.plan_answer.specs.Plan.{slots_of}
 use Rattle.plan_pass.specs.StepLaws.{RecordAt, Prepared}

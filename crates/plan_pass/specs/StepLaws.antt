@@ -19,14 +19,15 @@ use Rattle.bar.specs.BarLaws.{narrow_takes_one, wide_takes_next}
 use Rattle.window.specs.Window.{closed}
 use Rattle.plan_rule.specs.Records as placing
 use Rattle.plan_rule.specs.Records.{Host, Lawful}
-use Rattle.plan_rule.specs.RecordLaws.{IsAt}
+use Rattle.plan_rule.proofs.RecordLaws.{IsAt}
 use Rattle.plan_rule.specs.Placing.{placed}
 use Rattle.plan_rule.specs.Numbering.{bridges, over, bus_number, subordinate_of}
-use Rattle.plan_rule.specs.NumberingLaws.{bridges_split, bridges_take_mono}
-use Rattle.plan_rule.specs.Numbered.{spares_fit, over_le, subordinate_laid}
+use Rattle.plan_rule.proofs.NumberingLaws.{bridges_split, bridges_take_mono}
+use Rattle.plan_rule.proofs.Numbered.{spares_fit, over_le, subordinate_laid}
 use Rattle.plan_rule.specs.Sizing.{bus_laid, laid_from}
-use Rattle.plan_rule.specs.SizingLaws.{next_le}
-use Rattle.plan_rule.specs.Cap.{cap, capped}
+use Rattle.plan_rule.proofs.SizingLaws.{next_le}
+use Rattle.plan_rule.specs.Cap.{cap}
+use Rattle.plan_rule.proofs.Cap.{capped}
 use Rattle.board_record.specs.declared.Function.{Function}
 use Rattle.board_record.specs.Function.{is_bridge, slot_count, spare_low}
 use Rattle.board.specs.ToPlacing.{to_function, to_placing}
@@ -36,9 +37,9 @@ use Rattle.plan_function.specs.declared.Cursors.{Cursors}
 use Rattle.plan_function.specs.Function.{Ends, registers_at, values_at, bar_starts, after_bars, after_window, below_window}
 use Rattle.plan_function.specs.Registers.{values_from, window_for}
 use Rattle.plan_function.specs.Kept.{word, ends_of, kept_values, kept_window, extent_in}
-use Rattle.plan_function.specs.KeptLaws.{Starts, starts_narrow, ends_kept}
-use Rattle.plan_function.specs.JoinLaws.{Room, inside_of, parent_lt}
-use Rattle.plan_function.specs.LoopLaws.{Agrees, values_planned, window_planned, agrees_leaf, agrees_bridge, align_power}
+use Rattle.plan_function.proofs.KeptLaws.{Starts, starts_narrow, ends_kept}
+use Rattle.plan_function.proofs.JoinLaws.{Room, inside_of, parent_lt}
+use Rattle.plan_function.proofs.LoopLaws.{Agrees, values_planned, window_planned, agrees_leaf, agrees_bridge, align_power}
 use Rattle.sheet_bytes.specs.Layout.{planned_of}
 use Rattle.plan_answer.specs.Plan.{slots_of, entry_for}
 use Rattle.plan_pass.specs.Step.{cursors_in, ends_list, extents_in, number_in, bus_in, NumberFits, bars_in, windows_in}

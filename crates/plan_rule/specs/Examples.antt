@@ -1,17 +1,14 @@
 -- Worked examples of the definitions, one table under one claim: P6, P7, P10, source document 001's tree (bridge E on bus 2), edges of the
 -- placing rule, and full boards; and one of spares. Assumes nothing.
-use Rattle.std.specs.Prelude.{◌≡◌, refl, true, false, List, [], ◌∷◌, map, ℕ, zero, suc, ◌-◌}
-use Rattle.std.proofs.lemmas.Bool.{false≢true}
-use Rattle.arith.specs.Align.{align_up}
-use Rattle.lists.specs.Lists.{All, keep, front, any}
+use Rattle.std.specs.Prelude.{◌≡◌, true, false, List, [], ◌∷◌, map, ℕ, zero, suc, ◌-◌}
+use Rattle.lists.specs.Lists.{keep}
 use Rattle.plan_rule.specs.Pools.{Pool, low, high, io}
-use Rattle.plan_rule.specs.Records.{Host, Function, Bar, DepthFirst, only_host, Lawful}
-use Rattle.plan_rule.specs.Layout.{Placed, end_of, layout_end, largest_align}
-use Rattle.plan_rule.specs.Pieces.{bar_pieces, window_pieces, own_pieces, pieces}
-use Rattle.plan_rule.specs.Placing.{place, placed}
-use Rattle.plan_rule.specs.Numbering.{bridges, overs_from, over, bus_number, last_below, subordinate_of, Numbered, numbered_from, numbered}
-use Rattle.plan_rule.specs.Sizing.{Laid, laid_from, extend, bus_laid}
-use Rattle.plan_rule.specs.Refusals.{out_of_pool, refusal_of}
+use Rattle.plan_rule.specs.Records.{Host, Function, Bar}
+use Rattle.plan_rule.specs.Layout.{Placed, end_of}
+use Rattle.plan_rule.specs.Placing.{placed}
+use Rattle.plan_rule.specs.Numbering.{Numbered, numbered}
+use Rattle.plan_rule.specs.Sizing.{Laid, laid_from, bus_laid}
+use Rattle.plan_rule.specs.Refusals.{refusal_of}
 
 -- A first and a last address, or a secondary and a subordinate bus
 abbrev pub Span : Type 0
@@ -172,49 +169,3 @@ spare_rows =
     ∷ refused from_one_mib (kept 5) 31
     ∷ lies from_one_mib in_turn ((0x100000, 0x3fffff) ∷ (0x100000, 0x2fffff) ∷ (0x100000, 0x100fff) ∷ [])
     ∷ []
-
-pub examples : All Holds rows
-unfolding
-    keep front any align_up layout_end largest_align bar_pieces window_pieces own_pieces pieces place placed bridges overs_from over last_below
-    bus_number subordinate_of numbered_from ranges out_of_pool refusal_of extend bus_laid
-examples = (
-  refl,
-  (
-    refl,
-    (
-      refl,
-      (
-        refl,
-        (
-          refl,
-          (
-            refl,
-            (
-              refl,
-              (
-                refl,
-                (
-                  refl,
-                  (refl, (refl, (refl, (refl, (refl, (refl, (refl, (refl, (refl, (refl, (refl, (refl, tt)))))))))))),
-                ),
-              ),
-            ),
-          ),
-        ),
-      ),
-    ),
-  ),
-)
-
-pub spare_examples : All Holds spare_rows
-unfolding
-    keep front any align_up layout_end largest_align bar_pieces window_pieces own_pieces pieces place placed bridges overs_from over last_below
-    bus_number subordinate_of numbered_from ranges out_of_pool refusal_of extend bus_laid
-spare_examples = (refl, (refl, (refl, (refl, (refl, (refl, (refl, tt)))))))
-
--- P10's functions are lawful. A function below a bridge that a later sibling closed is not in depth-first order
-pub p10_lawful : Lawful p10_functions
-p10_lawful = record { ordered = (refl, (refl, tt)); sized = (tt, (((12, refl), ((26, refl), ((8, refl), tt))), tt)) }
-
-pub closed_bridge : DepthFirst only_host 1 (bridge_below 0 ∷ bridge_below 0 ∷ end_below 1 [] ∷ []) → ⊥
-closed_bridge d = false≢true d.1.1.0

@@ -2,16 +2,3 @@
 -- Windows, Values, Shaped) and their ranges (WindowRanges, BarRanges); then the theorems that others cite: Registers, Passes, Delivery,
 -- Answer.
 pub mod Fits
-pub mod FitsLaws
-pub mod Rising
-pub mod Accepted
-pub mod Starts
-pub mod Windows
-pub mod Values
-pub mod Shaped
-pub mod WindowRanges
-pub mod BarRanges
-pub mod Registers
-pub mod Passes
-pub mod Delivery
-pub mod Answer

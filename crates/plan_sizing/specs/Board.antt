@@ -10,7 +10,7 @@ use Rattle.plan_rule.specs.Above.{above_by_parents, above_bus}
 use Rattle.records.specs.Limits.{most_above}
 use Rattle.plan_rule.specs.Sizing as placing
 use Rattle.plan_rule.specs.Sizing.{bus_laid, function_laid}
-use Rattle.plan_rule.specs.SizingLaws.{Ready}
+use Rattle.plan_rule.proofs.SizingLaws.{Ready}
 use Rattle.plan_sizing.specs.declared.Laid.{Laid}
 use Rattle.plan_sizing.specs.Functions.{slots_in, header_in, functions_in, set_at, function_at}
 use Rattle.plan_sizing.specs.Cut.{says, cut, Whole}

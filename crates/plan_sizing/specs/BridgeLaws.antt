@@ -8,21 +8,21 @@ use Rattle.pools.specs.declared.Pool.TheVariants.{Low, High, Io}
 use Rattle.pools.specs.Pools.{granule}
 use Rattle.lists.specs.ListLaws.{all_imp, all_drop}
 use Rattle.bar.specs.Header.{is_bridge}
-use Rattle.plan_rule.specs.PoolLaws.{granule_power}
+use Rattle.plan_rule.proofs.PoolLaws.{granule_power}
 use Rattle.plan_rule.specs.Records.{Function, Lawful, Sized}
-use Rattle.plan_rule.specs.RecordLaws.{IsAt}
+use Rattle.plan_rule.proofs.RecordLaws.{IsAt}
 use Rattle.plan_rule.specs.Above.{above_by_parents, above_bus}
-use Rattle.plan_rule.specs.AboveLaws.{parent_at, above_on_bus}
+use Rattle.plan_rule.proofs.AboveLaws.{parent_at, above_on_bus}
 use Rattle.plan_rule.specs.Layout.{select, largest_align}
-use Rattle.plan_rule.specs.LayoutLaws.{largest_align_power}
+use Rattle.plan_rule.proofs.LayoutLaws.{largest_align_power}
 use Rattle.plan_rule.specs.Pieces.{window_align, content_of, pieces}
-use Rattle.plan_rule.specs.PieceLaws.{BarsSized, content_shaped, pieces_shaped}
+use Rattle.plan_rule.proofs.PieceLaws.{BarsSized, content_shaped, pieces_shaped}
 use Rattle.plan_rule.specs.Sizing as placing
 use Rattle.plan_rule.specs.declared.Extent.{Extent}
 use Rattle.plan_rule.specs.Sizing.{nothing, extend, with_spare, laid_from, bus_laid, bars_laid, window_laid, spared, function_laid}
-use Rattle.plan_rule.specs.ExtentLaws.{extend_align, extend_content}
-use Rattle.plan_rule.specs.SizingLaws.{ready_below, function_laid_leaf}
-use Rattle.plan_rule.specs.Cap.{capped_laid, cap_spared, function_laid_turn}
+use Rattle.plan_rule.proofs.ExtentLaws.{extend_align, extend_content}
+use Rattle.plan_rule.proofs.SizingLaws.{ready_below, function_laid_leaf}
+use Rattle.plan_rule.proofs.Cap.{capped_laid, cap_spared, function_laid_turn}
 use Rattle.plan_sizing.specs.declared.Laid.{Laid}
 use Rattle.plan_sizing.specs.Functions.{header_in, functions_in, function_at}
 use Rattle.plan_sizing.specs.FunctionsLaws.{functions_at_lem}

@@ -12,14 +12,15 @@ use Rattle.bar.specs.declared.Slot.TheVariants.{Unused, Bar, Upper, Bad}
 use Rattle.bar.specs.Bar.{slot_here, slots, is_bad, any_bad, takes_next, span}
 use Rattle.plan_bars.specs.Bars.{bars_from}
 use Rattle.bar.specs.BarLaws.{slots_at_step, any_bad_of_bad}
-use Rattle.plan_rule.specs.PoolLaws.{granule_power}
+use Rattle.plan_rule.proofs.PoolLaws.{granule_power}
 use Rattle.plan_rule.specs.Pieces.{window_size, window_align}
 use Rattle.plan_rule.specs.Records as records
 use Rattle.plan_rule.specs.declared.Extent.{Extent}
 use Rattle.plan_rule.specs.Sizing as placing
 use Rattle.plan_rule.specs.Sizing.{grow, with_bars, with_window, spared}
-use Rattle.plan_rule.specs.SizingLaws.{laid_ext}
-use Rattle.plan_rule.specs.Cap.{cap, capped, cap_cap, cap_align, capped_laid, cap_with_bars}
+use Rattle.plan_rule.proofs.SizingLaws.{laid_ext}
+use Rattle.plan_rule.specs.Cap.{cap}
+use Rattle.plan_rule.proofs.Cap.{capped, cap_cap, cap_align, capped_laid, cap_with_bars}
 use Rattle.plan_sizing.specs.declared.Laid.{Laid}
 use Rattle.plan_sizing.specs.FunctionsLaws.{AllSized, bars_from_sized}
 use Rattle.plan_sizing.specs.Cut.{extent_in, with_extent, says, cut, Whole, add_bar, add_slot, add_bars}

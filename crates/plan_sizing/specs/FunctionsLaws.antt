@@ -4,7 +4,7 @@ use Rattle.std.proofs.Common.{ap, ap₂, ◌∙◌, arith, add-one, drop-drop, d
 use Rattle.std.proofs.Math.Numerals.{add-two, add-three, add-four, add_five}
 pub use Rattle.plan_bars.specs.BarsLaws.{AllSized, bars_from_sized}
 use Rattle.plan_rule.specs.Records.{Function, Sized}
-use Rattle.plan_rule.specs.RecordLaws.{IsAt}
+use Rattle.plan_rule.proofs.RecordLaws.{IsAt}
 use Rattle.plan_sizing.specs.Functions.{function_in, functions_in, set_at, function_at}
 
 -- ## Sizes are powers of two

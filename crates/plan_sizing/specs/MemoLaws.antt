@@ -10,7 +10,7 @@ use Rattle.std.proofs.lemmas.List.{set_comm}
 use Rattle.std.proofs.Math.Seq.{take-length}
 use Rattle.endian.specs.SetsLaws.{sets_sets, get_d_sets_at}
 use Rattle.plan_rule.specs.Records.{Function}
-use Rattle.plan_rule.specs.RecordLaws.{IsAt}
+use Rattle.plan_rule.proofs.RecordLaws.{IsAt}
 use Rattle.plan_sizing.specs.declared.Laid.{Laid}
 use Rattle.plan_sizing.specs.Memo.{numbers_of, no_numbers, laid_at, below, memo_of, memo_from, memo_between}
 

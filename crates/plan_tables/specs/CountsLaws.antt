@@ -8,9 +8,9 @@ use Rattle.std.proofs.Math.Seq.{take-length}
 use Rattle.arith.specs.Order.{eq_or_ne}
 use Rattle.endian.specs.SetsLaws.{get_d_sets_before, get_d_sets_at}
 use Rattle.plan_rule.specs.Records.{Function}
-use Rattle.plan_rule.specs.RecordLaws.{IsAt}
+use Rattle.plan_rule.proofs.RecordLaws.{IsAt}
 use Rattle.plan_rule.specs.Numbering.{weight, own_spare, bridges, over}
-use Rattle.plan_rule.specs.NumberingLaws.{bridges_take_suc, over_host, over_record}
+use Rattle.plan_rule.proofs.NumberingLaws.{bridges_take_suc, over_host, over_record}
 use Rattle.plan_sizing.specs.Functions.{functions_in, function_at}
 use Rattle.plan_sizing.specs.FunctionsLaws.{length_functions, functions_at_lem}
 use Rattle.plan_tables.specs.Counts.{spare_of, weight_of, CountedAt, Counted, AllCounted, Counting}

@@ -14,16 +14,16 @@ use Rattle.bar.specs.Header.{is_bridge as is_bridge_header}
 use Rattle.lists.specs.Lists.{All, any}
 use Rattle.plan_rule.specs.Records as placing
 use Rattle.plan_rule.specs.Records.{DepthFirst, only_host}
-use Rattle.plan_rule.specs.RecordLaws.{ordered_from}
+use Rattle.plan_rule.proofs.RecordLaws.{ordered_from}
 use Rattle.board_record.specs.declared.Function.{Function}
 use Rattle.board_record.specs.Function.{function_of_part, is_bridge, readbacks_wrong}
 use Rattle.board_record.specs.FunctionLaws.{length_readbacks}
 use Rattle.board_record.specs.Host.{functions_at}
 use Rattle.board.specs.Board.{board_number, functions_of}
-use Rattle.board.specs.BoardLaws.{accepted_of_zero}
+use Rattle.board.proofs.BoardLaws.{accepted_of_zero}
 use Rattle.board.specs.ToPlacing.{to_function, to_placing}
-use Rattle.board.specs.ToPlacingLaws.{lawful_of_accepted}
-use Rattle.board.specs.Depth.{few_above_of_accepted}
+use Rattle.board.proofs.ToPlacingLaws.{lawful_of_accepted}
+use Rattle.board.proofs.Depth.{few_above_of_accepted}
 use Rattle.plan_sizing.specs.Functions.{slots_in, header_in, spares_in, function_in, functions_in, set_at}
 use Rattle.plan_sizing.specs.FunctionsLaws.{functions_at_lem}
 use Rattle.plan_sizing.specs.BusLaws.{lawful_of_board}

@@ -19,7 +19,7 @@ use Rattle.board_record.specs.Function.{function_of_part, header_wrong}
 use Rattle.board_record.specs.FunctionLaws.{length_readbacks}
 use Rattle.board_record.specs.Host.{functions_at}
 use Rattle.board.specs.Board.{board_number, functions_of}
-use Rattle.board.specs.BoardLaws.{accepted_of_zero}
+use Rattle.board.proofs.BoardLaws.{accepted_of_zero}
 use Rattle.plan_tables.specs.Tables.{parents_of, head_of, heads_of, readbacks_of, Room, Put, Filled, functions_from, Filling}
 
 -- ---- stores one by one: a run `vs` from `at` on, of which those before j are stored

@@ -15,10 +15,10 @@ use Rattle.plan_rule.specs.Pools.{Pool, same_pool}
 use Rattle.plan_rule.specs.Records.{Host, Function, Lawful}
 use Rattle.plan_rule.specs.Layout.{Piece, Placed, is_on, select, start_at, layout_end, largest_align}
 use Rattle.plan_rule.specs.Pieces.{pieces}
-use Rattle.plan_rule.specs.PieceLaws.{Shaped, has_align, pieces_shaped}
+use Rattle.plan_rule.proofs.PieceLaws.{Shaped, has_align, pieces_shaped}
 use Rattle.plan_rule.specs.Placing.{Cursors, moved, from_bases, place, placed}
 use Rattle.plan_rule.specs.Refusals.{is_past, out_of_pool}
-use Rattle.plan_rule.specs.RefusalLaws.{out_of_pool_end}
+use Rattle.plan_rule.proofs.RefusalLaws.{out_of_pool_end}
 use Rattle.planner.specs.MeasureLaws.{past_base}
 use Rattle.finding.specs.declared.Party.{Party}
 use Rattle.finding.specs.Places.{nobody}

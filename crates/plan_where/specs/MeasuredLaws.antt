@@ -13,16 +13,18 @@ use Rattle.plan_rule.specs.Pieces.{pieces}
 use Rattle.plan_rule.specs.Numbering.{bridges}
 use Rattle.plan_rule.specs.declared.Extent.{Extent}
 use Rattle.plan_rule.specs.Sizing.{Laid as PlacingLaid, extend, bus_laid, root_laid}
-use Rattle.plan_rule.specs.ExtentLaws.{extend_align}
-use Rattle.plan_rule.specs.Cap.{limit, capped}
+use Rattle.plan_rule.proofs.ExtentLaws.{extend_align}
+use Rattle.plan_rule.specs.Cap.{limit}
+use Rattle.plan_rule.proofs.Cap.{capped}
 use Rattle.plan_rule.specs.Refusals.{out_of_pool, refusal_of}
-use Rattle.plan_rule.specs.RefusalLaws.{refusal_law}
+use Rattle.plan_rule.proofs.RefusalLaws.{refusal_law}
 use Rattle.board_record.specs.declared.Host.{Host}
 use Rattle.board_record.specs.Host.{span_of}
 use Rattle.board.specs.Board.{board_number, host_of, functions_of}
 use Rattle.board.specs.ToPlacing.{to_host, to_placing}
-use Rattle.plan_good.specs.Boards.{Board, OpenEndsLow, open_ends_low}
-use Rattle.plan_sheet.specs.Accepted.{board_of_accepted}
+use Rattle.plan_good.specs.Boards.{Board, OpenEndsLow}
+use Rattle.plan_good.proofs.Boards.{open_ends_low}
+use Rattle.plan_sheet.proofs.Accepted.{board_of_accepted}
 use Rattle.plan_sizing.specs.declared.Laid.{Laid}
 use Rattle.plan_sizing.specs.Cut.{extent_in, cut}
 use Rattle.plan_pass.specs.PreparedLaws.{prepared_of_accepted}
@@ -30,10 +32,10 @@ use Rattle.planner.specs.declared.Measured.{Measured}
 use Rattle.planner.specs.Measure.{runs_out, refusal_by, IsMeasured}
 use Rattle.planner.specs.MeasureLaws.{base_of_span, last_of_span, runs_out_at, refusal_by_out}
 use Rattle.plan_needs.specs.Bases.{is_closed, layout_base, laid_host_of}
-use Rattle.plan_needs.specs.BasesLaws.{laid_base}
+use Rattle.plan_needs.proofs.BasesLaws.{laid_base}
 use Rattle.plan_needs.specs.Needs.{needs_of}
 use Rattle.plan_needs.specs.Measured.{needs_by, PastBases}
-use Rattle.plan_needs.specs.MeasuredLaws.{needs_by_is, past_bases}
+use Rattle.plan_needs.proofs.MeasuredLaws.{needs_by_is, past_bases}
 use Rattle.plan_needs.specs.declared.Needs.{Needs}
 use Rattle.plan_items.specs.Loop.{Walkable}
 use Rattle.finding.specs.declared.Parties.{Parties}

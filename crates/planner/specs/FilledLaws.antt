@@ -10,7 +10,7 @@ use Rattle.records.specs.Limits.{most_functions}
 use Rattle.plan_rule.specs.Records as placing
 use Rattle.plan_rule.specs.Sizing as laid
 use Rattle.plan_rule.specs.Sizing.{bus_laid, root_laid}
-use Rattle.plan_rule.specs.SizingLaws.{laid_ext}
+use Rattle.plan_rule.proofs.SizingLaws.{laid_ext}
 use Rattle.board_record.specs.declared.Host.{Host}
 use Rattle.board_record.specs.declared.Function.{Function}
 use Rattle.board_record.specs.Function.{is_bridge, spare_low}

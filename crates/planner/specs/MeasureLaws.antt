@@ -12,16 +12,16 @@ use Rattle.lists.specs.KeepLaws.{all_keep}
 use Rattle.plan_rule.specs.Records as placing
 use Rattle.plan_rule.specs.Records.{Lawful}
 use Rattle.plan_rule.specs.Layout.{Piece, is_on, select, layout_end, largest_align, end_at}
-use Rattle.plan_rule.specs.LayoutLaws.{HasAlign, le_end_at, le_layout_end}
+use Rattle.plan_rule.proofs.LayoutLaws.{HasAlign, le_end_at, le_layout_end}
 use Rattle.plan_rule.specs.Pieces.{pieces}
-use Rattle.plan_rule.specs.PieceLaws.{Shaped, has_align, pieces_shaped}
+use Rattle.plan_rule.proofs.PieceLaws.{Shaped, has_align, pieces_shaped}
 use Rattle.plan_rule.specs.Numbering.{bridges}
 use Rattle.plan_rule.specs.declared.Extent.{Extent}
 use Rattle.plan_rule.specs.Sizing.{extend, bus_laid, root_laid, ends_past}
-use Rattle.plan_rule.specs.ExtentLaws.{extend_align}
-use Rattle.plan_rule.specs.Cap.{capped, out_of_pool_capped}
+use Rattle.plan_rule.proofs.ExtentLaws.{extend_align}
+use Rattle.plan_rule.proofs.Cap.{capped, out_of_pool_capped}
 use Rattle.plan_rule.specs.Refusals.{out_of_pool, refusal_of}
-use Rattle.plan_rule.specs.RefusalLaws.{out_of_pool_end}
+use Rattle.plan_rule.proofs.RefusalLaws.{out_of_pool_end}
 use Rattle.board_record.specs.declared.Host.{Host}
 use Rattle.board_record.specs.declared.Span.{Span}
 use Rattle.board.specs.Board.{board_number, host_of, functions_of}
@@ -29,8 +29,9 @@ use Rattle.board_record.specs.Host.{span_of}
 use Rattle.board.specs.ToPlacing.{to_host, to_placing}
 use Rattle.plan_sizing.specs.declared.Laid.{Laid}
 use Rattle.plan_sizing.specs.Cut.{extent_in, cut}
-use Rattle.plan_good.specs.Boards.{OpenEndsLow, open_ends_low}
-use Rattle.plan_sheet.specs.Accepted.{board_of_accepted}
+use Rattle.plan_good.specs.Boards.{OpenEndsLow}
+use Rattle.plan_good.proofs.Boards.{open_ends_low}
+use Rattle.plan_sheet.proofs.Accepted.{board_of_accepted}
 use Rattle.planner.specs.declared.Measured.{Measured}
 use Rattle.planner.specs.Measure.{runs_out, refusal_by, IsMeasured}
 

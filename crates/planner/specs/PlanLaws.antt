@@ -9,16 +9,16 @@ use Rattle.board_record.specs.declared.Host.{Host}
 use Rattle.board_record.specs.declared.Function.{Function}
 use Rattle.board_record.specs.Host.{host_of_part, host_length}
 use Rattle.board.specs.Board.{board_number, host_of, functions_of}
-use Rattle.board.specs.BoardLaws.{accepted_of_zero}
+use Rattle.board.proofs.BoardLaws.{accepted_of_zero}
 use Rattle.board.specs.ToPlacing.{to_host, to_placing}
 use Rattle.sheet.specs.Sheet.{sheet_length}
 use Rattle.sheet_bytes.specs.Layout.{sheet_bytes}
-use Rattle.sheet_bytes.specs.LayoutLaws.{length_sheet_bytes}
+use Rattle.sheet_bytes.proofs.LayoutLaws.{length_sheet_bytes}
 use Rattle.plan_answer.specs.declared.Planning.{Planning}
 use Rattle.plan_answer.specs.declared.Planning.TheVariants.{Planned, Refused}
 use Rattle.plan_answer.specs.Plan.{plan_of, on_room, on_board, planning, sheet_as, sheet_after}
 use Rattle.plan_pass.specs.Loop.{Placing}
-use Rattle.plan_sheet.specs.Passes.{length_plan}
+use Rattle.plan_sheet.proofs.Passes.{length_plan}
 use Rattle.planner.specs.declared.Measured.{Measured}
 use Rattle.planner.specs.Measure.{refusal_by, IsMeasured}
 use Rattle.planner.specs.MeasureLaws.{refusal_by_is}

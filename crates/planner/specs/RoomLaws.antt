@@ -14,14 +14,14 @@ use Rattle.plan_rule.specs.Refusals.{Kept, refusal_of}
 use Rattle.board_record.specs.declared.Host.{Host}
 use Rattle.board.specs.Board.{board_number, host_of, functions_of}
 use Rattle.board.specs.ToPlacing.{to_host, to_placing}
-use Rattle.plan_function.specs.JoinLaws.{Room}
+use Rattle.plan_function.proofs.JoinLaws.{Room}
 use Rattle.lists.specs.ListLaws.{all_intro}
 use Rattle.sheet.specs.Sheet.{sheet_length}
 use Rattle.plan_good.specs.Boards.{Board, IsOpen}
-use Rattle.plan_good.specs.Kept.{AllKept, kept_of_planned, placed_in_pool, pool_open}
+use Rattle.plan_good.proofs.Kept.{AllKept, kept_of_planned, placed_in_pool, pool_open}
 use Rattle.plan_pass.specs.Loop.{with_last, Placing}
 use Rattle.plan_pass.specs.PreparedLaws.{prepared_of_accepted}
-use Rattle.plan_sheet.specs.Accepted.{board_of_accepted}
+use Rattle.plan_sheet.proofs.Accepted.{board_of_accepted}
 use Rattle.planner.specs.declared.Measured.{Measured}
 use Rattle.planner.specs.Measure.{IsMeasured}
 

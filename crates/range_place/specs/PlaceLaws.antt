@@ -19,7 +19,7 @@ use Rattle.sheet_record.specs.Places.{readbacks_at}
 use Rattle.sheet_record.specs.Entry.{dwords, header_of, is_bridge, slot_count, entry_of, window_of, bridges}
 use Rattle.sheet.specs.declared.Rule.TheVariants.{ReadBacks}
 use Rattle.sheet.specs.Sheet.{breaks}
-use Rattle.sheet.specs.RulesLaws.{lawful_entry}
+use Rattle.sheet.proofs.RulesLaws.{lawful_entry}
 use Rattle.sheet_ranges.specs.BarsLaws.{slots_le_six}
 use Rattle.audit_finding.specs.Zipped.{bar_place, bar_places, window_places, places_of}
 

@@ -6,7 +6,7 @@ use Rattle.arith.specs.Align.{Multiple}
 use Rattle.endian.specs.Endian.{Bytes, be_bytes}
 use Rattle.bar.specs.Bar.{is_bad}
 use Rattle.plan_rule.specs.Pools.{Pool, low, high, io, granule, refusal, same_pool}
-use Rattle.plan_rule.specs.PoolLaws.{On}
+use Rattle.plan_rule.proofs.PoolLaws.{On}
 use Rattle.plan_rule.specs.Records.{Host, Function}
 use Rattle.board_record.specs.declared.Host as boards
 use Rattle.board_record.specs.declared.Span.{Span}

@@ -21,7 +21,7 @@ use Rattle.route_sent.specs.declared.BothEnds.TheVariants.{FromHost, FromFunctio
 use Rattle.route_sent.specs.BothEnds.{both_ends_of}
 use Rattle.trace.specs.Annotated.{number_after}
 use Rattle.trace.specs.Trace.{fresh, state_of}
-use Rattle.trace.specs.TraceLaws.{state_all}
+use Rattle.trace.proofs.TraceLaws.{state_all}
 use Rattle.trace_ends.specs.Ends.{line_ends}
 use Rattle.stream_follow.specs.Program.{follow_of}
 use Rattle.requests.specs.Trace.{sentence, told}

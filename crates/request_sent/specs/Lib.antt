@@ -1,6 +1,3 @@
 -- Document 03, E15: what was asked for, in the request's sentences, and its proof.
 pub mod BothEnds
-pub mod SendersLaws
-pub mod BothEndsLaws
 pub mod Follows
-pub mod FollowsLaws

@@ -12,7 +12,7 @@ use Rattle.walk.specs.Ranges.{Holds}
 use Rattle.walk.specs.Registers.{Node, Registers}
 use Rattle.walk.specs.Ids.{HasId}
 use Rattle.walk.specs.Above.{above}
-use Rattle.walk.specs.Reach.{numbers_of}
+use Rattle.walk.proofs.Reach.{numbers_of}
 use Rattle.sheet.specs.Spaces.{registers_of, nodes_of, enabled_of}
 use Rattle.sheet.specs.Commands.{SameButCommands}
 use Rattle.plan_answer.specs.declared.Planning.TheVariants.{Planned}

@@ -11,7 +11,7 @@ use Rattle.pools.specs.declared.Space.TheVariants.{Memory as memory_space, Io as
 use Rattle.board_record.specs.Host.{host_of_part}
 use Rattle.walk.specs.Climb.{up_from, CardTrail}
 use Rattle.walk.specs.Cards.{Board, crossed_up, crossed_down, Sends, Leaves, Unmastered}
-use Rattle.walk.specs.CardToCard.{board_over}
+use Rattle.walk.proofs.CardToCard.{board_over}
 use Rattle.sheet.specs.Sheet.{sheet_number}
 use Rattle.sheet.specs.Spaces.{registers_of, enabled_of, master_of}
 use Rattle.sheet.specs.Commands.{SameButCommands}

@@ -16,7 +16,7 @@ use Rattle.plan_rule.specs.Layout.{Piece, Placed, select}
 use Rattle.plan_rule.specs.Pieces.{content_of}
 use Rattle.plan_rule.specs.Placing.{placed}
 use Rattle.plan_rule.specs.Numbering.{bridge_count, spare_count, bus_number, subordinate_of}
-use Rattle.plan_rule.specs.NoSpares.{NoSpares}
+use Rattle.plan_rule.proofs.NoSpares.{NoSpares}
 use Rattle.board_record.specs.Function.{function_of_part, bridge_length, spare_buses, spare_low, spares_at}
 use Rattle.board_record.specs.Host.{functions_at}
 use Rattle.board.specs.Board.{is_version, board_number}

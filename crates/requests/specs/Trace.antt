@@ -21,9 +21,9 @@ use Rattle.trace.specs.declared.Fed.{Fed}
 use Rattle.trace.specs.declared.Finished.{Finished}
 use Rattle.trace.specs.Annotated.{number_after}
 use Rattle.trace.specs.Trace.{fresh, between, state_of, lines_of, end_line}
-use Rattle.trace.specs.TraceLaws.{state_all, lines_all}
+use Rattle.trace.proofs.TraceLaws.{state_all, lines_all}
 use Rattle.trace.specs.Feed.{fed_of, fed_put, finished_of, finished_put}
-use Rattle.trace.specs.FeedLaws.{Call, taken, state_called, lines_called}
+use Rattle.trace.proofs.FeedLaws.{Call, taken, state_called, lines_called}
 use Rattle.trace_line.specs.Line.{line_over}
 use Rattle.stream_trace.specs.Program.{program_of}
 

@@ -3,8 +3,3 @@
 pub mod Route
 pub mod Listed
 pub mod Examples
-pub mod RouteLaws
-pub mod NumberLaws
-pub mod OrderLaws
-pub mod RequestLaws
-pub mod ListedLaws

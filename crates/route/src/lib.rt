@@ -4,7 +4,7 @@
 
 ghost use Rattle.std.specs.Prelude.{◌≡◌, ◌≤◌, length};
 ghost use Rattle.sheet.specs.Sheet.{sheet_number};
-ghost use Rattle.sheet.specs.SheetLaws.{Checked};
+ghost use Rattle.sheet.proofs.SheetLaws.{Checked};
 ghost use Rattle.route_answer.specs.Routing.{answer};
 ghost use Rattle.route_answer.specs.Listed.{on_room};
 ghost use Rattle.route.specs.Route.{outcome_of, walked, root, route_packet, route_of};

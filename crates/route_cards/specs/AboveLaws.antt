@@ -10,7 +10,7 @@ use Rattle.sheet_record.specs.Entry.{entry_of, header_of, is_bridge, bus_of, com
 use Rattle.sheet_record.specs.Spaces.{windows_of, command_bit, master_bit}
 use Rattle.sheet.specs.Sheet.{part_at}
 use Rattle.sheet.specs.Spaces.{registers_of, master_of}
-use Rattle.sheet.specs.SheetLaws.{Checked}
+use Rattle.sheet.proofs.SheetLaws.{Checked}
 use Rattle.sheet_above.specs.declared.Parent.{Parent}
 use Rattle.sheet_above.specs.declared.Parent.TheVariants.{Host, Bridge, Nothing, Several}
 use Rattle.sheet_above.specs.Table.{IsParent}

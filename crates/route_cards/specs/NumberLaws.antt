@@ -9,9 +9,9 @@ use Rattle.tlp.specs.Reading.{read_of}
 use Rattle.tlp.specs.NumberLaws.{NumberedReading, numbered_read}
 use Rattle.pools.specs.declared.Space.{Space}
 use Rattle.walk.specs.Climb.{Sent, arrives, leaves, stops, Start, starts, nowhere, start_at, send_from}
-use Rattle.walk.specs.NumberLaws.{NumberedSent, numbered_send}
+use Rattle.walk.proofs.NumberLaws.{NumberedSent, numbered_send}
 use Rattle.sheet.specs.Sheet.{sheet_number}
-use Rattle.sheet.specs.NumberLaws.{sheet_number_lem}
+use Rattle.sheet.proofs.NumberLaws.{sheet_number_lem}
 use Rattle.sheet.specs.Spaces.{registers_of, enabled_of, master_of}
 use Rattle.route.specs.Route.{root}
 use Rattle.route_cards.specs.declared.start.Request.{Request}

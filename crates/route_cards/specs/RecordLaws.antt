@@ -14,14 +14,14 @@ use Rattle.lists.specs.ListLaws.{all_intro}
 use Rattle.lists.specs.KeepLaws.{keep_none}
 use Rattle.walk.specs.Registers.{Registers}
 use Rattle.walk.specs.Climb.{nowhere, start_at}
-use Rattle.walk.specs.ClimbLaws.{start_is}
+use Rattle.walk.proofs.ClimbLaws.{start_is}
 use Rattle.sheet_record.specs.Places.{record_size}
 use Rattle.sheet_record.specs.Entry.{entry_of, header_of, is_bridge, bus_of, command_of}
 use Rattle.sheet_record.specs.Spaces.{slots_of, function_of, command_bit, master_bit}
 use Rattle.sheet.specs.Sheet.{entries_from, entries_of, part_at, sheet_length, record_at}
 use Rattle.sheet.specs.Spaces.{functions_from, registers_of, master_of}
-use Rattle.sheet.specs.IndexLaws.{length_part, record_fits, functions_index, functions_end, bit_index}
-use Rattle.sheet.specs.SheetLaws.{Checked, numbered_functions, lawful_index}
+use Rattle.sheet.proofs.IndexLaws.{length_part, record_fits, functions_index, functions_end, bit_index}
+use Rattle.sheet.proofs.SheetLaws.{Checked, numbered_functions, lawful_index}
 use Rattle.sheet_above.specs.FunctionsLaws.{function_index}
 use Rattle.route_cards.specs.Search.{part_of, function_at, IsRecord, IsType0, Type0Told, start_answer}
 

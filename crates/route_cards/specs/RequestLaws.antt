@@ -11,7 +11,7 @@ use Rattle.walk.specs.Climb.{nowhere, start_at, send_from}
 use Rattle.sheet_record.specs.Entry.{header_of, is_bridge}
 use Rattle.sheet.specs.Sheet.{entries_of, sheet_number}
 use Rattle.sheet.specs.Spaces.{registers_of, enabled_of, master_of}
-use Rattle.sheet.specs.SheetLaws.{Checked, checked_of_zero}
+use Rattle.sheet.proofs.SheetLaws.{Checked, checked_of_zero}
 use Rattle.route.specs.Route.{root}
 use Rattle.route_cards.specs.declared.start.Request.{Request}
 use Rattle.route_cards.specs.declared.start.Request.TheVariants.{At, Other}

@@ -13,12 +13,12 @@ use Rattle.walk.specs.Walk.{Outcome, no_owner, contested}
 use Rattle.walk.specs.Climb as climb
 use Rattle.walk.specs.Climb.{Sent, arrives, leaves, stops, not_master, bar_holds, settle_up, go_up, up_from, send_from}
 use Rattle.walk.specs.Climb.{sent_of as outcome_sent}
-use Rattle.walk.specs.ClimbLaws.{Falling, falling_of_bridges, climb_step, from_bus_lem, further, walk_shift}
+use Rattle.walk.proofs.ClimbLaws.{Falling, falling_of_bridges, climb_step, from_bus_lem, further, walk_shift}
 use Rattle.sheet_record.specs.Entry.{entry_of, bus_of, command_of}
 use Rattle.sheet_record.specs.Spaces.{bars_of, command_bit, master_bit}
 use Rattle.sheet.specs.Sheet.{entries_of, sheet_number}
 use Rattle.sheet.specs.Spaces.{registers_of, enabled_of, master_of}
-use Rattle.sheet.specs.SheetLaws.{Checked, zero_of_checked, passes_of_zero, numbered_functions}
+use Rattle.sheet.proofs.SheetLaws.{Checked, zero_of_checked, passes_of_zero, numbered_functions}
 use Rattle.claims.specs.declared.Aim.TheVariants.{Address}
 use Rattle.claims.specs.declared.Claim.{Claim}
 use Rattle.claims.specs.declared.Claim.TheVariants.{Bar, Window}

@@ -1,7 +1,7 @@
 // The way up from a bus: who stands above it, and whether the bridge that does lets a request through.
 ghost use Rattle.std.specs.Prelude.{◌≡◌, [], ◌∷◌};
 ghost use Rattle.walk.specs.Climb.{up_through, up_from};
-ghost use Rattle.sheet.specs.SheetLaws.{Checked};
+ghost use Rattle.sheet.proofs.SheetLaws.{Checked};
 ghost use Rattle.sheet.specs.Spaces.{registers_of, master_of};
 ghost use Rattle.route_cards.specs.Search.{function_at, IsBridgeAt, up_of};
 

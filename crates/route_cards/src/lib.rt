@@ -9,7 +9,7 @@ mod start;
 ghost use Rattle.std.specs.Prelude.{◌≡◌, ◌+◌, ◌≤◌};
 ghost use Rattle.walk.specs.Climb.{sent_of as outcome_sent};
 ghost use Rattle.sheet.specs.Sheet.{sheet_number};
-ghost use Rattle.sheet.specs.SheetLaws.{Checked};
+ghost use Rattle.sheet.proofs.SheetLaws.{Checked};
 ghost use Rattle.claims.specs.declared.Aim.TheVariants.{Address};
 ghost use Rattle.route.specs.Route.{walked};
 ghost use Rattle.route_cards.specs.Sending.{number_of, sending_of, send_packet, send_request, climbed};

@@ -1,6 +1,6 @@
 // Where a request starts: which packets are requests, and which records they may start at.
 ghost use Rattle.std.specs.Prelude.{◌≡◌};
-ghost use Rattle.sheet.specs.SheetLaws.{Checked};
+ghost use Rattle.sheet.proofs.SheetLaws.{Checked};
 ghost use Rattle.route_cards.specs.Sending.{request_of};
 ghost use Rattle.route_cards.specs.Search.{Type0Told};
 

@@ -17,10 +17,10 @@ use Rattle.tlp.specs.Reading.{read_of}
 use Rattle.tlp.specs.NumberLaws.{NumberedReading, numbered_read}
 use Rattle.walk.specs.Registers.{Node}
 use Rattle.walk.specs.Ids.{has_id, DistinctIds, HasId}
-use Rattle.walk.specs.IdsLaws.{has_id_elim, never_both_ids}
+use Rattle.walk.proofs.IdsLaws.{has_id_elim, never_both_ids}
 use Rattle.sheet.specs.Sheet.{sheet_number}
 use Rattle.sheet.specs.Spaces.{nodes_of}
-use Rattle.sheet.specs.NumberLaws.{sheet_number_lem}
+use Rattle.sheet.proofs.NumberLaws.{sheet_number_lem}
 use Rattle.route_sender.specs.declared.Sender.TheVariants.{Host, Function}
 use Rattle.route_sender.specs.declared.SentBy.{SentBy}
 use Rattle.route_sender.specs.declared.SentBy.TheVariants.{Told, Refused}

@@ -6,7 +6,7 @@ use Rattle.walk.specs.Tally.{Tally}
 use Rattle.walk.specs.Climb as climb
 use Rattle.walk.specs.Climb.{Sent, arrives, leaves, stops, climb_from}
 use Rattle.climb_ids.specs.ById.{up_unless, buses_hold, never, nothing}
-use Rattle.climb_ids.specs.ByIdLaws as ids
+use Rattle.climb_ids.proofs.ByIdLaws as ids
 use Rattle.sheet_record.specs.Entry.{entry_of}
 use Rattle.sheet_record.specs.Spaces.{node_of}
 use Rattle.sheet.specs.Sheet.{part_at}

@@ -6,7 +6,7 @@ ghost use Rattle.climb_ids.specs.ById.{up_past};
 ghost use Rattle.sheet_record.specs.Places.{record_size};
 ghost use Rattle.sheet_record.specs.Entry.{entry_of, header_of, is_bridge};
 ghost use Rattle.sheet_record.specs.Spaces.{node_of};
-ghost use Rattle.sheet.specs.SheetLaws.{Checked};
+ghost use Rattle.sheet.proofs.SheetLaws.{Checked};
 ghost use Rattle.sheet_above.specs.Table.{BridgeAt};
 ghost use Rattle.claims.specs.Claims.{tally_of};
 ghost use Rattle.route_sent.specs.Going.{tally_going, stays_going, up_going, climbed, node_in, up_of, sent_of};

@@ -16,12 +16,12 @@ use Rattle.records.specs.RecordsLaws.{fits_at}
 use Rattle.records.specs.Pieces.{fed_all}
 use Rattle.records.specs.PiecesLaws.{fed_all_lem}
 use Rattle.board_record.specs.Host.{host_length, host_at}
-use Rattle.board.specs.BoardLaws.{accepted_of_zero}
+use Rattle.board.proofs.BoardLaws.{accepted_of_zero}
 use Rattle.sheet.specs.Sheet.{full_sheet}
 use Rattle.plan_answer.specs.declared.Planning.{Planning}
 use Rattle.plan_answer.specs.declared.Planning.TheVariants.{Planned, Refused as NotPlanned}
 use Rattle.plan_answer.specs.Plan.{planning}
-use Rattle.plan_sheet.specs.Answer.{planned_of_answer}
+use Rattle.plan_sheet.proofs.Answer.{planned_of_answer}
 use Rattle.board_feed.specs.declared.Feed.{Feed}
 use Rattle.board_feed.specs.Feed.{is_long, frame_number, planning_of}
 use Rattle.board_feed.specs.Feed as board

@@ -5,7 +5,7 @@ use Rattle.sheet.specs.Sheet.{full_sheet}
 use Rattle.plan_answer.specs.declared.Planning.{Planning}
 use Rattle.plan_answer.specs.declared.Planning.TheVariants.{Planned, Refused as NotPlanned}
 use Rattle.plan_answer.specs.Plan.{planning}
-use Rattle.script_writes.specs.ScriptLaws.{length_script}
+use Rattle.script_writes.proofs.ScriptLaws.{length_script}
 use Rattle.scripter.specs.declared.Scripting.{Scripting}
 use Rattle.scripter.specs.declared.Scripting.TheVariants.{Written, Refused}
 use Rattle.scripter.specs.Scripting.{board_writes, boot_of, script_of, script_length, scripting_as, scripting, room_as, room_after}

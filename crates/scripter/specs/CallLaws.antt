@@ -14,7 +14,7 @@ use Rattle.board_record.specs.declared.Host.{Host}
 use Rattle.board_record.specs.Function.{function_of_part}
 use Rattle.board_record.specs.Host.{functions_at}
 use Rattle.board.specs.Board.{board_number, host_of, functions_of}
-use Rattle.board.specs.BoardLaws.{accepted_of_zero}
+use Rattle.board.proofs.BoardLaws.{accepted_of_zero}
 use Rattle.board.specs.ToPlacing.{to_host, to_placing}
 use Rattle.sheet.specs.Sheet.{sheet_length, full_sheet}
 use Rattle.plan_answer.specs.declared.Planning.{Planning}
@@ -30,8 +30,9 @@ use Rattle.script_writes.specs.declared.Boot.{Boot}
 use Rattle.script_writes.specs.declared.Place.{Place}
 use Rattle.script_writes.specs.Writes.{writes_of}
 use Rattle.script_writes.specs.Script.{write_stride, script_from}
-use Rattle.script_writes.specs.ScriptLaws.{length_script}
-use Rattle.script_writes.specs.Wrote.{Wrote, wrote_append, room_left_lem}
+use Rattle.script_writes.proofs.ScriptLaws.{length_script}
+use Rattle.script_writes.specs.Wrote.{Wrote}
+use Rattle.script_writes.proofs.Wrote.{wrote_append, room_left_lem}
 use Rattle.scripter.specs.declared.Scripting.{Scripting}
 use Rattle.scripter.specs.declared.Scripting.TheVariants.{Written, Refused}
 use Rattle.scripter.specs.Scripting.{board_writes, boot_of, script_of, script_length, scripting_as, scripting, room_as}

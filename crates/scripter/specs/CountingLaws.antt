@@ -20,16 +20,16 @@ use Rattle.board_record.specs.declared.Function.{Function}
 use Rattle.board_record.specs.Function.{is_bridge, slot_count, function_of_part, header_wrong}
 use Rattle.board_record.specs.Host.{functions_at}
 use Rattle.board.specs.Board.{board_number, host_of, functions_of}
-use Rattle.board.specs.BoardLaws.{accepted_of_zero}
+use Rattle.board.proofs.BoardLaws.{accepted_of_zero}
 use Rattle.board.specs.ToPlacing.{to_host, to_placing}
 use Rattle.sheet_record.specs.Places.{readbacks_at}
 use Rattle.sheet_record.specs.Entry.{Entry, dwords, entry_of, header_of}
 use Rattle.sheet_record.specs.Entry as entry
 use Rattle.sheet_bytes.specs.Layout.{Planned, Shaped, WellShaped, part_bytes}
-use Rattle.sheet_bytes.specs.ReadBack.{header_of_part_bytes, entry_of_part_bytes, parts_in_sheet_bytes}
+use Rattle.sheet_bytes.proofs.ReadBack.{header_of_part_bytes, entry_of_part_bytes, parts_in_sheet_bytes}
 use Rattle.plan_answer.specs.Plan.{entry_for, planned_from, plan_of}
-use Rattle.plan_sheet.specs.Shaped.{shaped}
-use Rattle.plan_sheet.specs.Accepted.{fits_of_accepted}
+use Rattle.plan_sheet.proofs.Shaped.{shaped}
+use Rattle.plan_sheet.proofs.Accepted.{fits_of_accepted}
 use Rattle.script_writes.specs.declared.Pass.{Pass}
 use Rattle.script_writes.specs.declared.Pass.TheVariants.{Buses, Registers, Commands}
 use Rattle.script_writes.specs.Writes.{write_of, three_bytes, four_bytes, slot_writes, bar_writes, bus_writes, window_writes}

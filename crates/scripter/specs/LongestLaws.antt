@@ -6,19 +6,19 @@ use Rattle.std.proofs.lemmas.List.{length-map}
 use Rattle.endian.specs.Endian.{Bytes}
 use Rattle.records.specs.Records.{parts_from}
 use Rattle.plan_rule.specs.Numbering.{bridges, bridge_count}
-use Rattle.plan_rule.specs.NumberingLaws.{bridges_and_spares}
+use Rattle.plan_rule.proofs.NumberingLaws.{bridges_and_spares}
 use Rattle.board_record.specs.Host.{functions_at}
-use Rattle.plan_good.specs.Kept.{kept_of_planned}
+use Rattle.plan_good.proofs.Kept.{kept_of_planned}
 use Rattle.board_record.specs.declared.Function.{Function}
 use Rattle.board_record.specs.Function.{is_bridge, function_of_part}
 use Rattle.board.specs.Board.{host_of, functions_of}
-use Rattle.board.specs.BoardLaws.{accepted_of_zero}
+use Rattle.board.proofs.BoardLaws.{accepted_of_zero}
 use Rattle.board.specs.ToPlacing.{to_host, to_placing}
 use Rattle.sheet.specs.Sheet.{full_sheet}
 use Rattle.plan_answer.specs.declared.Planning.TheVariants.{Planned}
 use Rattle.plan_answer.specs.Plan.{planning}
-use Rattle.plan_sheet.specs.Accepted.{fits_of_accepted}
-use Rattle.plan_sheet.specs.Answer.{planned_of_answer}
+use Rattle.plan_sheet.proofs.Accepted.{fits_of_accepted}
+use Rattle.plan_sheet.proofs.Answer.{planned_of_answer}
 use Rattle.scripter.specs.Scripting.{board_writes, script_length}
 use Rattle.scripter.specs.Counting.{used_in, write_count, count_in}
 use Rattle.scripter.specs.CountingLaws.{used_le, count_is}

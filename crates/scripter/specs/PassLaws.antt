@@ -16,11 +16,11 @@ use Rattle.board_record.specs.declared.Function.{Function}
 use Rattle.board_record.specs.Function.{is_bridge, function_of_part, header_wrong}
 use Rattle.board_record.specs.Host.{functions_at}
 use Rattle.board.specs.Board.{functions_of}
-use Rattle.board.specs.BoardLaws.{accepted_of_zero}
+use Rattle.board.proofs.BoardLaws.{accepted_of_zero}
 use Rattle.sheet.specs.Sheet.{sheet_length, parts_in}
 use Rattle.sheet_bytes.specs.Layout.{Planned, planned_of, part_bytes, record_bytes}
-use Rattle.sheet_bytes.specs.LayoutLaws.{length_part_bytes, length_record_bytes}
-use Rattle.sheet_bytes.specs.ReadBack.{parts_in_sheet_bytes}
+use Rattle.sheet_bytes.proofs.LayoutLaws.{length_part_bytes, length_record_bytes}
+use Rattle.sheet_bytes.proofs.ReadBack.{parts_in_sheet_bytes}
 use Rattle.plan_pass.specs.Step.{ends_list, bars_in, windows_in, leaf_next, bridge_next, registers_of, cursors_next, Placeable, Bridged}
 use Rattle.plan_function.specs.declared.Cursors.{Cursors}
 use Rattle.plan_pass.specs.Loop.{most_buses, plan_on, Ready, Standing, bases_for, Filled, Placing}
@@ -31,9 +31,10 @@ use Rattle.script_writes.specs.declared.Pass.TheVariants.{Buses, Registers, Comm
 use Rattle.script_writes.specs.declared.Boot.{Boot}
 use Rattle.script_writes.specs.declared.Place.{Place}
 use Rattle.script_writes.specs.Writes.{Write, writes_in, pass_writes}
-use Rattle.script_writes.specs.WritesLaws.{length_of_number, pass_append, pass_snoc}
+use Rattle.script_writes.proofs.WritesLaws.{length_of_number, pass_append, pass_snoc}
 use Rattle.script_writes.specs.Script.{write_stride}
-use Rattle.script_writes.specs.Wrote.{Wrote, wrote_nothing, wrote_append, wrote_length}
+use Rattle.script_writes.specs.Wrote.{Wrote}
+use Rattle.script_writes.proofs.Wrote.{wrote_nothing, wrote_append, wrote_length}
 use Rattle.scripter.specs.Scripting.{planned_sheet}
 use Rattle.scripter.specs.UnplacedLaws.{command_placed, buses_placed}
 

@@ -13,7 +13,7 @@ use Rattle.board_record.specs.Function.{is_bridge}
 use Rattle.sheet_record.specs.Entry.{header_of, id_of}
 use Rattle.sheet_bytes.specs.declared.Registers.{Registers}
 use Rattle.sheet_bytes.specs.Layout.{Planned, planned_of, dword_bytes, bridge_bytes, body_bytes, common_bytes, config_bytes, part_bytes}
-use Rattle.sheet_bytes.specs.ReadBack.{header_of_part_bytes}
+use Rattle.sheet_bytes.proofs.ReadBack.{header_of_part_bytes}
 use Rattle.plan_sizing.specs.Memo.{laid_at}
 use Rattle.plan_pass.specs.Step.{number_in, bus_in, NumberFits, leaf_registers, bridge_registers, registers_of}
 use Rattle.script_writes.specs.declared.Boot.{Boot}

@@ -6,7 +6,7 @@ use Rattle.walk.specs.Registers.{Node}
 use Rattle.walk.specs.Above.{above}
 use Rattle.walk.specs.Good.{Host, BridgesRise, Tree}
 use Rattle.sheet.specs.Sheet.{entries_of}
-use Rattle.sheet.specs.SheetLaws.{Checked}
+use Rattle.sheet.proofs.SheetLaws.{Checked}
 use Rattle.sheet.specs.Spaces.{nodes_of, enabled_of}
 use Rattle.sheet_above.specs.Table.{Leads}
 use Rattle.sheet_above.specs.declared.Bridges.{Bridges}

@@ -10,13 +10,13 @@ use Rattle.pools.specs.declared.Space.{Space}
 use Rattle.pools.specs.declared.Space.TheVariants.{Memory, Io}
 use Rattle.walk.specs.Registers.{Node}
 use Rattle.walk.specs.Above.{bridges_to, LeadsTo, above}
-use Rattle.walk.specs.AboveLaws.{above_is, above_root, above_bridge, above_at_most_255}
+use Rattle.walk.proofs.AboveLaws.{above_is, above_root, above_bridge, above_at_most_255}
 use Rattle.walk.specs.Good.{OneWayUp}
 use Rattle.sheet_record.specs.Places.{record_size}
 use Rattle.sheet_record.specs.Entry.{Entry, entry_of, bus_of, command_of, bridges}
 use Rattle.sheet_record.specs.Spaces.{node_of, enables}
 use Rattle.sheet.specs.Sheet.{Framed, entries_of, part_at}
-use Rattle.sheet.specs.IndexLaws.{enabled_index, record_fits, length_part}
+use Rattle.sheet.proofs.IndexLaws.{enabled_index, record_fits, length_part}
 use Rattle.sheet.specs.Spaces.{nodes_of, enabled_of}
 use Rattle.sheet_above.specs.Parents as rule
 use Rattle.sheet_above.specs.Parents.{parent_of}

@@ -7,14 +7,14 @@ use Rattle.lists.specs.KeepLaws.{keep_intro}
 use Rattle.pools.specs.declared.Space.{Space}
 use Rattle.pools.specs.declared.Space.TheVariants.{Memory}
 use Rattle.walk.specs.Registers.{Registers}
-use Rattle.walk.specs.RegistersLaws.{node_mem}
+use Rattle.walk.proofs.RegistersLaws.{node_mem}
 use Rattle.walk.specs.Above.{is_above}
 use Rattle.walk.specs.Climb.{leading_to}
 use Rattle.sheet_record.specs.Entry.{Entry, entry_of}
 use Rattle.sheet_record.specs.Spaces.{node_of, function_of}
 use Rattle.sheet.specs.Sheet.{Framed, entries_from, entries_of, part_at, record_at}
-use Rattle.sheet.specs.IndexLaws.{functions_index}
-use Rattle.sheet.specs.SheetLaws.{nodes_functions}
+use Rattle.sheet.proofs.IndexLaws.{functions_index}
+use Rattle.sheet.proofs.SheetLaws.{nodes_functions}
 use Rattle.sheet.specs.Spaces.{functions_from, registers_of, nodes_of}
 use Rattle.sheet_above.specs.Parents as rule
 use Rattle.sheet_above.specs.Parents.{leads_to, leaders_of, parent_among, parent_of}

@@ -12,9 +12,9 @@ use Rattle.walk.specs.Above.{bridges_to}
 use Rattle.sheet_record.specs.Entry.{Entry, entry_of}
 use Rattle.sheet_record.specs.Spaces.{node_of}
 use Rattle.sheet.specs.Sheet.{Framed, parts_in, part_at, entries_from, entries_of, record_at}
-use Rattle.sheet.specs.FrameLaws.{part_index}
-use Rattle.sheet.specs.CheckLaws.{count_entries, entries_past}
-use Rattle.sheet.specs.IndexLaws.{length_entries, entries_index}
+use Rattle.sheet.proofs.FrameLaws.{part_index}
+use Rattle.sheet.proofs.CheckLaws.{count_entries, entries_past}
+use Rattle.sheet.proofs.IndexLaws.{length_entries, entries_index}
 use Rattle.sheet.specs.Spaces.{nodes_from}
 use Rattle.sheet_above.specs.Parents.{leads_to, leaders_of, under_host, under_bridge, under_none, under_several, parent_among, parent_of}
 use Rattle.sheet_above.specs.Parents.{several, joined, leader_from, leader_of}

@@ -2,7 +2,7 @@
 use Rattle.std.specs.Prelude.{◌≡◌, true, cond, List, ℕ, ◌-◌, ◌<◌, eqb, length, get_or, set}
 use Rattle.sheet_record.specs.Entry.{Entry, entry_of, header_of, is_bridge, bridges}
 use Rattle.sheet.specs.Sheet.{entries_of, part_at}
-use Rattle.sheet.specs.SheetLaws.{Checked}
+use Rattle.sheet.proofs.SheetLaws.{Checked}
 use Rattle.sheet_above.specs.Parents as rule
 use Rattle.sheet_above.specs.Parents.{several, joined, leader_of, parent_of}
 use Rattle.sheet_above.specs.declared.Parent.{Parent}

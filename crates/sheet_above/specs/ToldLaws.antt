@@ -8,7 +8,7 @@ use Rattle.lists.specs.Lists.{◌∈◌}
 use Rattle.lists.specs.KeepLaws.{keep_elim}
 use Rattle.sheet_record.specs.Entry.{Entry, entry_of, header_of, is_bridge, secondary_of}
 use Rattle.sheet.specs.Sheet.{entries_of, part_at}
-use Rattle.sheet.specs.SheetLaws.{Checked}
+use Rattle.sheet.proofs.SheetLaws.{Checked}
 use Rattle.sheet_above.specs.Parents as rule
 use Rattle.sheet_above.specs.Parents.{leads_to, leaders_of, several, parent_among, parent_of, leader_of}
 use Rattle.sheet_above.specs.ParentsLaws.{parent_of_none, parent_of_several, parent_of_number}

@@ -7,7 +7,7 @@ ghost use Rattle.std.specs.Prelude.{◌≡◌, ◌≤◌, ◌<◌, length, repli
 ghost use Rattle.sheet_record.specs.Places.{record_size};
 ghost use Rattle.sheet_record.specs.Entry.{entry_of};
 ghost use Rattle.sheet.specs.Sheet.{entries_of};
-ghost use Rattle.sheet.specs.SheetLaws.{Checked};
+ghost use Rattle.sheet.proofs.SheetLaws.{Checked};
 ghost use Rattle.sheet_above.specs.Parents.{leads_to, joined as joined_of, leader_of};
 ghost use Rattle.sheet_above.specs.Table.{IsParent, told_by, Leads, with_record, Tells};
 ghost use Rattle.sheet_above.specs.SearchLaws.{NextLeader};

@@ -9,7 +9,7 @@ use Rattle.lists.specs.KeepLaws.{keep_elim, keep_intro}
 use Rattle.pools.specs.declared.Space.{Space}
 use Rattle.walk.specs.Ranges.{Range}
 use Rattle.walk.specs.Registers.{Registers, Item, bar_item, window_item, open_windows, items}
-use Rattle.walk.specs.RegistersLaws.{BarOf, WindowOf, item_of_bar, item_of_window, item_elim}
+use Rattle.walk.proofs.RegistersLaws.{BarOf, WindowOf, item_of_bar, item_of_window, item_elim}
 use Rattle.sheet_record.specs.Entry.{Entry}
 use Rattle.sheet_record.specs.Spaces.{function_of}
 use Rattle.sheet.specs.Spaces.{functions_from}

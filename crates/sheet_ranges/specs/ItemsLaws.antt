@@ -6,7 +6,7 @@ use Rattle.pools.specs.declared.Pool as pools
 use Rattle.pools.specs.declared.Pool.TheVariants.{Low, High, Io}
 use Rattle.window.specs.declared.Window.{Window}
 use Rattle.window.specs.Window as windows
-use Rattle.window.specs.WindowLaws.{ltb_stop, closed_shut}
+use Rattle.window.proofs.WindowLaws.{ltb_stop, closed_shut}
 use Rattle.lists.specs.Lists.{one_if}
 use Rattle.board_record.specs.declared.Span.{Span}
 use Rattle.board_record.specs.declared.Host.{Host}

@@ -11,9 +11,9 @@ use Rattle.sheet_record.specs.Places.{record_size}
 use Rattle.sheet_record.specs.Entry.{bus_of, entry_of, bus}
 use Rattle.sheet.specs.declared.Rule.TheVariants.{ReadBacks}
 use Rattle.sheet.specs.Sheet.{sheet_length, entries_of, part_at, breaks}
-use Rattle.sheet.specs.SheetLaws.{Checked}
-use Rattle.sheet.specs.RulesLaws.{breaks_index}
-use Rattle.sheet.specs.IndexLaws.{length_part, record_fits}
+use Rattle.sheet.proofs.SheetLaws.{Checked}
+use Rattle.sheet.proofs.RulesLaws.{breaks_index}
+use Rattle.sheet.proofs.IndexLaws.{length_part, record_fits}
 use Rattle.sheet_ranges.specs.declared.Item.{Item}
 use Rattle.sheet_ranges.specs.Items.{range_of, item_at, ranges_from, ranges_in}
 

@@ -8,7 +8,7 @@ use Rattle.text.specs.Text.{ascii}
 use Rattle.endian.specs.Endian.{be}
 use Rattle.sheet.specs.Sheet.{full_sheet}
 use Rattle.trace.specs.Trace.{fresh, end_line}
-use Rattle.trace.specs.TraceLaws.{state_all, lines_all}
+use Rattle.trace.proofs.TraceLaws.{state_all, lines_all}
 use Rattle.trace_ends.specs.Ends.{line_ends}
 use Rattle.stream_trace.specs.Program.{program_with}
 use Rattle.stream_trace.specs.ProgramLaws.{size_of, program_no_length, program_long, program_short, program_pieces}

@@ -8,12 +8,12 @@ use borrow.Author.Tests.{eqb-true, le-ltb}
 use Rattle.endian.specs.Endian.{Bytes}
 use Rattle.records.specs.Limits.{most_functions}
 use Rattle.sheet.specs.Sheet.{entries_of}
-use Rattle.sheet.specs.SheetLaws.{checked_of_zero}
+use Rattle.sheet.proofs.SheetLaws.{checked_of_zero}
 use Rattle.audit_rule.specs.Audit.{audit_number}
-use Rattle.audit_rule.specs.AuditLaws.{audit_iff}
+use Rattle.audit_rule.proofs.AuditLaws.{audit_iff}
 use Rattle.index_layout.specs.Places.{index_size}
 use Rattle.index_build.specs.Build.{from11, build_number, index_after}
-use Rattle.index_build.specs.BuiltLaws.{search_is_route}
+use Rattle.index_build.proofs.BuiltLaws.{search_is_route}
 use Rattle.trace_line.specs.declared.Finder.TheVariants.{Index}
 use Rattle.trace_line.specs.Line.{line_over}
 use Rattle.trace_line.specs.Finder.{line_by}

@@ -15,7 +15,7 @@ use Rattle.board_record.specs.Host.{host_length, host_of_part, host_wrong}
 use Rattle.sheet.specs.Sheet.{full_sheet}
 use Rattle.audit_rule.specs.Audit.{audit_number}
 use Rattle.trace.specs.Trace.{fresh, end_line}
-use Rattle.trace.specs.TraceLaws.{state_all, lines_all, pieces_told}
+use Rattle.trace.proofs.TraceLaws.{state_all, lines_all, pieces_told}
 use Rattle.trace_line.specs.declared.Finder.TheVariants.{Index}
 use Rattle.trace_line.specs.Finder.{line_by}
 use Rattle.stream_trace.specs.declared.Opening.{Opening}

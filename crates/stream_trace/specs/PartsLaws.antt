@@ -6,9 +6,9 @@ use Rattle.std.proofs.Math.ListN.{take}
 use Rattle.trace.specs.declared.Trace.{Trace}
 use Rattle.trace.specs.declared.Fed.{Fed}
 use Rattle.trace.specs.Trace.{state_of, lines_of}
-use Rattle.trace.specs.TraceLaws.{state_append, state_past}
+use Rattle.trace.proofs.TraceLaws.{state_append, state_past}
 use Rattle.trace.specs.Feed.{taken_fed, refused_fed, fed_of}
-use Rattle.trace.specs.FeedLaws.{Sound, count_le_length, state_sound}
+use Rattle.trace.proofs.FeedLaws.{Sound, count_le_length, state_sound}
 use Rattle.trace_engine.specs.declared.Engine.{Engine}
 use Rattle.trace_engine.specs.Engine.{line_of, longest_of}
 use Rattle.trace_engine.specs.EngineLaws.{few_fit}

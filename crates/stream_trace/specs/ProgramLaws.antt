@@ -11,7 +11,7 @@ use Rattle.text.specs.Text.{ascii}
 use Rattle.endian.specs.Endian.{be}
 use Rattle.sheet.specs.Sheet.{full_sheet}
 use Rattle.trace.specs.Trace.{fresh, end_line}
-use Rattle.trace.specs.TraceLaws.{state_all, lines_all, pieces_told}
+use Rattle.trace.proofs.TraceLaws.{state_all, lines_all, pieces_told}
 use Rattle.stream_trace.specs.declared.Opening.{Opening}
 use Rattle.stream_trace.specs.declared.Opening.TheVariants.{Sheet, Long}
 use Rattle.stream_trace.specs.Program.{opening_of, over_sheet, from_opening, program_with}

@@ -8,7 +8,7 @@ use Rattle.pairs.specs.declared.Kind.TheVariants.{Memory, Io, Config, Completion
 use Rattle.pairs.specs.declared.Pair.{Pair}
 use Rattle.pairs.specs.declared.Pair.TheVariants.{Carried, NotCarried, Unknown}
 use Rattle.pairs.specs.Pairs.{kind_named, pair_of}
-use Rattle.pairs.specs.PairsLaws.{pair_row}
+use Rattle.pairs.proofs.PairsLaws.{pair_row}
 use Rattle.tlp_fields.specs.Fields.{head_at, enables_at, address_at, target_at, outcome_at, unnamed, unnamed_target, unnamed_lower}
 use Rattle.tlp.specs.Reading.{read_as, read_pair, read_of}
 

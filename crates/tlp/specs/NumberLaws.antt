@@ -12,7 +12,7 @@ use Rattle.packet.specs.declared.Verdict.{Verdict}
 use Rattle.packet.specs.declared.Verdict.TheVariants.{Lawful, Refused as Unlawful}
 use Rattle.packet.specs.Rules.{rule_number}
 use Rattle.packet.specs.Verdict.{verdict_of}
-use Rattle.packet.specs.NumberLaws.{rule_number_lem, Numbered as NumberedVerdict, numbered_verdict}
+use Rattle.packet.proofs.NumberLaws.{rule_number_lem, Numbered as NumberedVerdict, numbered_verdict}
 use Rattle.tlp_layout.specs.Layout.{size}
 use Rattle.tlp.specs.declared.Reading.{Reading}
 use Rattle.tlp.specs.declared.Reading.TheVariants.{Accepted, Refused as NotRead}

@@ -21,7 +21,7 @@ use Rattle.pairs.specs.declared.MessageRouting.{MessageRouting}
 use Rattle.pairs.specs.declared.Pair.{Pair}
 use Rattle.pairs.specs.declared.Pair.TheVariants.{Carried, NotCarried, Unknown}
 use Rattle.pairs.specs.Pairs.{kind_named, pair_of, row_of}
-use Rattle.pairs.specs.PairsLaws.{CarriedRow, row_pair, pair_row, forms_of_kind}
+use Rattle.pairs.proofs.PairsLaws.{CarriedRow, row_pair, pair_row, forms_of_kind}
 use Rattle.packet.specs.declared.Head.{Head}
 use Rattle.packet.specs.declared.Enables.{Enables}
 use Rattle.packet.specs.declared.Packet.{Packet}
@@ -29,11 +29,11 @@ use Rattle.packet.specs.declared.Packet.TheVariants.{Memory, Io, Config, Complet
 use Rattle.packet.specs.declared.Verdict.TheVariants.{Lawful}
 use Rattle.packet.specs.Fields.{kind_of, head_of, is_posted}
 use Rattle.packet.specs.Widths.{length_in, length_fits, enables_fit, address_fits, body_fits}
-use Rattle.packet.specs.WidthsLaws.{and_intro, FieldsFit, fields_fit_intro, fields_fit_elim, tag_fits_intro}
+use Rattle.packet.proofs.WidthsLaws.{and_intro, FieldsFit, fields_fit_intro, fields_fit_elim, tag_fits_intro}
 use Rattle.packet.specs.Rules.{reserved_set, fixed_wrong, from_rule6, from_rule5, rule_number}
 use Rattle.packet.specs.Verdict.{verdict_of}
-use Rattle.packet.specs.VerdictLaws.{lawful_intro, lawful_elim, RequestBounds, memory_of_lawful, io_of_lawful, config_of_lawful}
-use Rattle.packet.specs.VerdictLaws.{completion_of_lawful, message_of_lawful, tag_of_lawful}
+use Rattle.packet.proofs.VerdictLaws.{lawful_intro, lawful_elim, RequestBounds, memory_of_lawful, io_of_lawful, config_of_lawful}
+use Rattle.packet.proofs.VerdictLaws.{completion_of_lawful, message_of_lawful, tag_of_lawful}
 use Rattle.tlp.specs.declared.Reading.TheVariants.{Accepted, Refused}
 use Rattle.tlp_layout.specs.Layout.{front_bytes, request_bytes, address_bytes, target_bytes, completion_bytes, message_bytes}
 use Rattle.tlp_layout.specs.Layout.{body_bytes, layout, size}

@@ -23,9 +23,9 @@ use Rattle.packet.specs.declared.Target.{Target}
 use Rattle.packet.specs.declared.Outcome.{Outcome}
 use Rattle.packet.specs.declared.Packet.TheVariants.{Completion, Message}
 use Rattle.packet.specs.Widths.{head_fits, length_in, length_fits, enables_fit, address_fits, target_fits, outcome_fits, content_fits}
-use Rattle.packet.specs.WidthsLaws.{HeadBounds, OutcomeBounds, head_bounds_intro, length_in_intro, length_in_elim, address_fits_elim}
-use Rattle.packet.specs.WidthsLaws.{enables_fit_intro, address_fits_intro, target_fits_intro, outcome_bounds_intro, content_fits_intro}
-use Rattle.packet.specs.VerdictLaws.{RequestBounds}
+use Rattle.packet.proofs.WidthsLaws.{HeadBounds, OutcomeBounds, head_bounds_intro, length_in_intro, length_in_elim, address_fits_elim}
+use Rattle.packet.proofs.WidthsLaws.{enables_fit_intro, address_fits_intro, target_fits_intro, outcome_bounds_intro, content_fits_intro}
+use Rattle.packet.proofs.VerdictLaws.{RequestBounds}
 use Rattle.tlp_layout.specs.LayoutLaws.{bit_le_one}
 use Rattle.tlp_layout.specs.Layout.{bit, length_code, front_bytes, request_bytes, address_bytes, target_bytes, outcome_bytes, completion_bytes}
 use Rattle.tlp_layout.specs.Layout.{message_bytes}

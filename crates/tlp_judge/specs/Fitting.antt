@@ -13,18 +13,18 @@ use Rattle.pairs.specs.declared.Row.{Row}
 use Rattle.pairs.specs.declared.Kind.TheVariants.{Memory as MemoryKind}
 use Rattle.pairs.specs.declared.Pair.TheVariants.{Carried}
 use Rattle.pairs.specs.Pairs.{kind_named, pair_of, row_of}
-use Rattle.pairs.specs.PairsLaws.{row_pair, row_forms}
+use Rattle.pairs.proofs.PairsLaws.{row_pair, row_forms}
 use Rattle.packet.specs.declared.Head.{Head}
 use Rattle.packet.specs.declared.Enables.{Enables}
 use Rattle.packet.specs.declared.Packet.{Packet}
 use Rattle.packet.specs.declared.Packet.TheVariants.{Memory, Io, Config, Completion, Message}
 use Rattle.packet.specs.Fields.{kind_of, head_of, is_posted}
 use Rattle.packet.specs.Widths.{enables_fit, address_fits, target_fits, length_in, length_fits, body_fits, fields_fit}
-use Rattle.packet.specs.WidthsLaws.{head_bounds_elim, enables_fit_elim, target_fits_elim, outcome_bounds_elim, content_fits_elim}
-use Rattle.packet.specs.WidthsLaws.{tag_fits_elim, FieldsFit, fields_fit_elim}
+use Rattle.packet.proofs.WidthsLaws.{head_bounds_elim, enables_fit_elim, target_fits_elim, outcome_bounds_elim, content_fits_elim}
+use Rattle.packet.proofs.WidthsLaws.{tag_fits_elim, FieldsFit, fields_fit_elim}
 use Rattle.packet.specs.Rules.{rule_number}
 use Rattle.packet.specs.Verdict.{number_of as verdict_number, on_rules, on_fields, verdict_of}
-use Rattle.packet.specs.VerdictLaws.{RequestBounds}
+use Rattle.packet.proofs.VerdictLaws.{RequestBounds}
 use Rattle.tlp_layout.specs.Layout.{front_bytes, request_bytes, address_bytes, target_bytes, outcome_bytes, completion_bytes, message_bytes}
 use Rattle.tlp_layout.specs.Layout.{body_bytes, layout, size}
 use Rattle.tlp_fields.specs.Fields.{request_head_at, enables_at, address_at, unnamed}

@@ -14,7 +14,7 @@ use Rattle.packet.specs.declared.Enables.{Enables}
 use Rattle.packet.specs.declared.Packet.{Packet}
 use Rattle.packet.specs.declared.Packet.TheVariants.{Memory, Message}
 use Rattle.packet.specs.Rules.{enables_lawful, rule_number}
-use Rattle.packet.specs.RulesLaws.{none_broken}
+use Rattle.packet.proofs.RulesLaws.{none_broken}
 use Rattle.tlp_fields.specs.Fields.{message_head_at, message_code_at, address_at, unnamed}
 use Rattle.tlp.specs.declared.Reading.TheVariants.{Accepted, Refused as NotRead}
 use Rattle.tlp.specs.Reading.{number_of, judged, read_as, read_pair, read_of}

@@ -13,10 +13,10 @@ use Rattle.packet.specs.declared.Packet.{Packet}
 use Rattle.packet.specs.declared.Packet.TheVariants.{Memory, Io, Config, Completion, Message}
 use Rattle.packet.specs.declared.Verdict.TheVariants.{Lawful}
 use Rattle.packet.specs.Fields.{head_of}
-use Rattle.packet.specs.WidthsLaws.{HeadBounds, OutcomeBounds}
+use Rattle.packet.proofs.WidthsLaws.{HeadBounds, OutcomeBounds}
 use Rattle.packet.specs.Verdict.{verdict_of}
-use Rattle.packet.specs.VerdictLaws.{RequestBounds, head_of_lawful, memory_of_lawful, io_of_lawful, config_of_lawful, completion_of_lawful}
-use Rattle.packet.specs.VerdictLaws.{message_of_lawful}
+use Rattle.packet.proofs.VerdictLaws.{RequestBounds, head_of_lawful, memory_of_lawful, io_of_lawful, config_of_lawful, completion_of_lawful}
+use Rattle.packet.proofs.VerdictLaws.{message_of_lawful}
 use Rattle.tlp_layout.specs.Layout.{bit, length_code, front_bytes, request_bytes, address_bytes, target_bytes, outcome_bytes}
 use Rattle.tlp_layout.specs.Layout.{completion_bytes, message_bytes, body_bytes, layout}
 use Rattle.tlp_layout.specs.LayoutLaws.{bit_le_one, row_of_lawful, layout_carried}

@@ -4,7 +4,7 @@ use Rattle.std.proofs.Common.{⊎_elim, length-append, arith}
 use Rattle.endian.specs.Endian.{be_bytes}
 use Rattle.endian.specs.EndianLaws.{length_be_bytes}
 use Rattle.pairs.specs.declared.Row.{Row}
-use Rattle.pairs.specs.PairsLaws.{row_pair, row_forms, Forms, CarriedRow}
+use Rattle.pairs.proofs.PairsLaws.{row_pair, row_forms, Forms, CarriedRow}
 use Rattle.pairs.specs.declared.MessageKind.{MessageKind}
 use Rattle.pairs.specs.declared.MessageRouting.{MessageRouting}
 use Rattle.packet.specs.declared.Head.{Head}
@@ -16,7 +16,7 @@ use Rattle.packet.specs.declared.Packet.TheVariants.{Memory, Io, Config, Complet
 use Rattle.packet.specs.declared.Verdict.TheVariants.{Lawful}
 use Rattle.packet.specs.Fields.{kind_of, head_of}
 use Rattle.packet.specs.Verdict.{verdict_of}
-use Rattle.packet.specs.VerdictLaws.{lawful_elim}
+use Rattle.packet.proofs.VerdictLaws.{lawful_elim}
 use Rattle.tlp_layout.specs.Layout.{bit, front_bytes, request_bytes, address_bytes, target_bytes, outcome_bytes, completion_bytes}
 use Rattle.tlp_layout.specs.Layout.{message_bytes, body_bytes, layout, size}
 

@@ -4,7 +4,7 @@
 ghost use Rattle.std.specs.Prelude.{◌≡◌, ◌≤◌, ◌<◌, ◌*◌, length};
 ghost use Rattle.std.proofs.lemmas.List.Edits.{sets};
 ghost use Rattle.packet.specs.Verdict.{verdict_of};
-ghost use Rattle.packet.specs.WidthsLaws.{HeadBounds, OutcomeBounds};
+ghost use Rattle.packet.proofs.WidthsLaws.{HeadBounds, OutcomeBounds};
 ghost use Rattle.packet.specs.declared.Verdict.TheVariants.{Lawful};
 ghost use Rattle.tlp_layout.specs.Layout.{
   bit as bit_of,

@@ -13,7 +13,7 @@ use Rattle.tlp.specs.Reading.{read_of}
 use Rattle.walk.specs.Climb.{Sent, arrives, leaves, stops}
 use Rattle.climb_ids.specs.ById.{sent_by_id, sent_up}
 use Rattle.sheet.specs.Sheet.{sheet_number, entries_of}
-use Rattle.sheet.specs.SheetLaws.{checked_of_zero}
+use Rattle.sheet.proofs.SheetLaws.{checked_of_zero}
 use Rattle.sheet.specs.Spaces.{nodes_of}
 use Rattle.claims.specs.declared.Aim.TheVariants.{Address, Id}
 use Rattle.route_arrival.specs.declared.Heading.{Heading}
@@ -33,8 +33,8 @@ use Rattle.route_sender.specs.declared.Sender.TheVariants.{Host as HostSends, Fu
 use Rattle.route_sender.specs.Sender.{named_by, sender_of}
 use Rattle.route_sender.specs.SenderLaws.{named_elim}
 use Rattle.route_sent.specs.BothEnds.{fate_of, answer, on_heading, from_function, from_sender, ends_of, from_sheet, from_reading, both_ends_of}
-use Rattle.route_sent.specs.RequestLaws.{routed}
-use Rattle.route_sent.specs.NumberLaws.{NumberedFate, Numbered, numbered_ends}
+use Rattle.route_sent.proofs.RequestLaws.{routed}
+use Rattle.route_sent.proofs.NumberLaws.{NumberedFate, Numbered, numbered_ends}
 use Rattle.trace_line.specs.declared.Finder.TheVariants.{Sheet}
 use Rattle.trace_line.specs.Finder.{routing_by}
 use Rattle.trace_line.specs.Bounds.{Small, SmallRouting, small_routing}

@@ -11,11 +11,11 @@ use Rattle.lists.specs.KeepLaws.{keep_elim}
 use Rattle.pools.specs.declared.Space.{Space}
 use Rattle.pools.specs.declared.Space.TheVariants.{Memory}
 use Rattle.walk.specs.Registers.{Node, Registers, Item, items, Claim, bar, window}
-use Rattle.walk.specs.RegistersLaws.{node_mem, BarOf, WindowOf, item_elim}
+use Rattle.walk.proofs.RegistersLaws.{node_mem, BarOf, WindowOf, item_elim}
 use Rattle.walk.specs.Tally.{Tally, none, one, several, join, claims, claims_in, tally_on}
-use Rattle.walk.specs.TallyLaws.{claims_of_one}
+use Rattle.walk.proofs.TallyLaws.{claims_of_one}
 use Rattle.walk.specs.Walk.{Outcome, no_owner, walk_from}
-use Rattle.walk.specs.NumberLaws.{walk_elim}
+use Rattle.walk.proofs.NumberLaws.{walk_elim}
 use Rattle.walk.specs.Ids.{has_id, function_claim, bridge_claim, tally_by_id}
 use Rattle.walk.specs.Climb.{Up, to_host, across, halts, not_master, bar_holds, up_from, Sent, arrives, leaves, stops, sent_of, settle_up, go_up}
 use Rattle.walk.specs.Climb.{climb_over, climb_from, climb_beside, may_claim, tally_beside, from_bus, send_from, Start, starts, nowhere, start_at}
@@ -25,7 +25,7 @@ use Rattle.packet.specs.declared.Packet.{Packet}
 use Rattle.sheet_record.specs.Entry.{Entry}
 use Rattle.sheet_record.specs.Spaces.{node_of}
 use Rattle.sheet.specs.Sheet.{entries_of}
-use Rattle.sheet.specs.SheetLaws.{nodes_functions}
+use Rattle.sheet.proofs.SheetLaws.{nodes_functions}
 use Rattle.sheet.specs.Spaces.{nodes_from, nodes_of, registers_of, enabled_of, master_of}
 use Rattle.claims.specs.declared.Aim.TheVariants.{Address, Id}
 use Rattle.claims.specs.RecordLaws.{claim_in_sheet}

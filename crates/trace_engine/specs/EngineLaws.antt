@@ -4,7 +4,7 @@ use Rattle.std.proofs.Common.{arith}
 use Rattle.trace.specs.declared.Trace.{Trace}
 use Rattle.trace.specs.declared.Emits.{Emits}
 use Rattle.trace.specs.Trace.{text_of, lines_of, line_count}
-use Rattle.trace.specs.FeedLaws.{Sound, text_le, lines_le, count_le_half}
+use Rattle.trace.proofs.FeedLaws.{Sound, text_le, lines_le, count_le_half}
 use Rattle.trace_line.specs.Finder.{line_by}
 use Rattle.trace_line.specs.LineLaws.{line_le}
 use Rattle.trace_ends.specs.Ends.{line_ends}

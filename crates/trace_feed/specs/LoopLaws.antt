@@ -12,8 +12,8 @@ use Rattle.trace.specs.declared.Trace.{Trace}
 use Rattle.trace.specs.declared.Fed.{Fed}
 use Rattle.trace.specs.Trace.{state_of, lines_of}
 use Rattle.trace.specs.Feed.{fed_of, fed_put}
-use Rattle.trace.specs.TraceLaws.{Turn, lines_past, state_past}
-use Rattle.trace.specs.FeedLaws.{put_front, short_front}
+use Rattle.trace.proofs.TraceLaws.{Turn, lines_past, state_past}
+use Rattle.trace.proofs.FeedLaws.{put_front, short_front}
 
 -- ## A piece taken or not, in the words of the code
 

@@ -4,19 +4,19 @@ use Rattle.std.specs.Prelude.{ℕ, ◌<◌, List, length}
 use Rattle.std.proofs.Common.{arith}
 use Rattle.refusals.specs.Refusals.{IsRefusal}
 use Rattle.packet.specs.declared.Packet.{Packet}
-use Rattle.sheet.specs.SheetLaws.{Checked}
+use Rattle.sheet.proofs.SheetLaws.{Checked}
 use Rattle.sheet.specs.Spaces.{nodes_of}
 use Rattle.walk.specs.Walk.{Outcome, delivered, refused}
-use Rattle.walk.specs.NumberLaws.{walk_elim}
+use Rattle.walk.proofs.NumberLaws.{walk_elim}
 use Rattle.claims.specs.declared.Aim.{Aim}
 use Rattle.claims.specs.Claims.{tally_for}
 use Rattle.claims.specs.RecordLaws.{claim_in_sheet}
 use Rattle.route_answer.specs.declared.Routing.{Routing}
 use Rattle.route_answer.specs.declared.Routing.TheVariants.{Delivered, Broadcast, Port, Refused}
 use Rattle.route_answer.specs.Routing.{answer, route_over}
-use Rattle.route_answer.specs.NumberLaws.{over_elim}
+use Rattle.route_answer.proofs.NumberLaws.{over_elim}
 use Rattle.route.specs.Route.{walked, root, from42, route_packet}
-use Rattle.route.specs.NumberLaws.{route_elim}
+use Rattle.route.proofs.NumberLaws.{route_elim}
 use Rattle.index_search.specs.Search.{functions_in, root_in, outcome_over, search_packet}
 use Rattle.index_search.specs.NumberLaws.{outcome_elim, search_elim}
 use Rattle.trace_line.specs.declared.Finder.{Finder}

@@ -1,12 +1,9 @@
 -- Document 02, E11, worked: a bridge with two functions behind it and one beside it. Assumes nothing.
-use Rattle.std.specs.Prelude.{◌≡◌, refl, Bool, true, false, not, ℕ, eqb}
-use mathlib.Core.List.{List, [], ◌∷◌, flat_map}
-use Rattle.lists.specs.Lists.{keep, any}
+use Rattle.std.specs.Prelude.{◌≡◌, Bool, true, false, not, ℕ, eqb}
+use mathlib.Core.List.{List, [], ◌∷◌}
 use Rattle.walk.specs.Ranges.{Range, low}
-use Rattle.walk.specs.Registers.{Node, Registers, items, items_of}
-use Rattle.walk.specs.Tally.{join, tally_on}
-use Rattle.walk.specs.Walk.{walk_over, walk_from}
-use Rattle.walk.specs.Climb.{Sent, arrives, leaves, stops, up_from, climb_beside, tally_beside, from_bus, send_from}
+use Rattle.walk.specs.Registers.{Node, Registers}
+use Rattle.walk.specs.Climb.{Sent, arrives, leaves, stops, send_from}
 
 abbrev range : ℕ → ℕ → Range
 range a b = record { pool = low; start = a; stop = b }
@@ -57,21 +54,3 @@ pub record Worked : Type 0 where
   pub bridges_own_bar : send all all second 0x9000 ≡ arrives 1 1
   pub peer_disabled : send (but 3) all second 0x2000 ≡ stops 40
   pub down_disabled : send (but 1) all fourth 0x1000 ≡ leaves 0
-
-pub examples : Worked
-unfolding send_from from_bus climb_beside up_from tally_beside tally_on walk_from walk_over join keep items items_of flat_map any
-examples =
-    record {
-      peer = refl;
-      up_one = refl;
-      down_one = refl;
-      own_bar = refl;
-      own_before_master = refl;
-      unused_room = refl;
-      to_the_host = refl;
-      bridge_no_master = refl;
-      windows_before_master = refl;
-      bridges_own_bar = refl;
-      peer_disabled = refl;
-      down_disabled = refl;
-    }

@@ -3,8 +3,7 @@
 -- 02 gives its refusal. Assumes nothing.
 use Rattle.std.specs.Prelude.{◌≡◌, ◌⊎◌, true, List, [], ◌∷◌, ℕ, suc, ◌≤◌, ◌<◌}
 use Rattle.lists.specs.Lists.{All, Some, Pairwise}
-use Rattle.lists.specs.ListLaws.{all_imp, some_imp}
-use Rattle.walk.specs.Ranges.{Range, buses, Inside, Within, Apart, within_of_inside}
+use Rattle.walk.specs.Ranges.{Range, buses, Inside, Within, Apart}
 use Rattle.walk.specs.Registers.{Node, Registers, nodes, Item, items}
 use Rattle.walk.specs.Above.{bridges_to}
 
@@ -83,19 +82,3 @@ pub record Sound (host : Host) (fs : List Registers) : Type 0 where
   pub tree : Tree host (nodes fs)
   pub in_window_above : InWindowAbove Within fs
   pub disjoint : Disjoint fs
-
-pub window_above_within : (fs : List Registers) → InWindowAbove Inside fs → InWindowAbove Within fs
-window_above_within fs above =
-    all_imp _ _ fs above (λ b held is.
-    all_imp _ _ (items fs) (held is) (λ i lies at.
-    some_imp _ _ (λ w inside. within_of_inside inside) b.windows (lies at)))
-
-pub sound_of_good : {host : Host} {fs : List Registers} → Good host fs → Sound host fs
-sound_of_good {host} {fs} good =
-    record {
-      bridges_rise = good.bridges_rise;
-      tree = good.tree;
-      in_window_above = window_above_within fs good.nested.in_window_above;
-      disjoint
-          = good.disjoint;
-    }

@@ -11,20 +11,20 @@ use Rattle.lists.specs.ListLaws.{all_elim, all_intro, all_imp}
 use Rattle.lists.specs.KeepLaws.{keep_only}
 use Rattle.walk.specs.Ranges.{Holds}
 use Rattle.walk.specs.Registers.{Node, Registers, nodes, bar, bar_item, window_item}
-use Rattle.walk.specs.RegistersLaws.{item_of_window, item_of_bar}
+use Rattle.walk.proofs.RegistersLaws.{item_of_window, item_of_bar}
 use Rattle.walk.specs.Tally.{none, one, join, tally_on}
-use Rattle.walk.specs.TallyLaws.{tally_quiet}
+use Rattle.walk.proofs.TallyLaws.{tally_quiet}
 use Rattle.walk.specs.Walk.{Outcome, delivered, refused, no_owner, walk_from}
-use Rattle.walk.specs.WalkLaws.{walk_agree, walk_bar, walk_none}
+use Rattle.walk.proofs.WalkLaws.{walk_agree, walk_bar, walk_none}
 use Rattle.walk.specs.Above.{above}
-use Rattle.walk.specs.AboveLaws.{root_le, above_root}
+use Rattle.walk.proofs.AboveLaws.{root_le, above_root}
 use Rattle.walk.specs.Good.{Host, BridgesRise, Tree, bus_range, Sound}
-use Rattle.walk.specs.Delivery.{Owns, outcome_of, bridges_above, delivered_of_owner, owner_of_delivered, otherwise_nobody}
+use Rattle.walk.proofs.Delivery.{Owns, outcome_of, bridges_above, delivered_of_owner, owner_of_delivered, otherwise_nobody}
 use Rattle.walk.specs.Ids.{has_id, leads_toward, bridge_claim, first_of, tally_by_id, own_bus, by_id, DistinctIds}
 use Rattle.walk.specs.Ids.{HasId}
-use Rattle.walk.specs.IdsLaws.{leads_toward_elim, never_both_ids, by_id_nodes}
-use Rattle.walk.specs.IdsDelivery.{by_id_sound, delivered_by_id}
-use Rattle.walk.specs.Holders.{Over, Under, holder_above}
+use Rattle.walk.proofs.IdsLaws.{leads_toward_elim, never_both_ids, by_id_nodes}
+use Rattle.walk.proofs.IdsDelivery.{by_id_sound, delivered_by_id}
+use Rattle.walk.proofs.Holders.{Over, Under, holder_above}
 
 -- ## Command words: some set, some still zero
 

@@ -1,6 +1,6 @@
 -- Worked examples of windows: the closed spellings, the slip of zeros, P10's windows, and the widest of foreign sheets, as one claim.
 -- Assumes nothing.
-use Rattle.std.specs.Prelude.{◌≡◌, refl, Bool, true, false, cond, List, [], ◌∷◌, map, ℕ, ◌^◌}
+use Rattle.std.specs.Prelude.{◌≡◌, Bool, true, false, cond, List, [], ◌∷◌, map, ℕ, ◌^◌}
 use Rattle.pools.specs.declared.Pool.{Pool}
 use Rattle.pools.specs.declared.Pool.TheVariants.{Low, High, Io}
 use Rattle.window.specs.declared.Window.{Window}
@@ -42,7 +42,3 @@ pub record Worked (rs : List Row) : Type 0 where
   pub opens : map (λ r. is_open r.pool r.window) rs ≡ map (λ r. r.is_open) rs
   pub nibbled : map (λ r. is_nibbled r.pool r.window) rs ≡ map (λ r. true) rs
   pub spelled : map (λ r. cond r.is_open (opened r.pool r.from r.to) (closed r.pool)) rs ≡ map (λ r. r.window) rs
-
-pub examples : Worked rows
-unfolding closed opened start stop is_nibbled
-examples = record { starts = refl; stops = refl; opens = refl; nibbled = refl; spelled = refl }

@@ -7,7 +7,7 @@ use lib.ListN.{length}
 use Rattle.sheet.specs.Sheet.{entries_of}
 use Rattle.sheet_ranges.specs.Items.{ranges_in}
 use Rattle.sheet_ranges.specs.SearchLaws.{part_fits, part_sized, part_lawful}
-use Rattle.audit_rule.specs.PassLaws.{any_past, any_hit, any_miss}
+use Rattle.audit_rule.proofs.PassLaws.{any_past, any_hit, any_miss}
 use Rattle.audit_disjoint.specs.Disjoint.{overlaps_on}
 use Rattle.audit_disjoint.proofs.meets_later.Goals as goal
 use Rattle.audit_disjoint.proofs.meets_later.Goals.{In-loop-j}

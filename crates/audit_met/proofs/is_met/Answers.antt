@@ -1,7 +1,7 @@
 -- `audit_met::is_met` meets its contract: not the record itself. Assumes nothing.
 use mathlib.Core.Path.{sym, ap, ◌∙◌}
 use lib.ListN.{length}
-use Rattle.sheet.specs.IndexLaws.{record_fits, length_part}
+use Rattle.sheet.proofs.IndexLaws.{record_fits, length_part}
 use Rattle.audit_met.specs.MetLaws.{met_self, met_other}
 use Rattle.audit_met.proofs.is_met.Goals as goal
 

@@ -7,7 +7,7 @@ use lib.ListN.{length}
 use Rattle.sheet.specs.Sheet.{entries_of}
 use Rattle.sheet_ranges.specs.SearchLaws.{part_fits, part_sized, part_lawful}
 use Rattle.audit_rule.specs.Audit.{outside_above, not_nested}
-use Rattle.audit_rule.specs.PassLaws.{any_past, any_hit, any_miss}
+use Rattle.audit_rule.proofs.PassLaws.{any_past, any_hit, any_miss}
 use Rattle.audit_nested.proofs.not_nested.Goals as goal
 use Rattle.audit_nested.proofs.not_nested.Goals.{In-loop-k}
 

@@ -6,7 +6,7 @@ use Prim.Native.Nat.{◌-◌, ◌<◌}
 use native.Mathlib.Omega.{arith}
 use lib.ListN.{length}
 use Rattle.sheet.specs.Sheet.{entries_of}
-use Rattle.sheet.specs.IndexLaws.{record_fits, length_part}
+use Rattle.sheet.proofs.IndexLaws.{record_fits, length_part}
 use Rattle.audit_rising.specs.Rising.{Rising}
 use Rattle.audit_rising.specs.Spots.{buses_of}
 use Rattle.audit_rising.specs.PassLaws.{records_past, records_turn, buses_told}

@@ -5,8 +5,8 @@ use Prim.Native.Nat.{◌-◌, ◌<◌}
 use native.Mathlib.Omega.{arith}
 use lib.ListN.{length}
 use Rattle.sheet.specs.Sheet.{entries_of}
-use Rattle.sheet.specs.IndexLaws.{record_fits, length_part}
-use Rattle.audit_rule.specs.PassLaws.{any_past, any_hit, any_miss}
+use Rattle.sheet.proofs.IndexLaws.{record_fits, length_part}
+use Rattle.audit_rule.proofs.PassLaws.{any_past, any_hit, any_miss}
 use Rattle.audit_tree.proofs.any_way_up_wrong.Goals as goal
 use Rattle.audit_tree.proofs.any_way_up_wrong.Goals.{In-loop-k}
 

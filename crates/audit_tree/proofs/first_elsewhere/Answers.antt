@@ -4,7 +4,7 @@ use native.Mathlib.Omega.{arith}
 use lib.ListN.{length}
 use Prim.Native.Nat.{◌≤◌}
 use Rattle.sheet.specs.Sheet.{sheet_length}
-use Rattle.sheet.specs.IndexLaws.{record_fits, length_part}
+use Rattle.sheet.proofs.IndexLaws.{record_fits, length_part}
 use Rattle.audit_tree.specs.TreeLaws.{first_none, first_here}
 use Rattle.audit_tree.proofs.first_elsewhere.Goals as goal
 use Rattle.audit_tree.proofs.first_elsewhere.Goals.{Else-count-eq0}

@@ -3,7 +3,7 @@ use mathlib.Core.Path.{sym, ap, ◌∙◌}
 use Prim.Native.Nat.{◌+◌, ◌≤◌}
 use lib.ListN.{length}
 use Rattle.sheet.specs.Sheet.{sheet_length}
-use Rattle.sheet.specs.IndexLaws.{record_fits, length_part}
+use Rattle.sheet.proofs.IndexLaws.{record_fits, length_part}
 use Rattle.sheet_above.specs.Table.{IsParent}
 use Rattle.audit_tree.specs.TreeLaws.{parent_host, parent_bridge, parent_none, parent_several}
 use Rattle.audit_tree.proofs.parent_wrong.Goals as goal

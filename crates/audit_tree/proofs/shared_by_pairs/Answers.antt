@@ -3,7 +3,7 @@
 use mathlib.Core.Path.{refl, sym, ◌∙◌}
 use Prim.Native.Nat.{◌-◌}
 use native.Mathlib.Omega.{arith}
-use Rattle.audit_rule.specs.PassLaws.{pair_past, pair_hit, pair_miss}
+use Rattle.audit_rule.proofs.PassLaws.{pair_past, pair_hit, pair_miss}
 use Rattle.audit_tree.proofs.shared_by_pairs.Goals as goal
 
 pub count-records-requires : goal.count-records-requires

@@ -9,9 +9,9 @@ use Rattle.lists.specs.Lists.{any}
 use Rattle.sheet_record.specs.Places.{record_size}
 use Rattle.sheet_record.specs.Entry.{Entry, entry_of}
 use Rattle.sheet.specs.Sheet.{entries_of, part_at}
-use Rattle.sheet.specs.IndexLaws.{record_fits, length_part}
+use Rattle.sheet.proofs.IndexLaws.{record_fits, length_part}
 use Rattle.audit_rule.specs.Audit.{buses_shared}
-use Rattle.audit_rule.specs.PassLaws.{any_past, any_hit, any_miss}
+use Rattle.audit_rule.proofs.PassLaws.{any_past, any_hit, any_miss}
 use Rattle.audit_tree.specs.TreeLaws.{shared_none}
 use Rattle.audit_tree.proofs.shared_with_later.Goals as goal
 use Rattle.audit_tree.proofs.shared_with_later.Goals.{After-part-part, In-loop-j}

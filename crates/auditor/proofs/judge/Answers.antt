@@ -1,6 +1,6 @@
 -- `auditor::judge` meets its contract: one law for each answer. Assumes nothing.
 use mathlib.Core.Path.{sym, ◌∙◌}
-use Rattle.sheet.specs.SheetLaws.{checked_of_zero}
+use Rattle.sheet.proofs.SheetLaws.{checked_of_zero}
 use Rattle.auditor.specs.AuditorLaws.{short_host, off_edges_lem, sheet_refused, sheet_passed}
 use Rattle.auditor.proofs.judge.Goals as goal
 

@@ -9,7 +9,7 @@ use Rattle.records.specs.declared.Next.TheVariants.{Record}
 use Rattle.records.specs.Records.{next_of}
 use Rattle.records.specs.RecordsLaws.{fits_at, none_here, none_later}
 use Rattle.board_record.specs.Rules.{breaks, too_early}
-use Rattle.board.specs.PassLaws.{breaks_end, breaks_broken, breaks_hit, breaks_miss}
+use Rattle.board.proofs.PassLaws.{breaks_end, breaks_broken, breaks_hit, breaks_miss}
 use Rattle.board.proofs.any_breaks.Goals as goal
 use Rattle.board.proofs.any_breaks.Goals.{In-Record}
 

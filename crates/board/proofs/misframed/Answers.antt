@@ -2,8 +2,8 @@
 use Rattle.board_record.specs.Host.{functions_at}
 use mathlib.Core.Path.{sym, ◌∙◌}
 use Rattle.records.specs.Records.{parts_from}
-use Rattle.board.specs.PassLaws.{any_never}
-use Rattle.board.specs.BoardLaws.{misframed_end, misframed_broken, misframed_host, misframed_tail}
+use Rattle.board.proofs.PassLaws.{any_never}
+use Rattle.board.proofs.BoardLaws.{misframed_end, misframed_broken, misframed_host, misframed_tail}
 use Rattle.board.proofs.misframed.Goals as goal
 
 pub returns-then-n-ne-HOST_LENGTH : goal.returns-then-n-ne-HOST_LENGTH

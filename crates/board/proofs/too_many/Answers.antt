@@ -9,7 +9,7 @@ use Rattle.records.specs.Limits.{most_functions}
 use Rattle.records.specs.Records.{parts_from}
 use Rattle.records.specs.RecordsLaws.{fits_at}
 use borrow.Author.Tests.{lt-ltb, le-ltb}
-use Rattle.board.specs.BoardLaws.{length_record, length_end, length_broken}
+use Rattle.board.proofs.BoardLaws.{length_record, length_end, length_broken}
 use Rattle.board.proofs.too_many.Goals as goal
 
 pub loop-n-init : goal.loop-n-init

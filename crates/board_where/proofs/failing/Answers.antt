@@ -1,7 +1,7 @@
 -- `board_where::failing` meets its contract: by the board's number, which says that the checks before its own are passed. Assumes nothing.
 use Rattle.records.specs.Records.{parts_from}
 use Rattle.board_record.specs.Host.{functions_at}
-use Rattle.board.specs.PassLaws.{any_never}
+use Rattle.board.proofs.PassLaws.{any_never}
 use Rattle.board_where.specs.NumberLaws.{some_bytes, right_of_23, right_of_25, named_24, named_23, named_25, nobody_named}
 use Rattle.board_where.proofs.failing.Goals as goal
 

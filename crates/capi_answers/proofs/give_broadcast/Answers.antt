@@ -5,7 +5,7 @@ use lib.ListN.{length, set, length-set, length-append}
 use mathlib.Core.List.{List, ◌∷◌, ◌++◌}
 use mathlib.Core.Path.{◌≡◌}
 use native.Mathlib.Omega.{arith}
-use Rattle.capi_answers.specs.AnswersLaws.{answered_short, answered_filled}
+use Rattle.capi_answers.proofs.AnswersLaws.{answered_short, answered_filled}
 use Rattle.endian.specs.SetsLaws.{sets_append}
 use Rattle.packet.specs.declared.Packet.{Packet}
 use Rattle.packet_numbers.specs.Numbers.{numbers_of}

@@ -2,7 +2,7 @@
 use lib.ListN.{set, length-set}
 use mathlib.Core.List.{◌∷◌}
 use native.Mathlib.Omega.{arith}
-use Rattle.capi_answers.specs.AnswersLaws.{answered_short, answered_filled}
+use Rattle.capi_answers.proofs.AnswersLaws.{answered_short, answered_filled}
 use Rattle.packet_numbers.specs.Numbers.{numbers_of}
 use Rattle.packet_numbers.specs.NumbersLaws.{length_numbers_of}
 use Rattle.capi_answers.proofs.give_delivery.Goals as goal

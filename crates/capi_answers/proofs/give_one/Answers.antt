@@ -1,7 +1,7 @@
 -- `capi_answers::give_one` meets its contract: one number where the slice has room for it, and nothing else. Assumes nothing.
 use mathlib.Core.List.{[], ◌∷◌}
 use mathlib.Core.Path.{refl}
-use Rattle.capi_answers.specs.AnswersLaws.{answered_short, answered_filled}
+use Rattle.capi_answers.proofs.AnswersLaws.{answered_short, answered_filled}
 use Rattle.capi_answers.proofs.give_one.Goals as goal
 
 pub returns-then-out-lt1 : goal.returns-then-out-lt1

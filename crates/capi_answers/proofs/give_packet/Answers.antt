@@ -1,6 +1,6 @@
 -- `capi_answers::give_packet` meets its contract: twenty numbers where the slice has room for them, and nothing else. Assumes nothing.
 use native.Mathlib.Omega.{arith}
-use Rattle.capi_answers.specs.AnswersLaws.{answered_short, answered_filled}
+use Rattle.capi_answers.proofs.AnswersLaws.{answered_short, answered_filled}
 use Rattle.packet_numbers.specs.Numbers.{numbers_of}
 use Rattle.packet_numbers.specs.NumbersLaws.{length_numbers_of}
 use Rattle.capi_answers.proofs.give_packet.Goals as goal

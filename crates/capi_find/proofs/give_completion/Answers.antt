@@ -7,7 +7,7 @@ use Rattle.packet.specs.declared.Head.{Head}
 use Rattle.packet.specs.declared.Outcome.{Outcome}
 use Rattle.packet_numbers.specs.Numbers.{head_numbers, outcome_numbers, absent}
 use Rattle.index_layout.specs.Words.{record_in, bridges_in}
-use Rattle.capi_answers.specs.AnswersLaws.{answered_short, answered_filled}
+use Rattle.capi_answers.proofs.AnswersLaws.{answered_short, answered_filled}
 use Rattle.capi_find.proofs.give_completion.Goals as goal
 
 abbrev numbers : ℕ → ℕ → Head → Outcome → List ℕ

@@ -1,6 +1,6 @@
 -- `capi_packet::write` meets its contract: by what the twenty numbers are taken for. Assumes nothing.
 use mathlib.Core.Path.{refl}
-use Rattle.capi_answers.specs.AnswersLaws.{left_same}
+use Rattle.capi_answers.proofs.AnswersLaws.{left_same}
 use Rattle.capi_packet.specs.CallsLaws.{fields_agree}
 use Rattle.capi_packet.proofs.write.Goals as goal
 

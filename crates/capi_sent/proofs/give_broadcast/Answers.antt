@@ -10,7 +10,7 @@ use Rattle.packet_numbers.specs.Numbers.{numbers_of}
 use Rattle.packet_numbers.specs.NumbersLaws.{length_numbers_of}
 use Rattle.route_list.specs.Counted.{counted}
 use Rattle.route_list.specs.CountedLaws.{length_counted}
-use Rattle.capi_answers.specs.AnswersLaws.{answered_short, answered_filled}
+use Rattle.capi_answers.proofs.AnswersLaws.{answered_short, answered_filled}
 use Rattle.capi_sent.proofs.give_broadcast.Goals as goal
 
 abbrev front : ℕ → Packet → List ℕ

@@ -4,7 +4,7 @@ use native.Mathlib.Omega.{arith}
 use lib.ListN.{set, length-set}
 use Rattle.packet_numbers.specs.Numbers.{numbers_of}
 use Rattle.packet_numbers.specs.NumbersLaws.{length_numbers_of}
-use Rattle.capi_answers.specs.AnswersLaws.{answered_short, answered_filled}
+use Rattle.capi_answers.proofs.AnswersLaws.{answered_short, answered_filled}
 use Rattle.capi_sent.proofs.give_ends.Goals as goal
 
 pub returns-then-out : goal.returns-then-out

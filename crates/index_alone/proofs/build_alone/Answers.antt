@@ -1,7 +1,7 @@
 -- `index_alone::build_alone`: the sheet's own number, or by the host record made for it. Assumes nothing.
 use mathlib.Core.Path.{sym, ◌∙◌}
-use Rattle.sheet.specs.SheetLaws.{checked_of_zero}
-use Rattle.index_alone.specs.AloneLaws.{refused_build, checked_build}
+use Rattle.sheet.proofs.SheetLaws.{checked_of_zero}
+use Rattle.index_alone.proofs.AloneLaws.{refused_build, checked_build}
 use Rattle.index_alone.proofs.build_alone.Goals as goal
 
 pub returns-then-n-ne0 : goal.returns-then-n-ne0

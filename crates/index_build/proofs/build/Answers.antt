@@ -1,5 +1,5 @@
 -- `index_build::build`: by the number of the audit. Assumes nothing.
-use Rattle.index_build.specs.BuildLaws.{owned_of_audit, by_audit}
+use Rattle.index_build.proofs.BuildLaws.{owned_of_audit, by_audit}
 use Rattle.index_build.proofs.build.Goals as goal
 
 pub build_after-requires : goal.build_after-requires

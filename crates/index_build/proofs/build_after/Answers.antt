@@ -6,8 +6,8 @@ use native.Mathlib.Omega.{arith}
 use Rattle.endian.specs.Endian.{Bytes}
 use Rattle.board_record.specs.declared.Host.{Host}
 use Rattle.audit_rule.specs.Accepted.{OneOwner}
-use Rattle.index_build.specs.BuildLaws.{verdict_refused, refused_stays, framed, few, rooted, slots_fit, too_short, short_stays}
-use Rattle.index_build.specs.BuildLaws.{built_number, built_bytes}
+use Rattle.index_build.proofs.BuildLaws.{verdict_refused, refused_stays, framed, few, rooted, slots_fit, too_short, short_stays}
+use Rattle.index_build.proofs.BuildLaws.{built_number, built_bytes}
 use Rattle.index_build.proofs.build_after.Goals as goal
 use Rattle.index_build.proofs.build_after.Goals.{Else-verdict-ne0}
 

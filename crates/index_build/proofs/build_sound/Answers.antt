@@ -1,5 +1,5 @@
 -- `index_build::build_sound`: by the number of the second verdict. Assumes nothing.
-use Rattle.index_build.specs.BuildLaws.{owned_of_sound, by_sound}
+use Rattle.index_build.proofs.BuildLaws.{owned_of_sound, by_sound}
 use Rattle.index_build.proofs.build_sound.Goals as goal
 
 pub build_after-requires : goal.build_after-requires

@@ -1,7 +1,7 @@
 -- `index_build::fill`: cleared, then each owner put in, then sorted, then finished. Assumes nothing.
 use native.Mathlib.Omega.{arith}
 use Rattle.index_pass.specs.PassLaws.{passes_room}
-use Rattle.index_build.specs.BuildLaws.{filled}
+use Rattle.index_build.proofs.BuildLaws.{filled}
 use Rattle.index_build.proofs.fill.Goals as goal
 
 pub sort-requires : goal.sort-requires

@@ -4,7 +4,7 @@ use Prim.Native.Nat.{◌+◌, ◌-◌, ◌<◌}
 use native.Mathlib.Omega.{arith}
 use lib.ListN.{length}
 use Rattle.sheet.specs.Sheet.{entries_of}
-use Rattle.sheet.specs.IndexLaws.{record_fits}
+use Rattle.sheet.proofs.IndexLaws.{record_fits}
 use Rattle.sheet_above.specs.BridgesLaws.{part_sized, on_bus_index}
 use Rattle.index_pass.specs.Pass.{record_slots}
 use Rattle.index_pass.specs.PlacingLaws.{placing_start, placing_end, placing_room, placing_next}

@@ -1,7 +1,7 @@
 -- `index_search::search_packet`: by the checks before the search, or what the index has for its key. Assumes nothing.
 use mathlib.Core.Path.{subst}
 use Rattle.route_answer.specs.Routing.{Goes}
-use Rattle.route_answer.specs.OnwardLaws.{some_functions, answered, looked_for}
+use Rattle.route_answer.proofs.OnwardLaws.{some_functions, answered, looked_for}
 use Rattle.index_search.specs.Search.{outcome_over}
 use Rattle.index_search.specs.AnswerLaws.{functions_fit, over_index}
 use Rattle.index_search.proofs.search_packet.Goals as goal

@@ -2,7 +2,7 @@
 use mathlib.Core.Path.{refl, sym, ap₂, ◌∙◌}
 use mathlib.Core.Bool.{◌||◌}
 use Rattle.tlp_kinds.specs.KindsLaws.{accepted_config}
-use Rattle.ledger.specs.AskedLaws.{asks_word}
+use Rattle.ledger.proofs.AskedLaws.{asks_word}
 use Rattle.ledger.proofs.asked_by_config.Goals as goal
 
 pub returns-then-unnamed-unnamed_target : goal.returns-then-unnamed-unnamed_target

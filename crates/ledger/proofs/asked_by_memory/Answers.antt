@@ -1,7 +1,7 @@
 -- `ledger::asked_by_memory` meets its contract: where nothing refuses the header, its fields are the packet's. Assumes nothing.
 use mathlib.Core.Path.{refl, sym, ◌∙◌}
 use Rattle.tlp_kinds.specs.KindsLaws.{accepted_memory}
-use Rattle.ledger.specs.AskedLaws.{asks_word}
+use Rattle.ledger.proofs.AskedLaws.{asks_word}
 use Rattle.ledger.proofs.asked_by_memory.Goals as goal
 
 pub returns-then-header-form : goal.returns-then-header-form

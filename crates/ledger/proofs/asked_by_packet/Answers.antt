@@ -1,7 +1,7 @@
 -- `ledger::asked_by_packet` meets its contract. By what was read. Assumes nothing.
 use mathlib.Core.Path.{refl, sym, ◌∙◌}
 use native.Mathlib.Omega.{arith}
-use Rattle.ledger.specs.AskedLaws.{asks_number, asks_word}
+use Rattle.ledger.proofs.AskedLaws.{asks_number, asks_word}
 use Rattle.ledger.proofs.asked_by_packet.Goals as goal
 
 pub returns-in-Accepted : goal.returns-in-Accepted

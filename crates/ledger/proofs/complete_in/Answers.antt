@@ -1,5 +1,5 @@
 -- `ledger::complete_in` meets its contract. The verdict's place is inside. Assumes nothing.
-use Rattle.ledger.specs.StepLaws.{completing_inside}
+use Rattle.ledger.proofs.StepLaws.{completing_inside}
 use Rattle.ledger.proofs.complete_in.Goals as goal
 
 pub perform-requires : goal.perform-requires

@@ -1,5 +1,5 @@
 -- `ledger::complete_word` meets its contract. One law for each answer. Assumes nothing.
-use Rattle.ledger.specs.LedgerLaws.{completion_held, completion_missing}
+use Rattle.ledger.proofs.LedgerLaws.{completion_held, completion_missing}
 use Rattle.ledger.proofs.complete_word.Goals as goal
 
 pub returns-then-place-words : goal.returns-then-place-words

@@ -1,6 +1,6 @@
 -- `ledger::completing` meets its contract. A header that was not accepted gives its number; what is left is its packet.
 -- Assumes nothing.
-use Rattle.ledger.specs.LedgerLaws.{completing_unread, completing_accepted}
+use Rattle.ledger.proofs.LedgerLaws.{completing_unread, completing_accepted}
 use Rattle.ledger.proofs.completing.Goals as goal
 
 pub returns-in_default : goal.returns-in_default

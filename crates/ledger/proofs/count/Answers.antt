@@ -2,7 +2,7 @@
 -- places left. Assumes nothing.
 use Prim.Native.Nat.{◌-◌}
 use native.Mathlib.Omega.{arith}
-use Rattle.ledger.specs.WordsLaws.{count_turn, count_end}
+use Rattle.ledger.proofs.WordsLaws.{count_turn, count_end}
 use Rattle.ledger.proofs.count.Goals as goal
 
 pub loop-i-init : goal.loop-i-init

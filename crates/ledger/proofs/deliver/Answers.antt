@@ -1,5 +1,5 @@
 -- `ledger::deliver` meets its contract. One law for each answer. Assumes nothing.
-use Rattle.ledger.specs.LedgerLaws.{success_more, success_part, success_whole}
+use Rattle.ledger.proofs.LedgerLaws.{success_more, success_part, success_whole}
 use Rattle.ledger.proofs.deliver.Goals as goal
 
 pub returns-then-left-dwords : goal.returns-then-left-dwords

@@ -3,7 +3,7 @@
 use Prim.Native.Nat.{◌-◌}
 use mathlib.Core.Path.{sym, ◌∙◌}
 use native.Mathlib.Omega.{arith}
-use Rattle.ledger.specs.WordsLaws.{find_hit, find_miss, find_end}
+use Rattle.ledger.proofs.WordsLaws.{find_hit, find_miss, find_end}
 use Rattle.ledger.proofs.find_from.Goals as goal
 
 pub loop-i-init : goal.loop-i-init

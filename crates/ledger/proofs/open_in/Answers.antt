@@ -1,5 +1,5 @@
 -- `ledger::open_in` meets its contract. The verdict's place is inside. Assumes nothing.
-use Rattle.ledger.specs.StepLaws.{opening_inside}
+use Rattle.ledger.proofs.StepLaws.{opening_inside}
 use Rattle.ledger.proofs.open_in.Goals as goal
 
 pub perform-requires : goal.perform-requires

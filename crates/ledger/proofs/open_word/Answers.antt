@@ -1,5 +1,5 @@
 -- `ledger::open_word` meets its contract. One law for each answer. Assumes nothing.
-use Rattle.ledger.specs.LedgerLaws.{request_held, request_placed, request_full}
+use Rattle.ledger.proofs.LedgerLaws.{request_held, request_placed, request_full}
 use Rattle.ledger.proofs.open_word.Goals as goal
 
 pub returns-then-find-words : goal.returns-then-find-words

@@ -1,5 +1,5 @@
 -- `ledger::opening` meets its contract. By the key that is asked for. Assumes nothing.
-use Rattle.ledger.specs.AskedLaws.{asked_number, asked_word}
+use Rattle.ledger.proofs.AskedLaws.{asked_number, asked_word}
 use Rattle.ledger.proofs.opening.Goals as goal
 
 pub returns-then-key-eq0 : goal.returns-then-key-eq0

@@ -3,7 +3,7 @@
 use Prim.Native.Nat.{◌-◌}
 use mathlib.Core.Path.{sym, ◌∙◌}
 use native.Mathlib.Omega.{arith}
-use Rattle.ledger.specs.WordsLaws.{skip_four}
+use Rattle.ledger.proofs.WordsLaws.{skip_four}
 use Rattle.ledger.proofs.skip.Goals as goal
 
 pub loop-i-init : goal.loop-i-init

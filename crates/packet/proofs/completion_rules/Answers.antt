@@ -5,7 +5,7 @@ use Rattle.packet.specs.declared.Head.{Head}
 use mathlib.Core.Path.{◌≡◌, refl, sym, ap, ◌∙◌}
 use mathlib.Core.Bool.{Bool, not, ◌&&◌}
 use lib.Dec.{eqb}
-use Rattle.packet.specs.RulesLaws.{passed, stopped, rule_number_completion}
+use Rattle.packet.proofs.RulesLaws.{passed, stopped, rule_number_completion}
 use Rattle.packet.proofs.completion_rules.Goals as goal
 
 -- the test of rule 5, with the definition in place of the call's answer

@@ -1,7 +1,7 @@
 -- `packet::config_rules` meets its contract: rule 5 alone. Assumes nothing.
 use mathlib.Core.Path.{sym, ap, ◌∙◌}
 use mathlib.Core.Bool.{not}
-use Rattle.packet.specs.RulesLaws.{passed, stopped, rule_number_config}
+use Rattle.packet.proofs.RulesLaws.{passed, stopped, rule_number_config}
 use Rattle.packet.proofs.config_rules.Goals as goal
 
 pub returns-then-not-one_dword : goal.returns-then-not-one_dword

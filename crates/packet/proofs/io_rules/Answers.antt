@@ -3,7 +3,7 @@ use borrow.Author.Tests.{ne_eqb}
 use borrow.Author.Tests.{eq-eqb}
 use mathlib.Core.Path.{refl, sym, ap, ◌∙◌}
 use mathlib.Core.Bool.{not}
-use Rattle.packet.specs.RulesLaws.{passed, stopped, rule_number_io}
+use Rattle.packet.proofs.RulesLaws.{passed, stopped, rule_number_io}
 use Rattle.packet.proofs.io_rules.Goals as goal
 
 pub returns-then-not-a : goal.returns-then-not-a

@@ -1,5 +1,5 @@
 -- `packet::is_last` meets its contract: the patterns are bits of a number. Assumes nothing.
-use Rattle.packet.specs.Patterns.{last_patterns}
+use Rattle.packet.proofs.Patterns.{last_patterns}
 use Rattle.packet.proofs.is_last.Goals as goal
 
 pub returns : goal.returns

@@ -1,6 +1,6 @@
 -- `packet::memory_rules` meets its contract: rules 4, 6, 7 and 8 in their order. Assumes nothing.
 use mathlib.Core.Path.{◌∙◌}
-use Rattle.packet.specs.RulesLaws.{one_broken, none_broken}
+use Rattle.packet.proofs.RulesLaws.{one_broken, none_broken}
 use Rattle.packet.proofs.memory_rules.Goals as goal
 
 pub returns-then-reserved-upper : goal.returns-then-reserved-upper

@@ -5,7 +5,7 @@ use Prim.Native.Nat.{ℕ, ◌%◌}
 use mathlib.Core.Path.{◌≡◌, sym, ap, ◌∙◌}
 use mathlib.Core.Bool.{Bool, not, ◌&&◌, ◌||◌}
 use lib.Dec.{eqb}
-use Rattle.packet.specs.RulesLaws.{passed, stopped, rule_number_message}
+use Rattle.packet.proofs.RulesLaws.{passed, stopped, rule_number_message}
 use Rattle.packet.proofs.message_rules.Goals as goal
 
 -- the tests of rules 4 and 5, with the definitions in place of the calls' answers

@@ -1,5 +1,5 @@
 -- `packet::pick` meets its contract. Assumes nothing.
-use Rattle.packet.specs.RulesLaws.{picked}
+use Rattle.packet.proofs.RulesLaws.{picked}
 use Rattle.packet.proofs.pick.Goals as goal
 
 pub returns : goal.returns

@@ -4,7 +4,7 @@ use mathlib.Core.Path.{refl}
 use Prim.Native.Nat.{◌-◌}
 use native.Mathlib.Omega.{arith}
 use Rattle.pairs.specs.Pairs.{find_key}
-use Rattle.pairs.specs.FirstLaws.{first_hit, first_miss, first_none}
+use Rattle.pairs.proofs.FirstLaws.{first_hit, first_miss, first_none}
 use Rattle.pairs.proofs.find_key.Goals as goal
 
 pub rows-table-requires : goal.rows-table-requires

@@ -2,7 +2,7 @@
 use mathlib.Core.Path.{ap, ◌∙◌}
 use Prim.Native.Nat.{ℕ}
 use Rattle.pairs.specs.Pairs.{key_of, find_key, answer_of, row_of}
-use Rattle.pairs.specs.KindLaws.{find_key_lem}
+use Rattle.pairs.proofs.KindLaws.{find_key_lem}
 use Rattle.pairs.proofs.row_of.Goals as goal
 
 pub returns : goal.returns

@@ -1,7 +1,7 @@
 -- `after_bar` meets its contract: the cursor of the BAR's pool stands at its end, the others where they were. Assumes nothing.
 use mathlib.Core.Path.{subst, ◌∙◌}
 use Rattle.bar.specs.Bar.{SizedSlot}
-use Rattle.plan_function.specs.KeptLaws.{kept_bar}
+use Rattle.plan_function.proofs.KeptLaws.{kept_bar}
 use Rattle.plan_function.proofs.after_bar.Goals as goal
 
 pub start_at-start-requires : goal.start_at-start-requires

@@ -8,8 +8,8 @@ use lib.ListN.{length}
 use Rattle.bar.specs.Bar.{SizedSlot}
 use Rattle.bar.specs.BarLaws.{sized_wide, sized_narrow, sized_here, slot_of_pair, slot_of_single, pair_span, single_span, here_span}
 use Rattle.plan_function.specs.Kept.{ends_of}
-use Rattle.plan_function.specs.KeptLaws.{placing_start, placing_step, placing_skip, placing_end, not_bad, span_le}
-use Rattle.plan_function.specs.KeptLaws.{kept_kept, bars_placed_kept}
+use Rattle.plan_function.proofs.KeptLaws.{placing_start, placing_step, placing_skip, placing_end, not_bad, span_le}
+use Rattle.plan_function.proofs.KeptLaws.{kept_kept, bars_placed_kept}
 use Rattle.plan_function.proofs.place_bars.Goals as goal
 
 -- src/lib.rt:65:5

@@ -2,7 +2,7 @@
 -- cursors at i, is the answer. The measure is what is left of the first n read-backs. Assumes nothing.
 use Prim.Native.Nat.{◌-◌}
 use Rattle.plan_function.specs.Kept.{ends_of}
-use Rattle.plan_function.specs.KeptLaws.{Placing}
+use Rattle.plan_function.proofs.KeptLaws.{Placing}
 use Rattle.plan_function.proofs.place_bars.Given as goal
 
 abbrev pub invariant-loop-i : goal.invariant-loop-i

@@ -1,5 +1,5 @@
 -- `place_window` meets its contract: closed where there is nothing inside, else from its start to its stop. Assumes nothing.
-use Rattle.plan_function.specs.KeptLaws.{window_none, window_some}
+use Rattle.plan_function.proofs.KeptLaws.{window_none, window_some}
 use Rattle.plan_function.proofs.place_window.Goals as goal
 
 pub returns-then-inner-eq0 : goal.returns-then-inner-eq0

@@ -1,5 +1,5 @@
 -- `place_windows` meets its contract: the three windows, each from `place_window`. Assumes nothing.
-use Rattle.plan_function.specs.KeptLaws.{windows_of_three}
+use Rattle.plan_function.proofs.KeptLaws.{windows_of_three}
 use Rattle.pools.specs.declared.Pool.TheVariants.{Low, High, Io}
 use Rattle.plan_function.proofs.place_windows.Goals as goal
 

@@ -2,7 +2,7 @@
 use lib.ListN.{length-set}
 use mathlib.Core.Path.{sym, ◌∙◌}
 use native.Mathlib.Omega.{arith}
-use Rattle.plan_function.specs.KeptLaws.{put_one, put_two, span_one, span_two}
+use Rattle.plan_function.proofs.KeptLaws.{put_one, put_two, span_one, span_two}
 use Rattle.plan_function.proofs.put_registers.Goals as goal
 
 pub bounds-values-i : goal.bounds-values-i

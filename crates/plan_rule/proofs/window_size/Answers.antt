@@ -1,7 +1,7 @@
 -- `plan_rule::window_size` meets its contract: a granule is a power of two. Assumes nothing.
 use mathlib.Core.Path.{ap₂, ◌∙◌}
 use Rattle.arith.specs.Align.{align_up}
-use Rattle.plan_rule.specs.PoolLaws.{granule_power}
+use Rattle.plan_rule.proofs.PoolLaws.{granule_power}
 use Rattle.plan_rule.proofs.window_size.Goals as goal
 
 pub align_up-requires : goal.align_up-requires

@@ -1,6 +1,6 @@
 -- `plan_sizing::with_spare` meets its contract: no room moves nothing, and some is one item more in the low pool. Assumes nothing.
 use Rattle.pools.specs.declared.Pool.TheVariants.{Low}
-use Rattle.plan_rule.specs.PoolLaws.{granule_power}
+use Rattle.plan_rule.proofs.PoolLaws.{granule_power}
 use Rattle.plan_sizing.specs.CutLaws.{with_spare_at, with_spare_none}
 use Rattle.plan_sizing.proofs.with_spare.Goals as goal
 

@@ -5,7 +5,7 @@ use native.Mathlib.Omega.{arith}
 use lib.ListN.{length}
 use Rattle.board_record.specs.Host.{host_length, host_at}
 use Rattle.records.specs.RecordsLaws.{fits_at, length_part}
-use Rattle.board.specs.BoardLaws.{accepted_of_zero}
+use Rattle.board.proofs.BoardLaws.{accepted_of_zero}
 use Rattle.planner.specs.PlanLaws.{host_read_is}
 use Rattle.plan_where.specs.MeasuredLaws.{call_walkable, call_past_bases, call_found}
 use Rattle.plan_where.proofs.where_lawful.Goals as goal

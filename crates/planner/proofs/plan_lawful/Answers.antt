@@ -4,7 +4,7 @@ use native.Mathlib.Omega.{arith}
 use mathlib.Core.Path.{refl, ap, ◌∙◌}
 use lib.ListN.{length}
 use Rattle.records.specs.RecordsLaws.{fits_at, length_part}
-use Rattle.board.specs.BoardLaws.{accepted_of_zero}
+use Rattle.board.proofs.BoardLaws.{accepted_of_zero}
 use Rattle.planner.specs.PlanLaws.{host_read_is, lawful_refused, lawful_short, lawful_placing, lawful_planned}
 use Rattle.planner.specs.PlanLaws.{lawful_sheet}
 use Rattle.planner.proofs.plan_lawful.Goals as goal

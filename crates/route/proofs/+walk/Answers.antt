@@ -2,7 +2,7 @@
 -- Each arm is one case of the walk's step. Assumes nothing.
 use Prim.Native.Nat.{◌-◌}
 use native.Mathlib.Omega.{arith}
-use Rattle.route.specs.RouteLaws.{walk_nothing, walk_several, walk_bar, walk_window, bus_rises}
+use Rattle.route.proofs.RouteLaws.{walk_nothing, walk_several, walk_bar, walk_window, bus_rises}
 use Rattle.route.proofs.+walk.Goals as goal
 
 pub tally_on-requires : goal.tally_on-requires

@@ -1,5 +1,5 @@
 -- `route::root_of`: no record, or the first one's bus. Assumes nothing.
-use Rattle.route.specs.RouteLaws.{root_of_none, first_fits, first_sized, root_of_first}
+use Rattle.route.proofs.RouteLaws.{root_of_none, first_fits, first_sized, root_of_first}
 use Rattle.route.proofs.root_of.Goals as goal
 
 pub count-requires : goal.count-requires

@@ -1,6 +1,6 @@
 -- `route::route`: a header that was not accepted gives its number, then a sheet that does not pass; what is left is the packet's own call.
 -- Assumes nothing.
-use Rattle.route.specs.RouteLaws.{header_refused, sheet_refused, packet_routed}
+use Rattle.route.proofs.RouteLaws.{header_refused, sheet_refused, packet_routed}
 use Rattle.route.proofs.route.Goals as goal
 
 pub returns-in_default : goal.returns-in_default

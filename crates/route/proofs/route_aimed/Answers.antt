@@ -1,6 +1,6 @@
 -- `route::route_aimed`: where the walk ended. Assumes nothing.
 use native.Mathlib.Omega.{arith}
-use Rattle.route.specs.RouteLaws.{walk_delivered, walk_refused}
+use Rattle.route.proofs.RouteLaws.{walk_delivered, walk_refused}
 use Rattle.route.proofs.route_aimed.Goals as goal
 
 pub walk-requires : goal.walk-requires

@@ -1,5 +1,5 @@
 -- `route::route_listed`: the router's answer with its list, which is the sheet's. Assumes nothing.
-use Rattle.route.specs.ListedLaws.{route_listed}
+use Rattle.route.proofs.ListedLaws.{route_listed}
 use Rattle.route.proofs.route_listed.Goals as goal
 
 pub returns : goal.returns

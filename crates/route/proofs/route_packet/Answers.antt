@@ -1,9 +1,9 @@
 -- `route::route_packet`: by the checks before the walk, or the walk from the root bus. Assumes nothing.
 use native.Mathlib.Omega.{arith}
-use Rattle.sheet.specs.SheetLaws.{checked_of_zero}
-use Rattle.route_answer.specs.OnwardLaws.{answered, looked_for}
+use Rattle.sheet.proofs.SheetLaws.{checked_of_zero}
+use Rattle.route_answer.proofs.OnwardLaws.{answered, looked_for}
 use Rattle.route.specs.Route.{walked}
-use Rattle.route.specs.RouteLaws.{over_sheet_lem}
+use Rattle.route.proofs.RouteLaws.{over_sheet_lem}
 use Rattle.route.proofs.route_packet.Goals as goal
 
 pub root_of-root-requires : goal.root_of-root-requires

@@ -1,5 +1,5 @@
 -- `route_answer::deliver`: the packet as it arrives. Assumes nothing.
-use Rattle.route_answer.specs.OnwardLaws.{delivered_as}
+use Rattle.route_answer.proofs.OnwardLaws.{delivered_as}
 use Rattle.route_answer.proofs.deliver.Goals as goal
 
 pub returns : goal.returns

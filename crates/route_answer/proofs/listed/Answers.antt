@@ -1,6 +1,6 @@
 -- `route_answer::listed`: an answer stays but for a broadcast's, which is 11 where the slice is too short and else has its list. Assumes
 -- nothing.
-use Rattle.route_answer.specs.ListedLaws.{listed_delivered, listed_short, listed_whole, listed_port, listed_refused}
+use Rattle.route_answer.proofs.ListedLaws.{listed_delivered, listed_short, listed_whole, listed_port, listed_refused}
 use Rattle.route_answer.proofs.listed.Goals as goal
 
 pub returns-then-list-size : goal.returns-then-list-size

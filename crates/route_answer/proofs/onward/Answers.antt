@@ -5,7 +5,7 @@ use Rattle.claims.specs.declared.Aim.{Aim}
 use Rattle.route_arrival.specs.declared.Heading.{Heading}
 use Rattle.route_arrival.specs.declared.Heading.TheVariants.{Aimed, Up, Every, Port}
 use Rattle.route_answer.specs.Routing.{headed_over, route_over}
-use Rattle.route_answer.specs.OnwardLaws.{no_functions, wrong_type_lem, headed_as}
+use Rattle.route_answer.proofs.OnwardLaws.{no_functions, wrong_type_lem, headed_as}
 use Rattle.route_answer.proofs.onward.Goals as goal
 use Rattle.route_answer.proofs.onward.Goals.{After-heading_of}
 

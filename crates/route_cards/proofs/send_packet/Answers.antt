@@ -1,5 +1,5 @@
 -- `route_cards::send_packet`: what is asked for, then whether the record is a type 0 function. Assumes nothing.
-use Rattle.sheet.specs.SheetLaws.{checked_of_zero}
+use Rattle.sheet.proofs.SheetLaws.{checked_of_zero}
 use Rattle.route_cards.specs.StepLaws.{no_request, no_start, from_type_0}
 use Rattle.route_cards.proofs.send_packet.Goals as goal
 

@@ -1,6 +1,6 @@
 -- `route_sender::named_in`: by the tally of the ID's own bus. Assumes nothing.
 use mathlib.Core.Path.{refl, ap, ◌∙◌}
-use Rattle.sheet.specs.SheetLaws.{checked_of_zero}
+use Rattle.sheet.proofs.SheetLaws.{checked_of_zero}
 use Rattle.route_sender.specs.SenderLaws.{named_as}
 use Rattle.claims.specs.declared.Tally.TheVariants.{Nothing, One, Several}
 use Rattle.route_sender.proofs.named_in.Goals as goal

@@ -2,7 +2,7 @@
 use mathlib.Core.Path.{ap, ◌∙◌}
 use Rattle.route_arrival.specs.declared.Heading.TheVariants.{Aimed, Up, Every, Port}
 use Rattle.route_sent.specs.BothEnds.{fate_of}
-use Rattle.route_sent.specs.StepLaws.{headed_as}
+use Rattle.route_sent.proofs.StepLaws.{headed_as}
 use Rattle.route_sent.proofs.from_function.Goals as goal
 
 pub returns-in-Address : goal.returns-in-Address

@@ -1,7 +1,7 @@
 -- `route_sent::packet_sent`: by who sends. Assumes nothing.
 use mathlib.Core.Path.{sym, ◌∙◌}
-use Rattle.route_sent.specs.FunctionLaws.{sender_is}
-use Rattle.route_sent.specs.StepLaws.{sent_by_host, sent_by_function}
+use Rattle.route_sent.proofs.FunctionLaws.{sender_is}
+use Rattle.route_sent.proofs.StepLaws.{sent_by_host, sent_by_function}
 use Rattle.route_sent.proofs.packet_sent.Goals as goal
 
 pub from_function-requires : goal.from_function-requires

@@ -1,6 +1,6 @@
 -- `route_sent::route_sent`: a header that was not accepted gives its number, then a sheet that does not pass; what is left is the packet's
 -- own call. Assumes nothing.
-use Rattle.route_sent.specs.StepLaws.{header_refused, sheet_refused, packet_ends}
+use Rattle.route_sent.proofs.StepLaws.{header_refused, sheet_refused, packet_ends}
 use Rattle.route_sent.proofs.route_sent.Goals as goal
 
 pub returns-in_default : goal.returns-in_default

@@ -1,5 +1,5 @@
 -- `route_sent::route_sent_listed`: the answer with its list, of the host's broadcast only. Assumes nothing.
-use Rattle.route_sent.specs.StepLaws.{listed_host, listed_function, listed_refused}
+use Rattle.route_sent.proofs.StepLaws.{listed_host, listed_function, listed_refused}
 use Rattle.route_sent.proofs.route_sent_listed.Goals as goal
 
 pub returns-in-FromHost : goal.returns-in-FromHost

@@ -1,5 +1,5 @@
 -- `route_sent::send_by_id`: up for the host's own ID, else from the sender's bus on. Assumes nothing.
-use Rattle.route_sent.specs.StepLaws.{hosts_id, not_hosts_id}
+use Rattle.route_sent.proofs.StepLaws.{hosts_id, not_hosts_id}
 use Rattle.route_sent.proofs.send_by_id.Goals as goal
 
 pub returns-then-id-host_id : goal.returns-then-id-host_id

@@ -1,8 +1,8 @@
 -- `route_sent::send_to_other`: 40 for the sender's own ID, else the climb from its bus. Assumes nothing.
 use mathlib.Core.Path.{refl}
 use native.Mathlib.Omega.{arith}
-use Rattle.sheet.specs.SheetLaws.{checked_of_zero}
-use Rattle.route_sent.specs.StepLaws.{own_id, climbed_by_id}
+use Rattle.sheet.proofs.SheetLaws.{checked_of_zero}
+use Rattle.route_sent.proofs.StepLaws.{own_id, climbed_by_id}
 use Rattle.route_sent.proofs.send_to_other.Goals as goal
 
 pub returns-then-id-own : goal.returns-then-id-own

@@ -1,8 +1,8 @@
 -- `route_sent::send_up`: the climb where nothing claims. Assumes nothing.
 use mathlib.Core.Path.{refl}
 use native.Mathlib.Omega.{arith}
-use Rattle.sheet.specs.SheetLaws.{checked_of_zero}
-use Rattle.route_sent.specs.StepLaws.{climbed_up}
+use Rattle.sheet.proofs.SheetLaws.{checked_of_zero}
+use Rattle.route_sent.proofs.StepLaws.{climbed_up}
 use Rattle.route_sent.proofs.send_up.Goals as goal
 
 pub root_of-top-requires : goal.root_of-top-requires

@@ -2,8 +2,8 @@
 use mathlib.Core.Path.{◌≡◌, sym}
 use Prim.Native.Nat.{◌-◌}
 use native.Mathlib.Omega.{arith}
-use Rattle.script_writes.specs.Wrote.{wrote_nothing, wrote_append, wrote_length, bars_room}
-use Rattle.script_writes.specs.WritesLaws.{bars_snoc, slot_count_le}
+use Rattle.script_writes.proofs.Wrote.{wrote_nothing, wrote_append, wrote_length, bars_room}
+use Rattle.script_writes.proofs.WritesLaws.{bars_snoc, slot_count_le}
 use Rattle.script_writes.specs.Writes.{bar_writes}
 use Rattle.sheet_record.specs.Entry.{header_of, slot_count}
 use Rattle.script_writes.proofs.put_bars.Goals as goal

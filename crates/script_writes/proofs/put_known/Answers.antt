@@ -5,7 +5,8 @@ use Prim.Native.Nat.{ℕ, ◌<◌}
 use native.Mathlib.Omega.{arith}
 use Rattle.endian.specs.SetsLaws.{sets_append}
 use Rattle.script_writes.specs.ScriptLaws.{header_for}
-use Rattle.script_writes.specs.Wrote.{known_write, wrote_one}
+use Rattle.script_writes.specs.Wrote.{known_write}
+use Rattle.script_writes.proofs.Wrote.{wrote_one}
 use Rattle.script_writes.proofs.put_known.Goals as goal
 
 pub returns : goal.returns

@@ -4,7 +4,7 @@ use mathlib.Core.Bool.{true, cond}
 use mathlib.Core.Path.{◌≡◌, refl, sym, ◌∙◌}
 use native.Mathlib.Omega.{arith}
 use lib.ListN.{length-append}
-use Rattle.script_writes.specs.Wrote.{wrote_append, wrote_if, wrote_if_not, wrote_length, room_left_if}
+use Rattle.script_writes.proofs.Wrote.{wrote_append, wrote_if, wrote_if_not, wrote_length, room_left_if}
 use Rattle.script_writes.specs.Writes.{bar_writes, window_writes}
 use Rattle.sheet_record.specs.Entry.{header_of, is_bridge, slot_count}
 use Rattle.script_writes.proofs.put_registers.Goals as goal

@@ -1,7 +1,7 @@
 -- `script_writes::put_slot` meets its contract. Assumes nothing.
 use mathlib.Core.Path.{refl, sym, ◌∙◌}
 use native.Mathlib.Omega.{arith}
-use Rattle.script_writes.specs.Wrote.{wrote_if_not, wrote_if, room_if}
+use Rattle.script_writes.proofs.Wrote.{wrote_if_not, wrote_if, room_if}
 use Rattle.script_writes.proofs.put_slot.Goals as goal
 
 pub returns-then-not-is_used : goal.returns-then-not-is_used

@@ -4,7 +4,7 @@ use Prim.Native.Nat.{◌+◌, ◌*◌, ◌≤◌}
 use native.Mathlib.Omega.{arith}
 use lib.ListN.{length}
 use Rattle.script_writes.specs.Script.{write_stride}
-use Rattle.script_writes.specs.Wrote.{wrote_append, wrote_length, room_left_lem}
+use Rattle.script_writes.proofs.Wrote.{wrote_append, wrote_length, room_left_lem}
 use Rattle.script_writes.proofs.put_windows.Goals as goal
 
 pub put_write-low-requires : goal.put_write-low-requires

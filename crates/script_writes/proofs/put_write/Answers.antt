@@ -6,7 +6,7 @@ use native.Mathlib.Omega.{arith}
 use Rattle.endian.specs.SetsLaws.{sets_append}
 use Rattle.script_writes.specs.Writes.{data_of, write_of}
 use Rattle.script_writes.specs.ScriptLaws.{header_for}
-use Rattle.script_writes.specs.Wrote.{wrote_one}
+use Rattle.script_writes.proofs.Wrote.{wrote_one}
 use Rattle.script_writes.proofs.put_write.Goals as goal
 
 pub returns : goal.returns

@@ -6,7 +6,7 @@ use native.Mathlib.Numerals.{add-one}
 use Rattle.scripter.specs.PassLaws.{pass_length, passed_turn}
 use Rattle.scripter.specs.PassLaws.{passed_start, passed_end, passed_broken, pass_header, pass_placeable, pass_bridged}
 use Rattle.scripter.specs.PassLaws.{pass_few, pass_room}
-use Rattle.script_writes.specs.Wrote.{wrote_length}
+use Rattle.script_writes.proofs.Wrote.{wrote_length}
 use Rattle.records.specs.RecordsLaws.{fits_at}
 use Rattle.scripter.proofs.pass_records.Goals as goal
 

@@ -5,7 +5,7 @@ use Prim.Native.Nat.{◌+◌, ◌*◌, ◌%◌, ◌<◌}
 use native.Mathlib.Omega.{arith}
 use native.Mathlib.Numerals.{add-one}
 use Rattle.board_record.specs.Function.{is_bridge, function_of_part}
-use Rattle.script_writes.specs.Wrote.{wrote_if_not, wrote_if, room_if}
+use Rattle.script_writes.proofs.Wrote.{wrote_if_not, wrote_if, room_if}
 use Rattle.scripter.proofs.put_buses.Goals as goal
 use Rattle.scripter.proofs.put_buses.Goals.{Else-not-is_bridge}
 

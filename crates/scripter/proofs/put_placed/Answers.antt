@@ -2,8 +2,8 @@
 use mathlib.Core.Path.{ap, ◌∙◌}
 use lib.ListN.{length}
 use Rattle.scripter.specs.PassLaws.{laid_out}
-use Rattle.script_writes.specs.Wrote.{wrote_length}
-use Rattle.sheet_bytes.specs.LayoutLaws.{length_part_bytes}
+use Rattle.script_writes.proofs.Wrote.{wrote_length}
+use Rattle.sheet_bytes.proofs.LayoutLaws.{length_part_bytes}
 use Rattle.scripter.proofs.put_placed.Goals as goal
 
 pub put_registers-requires : goal.put_registers-requires

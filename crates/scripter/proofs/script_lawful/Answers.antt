@@ -5,7 +5,7 @@ use lib.ListN.{length}
 use Rattle.board_record.specs.Host.{host_length, host_at}
 use Rattle.scripter.specs.CallLaws.{script_refused, script_short, script_written, script_fits, script_placing, script_stored}
 use Rattle.planner.specs.PlanLaws.{host_read_is}
-use Rattle.board.specs.BoardLaws.{accepted_of_zero}
+use Rattle.board.proofs.BoardLaws.{accepted_of_zero}
 use Rattle.records.specs.RecordsLaws.{fits_at, length_part}
 use Rattle.scripter.proofs.script_lawful.Goals as goal
 

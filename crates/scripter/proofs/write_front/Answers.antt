@@ -1,7 +1,7 @@
 -- `scripter::write_front` meets its contract. Assumes nothing.
 use native.Mathlib.Omega.{arith}
 use Rattle.scripter.specs.CallLaws.{fits_buses, fits_registers, front_written}
-use Rattle.script_writes.specs.Wrote.{wrote_length}
+use Rattle.script_writes.proofs.Wrote.{wrote_length}
 use Rattle.scripter.proofs.write_front.Goals as goal
 
 pub write_pass-next-requires : goal.write_pass-next-requires

@@ -1,7 +1,7 @@
 -- `scripter::write_pass` meets its contract. Assumes nothing.
 use native.Mathlib.Omega.{arith}
 use Rattle.scripter.specs.PassLaws.{passing_of}
-use Rattle.script_writes.specs.Wrote.{wrote_length}
+use Rattle.script_writes.proofs.Wrote.{wrote_length}
 use Rattle.scripter.proofs.write_pass.Goals as goal
 
 pub fill_cursors-requires : goal.fill_cursors-requires

@@ -2,7 +2,7 @@
 use mathlib.Core.Path.{refl}
 use native.Mathlib.Omega.{arith}
 use Rattle.scripter.specs.CallLaws.{fits_front, fits_commands, all_written, boot_is}
-use Rattle.script_writes.specs.Wrote.{wrote_length}
+use Rattle.script_writes.proofs.Wrote.{wrote_length}
 use Rattle.scripter.proofs.write_passes.Goals as goal
 
 pub write_front-next-requires : goal.write_front-next-requires

@@ -3,8 +3,8 @@
 use Prim.Native.Nat.{◌-◌}
 use native.Mathlib.Omega.{arith}
 use mathlib.Core.Path.{refl, sym, ◌∙◌}
-use Rattle.sheet.specs.FrameLaws.{FramedAt, framed_at}
-use Rattle.sheet.specs.CheckLaws.{part_sized, breaks_hit, breaks_miss, breaks_past}
+use Rattle.sheet.proofs.FrameLaws.{FramedAt, framed_at}
+use Rattle.sheet.proofs.CheckLaws.{part_sized, breaks_hit, breaks_miss, breaks_past}
 use Rattle.sheet.proofs.any_breaks.Goals as goal
 use Rattle.sheet.proofs.any_breaks.Goals.{In-loop-at}
 

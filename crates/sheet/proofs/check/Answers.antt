@@ -5,7 +5,7 @@ use lib.ListN.{length}
 use borrow.Author.Tests.{eq-eqb, ne_eqb, lt-ltb, le-ltb}
 use Rattle.records.specs.Limits.{most_functions}
 use Rattle.sheet.specs.Sheet.{Framed, entries_from, from20, from21, from22, sheet_number}
-use Rattle.sheet.specs.CheckLaws.{count_entries}
+use Rattle.sheet.proofs.CheckLaws.{count_entries}
 use Rattle.sheet.proofs.check.Goals as goal
 use Rattle.sheet.proofs.check.Goals.{Else-not-is_framed}
 

@@ -1,5 +1,5 @@
 -- `sheet::count` meets its contract: every record takes as many bytes. Assumes nothing.
-use Rattle.sheet.specs.IndexLaws.{count_index}
+use Rattle.sheet.proofs.IndexLaws.{count_index}
 use Rattle.sheet.proofs.count.Goals as goal
 
 pub returns : goal.returns

@@ -2,8 +2,8 @@
 use mathlib.Core.Path.{sym, ap, ◌∙◌}
 use native.Mathlib.Omega.{arith}
 use Rattle.sheet.specs.Lookup.{placed}
-use Rattle.sheet.specs.SheetLaws.{checked_of_zero}
-use Rattle.sheet.specs.LookupLaws.{found_at, lookup_bad, lookup_good}
+use Rattle.sheet.proofs.SheetLaws.{checked_of_zero}
+use Rattle.sheet.proofs.LookupLaws.{found_at, lookup_bad, lookup_good}
 use Rattle.sheet.proofs.find.Goals as goal
 
 pub returns-then-n-ne0 : goal.returns-then-n-ne0

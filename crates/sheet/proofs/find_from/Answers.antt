@@ -3,8 +3,8 @@
 use Prim.Native.Nat.{◌-◌}
 use native.Mathlib.Omega.{arith}
 use mathlib.Core.Path.{refl, sym, ◌∙◌}
-use Rattle.sheet.specs.FrameLaws.{FramedAt, framed_at}
-use Rattle.sheet.specs.CheckLaws.{part_sized, find_hit, find_miss, find_past}
+use Rattle.sheet.proofs.FrameLaws.{FramedAt, framed_at}
+use Rattle.sheet.proofs.CheckLaws.{part_sized, find_hit, find_miss, find_past}
 use Rattle.sheet.proofs.find_from.Goals as goal
 use Rattle.sheet.proofs.find_from.Goals.{In-loop-at}
 

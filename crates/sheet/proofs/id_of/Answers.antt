@@ -4,9 +4,9 @@ use Prim.Native.Nat.{◌-◌, ◌+◌, ◌≤◌}
 use native.Mathlib.Omega.{arith}
 use lib.ListN.{length}
 use Rattle.sheet.specs.Sheet.{sheet_length}
-use Rattle.sheet.specs.IndexLaws.{record_fits, length_part}
-use Rattle.sheet.specs.SheetLaws.{checked_of_zero}
-use Rattle.sheet.specs.RecordIdLaws.{record_id_bad, record_id_host, record_id_past, record_id_here}
+use Rattle.sheet.proofs.IndexLaws.{record_fits, length_part}
+use Rattle.sheet.proofs.SheetLaws.{checked_of_zero}
+use Rattle.sheet.proofs.RecordIdLaws.{record_id_bad, record_id_host, record_id_past, record_id_here}
 use Rattle.sheet.proofs.id_of.Goals as goal
 use Rattle.sheet.proofs.id_of.Goals.{Else-count-number}
 

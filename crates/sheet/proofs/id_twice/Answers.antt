@@ -4,9 +4,9 @@ use Prim.Native.Nat.{◌<◌, ◌-◌, ◌/◌}
 use native.Mathlib.Omega.{arith}
 use mathlib.Core.Path.{refl, sym, ◌∙◌}
 use lib.ListN.{length}
-use Rattle.sheet.specs.FrameLaws.{FramedAt, framed_at}
-use Rattle.sheet.specs.CheckLaws.{part_sized}
-use Rattle.sheet.specs.ReadSoFarLaws.{read_start, read_hit, read_miss, read_past}
+use Rattle.sheet.proofs.FrameLaws.{FramedAt, framed_at}
+use Rattle.sheet.proofs.CheckLaws.{part_sized}
+use Rattle.sheet.proofs.ReadSoFarLaws.{read_start, read_hit, read_miss, read_past}
 use Rattle.sheet.proofs.id_twice.Goals as goal
 use Rattle.sheet.proofs.id_twice.Goals.{In-loop-at}
 

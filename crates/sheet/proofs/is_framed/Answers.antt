@@ -8,7 +8,7 @@ use Rattle.records.specs.declared.Next.TheVariants.{Record}
 use Rattle.records.specs.Records.{next_of}
 use Rattle.records.specs.RecordsLaws.{fits_at}
 use Rattle.sheet_record.specs.Places.{stride}
-use Rattle.sheet.specs.FrameLaws.{framed_end, framed_broken, framed_other, framed_on}
+use Rattle.sheet.proofs.FrameLaws.{framed_end, framed_broken, framed_other, framed_on}
 use Rattle.sheet.proofs.is_framed.Goals as goal
 use Rattle.sheet.proofs.is_framed.Goals.{Else-n-ne-SIZE}
 

@@ -1,7 +1,7 @@
 -- `sheet::registers` meets its contract: the part that is found lies inside the sheet. Assumes nothing.
 use mathlib.Core.Path.{sym, ◌∙◌}
 use native.Mathlib.Omega.{arith}
-use Rattle.sheet.specs.LookupLaws.{registers_fit, registers_part}
+use Rattle.sheet.proofs.LookupLaws.{registers_fit, registers_part}
 use Rattle.sheet.proofs.registers.Goals as goal
 
 pub overflow_add-result : goal.overflow_add-result

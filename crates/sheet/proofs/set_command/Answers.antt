@@ -1,7 +1,7 @@
 -- `sheet::set_command` meets its contract: one store where the lookup finds the function, none else. Assumes nothing.
 use mathlib.Core.Path.{sym, ◌∙◌}
 use native.Mathlib.Omega.{arith}
-use Rattle.sheet.specs.LookupLaws.{registers_fit}
+use Rattle.sheet.proofs.LookupLaws.{registers_fit}
 use Rattle.sheet.proofs.set_command.Goals as goal
 
 pub overflow_add-at : goal.overflow_add-at

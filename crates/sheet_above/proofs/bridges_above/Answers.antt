@@ -4,7 +4,7 @@ use Prim.Native.Nat.{◌<◌}
 use native.Mathlib.Omega.{arith}
 use lib.ListN.{length}
 use Rattle.sheet.specs.Sheet.{entries_of}
-use Rattle.sheet.specs.IndexLaws.{record_fits}
+use Rattle.sheet.proofs.IndexLaws.{record_fits}
 use Rattle.sheet_above.specs.Table.{IsParent}
 use Rattle.sheet_above.specs.BridgesLaws.{part_sized, up_start, up_host, up_none, up_several, bridge_inside, up_few}
 use Rattle.sheet_above.specs.BridgesLaws.{up_less, up_bridge}

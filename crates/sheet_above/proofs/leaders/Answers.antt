@@ -5,7 +5,7 @@ use Prim.Native.Nat.{◌-◌, ◌<◌}
 use native.Mathlib.Omega.{arith}
 use lib.ListN.{length}
 use Rattle.sheet.specs.Sheet.{entries_of}
-use Rattle.sheet.specs.IndexLaws.{record_fits, length_part}
+use Rattle.sheet.proofs.IndexLaws.{record_fits, length_part}
 use Rattle.sheet_above.specs.TableLaws.{leads_start, leads_more, leads_end}
 use Rattle.sheet_above.proofs.leaders.Goals as goal
 use Rattle.sheet_above.proofs.leaders.Goals.{In-loop-k}

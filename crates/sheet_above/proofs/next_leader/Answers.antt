@@ -5,7 +5,7 @@ use Prim.Native.Nat.{◌-◌, ◌<◌}
 use native.Mathlib.Omega.{arith}
 use lib.ListN.{length}
 use Rattle.sheet.specs.Sheet.{entries_of}
-use Rattle.sheet.specs.IndexLaws.{record_fits, length_part}
+use Rattle.sheet.proofs.IndexLaws.{record_fits, length_part}
 use Rattle.sheet_above.specs.SearchLaws.{leader_miss, leader_hit, leader_none}
 use Rattle.sheet_above.proofs.next_leader.Goals as goal
 use Rattle.sheet_above.proofs.next_leader.Goals.{In-loop-k}

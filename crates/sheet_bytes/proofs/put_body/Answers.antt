@@ -1,7 +1,7 @@
 -- `sheet_bytes::put_body` meets its contract. By the header type: what is written is what `planned_of` has of such a function. Assumes
 -- nothing.
 use mathlib.Core.Path.{sym, ◌∙◌}
-use Rattle.sheet_bytes.specs.LayoutLaws.{body_of_bridge, body_of_end}
+use Rattle.sheet_bytes.proofs.LayoutLaws.{body_of_bridge, body_of_end}
 use Rattle.sheet_bytes.proofs.put_body.Goals as goal
 
 pub returns-then-is_bridge : goal.returns-then-is_bridge

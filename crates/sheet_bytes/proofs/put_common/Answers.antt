@@ -7,7 +7,7 @@ use lib.Seq.{sets}
 use Rattle.endian.specs.Endian.{be_bytes, le_bytes}
 use Rattle.endian.specs.SetsLaws.{sets_append}
 use Rattle.sheet_bytes.specs.Layout.{zeros, common_bytes}
-use Rattle.sheet_bytes.specs.LayoutLaws.{le_bytes_of_byte}
+use Rattle.sheet_bytes.proofs.LayoutLaws.{le_bytes_of_byte}
 use Rattle.sheet_bytes.proofs.put_common.Goals as goal
 
 pub returns : goal.returns

@@ -1,7 +1,7 @@
 -- `sheet_bytes::put_values` meets its contract. Three pairs are six. Assumes nothing.
 use Rattle.endian.specs.Endian.{le_bytes}
 use Rattle.endian.specs.EndianLaws.{length_le_bytes}
-use Rattle.sheet_bytes.specs.LayoutLaws.{sets_six}
+use Rattle.sheet_bytes.proofs.LayoutLaws.{sets_six}
 use Rattle.sheet_bytes.proofs.put_values.Goals as goal
 
 pub returns : goal.returns

@@ -4,8 +4,8 @@ use mathlib.Core.List.{◌++◌}
 use lib.Seq.{sets}
 use Rattle.endian.specs.SetsLaws.{sets_append}
 use Rattle.sheet_bytes.specs.Layout.{planned_of}
-use Rattle.sheet_bytes.specs.LayoutLaws.{marks, common, body, readbacks, length_marks, length_marks_common, length_marks_body}
-use Rattle.sheet_bytes.specs.LayoutLaws.{record_bytes_parts}
+use Rattle.sheet_bytes.proofs.LayoutLaws.{marks, common, body, readbacks, length_marks, length_marks_common, length_marks_body}
+use Rattle.sheet_bytes.proofs.LayoutLaws.{record_bytes_parts}
 use Rattle.sheet_bytes.proofs.write_record.Goals as goal
 
 pub returns : goal.returns

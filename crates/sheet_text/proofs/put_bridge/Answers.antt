@@ -2,7 +2,7 @@
 -- nothing.
 use Rattle.text.specs.TextLaws.{put_append}
 use Rattle.text.specs.Text.{ascii}
-use Rattle.sheet_text.specs.ListingLaws.{bridge_text_of_bridge}
+use Rattle.sheet_text.proofs.ListingLaws.{bridge_text_of_bridge}
 use Rattle.sheet_text.proofs.put_bridge.Goals as goal
 
 pub returns : goal.returns

@@ -1,5 +1,5 @@
 -- `sheet_text::put_buses` meets its contract: of a bridge, the entry's buses are the bytes that were read. Assumes nothing.
-use Rattle.sheet_text.specs.ListingLaws.{buses_of_bridge}
+use Rattle.sheet_text.proofs.ListingLaws.{buses_of_bridge}
 use Rattle.sheet_text.proofs.put_buses.Goals as goal
 
 pub returns : goal.returns

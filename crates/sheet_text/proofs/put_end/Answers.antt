@@ -1,7 +1,7 @@
 -- `sheet_text::put_end` meets its contract: six values, the end of the line. Assumes nothing.
 use Rattle.text.specs.TextLaws.{put_append}
 use Rattle.text.specs.Text.{ascii}
-use Rattle.sheet_text.specs.ListingLaws.{end_text_of_end}
+use Rattle.sheet_text.proofs.ListingLaws.{end_text_of_end}
 use Rattle.sheet_text.proofs.put_end.Goals as goal
 
 pub returns : goal.returns

@@ -8,9 +8,9 @@ use lib.ListN.{length, take}
 use lib.Seq.{take_all}
 use Rattle.text.specs.TextLaws.{put_append, put_length}
 use Rattle.sheet.specs.Sheet.{entries_of}
-use Rattle.sheet.specs.IndexLaws.{record_fits, length_part}
+use Rattle.sheet.proofs.IndexLaws.{record_fits, length_part}
 use Rattle.sheet_text.specs.Listing.{plan_text}
-use Rattle.sheet_text.specs.ListingLaws.{lines_index, put_nothing}
+use Rattle.sheet_text.proofs.ListingLaws.{lines_index, put_nothing}
 use Rattle.sheet_text.proofs.put_plan.Goals as goal
 use Rattle.sheet_text.proofs.put_plan.Goals.{In-loop-k}
 

@@ -1,6 +1,6 @@
 -- `sheet_text::put_planning` meets its contract: one callee for each answer. Assumes nothing.
 use native.Mathlib.Omega.{arith}
-use Rattle.sheet_text.specs.LengthLaws.{sheet_le, refusal_le}
+use Rattle.sheet_text.proofs.LengthLaws.{sheet_le, refusal_le}
 use Rattle.sheet_text.proofs.put_planning.Goals as goal
 
 pub returns-in-Planned : goal.returns-in-Planned

@@ -1,7 +1,7 @@
 -- `sheet_text::put_record` meets its contract: the ID, then what the header type says that the function is. Assumes nothing.
 use mathlib.Core.Path.{sym, ◌∙◌}
 use Rattle.text.specs.TextLaws.{put_append}
-use Rattle.sheet_text.specs.ListingLaws.{line_of_bridge, line_of_end}
+use Rattle.sheet_text.proofs.ListingLaws.{line_of_bridge, line_of_end}
 use Rattle.sheet_text.proofs.put_record.Goals as goal
 
 pub put_bridge-requires : goal.put_bridge-requires

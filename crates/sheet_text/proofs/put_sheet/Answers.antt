@@ -1,7 +1,7 @@
 -- `sheet_text::put_sheet` meets its contract, by the sheet's number. Assumes nothing.
 use mathlib.Core.Path.{sym, ◌∙◌}
-use Rattle.sheet.specs.SheetLaws.{checked_of_zero}
-use Rattle.sheet_text.specs.ListingLaws.{sheet_text_good, sheet_text_bad}
+use Rattle.sheet.proofs.SheetLaws.{checked_of_zero}
+use Rattle.sheet_text.proofs.ListingLaws.{sheet_text_good, sheet_text_bad}
 use Rattle.sheet_text.proofs.put_sheet.Goals as goal
 
 pub returns-then-n-ne0 : goal.returns-then-n-ne0

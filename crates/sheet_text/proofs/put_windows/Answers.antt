@@ -1,6 +1,6 @@
 -- `sheet_text::put_windows` meets its contract: of a bridge, the entry's windows are the registers that were read. Assumes nothing.
 use Rattle.text.specs.TextLaws.{put_append}
-use Rattle.sheet_text.specs.ListingLaws.{window_text_of_bridge}
+use Rattle.sheet_text.proofs.ListingLaws.{window_text_of_bridge}
 use Rattle.sheet_text.proofs.put_windows.Goals as goal
 
 pub returns : goal.returns

@@ -5,7 +5,7 @@ use native.Mathlib.Omega.{arith}
 use lib.Seq.{take_all}
 use Rattle.text.specs.TextLaws.{put_append, put_length}
 use Rattle.sheet_text.specs.Listing.{words}
-use Rattle.sheet_text.specs.ListingLaws.{words_index}
+use Rattle.sheet_text.proofs.ListingLaws.{words_index}
 use Rattle.sheet_text.proofs.put_words.Goals as goal
 
 pub loop-i-init : goal.loop-i-init

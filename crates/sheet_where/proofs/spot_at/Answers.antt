@@ -2,7 +2,7 @@
 use mathlib.Core.Path.{◌≡◌, ap, ◌∙◌}
 use lib.ListN.{length}
 use Rattle.sheet_record.specs.Places.{record_size}
-use Rattle.sheet.specs.IndexLaws.{record_fits, length_part}
+use Rattle.sheet.proofs.IndexLaws.{record_fits, length_part}
 use Rattle.sheet_where.specs.OwnLaws.{type_spot, buses_spot, read_back_spot, nibble_spot_lem}
 use Rattle.sheet_where.proofs.spot_at.Goals as goal
 use Rattle.sheet_where.proofs.spot_at.Goals.{After-part-part}

@@ -4,7 +4,7 @@ use Prim.Native.Nat.{◌-◌, ◌≤◌}
 use mathlib.Core.Path.{◌≡◌}
 use lib.ListN.{length, drop}
 use Rattle.trace.specs.Trace.{state_of}
-use Rattle.trace.specs.FeedLaws.{Sound}
+use Rattle.trace.proofs.FeedLaws.{Sound}
 use Rattle.stream_trace.proofs.label_parts.Given as goal
 
 abbrev pub invariant-loop-i : goal.invariant-loop-i

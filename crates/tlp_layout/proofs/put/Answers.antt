@@ -4,7 +4,7 @@ use native.Mathlib.Omega.{arith}
 use Rattle.endian.specs.SetsLaws.{sets_append}
 use Rattle.packet.specs.declared.Head.{Head}
 use Rattle.packet.specs.Fields.{head_of}
-use Rattle.packet.specs.VerdictLaws.{head_of_lawful}
+use Rattle.packet.proofs.VerdictLaws.{head_of_lawful}
 use Rattle.tlp_layout.specs.Layout.{front_bytes, body_bytes}
 use Rattle.tlp_layout.specs.LayoutLaws.{length_front, size_of_lawful, layout_carried}
 use Rattle.tlp_layout.proofs.put.Goals as goal

@@ -1,5 +1,5 @@
 -- `tlp_layout::put_body` meets its contract. Assumes nothing.
-use Rattle.packet.specs.VerdictLaws.{memory_of_lawful, io_of_lawful, config_of_lawful, completion_of_lawful}
+use Rattle.packet.proofs.VerdictLaws.{memory_of_lawful, io_of_lawful, config_of_lawful, completion_of_lawful}
 use Rattle.tlp_layout.specs.Layout.{request_bytes, address_bytes, target_bytes, message_bytes}
 use Rattle.tlp_layout.specs.LayoutLaws.{length_request, length_message, form_of_message}
 use Rattle.endian.specs.Endian.{be_bytes}

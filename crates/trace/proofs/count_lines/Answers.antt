@@ -3,8 +3,8 @@
 use Rattle.std.proofs.Common.{◌-◌, sym, refl, ◌∙◌, arith}
 use Rattle.records.specs.FrameLaws.{heard_at, heard_past}
 use Rattle.trace.specs.Trace.{line_count}
-use Rattle.trace.specs.TraceLaws.{whole_fits}
-use Rattle.trace.specs.FeedLaws.{count_le, count_whole}
+use Rattle.trace.proofs.TraceLaws.{whole_fits}
+use Rattle.trace.proofs.FeedLaws.{count_le, count_whole}
 use Rattle.trace.proofs.count_lines.Goals as goal
 
 pub loop-i-init : goal.loop-i-init

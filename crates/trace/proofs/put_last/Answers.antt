@@ -2,7 +2,7 @@
 use Rattle.std.proofs.Common.{◌∙◌, le-leb}
 use borrow.Author.Tests.{lt-leb}
 use Rattle.trace.specs.Feed.{ended_of}
-use Rattle.trace.specs.FeedLaws.{put_front, short_front}
+use Rattle.trace.proofs.FeedLaws.{put_front, short_front}
 use Rattle.trace.proofs.put_last.Goals as goal
 
 pub returns-then-out-line : goal.returns-then-out-line

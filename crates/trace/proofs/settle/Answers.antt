@@ -1,6 +1,6 @@
 -- `trace::settle` meets its contract: only a line lets the kept bytes go. Assumes nothing.
 use Rattle.std.proofs.Common.{refl}
-use Rattle.trace.specs.FeedLaws.{let_go}
+use Rattle.trace.proofs.FeedLaws.{let_go}
 use Rattle.trace.proofs.settle.Goals as goal
 
 pub returns-in-Line : goal.returns-in-Line

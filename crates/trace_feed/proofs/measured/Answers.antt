@@ -5,7 +5,7 @@ use mathlib.Core.Path.{◌≡◌, refl, sym, ap, subst, ◌∙◌}
 use lib.ListN.{length}
 use native.Mathlib.Omega.{arith}
 use Rattle.trace.specs.Trace.{tracing, lines_of}
-use Rattle.trace.specs.TraceLaws.{turn, length_head, length_settled}
+use Rattle.trace.proofs.TraceLaws.{turn, length_head, length_settled}
 use Rattle.trace_engine.specs.Engine.{line_of}
 use mathlib.Core.Bool.{true, false}
 use lib.Dec.{leb}

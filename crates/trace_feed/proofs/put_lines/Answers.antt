@@ -5,7 +5,7 @@ use mathlib.Core.Path.{refl, sym, ap, subst, ◌∙◌}
 use lib.ListN.{length}
 use native.Mathlib.Omega.{arith}
 use Rattle.trace.specs.Trace.{tracing, lines_of}
-use Rattle.trace.specs.TraceLaws.{turn, turn_whole, whole_fits, length_head, length_settled}
+use Rattle.trace.proofs.TraceLaws.{turn, turn_whole, whole_fits, length_head, length_settled}
 use Rattle.trace_engine.specs.Engine.{line_of}
 use Rattle.trace_feed.specs.LoopLaws.{putting_start, putting_more, Done, putting_done}
 use Rattle.trace.specs.declared.Trace.{Trace}

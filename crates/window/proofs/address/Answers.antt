@@ -1,7 +1,7 @@
 -- `address` meets its contract: a register adds less than an upper word's unit, so that no sum wraps. Assumes nothing.
 use Prim.Native.Nat.{◌*◌, ◌/◌, ◌≤◌}
 use native.Mathlib.Omega.{arith}
-use Rattle.window.specs.WindowLaws.{offset_le}
+use Rattle.window.proofs.WindowLaws.{offset_le}
 use Rattle.window.proofs.address.Goals as goal
 use Rattle.window.proofs.address.Goals.{After-granule}
 

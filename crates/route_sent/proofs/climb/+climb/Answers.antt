@@ -1,7 +1,7 @@
 -- `route_sent::climb::climb` calls itself on the bus above. Measure: the bus number, which falls since bus numbers rise at each bridge. Each arm
 -- is one case of the climb's step. Assumes nothing.
 use native.Mathlib.Omega.{arith}
-use Rattle.route_sent.specs.StepLaws.{climb_several, climb_bar, climb_window, climb_host, climb_halts, climb_across, bus_falls}
+use Rattle.route_sent.proofs.StepLaws.{climb_several, climb_bar, climb_window, climb_host, climb_halts, climb_across, bus_falls}
 use Rattle.route_sent.proofs.climb.+climb.Goals as goal
 
 pub tally_on-requires : goal.tally_on-requires

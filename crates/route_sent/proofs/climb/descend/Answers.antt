@@ -1,5 +1,5 @@
 -- `route_sent::climb::descend`: where the walk from no bridges ended, with those crossed before it added. Assumes nothing.
-use Rattle.route_sent.specs.StepLaws.{down_as, down_nowhere}
+use Rattle.route_sent.proofs.StepLaws.{down_as, down_nowhere}
 use Rattle.route_sent.proofs.climb.descend.Goals as goal
 
 pub returns-in-Delivered : goal.returns-in-Delivered

@@ -1,6 +1,6 @@
 -- `route_sent::climb::stays`: the bridge's buses by their registers. Assumes nothing.
 use mathlib.Core.Path.{refl}
-use Rattle.route_sent.specs.AboveLaws.{holds_bus}
+use Rattle.route_sent.proofs.AboveLaws.{holds_bus}
 use Rattle.route_sent.proofs.climb.stays.Goals as goal
 
 pub returns-in-ById : goal.returns-in-ById

@@ -1,5 +1,5 @@
 -- `route_sent::climb::through`: whether the bridge lets the packet past. Assumes nothing.
-use Rattle.route_sent.specs.AboveLaws.{part_fits, sized, bridge_here, through_held, through_past}
+use Rattle.route_sent.proofs.AboveLaws.{part_fits, sized, bridge_here, through_held, through_past}
 use Rattle.route_sent.proofs.climb.through.Goals as goal
 
 pub part-part-requires : goal.part-part-requires

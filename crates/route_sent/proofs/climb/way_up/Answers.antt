@@ -1,5 +1,5 @@
 -- `route_sent::climb::way_up`: by who stands above. Assumes nothing.
-use Rattle.route_sent.specs.AboveLaws.{up_host, up_none, up_several, up_one, leads_here}
+use Rattle.route_sent.proofs.AboveLaws.{up_host, up_none, up_several, up_one, leads_here}
 use Rattle.route_sent.proofs.climb.way_up.Goals as goal
 
 pub through-requires : goal.through-requires

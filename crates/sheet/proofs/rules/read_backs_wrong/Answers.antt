@@ -1,7 +1,7 @@
 -- `sheet::rules::read_backs_wrong` meets its contract: the slots that the function has, and of a bridge four read-backs of zero. Assumes
 -- nothing.
 use mathlib.Core.Path.{sym, ◌∙◌}
-use Rattle.sheet.specs.CheckLaws.{read_backs_of_bridge, read_backs_of_end}
+use Rattle.sheet.proofs.CheckLaws.{read_backs_of_bridge, read_backs_of_end}
 use Rattle.sheet.proofs.rules.read_backs_wrong.Goals as goal
 
 pub returns-then-is_bridge : goal.returns-then-is_bridge

@@ -1,5 +1,5 @@
 -- `Window::holds` compares with the last address, the definition with the one after it. Assumes nothing.
-use Rattle.window.specs.WindowLaws.{ltb_stop}
+use Rattle.window.proofs.WindowLaws.{ltb_stop}
 use Rattle.window.proofs.Window.holds.Goals as goal
 
 pub returns : goal.returns

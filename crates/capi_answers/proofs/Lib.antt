@@ -1,0 +1,2 @@
+-- Theorems on the definitions of specs/, and lemmas.
+pub mod AnswersLaws

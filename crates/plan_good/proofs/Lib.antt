@@ -1,0 +1,21 @@
+-- Theorems on the definitions of specs/, and lemmas.
+pub mod AboveLaws
+pub mod Boards
+pub mod BusRanges
+pub mod ByIdLaws
+pub mod DeliveryLaws
+pub mod Disjoint
+pub mod Examples
+pub mod Ids
+pub mod Items
+pub mod Kept
+pub mod Nested
+pub mod NestedAndApart
+pub mod PlannedGood
+pub mod RecordPieces
+pub mod RefusedExactly
+pub mod Rows
+pub mod Spaces
+pub mod SpareBusesLaws
+pub mod SpareRoomLaws
+pub mod Tree

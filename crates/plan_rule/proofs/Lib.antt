@@ -1,0 +1,19 @@
+-- Theorems on the definitions of specs/, and lemmas.
+pub mod AboveLaws
+pub mod Cap
+pub mod Examples
+pub mod ExtentLaws
+pub mod LayoutLaws
+pub mod NoSpares
+pub mod Numbered
+pub mod NumberingLaws
+pub mod Opened
+pub mod PieceLaws
+pub mod Placed
+pub mod PlacingLaws
+pub mod PoolLaws
+pub mod Preorder
+pub mod RecordLaws
+pub mod RefusalLaws
+pub mod Siblings
+pub mod SizingLaws

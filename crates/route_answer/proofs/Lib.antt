@@ -1,0 +1,4 @@
+-- Theorems on the definitions of specs/, and lemmas.
+pub mod ListedLaws
+pub mod NumberLaws
+pub mod OnwardLaws

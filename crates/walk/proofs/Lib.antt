@@ -1,0 +1,22 @@
+-- Theorems on the definitions of specs/, and lemmas.
+pub mod AboveLaws
+pub mod CardExamples
+pub mod CardToCard
+pub mod CardWays
+pub mod ClimbLaws
+pub mod Delivery
+pub mod Examples
+pub mod Good
+pub mod Holders
+pub mod IdsDelivery
+pub mod IdsLaws
+pub mod MeetingLaws
+pub mod NumberLaws
+pub mod Ranges
+pub mod Reach
+pub mod RegistersLaws
+pub mod SearchLaws
+pub mod Switch
+pub mod TallyLaws
+pub mod WalkLaws
+pub mod WayLaws
