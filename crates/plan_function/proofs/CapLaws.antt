@@ -12,7 +12,7 @@ use Rattle.bar.specs.Bar.{BarSize, SizedSlot}
 use Rattle.lists.specs.Lists.{All}
 use Rattle.plan_rule.specs.declared.Extent.{Extent}
 use Rattle.plan_rule.specs.Cap.{cap}
-use Rattle.plan_rule.proofs.Cap.{capped, cap_cap, cap_align}
+use Rattle.plan_rule.proofs.CapLaws.{capped, cap_cap, cap_align}
 use Rattle.plan_function.specs.Function.{Ends, start_of, after_bar, bar_starts, after_bars, is_empty, window_start, window_stop, after_window}
 use Rattle.plan_function.specs.Function.{below_window}
 

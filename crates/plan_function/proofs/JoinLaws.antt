@@ -19,7 +19,7 @@ use Rattle.plan_rule.specs.Refusals.{Kept}
 use Rattle.plan_rule.specs.declared.Extent.{Extent}
 use Rattle.plan_rule.specs.Sizing.{bus_laid, laid_from, spared}
 use Rattle.plan_rule.specs.Cap.{cap}
-use Rattle.plan_rule.proofs.Cap.{cap_small}
+use Rattle.plan_rule.proofs.CapLaws.{cap_small}
 use Rattle.plan_function.specs.Registers.{bars_from, is_part, is_window_in, bar_start, window_for, values_from}
 use Rattle.plan_function.specs.Function.{Ends, bar_starts, after_bars, values_at, is_empty, window_start, window_stop, window_at}
 use Rattle.plan_function.specs.Function.{after_function, below_function}

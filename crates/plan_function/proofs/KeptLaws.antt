@@ -25,7 +25,7 @@ use Rattle.lists.specs.Lists.{All}
 use Rattle.plan_rule.proofs.RecordLaws.{false_of_not}
 use Rattle.plan_rule.specs.declared.Extent.{Extent}
 use Rattle.plan_rule.specs.Cap.{cap}
-use Rattle.plan_rule.proofs.Cap.{cap_cap, cap_align}
+use Rattle.plan_rule.proofs.CapLaws.{cap_cap, cap_align}
 use Rattle.plan_rule.specs.Pieces.{window_size, window_align}
 use Rattle.plan_function.specs.declared.Cursors.{Cursors}
 use Rattle.plan_function.specs.declared.BarsPlaced.{BarsPlaced}

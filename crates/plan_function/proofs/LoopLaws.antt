@@ -26,7 +26,7 @@ use Rattle.plan_rule.specs.declared.Extent.{Extent}
 use Rattle.plan_rule.specs.Sizing.{nothing, bus_laid}
 use Rattle.plan_rule.proofs.ExtentLaws.{extend_align, extend_content}
 use Rattle.plan_rule.specs.Cap.{cap}
-use Rattle.plan_rule.proofs.Cap.{capped}
+use Rattle.plan_rule.proofs.CapLaws.{capped}
 use Rattle.plan_function.specs.Registers.{bars_from, window_for, values_from}
 use Rattle.plan_function.specs.Function.{Ends, bar_starts, after_bars, values_at, is_empty, window_at, after_window, below_window}
 use Rattle.plan_function.specs.Pass.{cursors_at}

@@ -27,7 +27,7 @@ use Rattle.plan_rule.specs.Placing.{Cursors, cursors_after}
 use Rattle.plan_rule.specs.declared.Extent.{Extent}
 use Rattle.plan_rule.specs.Sizing.{bus_laid}
 use Rattle.plan_rule.specs.Cap.{cap}
-use Rattle.plan_rule.proofs.Cap.{capped}
+use Rattle.plan_rule.proofs.CapLaws.{capped}
 use Rattle.board_record.specs.declared.Host.{Host}
 use Rattle.board_record.specs.declared.Function.{Function}
 use Rattle.board_record.specs.Function.{is_bridge, slot_count, function_of_part, header_wrong}

@@ -24,7 +24,7 @@ use Rattle.plan_rule.specs.Placing.{Cursors, is_window_of}
 use Rattle.plan_rule.specs.declared.Extent.{Extent}
 use Rattle.plan_rule.specs.Sizing.{nothing, extend, with_spare, window_for}
 use Rattle.plan_rule.specs.Cap.{cap}
-use Rattle.plan_rule.proofs.Cap.{capped, cap_align}
+use Rattle.plan_rule.proofs.CapLaws.{capped, cap_align}
 use Rattle.plan_function.proofs.CapLaws.{size_pos}
 use Rattle.plan_function.proofs.FunctionLaws.{select_own}
 use Rattle.plan_items.specs.declared.Told.{Told}

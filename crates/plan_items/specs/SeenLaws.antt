@@ -14,7 +14,7 @@ use Rattle.plan_rule.specs.Pieces.{pieces}
 use Rattle.plan_rule.proofs.PieceLaws.{pieces_owner}
 use Rattle.plan_rule.specs.Placing.{from_bases}
 use Rattle.plan_rule.specs.Cap.{cap}
-use Rattle.plan_rule.proofs.Cap.{cap_past}
+use Rattle.plan_rule.proofs.CapLaws.{cap_past}
 use Rattle.plan_good.specs.Boards.{OpenEndsLow}
 use Rattle.plan_needs.specs.Bases.{is_closed, laid_host}
 use Rattle.finding.specs.declared.Party.{Party}

@@ -26,7 +26,7 @@ use Rattle.plan_rule.specs.declared.Extent.{Extent}
 use Rattle.plan_rule.specs.Sizing.{extend, bus_laid, root_laid}
 use Rattle.plan_rule.proofs.ExtentLaws.{extend_end, extend_align}
 use Rattle.plan_rule.specs.Cap.{limit, cap}
-use Rattle.plan_rule.proofs.Cap.{capped, cap_cap}
+use Rattle.plan_rule.proofs.CapLaws.{capped, cap_cap}
 use Rattle.board_record.specs.declared.Host.{Host}
 use Rattle.board_record.specs.Host.{span_of}
 use Rattle.board.specs.ToPlacing.{to_host}

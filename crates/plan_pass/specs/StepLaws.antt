@@ -27,7 +27,7 @@ use Rattle.plan_rule.proofs.Numbered.{spares_fit, over_le, subordinate_laid}
 use Rattle.plan_rule.specs.Sizing.{bus_laid, laid_from}
 use Rattle.plan_rule.proofs.SizingLaws.{next_le}
 use Rattle.plan_rule.specs.Cap.{cap}
-use Rattle.plan_rule.proofs.Cap.{capped}
+use Rattle.plan_rule.proofs.CapLaws.{capped}
 use Rattle.board_record.specs.declared.Function.{Function}
 use Rattle.board_record.specs.Function.{is_bridge, slot_count, spare_low}
 use Rattle.board.specs.ToPlacing.{to_function, to_placing}

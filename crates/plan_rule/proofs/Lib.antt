@@ -1,6 +1,6 @@
 -- Theorems on the definitions of specs/, and lemmas.
 pub mod AboveLaws
-pub mod Cap
+pub mod CapLaws
 pub mod Examples
 pub mod ExtentLaws
 pub mod LayoutLaws

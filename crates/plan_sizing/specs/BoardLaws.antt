@@ -15,7 +15,7 @@ use Rattle.records.specs.Limits.{most_above}
 use Rattle.plan_rule.specs.Sizing as placing
 use Rattle.plan_rule.specs.Sizing.{bus_laid, ends_past}
 use Rattle.plan_rule.proofs.SizingLaws.{ready_start}
-use Rattle.plan_rule.proofs.Cap.{capped_laid, cap_bus_laid}
+use Rattle.plan_rule.proofs.CapLaws.{capped_laid, cap_bus_laid}
 use Rattle.plan_sizing.specs.declared.Laid.{Laid}
 use Rattle.plan_sizing.specs.Functions.{header_in, functions_in, function_at}
 use Rattle.plan_sizing.specs.FunctionsLaws.{functions_sized, length_functions, functions_at_lem}

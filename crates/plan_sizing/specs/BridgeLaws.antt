@@ -22,7 +22,7 @@ use Rattle.plan_rule.specs.declared.Extent.{Extent}
 use Rattle.plan_rule.specs.Sizing.{nothing, extend, with_spare, laid_from, bus_laid, bars_laid, window_laid, spared, function_laid}
 use Rattle.plan_rule.proofs.ExtentLaws.{extend_align, extend_content}
 use Rattle.plan_rule.proofs.SizingLaws.{ready_below, function_laid_leaf}
-use Rattle.plan_rule.proofs.Cap.{capped_laid, cap_spared, function_laid_turn}
+use Rattle.plan_rule.proofs.CapLaws.{capped_laid, cap_spared, function_laid_turn}
 use Rattle.plan_sizing.specs.declared.Laid.{Laid}
 use Rattle.plan_sizing.specs.Functions.{header_in, functions_in, function_at}
 use Rattle.plan_sizing.specs.FunctionsLaws.{functions_at_lem}

@@ -10,7 +10,7 @@ use Rattle.plan_rule.specs.Records.{Function, Lawful}
 use Rattle.plan_rule.proofs.RecordLaws.{IsAt}
 use Rattle.plan_rule.specs.Sizing.{bus_laid, function_laid}
 use Rattle.plan_rule.proofs.SizingLaws.{bus_laid_end, bus_laid_stop, ready_next, next_lt, function_next_le}
-use Rattle.plan_rule.proofs.Cap.{bus_laid_turn}
+use Rattle.plan_rule.proofs.CapLaws.{bus_laid_turn}
 use Rattle.plan_sizing.specs.declared.Laid.{Laid}
 use Rattle.plan_sizing.specs.Functions.{functions_in, function_at}
 use Rattle.plan_sizing.specs.FunctionsLaws.{functions_sized, length_functions, functions_at_lem}

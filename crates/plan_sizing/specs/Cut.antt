@@ -10,7 +10,7 @@ use Rattle.plan_rule.specs.Records as records
 use Rattle.plan_rule.specs.declared.Extent.{Extent}
 use Rattle.plan_rule.specs.Sizing as placing
 use Rattle.plan_rule.specs.Sizing.{grow, with_bars}
-use Rattle.plan_rule.proofs.Cap.{capped}
+use Rattle.plan_rule.proofs.CapLaws.{capped}
 use Rattle.plan_sizing.specs.declared.Laid.{Laid}
 
 abbrev pub extent_in : Laid → Pool → Extent

@@ -20,7 +20,7 @@ use Rattle.plan_rule.specs.Sizing as placing
 use Rattle.plan_rule.specs.Sizing.{grow, with_bars, with_window, spared}
 use Rattle.plan_rule.proofs.SizingLaws.{laid_ext}
 use Rattle.plan_rule.specs.Cap.{cap}
-use Rattle.plan_rule.proofs.Cap.{capped, cap_cap, cap_align, capped_laid, cap_with_bars}
+use Rattle.plan_rule.proofs.CapLaws.{capped, cap_cap, cap_align, capped_laid, cap_with_bars}
 use Rattle.plan_sizing.specs.declared.Laid.{Laid}
 use Rattle.plan_sizing.specs.FunctionsLaws.{AllSized, bars_from_sized}
 use Rattle.plan_sizing.specs.Cut.{extent_in, with_extent, says, cut, Whole, add_bar, add_slot, add_bars}

@@ -8,7 +8,7 @@ ghost use Rattle.arith.specs.Powers.{PowerOfTwo};
 ghost use Rattle.pools.specs.declared.Pool.{Pool as PoolName};
 ghost use Rattle.bar.specs.Bar.{slots, any_bad, SizedSlot};
 ghost use Rattle.plan_bars.specs.Bars.{bars_from};
-ghost use Rattle.plan_rule.proofs.Cap.{capped};
+ghost use Rattle.plan_rule.proofs.CapLaws.{capped};
 ghost use Rattle.plan_rule.specs.Pieces.{window_align};
 ghost use Rattle.plan_rule.specs.Sizing.{grow as grow_of, with_window, bars_laid, window_laid, spared, laid_from, ends_past};
 ghost use Rattle.plan_sizing.specs.Functions.{header_in, spare_low_in, function_in, functions_in, set_at};

@@ -15,7 +15,7 @@ use Rattle.plan_rule.specs.declared.Extent.{Extent}
 use Rattle.plan_rule.specs.Sizing.{Laid as PlacingLaid, extend, bus_laid, root_laid}
 use Rattle.plan_rule.proofs.ExtentLaws.{extend_align}
 use Rattle.plan_rule.specs.Cap.{limit}
-use Rattle.plan_rule.proofs.Cap.{capped}
+use Rattle.plan_rule.proofs.CapLaws.{capped}
 use Rattle.plan_rule.specs.Refusals.{out_of_pool, refusal_of}
 use Rattle.plan_rule.proofs.RefusalLaws.{refusal_law}
 use Rattle.board_record.specs.declared.Host.{Host}

@@ -19,7 +19,7 @@ use Rattle.plan_rule.specs.Numbering.{bridges}
 use Rattle.plan_rule.specs.declared.Extent.{Extent}
 use Rattle.plan_rule.specs.Sizing.{extend, bus_laid, root_laid, ends_past}
 use Rattle.plan_rule.proofs.ExtentLaws.{extend_align}
-use Rattle.plan_rule.proofs.Cap.{capped, out_of_pool_capped}
+use Rattle.plan_rule.proofs.CapLaws.{capped, out_of_pool_capped}
 use Rattle.plan_rule.specs.Refusals.{out_of_pool, refusal_of}
 use Rattle.plan_rule.proofs.RefusalLaws.{out_of_pool_end}
 use Rattle.board_record.specs.declared.Host.{Host}

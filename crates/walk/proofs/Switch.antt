@@ -16,7 +16,7 @@ use Rattle.walk.specs.Walk.{no_owner, walk_from}
 use Rattle.walk.specs.Climb.{Up, to_host, across, halts, not_master, leading_to, bar_holds, window_holds, up_through, up_from}
 use Rattle.walk.specs.Climb.{Sent, stops, settle_up, go_up, climb_over, climb_from, from_bus, send_from}
 use Rattle.walk.proofs.ClimbLaws.{leading_elim, from_bus_lem}
-use Rattle.walk.specs.Switch.{Clear, Differ, SameBut, gone_up, up_one, ups_from, ups_over}
+use Rattle.walk.specs.Switch.{Clear, SameBut, gone_up, up_one, ups_from, ups_over}
 
 -- ## From the host: any sheet, good or not
 
@@ -29,6 +29,14 @@ tallies_agree enabled enabled' fs address k same clear =
     owner_in : (i : Item) → BarOf fs i ⊎ WindowOf fs i → i.owner ∈ fs
     owner_in i (inl b) = b.in_sheet
     owner_in i (inr w) = w.in_sheet
+
+-- ## Where two bus master bits differ
+
+-- two ways up are one, or one of them goes through k
+data Differ (k : ℕ) (u u' : Up) : Type 0 where
+  alike : u ≡ u' → Differ k u u'
+  by_first : (b : ℕ) → u ≡ across k b → Differ k u u'
+  by_second : (b : ℕ) → u' ≡ across k b → Differ k u u'
 
 module _ (fs : List Registers) (address root k : ℕ) (master master' : ℕ → Bool) (same : SameBut fs k master master') where
   ups_differ : (bus : ℕ) → Differ k (up_from master fs address root bus) (up_from master' fs address root bus)

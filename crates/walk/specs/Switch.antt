@@ -39,11 +39,3 @@ unfoldable pub gone_up : (ℕ → Bool) → (ℕ → Bool) → List Registers �
 gone_up enabled master fs address root f =
     cond (master f.node.number)
     (cond (bar_holds address f) [] (ups_from (tally_on enabled fs address) (up_from master fs address root) f.node.bus)) []
-
--- ## Where two bus master bits differ
-
--- two ways up are one, or one of them goes through k
-data Differ (k : ℕ) (u u' : Up) : Type 0 where
-  alike : u ≡ u' → Differ k u u'
-  by_first : (b : ℕ) → u ≡ across k b → Differ k u u'
-  by_second : (b : ℕ) → u' ≡ across k b → Differ k u u'

@@ -3,7 +3,7 @@ use mathlib.Core.Path.{ap, ◌∙◌}
 use Rattle.arith.specs.PowersLaws.{pos_of_power}
 use Rattle.arith.specs.Align.{align_up}
 use Rattle.plan_rule.specs.Cap.{cap}
-use Rattle.plan_rule.proofs.Cap.{cap_align}
+use Rattle.plan_rule.proofs.CapLaws.{cap_align}
 use Rattle.plan_rule.proofs.start_at.Goals as goal
 
 pub returns : goal.returns

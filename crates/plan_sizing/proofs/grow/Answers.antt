@@ -1,5 +1,5 @@
 -- `plan_sizing::grow` meets its contract: what is cut before a sum and after it is what is cut of the whole sum. Assumes nothing.
-use Rattle.plan_rule.proofs.Cap.{cap_grow}
+use Rattle.plan_rule.proofs.CapLaws.{cap_grow}
 use Rattle.plan_sizing.proofs.grow.Goals as goal
 
 pub returns : goal.returns
