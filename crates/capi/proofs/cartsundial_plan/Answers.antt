@@ -11,7 +11,7 @@ returns-then-written-eq0 c = let both = planned_nothing c.args.board.now c.args.
 
 pub returns-in-Planned : goal.returns-in-Planned
 returns-in-Planned c = let both = planned c.args.board.now c.args.sheet.now c.args.written.now c.if-written-eq0.false c.plan.result c.plan.ensures.0 _
-    c.plan.ensures.1 _ _ (rw c.in-Planned.is c.give_one.ensures) in
+    c.plan.ensures.1 _ _ (rw c.in-Planned.is (c.give_one.ensures.value, c.give_one.ensures.out_after)) in
     record { value = both.0; sheet_after = both.1; written_after = both.2 }
 
 pub returns-in-Refused : goal.returns-in-Refused

@@ -13,5 +13,5 @@ pub slice_bounds-count-end : goal.slice_bounds-count-end
 slice_bounds-count-end c = sym (length-take-le 256 c.args.ledger.now (omega arith))
 
 pub returns : goal.returns
-returns c = let both = count_whole c.args.ledger.now c.args.out.now c.if-ledger-lt-PLACES.false _ _ _ c.count-n.ensures c.give_one.ensures in
+returns c = let both = count_whole c.args.ledger.now c.args.out.now c.if-ledger-lt-PLACES.false _ _ _ c.count-n.ensures (c.give_one.ensures.value, c.give_one.ensures.out_after) in
     record { value = both.0; out_after = both.1 }

@@ -4,5 +4,5 @@ use Rattle.capi_route.proofs.route.Goals as goal
 
 pub returns : goal.returns
 returns c = let both = route_answered _ _ c.args.answer.now _ c.route.ensures _ _
-    c.give_routing.ensures in
+    (c.give_routing.ensures.value, c.give_routing.ensures.out_after) in
     record { value = both.0; answer_after = both.1 }

@@ -20,7 +20,7 @@ slice_bounds-write_script-end-2 c = sym (length-take-le _ _ (omega arith))
 pub returns-in-Written : goal.returns-in-Written
 returns-in-Written c = let both = scripted c.args.board.now c.args.requester c.args.tag c.args.room.now c.args.written.now c.if-requester-gt-LAST_REQUESTER.false c.if-tag-gt-LAST_TAG.false
     c.space_for-space.result c.space_for-space.ensures.value c.write_script.result c.write_script.ensures.0 _
-    c.write_script.ensures.1 _ _ (rw c.in-Written.is c.give_one.ensures) in
+    c.write_script.ensures.1 _ _ (rw c.in-Written.is (c.give_one.ensures.value, c.give_one.ensures.out_after)) in
     record { value = both.0; room_after = both.1; written_after = both.2 }
 
 pub returns-in-Refused : goal.returns-in-Refused

@@ -9,11 +9,11 @@ returns-then-host_id-gt-LAST_ID c = let both = id_wide c.args.host_id _ _ c.if-h
     record { value = both.0; answer_after = both.1 }
 
 pub returns-in-FromHost : goal.returns-in-FromHost
-returns-in-FromHost c = let both = ends_answered c.args.host_id _ _ _ c.if-host_id-gt-LAST_ID.false (FromHost c.in-FromHost.r) (sym c.in-FromHost.is ∙ c.route_sent.ensures) _ _ c.give_routing.ensures in
+returns-in-FromHost c = let both = ends_answered c.args.host_id _ _ _ c.if-host_id-gt-LAST_ID.false (FromHost c.in-FromHost.r) (sym c.in-FromHost.is ∙ c.route_sent.ensures) _ _ (c.give_routing.ensures.value, c.give_routing.ensures.out_after) in
     record { value = both.0; answer_after = both.1 }
 
 pub returns-in-FromFunction : goal.returns-in-FromFunction
-returns-in-FromFunction c = let both = ends_answered c.args.host_id _ _ _ c.if-host_id-gt-LAST_ID.false (FromFunction c.in-FromFunction.number c.in-FromFunction.f) (sym c.in-FromFunction.is ∙ c.route_sent.ensures) _ _ c.give_fate.ensures in
+returns-in-FromFunction c = let both = ends_answered c.args.host_id _ _ _ c.if-host_id-gt-LAST_ID.false (FromFunction c.in-FromFunction.number c.in-FromFunction.f) (sym c.in-FromFunction.is ∙ c.route_sent.ensures) _ _ (c.give_fate.ensures.value, c.give_fate.ensures.out_after) in
     record { value = both.0; answer_after = both.1 }
 
 pub returns-in-Refused : goal.returns-in-Refused

@@ -9,7 +9,7 @@ returns-then-host_id-gt-LAST_ID c = let both = id_wide c.args.host_id _ _ c.if-h
     record { value = both.0; answer_after = both.1 }
 
 pub returns-in-Told : goal.returns-in-Told
-returns-in-Told c = let both = sender_answered c.args.host_id _ _ _ c.if-host_id-gt-LAST_ID.false (Told c.in-Told.s) (sym c.in-Told.is ∙ c.sent_by.ensures) _ _ (sender_given c.in-Told.s _ c.args.answer.now c.number_of.ensures _ _ c.give_one.ensures) in
+returns-in-Told c = let both = sender_answered c.args.host_id _ _ _ c.if-host_id-gt-LAST_ID.false (Told c.in-Told.s) (sym c.in-Told.is ∙ c.sent_by.ensures) _ _ (sender_given c.in-Told.s _ c.args.answer.now c.number_of.ensures _ _ (c.give_one.ensures.value, c.give_one.ensures.out_after)) in
     record { value = both.0; answer_after = both.1 }
 
 pub returns-in-Refused : goal.returns-in-Refused

@@ -13,5 +13,5 @@ returns-then-id-gt-WORD c = let both = command_unowned c.args.sheet.now c.args.i
     record { value = both.0; sheet_after = both.1 }
 
 pub returns : goal.returns
-returns c = let both = commanded c.args.sheet.now c.args.id c.args.command c.if-command-gt-WORD.false _ _ c.set_command.ensures in
+returns c = let both = commanded c.args.sheet.now c.args.id c.args.command c.if-command-gt-WORD.false _ _ (c.set_command.ensures.number, c.set_command.ensures.content) in
     record { value = both.0; sheet_after = both.1 }

@@ -24,5 +24,5 @@ pub returns : goal.returns
 returns c = let both = ended c.args.state.now c.args.lines.now c.args.written.now c.state_of-taken.result c.state_of-taken.ensures
     c.if-taken-ne0.false (λ e. omega (arith, e, c.if-written-lt1.false)) c.finish-last.result c.finish-last.ensures.0 _
     c.finish-last.ensures.1
-    c.if-last-ne0.false _ _ c.give_one.ensures in
+    c.if-last-ne0.false _ _ (c.give_one.ensures.value, c.give_one.ensures.out_after) in
     record { value = both.0; lines_after = both.1; written_after = both.2 }

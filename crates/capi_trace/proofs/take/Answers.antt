@@ -33,5 +33,5 @@ returns c = let line = line_of c.args.engine c.args.bytes.now in
     let both = fed line c.args.state.now c.args.piece.now c.args.lines.now c.args.written.now c.state_of-taken.result c.state_of-taken.ensures
     c.if-taken-ne0.false c.if-written-eq0.false c.feed_by-fed.result c.feed_by-fed.ensures.0 _ c.feed_by-fed.ensures.1
     c.if-fed-ne0.false
-    _ _ _ c.put_state.ensures c.give_one.ensures in
+    _ _ _ c.put_state.ensures (c.give_one.ensures.value, c.give_one.ensures.out_after) in
     record { value = both.0; state_after = both.1; lines_after = both.2; written_after = both.3 }

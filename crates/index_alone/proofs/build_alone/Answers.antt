@@ -13,5 +13,5 @@ root_of-requires c = checked_of_zero _ (sym c.check-n.ensures ∙ c.if-n-ne0.fal
 
 pub returns : goal.returns
 returns c = let both = checked_build c.args.sheet.now c.args.index.now (sym c.check-n.ensures ∙ c.if-n-ne0.false) _
-    c.root_of.ensures _ c.any_host-host.ensures _ _ c.build_sound.ensures in
+    c.root_of.ensures _ c.any_host-host.ensures _ _ (c.build_sound.ensures.number, c.build_sound.ensures.content) in
     record { number = both.0; content = both.1 }

@@ -3,7 +3,7 @@ use Rattle.route_sent.proofs.StepLaws.{listed_host, listed_function, listed_refu
 use Rattle.route_sent.proofs.route_sent_listed.Goals as goal
 
 pub returns-in-FromHost : goal.returns-in-FromHost
-returns-in-FromHost c = let both = listed_host _ _ c.route_sent.ensures _ _ c.in-FromHost.is _ _ c.listed.ensures in
+returns-in-FromHost c = let both = listed_host _ _ c.route_sent.ensures _ _ c.in-FromHost.is _ _ (c.listed.ensures.value, c.listed.ensures.list_after) in
     record { value = both.0; list_after = both.1 }
 
 pub returns-in-FromFunction : goal.returns-in-FromFunction
