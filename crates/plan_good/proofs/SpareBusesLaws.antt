@@ -10,8 +10,8 @@ use Rattle.lists.specs.Lists.{front}
 use Rattle.lists.specs.KeepLaws.{length_front_le}
 use Rattle.plan_rule.specs.Records.{Function, Lawful, run}
 use Rattle.plan_rule.proofs.RecordLaws.{IsAt}
-use Rattle.plan_rule.specs.Preorder.{no_function, parent_of, at, above}
-use Rattle.plan_rule.proofs.Preorder.{AtOrAbove, at_or_above_trans, depth_first_iff}
+use Rattle.plan_rule.specs.Preorder.{no_function, parent_of}
+use Rattle.plan_rule.proofs.Preorder.{AtOrAbove, at_or_above_trans, depth_first_iff, at, above}
 use Rattle.plan_rule.proofs.AboveLaws.{parent_at, parent_before}
 use Rattle.plan_rule.specs.Numbering.{weight, own_spare, bridges, over, bus_number, last_below, subordinate_of}
 use Rattle.plan_rule.proofs.NumberingLaws.{bridges_take_suc, bridges_take_mono, weight_own, weight_bridge, over_record}

@@ -16,7 +16,8 @@ use Rattle.board_record.specs.declared.Rule.TheVariants.{Header, ReadBacks}
 use Rattle.board_record.specs.Host.{host_of_part, host_wrong, host_length, host_at, functions_at}
 use Rattle.board_record.specs.Function.{function_of_part, wrong_in, header_wrong, readbacks_wrong}
 use Rattle.board.proofs.PassLaws.{any_never}
-use Rattle.board.specs.Board.{is_version, any_misplaced, misframed, from_readbacks, from_order, from_edges, from_headers, from_count, from_frame}
+use Rattle.board_order.specs.Order.{any_misplaced}
+use Rattle.board.specs.Board.{is_version, misframed, from_readbacks, from_order, from_edges, from_headers, from_count, from_frame}
 use Rattle.board.specs.Board.{board_number}
 use Rattle.board.proofs.BoardLaws.{any_map, host_of_framed, breaks_of_framed, framed, past_version, past_count, past_headers}
 use Rattle.board.proofs.BoardLaws.{other_version, right_parts, past_edges, past_order, none_misplaced, some_misplaced}

@@ -124,16 +124,36 @@ returns-in_default c = let f = function (goal.at.returns-in_default c).After-bus
     ∙ order_nowhere c.loop-n.buses c.loop-n.nexts c.loop-n.shared c.loop-n.levels c.loop-n.number f _ found) ∙ c.loop-n.invariant.6
 
 pub offset_bounds-nexts-i : goal.offset_bounds-nexts-i
-offset_bounds-nexts-i c = omega (arith, room (goal.at.offset_bounds-nexts-i c).In-At-unread)
+offset_bounds-nexts-i c = omega (
+  arith,
+  lt_of_found (function_of_part c.part_at-part.result.now).parent c.loop-n.buses c.loop-n.levels _
+      (ap (λ (p : ℕ). found_in p c.loop-n.buses c.loop-n.levels) (sym c.parent_of.ensures) ∙ sym c.level_of.ensures ∙ c.in-At.is),
+  c.loop-n.invariant.0,
+)
 
 pub bounds-nexts-i : goal.bounds-nexts-i
-bounds-nexts-i c = omega (arith, room (goal.at.bounds-nexts-i c).In-At-unread)
+bounds-nexts-i c = omega (
+  arith,
+  lt_of_found (function_of_part c.part_at-part.result.now).parent c.loop-n.buses c.loop-n.levels _
+      (ap (λ (p : ℕ). found_in p c.loop-n.buses c.loop-n.levels) (sym c.parent_of.ensures) ∙ sym c.level_of.ensures ∙ c.in-At.is),
+  c.loop-n.invariant.0,
+)
 
 pub offset_bounds-shared-i : goal.offset_bounds-shared-i
-offset_bounds-shared-i c = omega (arith, room (goal.at.offset_bounds-shared-i c).In-At-unread-2)
+offset_bounds-shared-i c = omega (
+  arith,
+  lt_of_found (function_of_part c.part_at-part.result.now).parent c.loop-n.buses c.loop-n.levels _
+      (ap (λ (p : ℕ). found_in p c.loop-n.buses c.loop-n.levels) (sym c.parent_of.ensures) ∙ sym c.level_of.ensures ∙ c.in-At.is),
+  c.loop-n.invariant.0,
+)
 
 pub bounds-shared-i : goal.bounds-shared-i
-bounds-shared-i c = omega (arith, room (goal.at.bounds-shared-i c).In-At-unread-2)
+bounds-shared-i c = omega (
+  arith,
+  lt_of_found (function_of_part c.part_at-part.result.now).parent c.loop-n.buses c.loop-n.levels _
+      (ap (λ (p : ℕ). found_in p c.loop-n.buses c.loop-n.levels) (sym c.parent_of.ensures) ∙ sym c.level_of.ensures ∙ c.in-At.is),
+  c.loop-n.invariant.0,
+)
 
 pub unplaced-requires : goal.unplaced-requires
 unplaced-requires c = lawful (goal.at.unplaced-requires c).After-buses-1
