@@ -10,13 +10,13 @@ use Rattle.route_cards.proofs.send_request.Goals.{After-part-part}
 
 -- its part is whole
 whole : (c : After-part-part) → length c.part-part.result.now ≡ record_size
-whole c = sized _ c.requires.0 _ c.requires.1.is-record _ c.part-part.ensures
+whole c = sized _ c.requires.0 _ c.requires.1.is_record _ c.part-part.ensures
 
 pub overflow_sub-number : goal.overflow_sub-number
-overflow_sub-number c = omega (arith, c.requires.1.is-record.from_1)
+overflow_sub-number c = omega (arith, c.requires.1.is_record.from_1)
 
 pub part-part-requires : goal.part-part-requires
-part-part-requires c = part_fits _ c.requires.0 _ c.requires.1.is-record
+part-part-requires c = part_fits _ c.requires.0 _ c.requires.1.is_record
 
 pub is_master-requires : goal.is_master-requires
 is_master-requires c = whole (goal.at.is_master-requires c).After-part-part
@@ -27,7 +27,7 @@ returns-then-not-is_master c = start_unmastered c.args.p _ c.requires.0 _ c.requ
     c.is_master.ensures (c.if-not-is_master.true)
 
 pub bars_hold-requires : goal.bars_hold-requires
-bars_hold-requires c = (whole (goal.at.bars_hold-requires c).After-part-part, lawful _ c.requires.0 _ c.requires.1.is-record _ c.part-part.ensures)
+bars_hold-requires c = (whole (goal.at.bars_hold-requires c).After-part-part, lawful _ c.requires.0 _ c.requires.1.is_record _ c.part-part.ensures)
 
 pub returns-then-bars_hold : goal.returns-then-bars_hold
 returns-then-bars_hold c = own_bar c.args.p _ c.requires.0 _ c.requires.1 c.args.space c.args.address _ c.part-part.ensures _

@@ -13,16 +13,16 @@ use Rattle.route_cards.proofs.above.through.Goals.{After-part-part}
 
 -- its part is whole
 whole : (c : After-part-part) → length c.part-part.result.now ≡ record_size
-whole c = sized _ c.requires.0 _ c.requires.1.is-record _ c.part-part.ensures
+whole c = sized _ c.requires.0 _ c.requires.1.is_record _ c.part-part.ensures
 
 pub overflow_sub-number : goal.overflow_sub-number
-overflow_sub-number c = omega (arith, c.requires.1.is-record.from_1)
+overflow_sub-number c = omega (arith, c.requires.1.is_record.from_1)
 
 pub part-part-requires : goal.part-part-requires
-part-part-requires c = part_fits _ c.requires.0 _ c.requires.1.is-record
+part-part-requires c = part_fits _ c.requires.0 _ c.requires.1.is_record
 
 pub windows_hold-requires : goal.windows_hold-requires
-windows_hold-requires c = (whole (goal.at.windows_hold-requires c).After-part-part, ap (λ (p : List ℕ). is_bridge (header_of p)) c.part-part.ensures ∙ c.requires.1.is-bridge)
+windows_hold-requires c = (whole (goal.at.windows_hold-requires c).After-part-part, ap (λ (p : List ℕ). is_bridge (header_of p)) c.part-part.ensures ∙ c.requires.1.is_bridge_lem)
 
 pub returns-then-windows_hold : goal.returns-then-windows_hold
 returns-then-windows_hold c = through_held _ c.requires.0 _ c.requires.1 c.args.space c.args.address _ c.part-part.ensures _
