@@ -26,14 +26,13 @@ unfolding last_sibling
 below_step f before h l p = go (eqb f.parent p) refl
   where
     go : (t : Bool) → eqb f.parent p ≡ t
-        → All (λ g. g.parent ≡ p → g.devfn < cond (eqb f.parent p) (suc f.devfn) (last_sibling p before)) (f ∷ before)
-    go true e =
-        rw e (
-          λ _. omega arith,
-          all_imp (λ g. g.parent ≡ p → g.devfn < last_sibling p before) _ before (h p)
-              (λ g k same. omega (arith, k same, ap (λ (q : ℕ). last_sibling q before) (eqb-true f.parent p e))),
-        )
-    go false e = rw e (λ same. absurd (eqb-false f.parent p e same), h p)
+        → All (λ g. g.parent ≡ p → g.devfn < cond t (suc f.devfn) (last_sibling p before)) (f ∷ before)
+    go true e = (
+      λ _. omega arith,
+      all_imp (λ g. g.parent ≡ p → g.devfn < last_sibling p before) _ before (h p)
+          (λ g k same. omega (arith, k same, ap (λ (q : ℕ). last_sibling q before) (eqb-true f.parent p e))),
+    )
+    go false e = (λ same. absurd (eqb-false f.parent p e same), h p)
 
 rising_from : (n : ℕ) (before fs : List Function) → Below before → any_misplaced n before fs ≡ false
     → Pairwise RisesTo fs × All (λ g. All (RisesTo g) fs) before

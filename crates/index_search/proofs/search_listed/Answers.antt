@@ -3,4 +3,4 @@ use mathlib.Core.Path.{sym}
 use Rattle.index_search.proofs.search_listed.Goals as goal
 
 pub returns : goal.returns
-returns c = record { value = rw (sym c.search.ensures) c.listed.ensures.value; list_after = rw (sym c.search.ensures) c.listed.ensures.list_after }
+returns c = record { value = rw (sym c.search.ensures) c.listed.ensures.value; list_after = c.listed.ensures.list_after }
