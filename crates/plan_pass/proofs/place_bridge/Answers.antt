@@ -15,7 +15,7 @@ pub store_cursors-requires : goal.store_cursors-requires
 store_cursors-requires c = c.requires.0.room
 
 pub store_cursors-requires-2 : goal.store_cursors-requires-2
-store_cursors-requires-2 c = omega (arith, c.pre.1.room, c.store_cursors.auto.cursors)
+store_cursors-requires-2 c = omega (arith, c.requires.1.room, c.store_cursors.auto.cursors)
 
 pub returns : goal.returns
 returns c = (

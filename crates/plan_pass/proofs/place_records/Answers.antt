@@ -19,7 +19,7 @@ shape_of-cursors-in-End c = c.loop-n.invariant.cursors_length
 
 -- src/lib.rt:65:17
 pub shape_of-sheet-in-End : goal.shape_of-sheet-in-End
-shape_of-sheet-in-End c = c.loop-n.invariant.sheet_length
+shape_of-sheet-in-End c = c.loop-n.invariant.sheet_length_lem
 
 -- src/lib.rt:65:17
 pub returns-in-End : goal.returns-in-End
@@ -31,7 +31,7 @@ shape_of-cursors-in-Broken c = c.loop-n.invariant.cursors_length
 
 -- src/lib.rt:68:17
 pub shape_of-sheet-in-Broken : goal.shape_of-sheet-in-Broken
-shape_of-sheet-in-Broken c = c.loop-n.invariant.sheet_length
+shape_of-sheet-in-Broken c = c.loop-n.invariant.sheet_length_lem
 
 -- src/lib.rt:68:17
 pub returns-in-Broken : goal.returns-in-Broken
