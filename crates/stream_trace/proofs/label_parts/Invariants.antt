@@ -2,7 +2,7 @@
 -- what the whole piece comes to; the measure is the bytes left. Assumes nothing.
 use Rattle.std.proofs.Common.{◌≡◌, ◌-◌, ◌≤◌, length, drop}
 use Rattle.trace.specs.Trace.{state_of}
-use Rattle.trace.specs.FeedLaws.{Sound}
+use Rattle.trace.proofs.FeedLaws.{Sound}
 use Rattle.stream_trace.proofs.label_parts.Given as goal
 
 abbrev pub invariant-loop-i : goal.invariant-loop-i
