@@ -1,5 +1,5 @@
 -- `stream_trace::opening_of` meets its contract. Assumes nothing.
-use mathlib.Core.Path.{sym}
+use Rattle.std.proofs.Common.{sym}
 use Rattle.stream_trace.specs.ProgramLaws.{opening_long, opening_sheet}
 use Rattle.stream_trace.proofs.opening_of.Goals as goal
 
