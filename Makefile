@@ -1,8 +1,9 @@
 # make                              proves and builds the archive (rt), and over it the command (cargo)
+# make library                      the archive alone, in target/staticlib
 # make check                        the gate: everything proved from nothing, every test
 # make install PREFIX=/usr/local    puts what make built where it belongs; it builds nothing itself, so it needs neither rt nor cargo
 # make uninstall PREFIX=..          takes the same files away
-# make clean                        removes the archive and the command; what was proved, in target/, stays
+# make clean                        removes the archive and the command; what was proved, in crates/*/out, stays
 #
 # DESTDIR is put before every path, for packages. BINDIR, LIBDIR, INCLUDEDIR, MANDIR and DATADIR, for completions, may be given too.
 # install-library, install-command, install-completions, which asks the command for them, and install-man are the parts of install. The proved programs (target/bin) are not installed: the command gives their answers.
@@ -40,10 +41,8 @@ installed = $(BINDIR)/cartsundial $(LIBDIR)/libcartsundial.a $(LIBDIR)/pkgconfig
 
 all: library command
 
-# rt check proves on all cores; rt staticlib, by itself, on one.
 library:
-	$(RT) check capi
-	$(RT) staticlib capi
+	RT='$(RT)' .ci/build capi
 
 command: library
 	$(CARGO) build --release --offline --locked --manifest-path rust/Cargo.toml --target-dir rust/target --package command

@@ -69,12 +69,13 @@ names() {
         sed -E 's/^([^:]*):([0-9]*):`(.*)/\1\t\2\t\3/' | grep -vE $'\t(std|core|alloc)::[^\t]*$'
 }
 
-# Whether a crate of this folder defines the name, in code or in a definition file; a name with * means that there are names like it.
+# Whether a crate of this folder defines the name, in code or in a file of definitions or laws; a name with * means that there are names like
+# it.
 defines() {
     local name=${2//\*/[A-Za-z0-9_]*} code='fn|struct|enum|const|mod|type|trait|static'
     [ -e "$1/src/$name.rt" ] || [ -e "$1/src/$name.rs" ] ||
         grep -rqE --include='*.rt' --include='*.rs' "(^|[ (])($code) $name([^A-Za-z0-9_]|$)" "$1/src" ||
-        { [ -d "$1/specs" ] && grep -rqE --include='*.antt' "^ *(pub )?((abbrev|record|data|devfn|type) )*(pub )?$name( |$)" "$1/specs"; }
+        grep -rqE --include='*.antt' --exclude-dir=out "^ *(pub )?((abbrev|record|data|unfoldable) )*(pub )?$name( |$)" "$1"
 }
 
 missing=0 count=0

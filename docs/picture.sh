@@ -44,7 +44,7 @@ bytes=$(od -An -v -tx1 docs/example/board | tr -d ' \n')
 text=$(sed 's/#.*//' docs/example/board.txt | tr -d ' \n' | tr 'A-F' 'a-f')
 [ "$bytes" = "$text" ] || fail 'docs/example/board.txt spells other bytes than docs/example/board has'
 
-[ -x target/bin/plan ] || fail 'target/bin/plan is not there: rt check plan writes it'
+[ -x target/bin/plan ] || fail 'target/bin/plan is not there: .ci/build plan writes it'
 target/bin/plan <docs/example/board >"$plan"
 diff -u docs/example/plan.txt "$plan" >&2 || fail 'docs/example/plan.txt is not the plan of docs/example/board'
 run command cartsundial plan tests/command/recorder.txt --lines | diff -u docs/example/plan.txt - >&2 ||

@@ -5,7 +5,7 @@
  * Build:  make && make install PREFIX=..     proves everything, then puts libcartsundial.a, this file and cartsundial.pc where they belong
  *         gcc main.c $(pkg-config --cflags --libs cartsundial)
  *
- *         rt staticlib capi                  in the repository, without installing: proves, then writes target/staticlib/libcapi.a
+ *         make library                       in the repository, without installing: proves, then writes target/staticlib/libcapi.a
  *         gcc -Iinclude main.c target/staticlib/libcapi.a
  *
  * The calls stand by job:

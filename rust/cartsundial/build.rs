@@ -1,5 +1,5 @@
 //! Links the proved archive. It is looked for in this order: in the folder that `CARTSUNDIAL_LIB_DIR` names; in the repository,
-//! where `rt staticlib capi` writes it; where pkg-config finds `cartsundial` installed. Wherever it was found, it is then asked
+//! where `make library` writes it; where pkg-config finds `cartsundial` installed. Wherever it was found, it is then asked
 //! for its version, which has to be this crate's.
 
 use std::env;
@@ -181,7 +181,7 @@ fn root(package: &Path) -> &Path {
     package.ancestors().nth(2).unwrap_or(Path::new("."))
 }
 
-/// Where `rt staticlib capi` writes the archive.
+/// Where `make library` writes the archive.
 pub fn in_repository(package: &Path) -> PathBuf {
     root(package).join("target/staticlib")
 }

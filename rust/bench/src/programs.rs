@@ -90,7 +90,7 @@ impl Program {
     fn new(name: &'static str, path: &Path, input: &Path) -> Program {
         assert!(
             path.is_file(),
-            "{} is missing: `rt check label annotate`, `cargo build --profile lto`, `cargo build --release -p command`",
+            "{} is missing: `.ci/build label annotate`, `cargo build --profile lto`, `cargo build --release -p command`",
             path.display()
         );
         Program { name, path: path.into(), arguments: Vec::new(), input: input.into() }

@@ -79,7 +79,7 @@
 //!
 //! The build script links it, for x86-64 and ELF only. It looks, in this order, into the folder that the environment variable
 //! `CARTSUNDIAL_LIB_DIR` names, with `libcartsundial.a` or `libcapi.a`; into the repository's `target/staticlib`, where
-//! `rt staticlib capi` writes it, if the crate is there; and where pkg-config finds `cartsundial`, of this version, as
+//! `make library` writes it, if the crate is there; and where pkg-config finds `cartsundial`, of this version, as
 //! `make install` leaves it. Wherever it was found, the archive is asked for its version; another one than this crate's is refused.
 //!
 //! # In boot code

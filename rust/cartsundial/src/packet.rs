@@ -8,9 +8,9 @@
 //! - A header is judged as it is read: 0 where it is accepted, else the reader's number (`cartsundial_judge`).
 //! - A header that is read is written back to its own first 12 or 16 bytes, and what the writer wrote is read back as the
 //!   same packet (crates/demands/specs/Demand2.antt). So [`write()`] copies the bytes and asks nothing again.
-//! - Lawful packets with the same bytes are one packet (`layout-unique` in crates/tlp/specs/RoundTrip.antt). So packets
+//! - Lawful packets with the same bytes are one packet (`layout_unique` in crates/tlp/specs/RoundTrip.antt). So packets
 //!   are equal exactly when their bytes are.
-//! - Fields that fit their bits are, laid out, judged as the writer judges them (`fitting-layout` in
+//! - Fields that fit their bits are, laid out, judged as the writer judges them (`fitting_layout` in
 //!   crates/tlp_judge/specs/Fitting.antt). So fields get the writer's number.
 //! - A packet arrives as it was read, but for a configuration request of type 1, which becomes type 0: one bit, and no rule
 //!   tells the two types apart.

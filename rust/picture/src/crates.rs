@@ -15,7 +15,7 @@ pub struct Crates {
 }
 
 impl Crates {
-    /// A name that is not listed is a crate of the kit and left out.
+    /// A name that is not listed is a crate of the kit and left out, as is the word for a static library behind a name.
     pub fn read(text: &str) -> Result<Crates, String> {
         let mut groups = Vec::new();
         let mut lines = Vec::new();
@@ -28,6 +28,7 @@ impl Crates {
         }
         let named = |(group, line): (usize, &str)| {
             let (name, on) = line.split_once(':').ok_or(format!("no colon in {line:?}"))?;
+            let name = name.strip_suffix(" staticlib").unwrap_or(name);
             Ok((name.to_string(), group, on.split_whitespace().map(str::to_string).collect()))
         };
         let named: Vec<(String, usize, Vec<String>)> = lines.into_iter().map(named).collect::<Result<_, String>>()?;
@@ -53,7 +54,7 @@ mod tests {
 
     #[test]
     fn groups_and_what_crates_are_built_on() {
-        let text = "# A head.\n\n# Bytes.\nendian:\ntext: endian\n\n# A plan: read,\n# and printed.\nplan: text libc\n";
+        let text = "# A head.\n\n# Bytes.\nendian:\ntext: endian\n\n# A plan: read,\n# and printed.\nplan staticlib: text libc\n";
         let crates = Crates::read(text).unwrap();
         assert_eq!(crates.groups, ["Bytes", "A plan"]);
         let found =
