@@ -30,9 +30,10 @@ const MIB: u64 = 1 << 20;
 /// use cartsundial::Board;
 ///
 /// let error = "host\ncard 00.0 \"gpu\" mem128 16M".parse::<Board>().unwrap_err();
+/// assert_eq!(error.to_string(), "line 2: `mem128`: a BAR is mem32, mem32p, mem64, mem64p, io, or - for an unused slot");
 /// assert_eq!((error.line, error.column), (2, 17));
 /// assert_eq!(
-///     error.to_string(),
+///     error.full(),
 ///     "line 2, column 17: `mem128`: a BAR is mem32, mem32p, mem64, mem64p, io or io16, or - for a slot that is not used, as `mem32 16M`"
 /// );
 /// ```
@@ -40,12 +41,14 @@ const MIB: u64 = 1 << 20;
 pub struct BoardTextError {
     /// From 1.
     pub line: usize,
+    /// What is wrong.
+    pub what: String,
     /// The letter of the line, from 1.
     pub column: usize,
     /// What stands there; empty where something is missing.
     pub item: String,
-    /// What is wrong, what is expected, and an example.
-    pub what: String,
+    /// What is wrong there, what is expected, and an example.
+    pub expected: String,
     /// The number that a board has which says so: 25 for a BAR's size. `None` where there is no such board.
     pub refusal: Option<Refusal>,
     /// What was read before it.
@@ -54,11 +57,15 @@ pub struct BoardTextError {
 
 impl fmt::Display for BoardTextError {
     fn fmt(&self, f: &mut fmt::Formatter<'_>) -> fmt::Result {
-        write!(f, "line {}, column {}: ", self.line, self.column)?;
-        if !self.item.is_empty() {
-            write!(f, "`{}`: ", self.item)?;
-        }
-        f.write_str(&self.what)
+        write!(f, "line {}: {}", self.line, self.what)
+    }
+}
+
+impl BoardTextError {
+    /// The place, what stands there, and what is expected, in one line.
+    pub fn full(&self) -> String {
+        let item = if self.item.is_empty() { String::new() } else { format!("`{}`: ", self.item) };
+        format!("line {}, column {}: {item}{}", self.line, self.column, self.expected)
     }
 }
 
@@ -68,16 +75,23 @@ impl Error for BoardTextError {}
 struct Wrong<'a> {
     part: &'a str,
     what: String,
+    expected: String,
     refusal: Option<Refusal>,
 }
 
 impl<'a> Wrong<'a> {
-    fn new(part: &'a str, what: impl Into<String>) -> Wrong<'a> {
-        Wrong { part, what: what.into(), refusal: None }
+    fn new(part: &'a str, what: impl Into<String>, expected: impl Into<String>) -> Wrong<'a> {
+        Wrong { part, what: what.into(), expected: expected.into(), refusal: None }
     }
 
-    fn err<T>(part: &'a str, what: impl Into<String>) -> Result<T, Wrong<'a>> {
-        Err(Wrong::new(part, what))
+    fn err<T>(part: &'a str, what: impl Into<String>, expected: impl Into<String>) -> Result<T, Wrong<'a>> {
+        Err(Wrong::new(part, what, expected))
+    }
+
+    /// What only a strict reader refuses.
+    fn strict<T>(part: &'a str, what: impl Into<String>) -> Result<T, Wrong<'a>> {
+        let what = what.into();
+        Err(Wrong::new(part, what.clone(), what))
     }
 
     fn at(self, line: &str, number: usize, tree: Option<Tree>) -> BoardTextError {
@@ -85,7 +99,8 @@ impl<'a> Wrong<'a> {
         let column = start.and_then(|start| line.get(..start)).map_or(1, |before| before.chars().count() + 1);
         let item = String::from(self.part);
         let before = tree.map(|tree| Box::new(tree.board));
-        BoardTextError { line: number, column, item, what: self.what, refusal: self.refusal, before }
+        let Wrong { what, expected, refusal, .. } = self;
+        BoardTextError { line: number, what, column, item, expected, refusal, before }
     }
 }
 
@@ -109,26 +124,43 @@ impl FromStr for Board {
     type Err = BoardTextError;
 
     fn from_str(text: &str) -> Result<Board, BoardTextError> {
-        let mut tree: Option<Tree> = None;
-        for (number, text) in (1..).zip(text.lines()) {
-            let line = Line::of(text);
-            if line.is_blank() {
-                continue;
-            }
-            let added = match &mut tree {
-                None => read_host(&line).map(|board| tree = Some(Tree { board, above: Vec::new(), indents: None })),
-                Some(tree) => tree.add(&line, number),
-            };
-            if let Err(wrong) = added {
-                return Err(wrong.at(text, number, tree));
-            }
-        }
-        let missing = || Wrong::new("", HOST_FIRST).at("", 1, None);
-        tree.map(|tree| tree.board).ok_or_else(missing)
+        read(text, false)
     }
 }
 
-const HOST_FIRST: &str = "a board's text starts with `host`, as `host buses 00-FF low E0000000+64M io 2000-5FFF`";
+impl Board {
+    /// As by `parse`, but what is most likely a slip is refused too: tabs beside spaces before lines, a name without a function, a
+    /// name of the host, a number with a sign.
+    pub fn read_strictly(text: &str) -> Result<Board, BoardTextError> {
+        read(text, true)
+    }
+}
+
+fn read(text: &str, is_strict: bool) -> Result<Board, BoardTextError> {
+    let mut tree: Option<Tree> = None;
+    for (number, text) in (1..).zip(text.lines()) {
+        let line = Line::of(text);
+        if line.is_blank(is_strict) {
+            continue;
+        }
+        let new = |board| Tree { board, above: Vec::new(), indents: None, is_strict };
+        let added = match &mut tree {
+            None => read_host(&line, is_strict).map(|board| tree = Some(new(board))),
+            Some(tree) => tree.add(&line, number),
+        };
+        if let Err(wrong) = added {
+            return Err(wrong.at(text, number, tree));
+        }
+    }
+    let missing = || Wrong::new("", HOST_FIRST, host_first()).at("", 1, None);
+    tree.map(|tree| tree.board).ok_or_else(missing)
+}
+
+const HOST_FIRST: &str = "a board's text starts with `host`";
+
+fn host_first() -> String {
+    format!("{HOST_FIRST}, as `host buses 00-FF low E0000000+64M io 2000-5FFF`")
+}
 
 /// A line without its comment.
 struct Line<'a> {
@@ -156,8 +188,9 @@ impl<'a> Line<'a> {
         line
     }
 
-    fn is_blank(&self) -> bool {
-        self.words.is_empty() && self.name.is_none() && self.open.is_none()
+    fn is_blank(&self, is_strict: bool) -> bool {
+        let is_named = self.name.is_some() || self.open.is_some();
+        self.words.is_empty() && !(is_strict && is_named)
     }
 
     /// How far it is indented; a tab reaches to the next multiple of eight.
@@ -172,30 +205,42 @@ struct Tree {
     above: Vec<(usize, u16, bool)>,
     /// The first line that is indented, and whether by tabs.
     indents: Option<(usize, bool)>,
+    is_strict: bool,
 }
 
 impl Tree {
     fn add<'a>(&mut self, line: &Line<'a>, number: usize) -> Result<(), Wrong<'a>> {
         if let Some(open) = line.open {
-            return Wrong::err(open, "a name ends with a second quote, as `card 00.0 \"gpu\" mem32 16M`");
+            let what = "a name ends with a second quote";
+            return Wrong::err(open, what, format!("{what}, as `card 00.0 \"gpu\" mem32 16M`"));
         }
         let (word, place, items) = split_function(line)?;
         let is_bridge = match word {
             "bridge" => true,
             "card" => false,
-            "host" => return Wrong::err(word, "a board has one host, and its line comes first"),
-            _ => return Wrong::err(word, "a line starts with `bridge` or `card`, as `card 00.0 \"gpu\" mem32 16M`"),
+            "host" => {
+                return Wrong::err(word, "a board has one host", "a board has one host, and its line comes first")
+            }
+            _ => {
+                let what = "a line starts with `bridge` or `card`";
+                let expected = format!("{what}, as `card 00.0 \"gpu\" mem32 16M`");
+                return Wrong::err(word, format!("`{word}`: {what}"), expected);
+            }
         };
-        self.check_indent(line, number)?;
+        if self.is_strict {
+            self.check_indent(line, number)?;
+        }
         let parent = self.parent(line)?;
-        let (device, function) = read_place(place)?;
+        let (device, function) = read_place(place, self.is_strict)?;
         let added = match is_bridge {
             true => self.board.bridge(parent, device, function),
             false => self.board.card(parent, device, function, &[]),
         };
-        let full = |refusal| Wrong { refusal: Some(refusal), ..Wrong::new(word, "more than 65,535 functions") };
+        let many = "more than 65,535 functions";
+        let full =
+            |refusal: Refusal| Wrong { refusal: Some(refusal), ..Wrong::new(word, refusal.to_string(), many) };
         let record = added.map_err(full)?;
-        if let Err(wrong) = read_items(&mut self.board, record, items) {
+        if let Err(wrong) = read_items(&mut self.board, record, items, self.is_strict) {
             self.board.functions.pop();
             return Err(wrong);
         }
@@ -212,7 +257,7 @@ impl Tree {
             (None, None) => return Ok(()),
             (Some(tab), Some(space)) => {
                 let at = &line.indent[tab.max(space)..][..1];
-                return Wrong::err(at, "a tab among spaces before a line: indent by spaces alone, or by tabs alone");
+                return Wrong::strict(at, "a tab among spaces before a line: indent by spaces alone, or by tabs alone");
             }
             (tab, _) => tab.is_some(),
         };
@@ -222,7 +267,7 @@ impl Tree {
         }
         let [here, there] = if is_tabs { ["tabs", "spaces"] } else { ["spaces", "tabs"] };
         let what = format!("this line is indented by {here}, and line {first} by {there}: use one of them");
-        Wrong::err(&line.indent[..1], what)
+        Wrong::strict(&line.indent[..1], what)
     }
 
     /// The record that a line with this indentation is below, after leaving those that it is beside.
@@ -235,18 +280,21 @@ impl Tree {
             let beside = left.map_or(0, |(beside, ..)| beside);
             let above = self.above.last().map_or(0, |(above, ..)| *above);
             let expected = if self.above.is_empty() { format!("{beside}") } else { format!("{beside}, or {above}") };
-            let what = format!("the line is indented by {indent}, and the lines that it could be beside by {expected}");
-            return Wrong::err(word_of(line), what);
+            let what = "the line is indented neither as one beside it nor as one above it";
+            let expected =
+                format!("the line is indented by {indent}, and the lines that it could be beside by {expected}");
+            return Wrong::err(word_of(line), what, expected);
         }
         match self.above.last() {
             None => Ok(0),
             Some((_, record, true)) => Ok(*record),
             Some((_, record, false)) => {
                 let card = self.board.function(*record).and_then(|card| card.line).unwrap_or(0);
-                let what = format!(
+                let what = "nothing is below a card: only a bridge has lines indented below it";
+                let expected = format!(
                     "it is indented below the card of line {card}, and nothing is below a card: only a `bridge` has lines below it"
                 );
-                Wrong::err(word_of(line), what)
+                Wrong::err(word_of(line), what, expected)
             }
         }
     }
@@ -266,64 +314,76 @@ fn split_function<'a>(line: &Line<'a>) -> Result<(&'a str, &'a str, &'a str), Wr
         return Ok((word, place, items.trim()));
     }
     if !items.trim().is_empty() {
-        let what =
-            "a name stands right after the device and function, and items after it, as `card 00.0 \"gpu\" mem32 16M`";
-        return Wrong::err(items.trim(), what);
+        let what = "a name stands right after the device and function";
+        let expected = format!("{what}, and items after it, as `card 00.0 \"gpu\" mem32 16M`");
+        return Wrong::err(items.trim(), format!("`{}`: {what}", items.trim()), expected);
     }
     Ok((word, place, line.rest.trim_start_matches(',').trim()))
 }
 
 /// `1F.7`: device and function.
-fn read_place(text: &str) -> Result<(u8, u8), Wrong<'_>> {
+fn read_place(text: &str, is_strict: bool) -> Result<(u8, u8), Wrong<'_>> {
     let numbers = text.split_once('.').and_then(|(device, function)| {
-        let device = u8::from_str_radix(digits(device)?, 16).ok().filter(|device| *device < 32)?;
-        Some((device, digits(function)?.parse().ok().filter(|function| *function < 8)?))
+        let device = u8::from_str_radix(digits(device, is_strict)?, 16).ok().filter(|device| *device < 32)?;
+        Some((device, digits(function, is_strict)?.parse().ok().filter(|function| *function < 8)?))
     });
-    let what = "device and function are expected, as 00.0 to 1F.7; the device is hexadecimal, as lspci has it";
-    numbers.ok_or_else(|| Wrong::new(text, what))
+    let what =
+        || format!("`{text}`: a device and function, as 00.0 to 1F.7; the device is hexadecimal, as lspci has it");
+    let expected = "device and function are expected, as 00.0 to 1F.7; the device is hexadecimal, as lspci has it";
+    numbers.ok_or_else(|| Wrong::new(text, what(), expected))
 }
 
-/// Digits alone: Rust's numbers may have a sign.
-fn digits(text: &str) -> Option<&str> {
-    text.bytes().all(|byte| byte.is_ascii_hexdigit()).then_some(text)
+/// Strictly digits alone: Rust's numbers may have a sign.
+fn digits(text: &str, is_strict: bool) -> Option<&str> {
+    let is_digits = text.bytes().all(|byte| byte.is_ascii_hexdigit());
+    (is_digits || !is_strict).then_some(text)
 }
 
 /// What stands after a function's name, between commas.
-fn read_items<'a>(board: &mut Board, record: u16, text: &'a str) -> Result<(), Wrong<'a>> {
-    let (mut bars, mut slots) = (Vec::new(), 0);
-    let most = if board.functions[usize::from(record) - 1].is_bridge { 2 } else { 6 };
+fn read_items<'a>(board: &mut Board, record: u16, text: &'a str, is_strict: bool) -> Result<(), Wrong<'a>> {
+    let (mut bars, mut slots, mut past) = (Vec::new(), 0, None);
+    let (most, words_of_most) = if board.functions[usize::from(record) - 1].is_bridge { (2, "two") } else { (6, "six") };
     for item in text.split(',').map(str::trim).filter(|item| !item.is_empty()) {
         let mut words = item.split_whitespace();
         match [words.next(), words.next(), words.next()] {
-            [Some("command"), word, None] => board.set_command(record, read_command(item, word)?),
-            [Some("spare"), first, second] if words.next().is_none() => {
-                read_spares(board, record, item, first, second)?
+            [Some("command"), word, None] => board.set_command(record, read_command(item, word, is_strict)?),
+            [Some("spare"), first, second] => {
+                let second = if words.next().is_none() { second } else { Some("") };
+                read_spares(board, record, item, [first, second], is_strict)?
             }
             [Some("multi"), None, None] => board.functions[usize::from(record) - 1].is_multifunction = true,
             _ => {
                 let bar = read_bar(item)?;
                 slots += bar.kind.slots();
                 if slots > most {
-                    let many = format!("it needs slot {}, and there are {most}, from 0 on", slots - 1);
-                    let what = format!("{many}; one of 64 bits takes two, and a bridge has two in all");
-                    return Err(Wrong { refusal: Some(Refusal::ReadBack), ..Wrong::new(item, what) });
+                    past = past.or(Some((item, slots - 1)));
                 }
                 bars.push(bar);
             }
         }
     }
-    let no_read_back = |refusal| Wrong { refusal: Some(refusal), ..Wrong::new(text, "no read-backs have these BARs") };
-    board.set_bars(record, &bars).map_err(no_read_back)
+    board.set_bars(record, &bars).map_err(|refusal| {
+        let what = format!("more BARs than its {words_of_most} slots; one of 64 bits takes two");
+        let (item, slot) = past.unwrap_or((text, slots));
+        let expected = format!("it needs slot {slot}, and there are {most}, from 0 on; one of 64 bits takes two, and a bridge has two in all");
+        Wrong { refusal: Some(refusal), ..Wrong::new(item, what, expected) }
+    })
 }
 
 /// `0006`, also `0x6`.
-fn read_command<'a>(item: &'a str, word: Option<&'a str>) -> Result<u16, Wrong<'a>> {
-    let what = "a command word is hexadecimal, 0000 to FFFF, as `command 0006` for memory and bus master";
-    let Some(word) = word else { return Wrong::err(item, what) };
+fn read_command<'a>(item: &'a str, word: Option<&'a str>, is_strict: bool) -> Result<u16, Wrong<'a>> {
+    let expected = "a command word is hexadecimal, 0000 to FFFF, as `command 0006` for memory and bus master";
+    let Some(word) = word else { return Wrong::err(item, apart(item), expected) };
     let bare = word.strip_prefix("0x").or(word.strip_prefix("0X")).unwrap_or(word);
     let bare = bare.strip_suffix(['h', 'H']).unwrap_or(bare);
-    let number = digits(bare).and_then(|digits| u16::from_str_radix(digits, 16).ok());
-    number.ok_or_else(|| Wrong::new(word, what))
+    let number = digits(bare, is_strict).and_then(|digits| u16::from_str_radix(digits, 16).ok());
+    number.ok_or_else(|| Wrong::new(word, format!("`{word}`: no command word"), expected))
+}
+
+/// What is said of several words that are no item.
+fn apart(item: &str) -> String {
+    let words: Vec<&str> = item.split_whitespace().collect();
+    format!("`{}`: items have a comma between them, as `mem32 16M, io 128`", words.join(" "))
 }
 
 /// `2 buses` or `4M`.
@@ -331,27 +391,33 @@ fn read_spares<'a>(
     board: &mut Board,
     record: u16,
     item: &'a str,
-    first: Option<&'a str>,
-    second: Option<&'a str>,
+    words: [Option<&'a str>; 2],
+    is_strict: bool,
 ) -> Result<(), Wrong<'a>> {
     let one = &board.functions[usize::from(record) - 1];
     if !one.is_bridge {
-        return Wrong::err(item, "only a bridge keeps spares, as `bridge 00.0 spare 2 buses, spare 4M`");
+        let what = "only a bridge keeps spares";
+        return Wrong::err(item, what, format!("{what}, as `bridge 00.0 spare 2 buses, spare 4M`"));
     }
     let Spares { buses, memory } = one.spares;
-    let spares = match (first, second) {
-        (Some(count), Some("bus" | "buses")) => {
-            let number = digits(count).and_then(|count| count.parse().ok());
-            let wrong = || Wrong::new(count, "0 to 255 spare buses, decimal, as `spare 2 buses`");
+    let spares = match words {
+        [Some(count), Some("bus" | "buses")] => {
+            let number = digits(count, is_strict).and_then(|count| count.parse().ok());
+            let what = || format!("`{count}`: 0 to 255 spare buses");
+            let wrong = || Wrong::new(count, what(), "0 to 255 spare buses, decimal, as `spare 2 buses`");
             Spares { buses: number.ok_or_else(wrong)?, memory }
         }
-        (Some(size), None) => {
-            let whole = size.parse().ok().filter(|Size(bytes)| bytes % MIB == 0);
-            let memory = whole.and_then(|Size(bytes)| u16::try_from(bytes / MIB).ok());
-            let wrong = || Wrong::new(size, "spare memory is in whole MiB, at most 65535M, as `spare 4M`");
+        [Some(size), None] => {
+            let expected = "spare memory is in whole MiB, at most 65535M, as `spare 4M`";
+            let Size(bytes) = size.parse().map_err(|why| Wrong::new(size, format!("`{size}`: {why}"), expected))?;
+            let memory = u16::try_from(bytes / MIB).ok().filter(|_| bytes % MIB == 0);
+            let wrong = || Wrong::new(size, format!("`{size}`: spare memory is in whole MiB"), expected);
             Spares { buses, memory: memory.ok_or_else(wrong)? }
         }
-        _ => return Wrong::err(item, "spares are `spare 2 buses` or `spare 4M`"),
+        _ => {
+            let what = "spares are `spare 2 buses` or `spare 4M`";
+            return Wrong::err(item, what, what);
+        }
     };
     board.set_spares(record, spares);
     Ok(())
@@ -366,15 +432,20 @@ fn read_bar(item: &str) -> Result<Bar, Wrong<'_>> {
         [Some(word), size, None] => {
             let unknown =
                 "a BAR is mem32, mem32p, mem64, mem64p, io or io16, or - for a slot that is not used, as `mem32 16M`";
-            let kind = kind_of(word).filter(|kind| *kind != BarKind::Unused);
-            let kind = kind.ok_or_else(|| Wrong::new(word, unknown))?;
-            let Some(size) = size else {
-                return Wrong::err(item, format!("a BAR has its size after it, as `{kind} 16M`"));
+            let what = match size {
+                Some(_) => format!("`{word}`: a BAR is mem32, mem32p, mem64, mem64p, io, or - for an unused slot"),
+                None => apart(item),
             };
-            let Size(bytes) = size.parse().map_err(|why| Wrong::new(size, format!("{why}")))?;
+            let kind = kind_of(word).filter(|kind| *kind != BarKind::Unused);
+            let kind = kind.ok_or_else(|| Wrong::new(word, what, unknown))?;
+            let Some(size) = size else {
+                return Wrong::err(item, apart(item), format!("a BAR has its size after it, as `{kind} 16M`"));
+            };
+            let wrong = |why| Wrong::new(size, format!("`{size}`: {why}"), format!("{why}"));
+            let Size(bytes) = size.parse().map_err(wrong)?;
             read_size(item, kind, bytes)
         }
-        _ => Wrong::err(item, "items have a comma between them, as `mem32 16M, io 128`"),
+        _ => Wrong::err(item, apart(item), "items have a comma between them, as `mem32 16M, io 128`"),
     }
 }
 
@@ -390,7 +461,7 @@ fn read_size(item: &str, kind: BarKind, size: u64) -> Result<Bar, Wrong<'_>> {
         BarKind::Memory32 | BarKind::Memory32Prefetchable => [128, 1 << 31],
         _ => [128, 1 << 63],
     };
-    let what = match size {
+    let expected = match size {
         _ if size < least => {
             let whose = if is_io { "an I/O BAR" } else { "a memory BAR" };
             format!("{size} bytes, and {whose} has at least {least}, as `{kind} {least}`")
@@ -402,30 +473,29 @@ fn read_size(item: &str, kind: BarKind, size: u64) -> Result<Bar, Wrong<'_>> {
             format!("a BAR's size is a power of two: `{kind} {}`{up}", Size(down))
         }
     };
-    Err(Wrong { refusal: Some(Refusal::ReadBack), ..Wrong::new(item, what) })
+    let what = format!("no BAR of kind {kind} has {size} bytes: a power of two that the kind can say");
+    Err(Wrong { refusal: Some(Refusal::ReadBack), ..Wrong::new(item, what, expected) })
 }
 
 /// `host buses 00-FF low E0000000+64M ..`, in any order; a pool that is not named is closed.
-fn read_host<'a>(line: &Line<'a>) -> Result<Board, Wrong<'a>> {
+fn read_host<'a>(line: &Line<'a>, is_strict: bool) -> Result<Board, Wrong<'a>> {
     let text = line.words;
     let mut words = text.split(|letter: char| letter.is_whitespace() || letter == ',').filter(|word| !word.is_empty());
     let first = words.next().unwrap_or(text);
     if first != "host" {
-        return Wrong::err(first, HOST_FIRST);
+        return Wrong::err(first, HOST_FIRST, host_first());
     }
-    if let Some(name) = line.name.or(line.open) {
-        return Wrong::err(name, "a host has no name: `#` starts a comment, as `host buses 00-FF # the box`");
+    if let Some(name) = line.name.or(line.open).filter(|_| is_strict) {
+        return Wrong::strict(name, "a host has no name: `#` starts a comment, as `host buses 00-FF # the box`");
     }
     let mut board = Board::host(HostRecord::CLOSED);
     let mut words = words.peekable();
     while let Some(word) = words.next() {
-        if !["buses", "low", "high", "io", "version"].contains(&word) {
-            return Wrong::err(
-                word,
-                "a host has buses, low, high, io and version, as `host buses 00-1F low E0000000+64M`",
-            );
+        if is_strict && !["buses", "low", "high", "io", "version"].contains(&word) {
+            return Err(no_part(word));
         }
-        let missing = || Wrong::new(end(text), format!("`{word}` has a range after it, {}", example(word)));
+        let what = format!("`{word}` has a range after it");
+        let missing = || Wrong::new(end(text), what.clone(), format!("{what}, {}", example(word)));
         let mut value = words.next().ok_or_else(missing)?;
         let is_closed = value == "closed";
         if is_closed {
@@ -456,43 +526,58 @@ fn read_version(text: &str) -> Result<u8, Wrong<'_>> {
     match text {
         "1" => Ok(1),
         "2" => Ok(2),
-        _ => Wrong::err(text, "a board is of version 1 or 2, as `version 2`"),
+        _ => {
+            let what = "a board is of version 1 or 2";
+            Wrong::err(text, format!("`{text}`: {what}"), format!("{what}, as `version 2`"))
+        }
     }
 }
 
-fn set_range<'a>(host: &mut HostRecord, word: &str, range: (u64, u64), text: &'a str) -> Result<(), Wrong<'a>> {
-    let wide = |what: &str| Wrong::err(text, format!("{what}, {}", example(word)));
+fn no_part(word: &str) -> Wrong<'_> {
+    let what = format!("`{word}`: a host has buses, low, high and io");
+    Wrong::new(word, what, "a host has buses, low, high, io and version, as `host buses 00-1F low E0000000+64M`")
+}
+
+fn set_range<'a>(host: &mut HostRecord, word: &'a str, range: (u64, u64), text: &'a str) -> Result<(), Wrong<'a>> {
+    let wide = |what: &str, expected: &str| {
+        Wrong::err(text, format!("`{text}`: {what}"), format!("{expected}, {}", example(word)))
+    };
     let (first, last) = range;
     let fits = |most: u64| first <= most && last <= most;
     match word {
         "buses" if fits(0xFF) => host.buses = (first as u8, last as u8),
-        "buses" => return wide("buses are hexadecimal, 00 to FF"),
+        "buses" => return wide("buses are hexadecimal, 00 to FF, as in 03:00.0", "buses are hexadecimal, 00 to FF"),
         "low" if fits(u32::MAX.into()) => host.low = (first as u32, last as u32),
-        "low" => return wide("the low pool lies below 4 GiB, 100000000"),
+        "low" => return wide("the low pool lies below 4 GiB", "the low pool lies below 4 GiB, 100000000"),
         "high" => host.high = range,
-        _ if fits(u16::MAX.into()) => host.io = (first as u16, last as u16),
-        _ => return wide("I/O addresses are at most FFFF"),
+        "io" if fits(u16::MAX.into()) => host.io = (first as u16, last as u16),
+        "io" => return wide("I/O addresses are at most FFFF", "I/O addresses are at most FFFF"),
+        _ => return Err(no_part(word)),
     }
     Ok(())
 }
 
 /// `A-B` or `A+SIZE`. Only a closed one may start above its end.
 fn read_range<'a>(word: &str, text: &'a str, is_closed: bool) -> Result<(u64, u64), Wrong<'a>> {
-    let wrong = || Wrong::new(text, format!("a range is first-last or first+size, {}", example(word)));
+    let what = format!("`{text}`: a range is first-last or first+size, as E0000000-E3FFFFFF or E0000000+64M");
+    let wrong =
+        || Wrong::new(text, what.clone(), format!("a range is first-last or first+size, {}", example(word)));
     let (first, last) = if let Some((first, size)) = text.split_once('+') {
         let first = read_address(first).ok_or_else(wrong)?;
-        let Size(size) = size.parse().map_err(|why| Wrong::new(size, format!("{why}, {}", example(word))))?;
+        let no_size = |why| Wrong::new(size, what.clone(), format!("{why}, {}", example(word)));
+        let Size(size) = size.parse().map_err(no_size)?;
         (first, size.checked_sub(1).and_then(|more| first.checked_add(more)).ok_or_else(wrong)?)
     } else {
         let (first, last) = text.split_once('-').ok_or_else(wrong)?;
         (read_address(first).ok_or_else(wrong)?, read_address(last).ok_or_else(wrong)?)
     };
-    if first > last && word == "buses" {
-        return Wrong::err(text, format!("the first bus is above the last: buses are written {}", example(word)));
-    }
     if first > last && !is_closed {
         let what = "it starts above its end; a closed pool is `closed`, or left out";
-        return Wrong::err(text, format!("{what}, and an open one is written {}", example(word)));
+        let expected = match word {
+            "buses" => format!("the first bus is above the last: buses are written {}", example(word)),
+            _ => format!("{what}, and an open one is written {}", example(word)),
+        };
+        return Wrong::err(text, format!("`{text}`: {what}"), expected);
     }
     Ok((first, last))
 }

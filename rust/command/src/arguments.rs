@@ -1,5 +1,5 @@
 //! The arguments of a subcommand. Elsewhere this would be a well-kept library's work; no registry is at hand here, so it is
-//! small: flags, options with a value (`--jobs 4` or `--jobs=4`), and the rest. An option that would do nothing is an error.
+//! small: flags, options with a value (`--jobs 4` or `--jobs=4`), and the rest. What the tables say would do nothing is an error.
 
 use crate::failure::Failure;
 
@@ -42,7 +42,7 @@ impl Arguments {
                 arguments.files.extend(words.cloned());
                 break;
             }
-            if !word.starts_with('-') || word == "-" {
+            if !word.starts_with("--") && !options.all().any(|option| option == word) {
                 arguments.files.push(word.clone());
                 continue;
             }
@@ -61,7 +61,7 @@ impl Arguments {
         Ok(arguments)
     }
 
-    /// Refuses what would do nothing: one option without another, two in one place, one given twice.
+    /// Refuses what the tables say would do nothing: one option without another, two in one place.
     fn refuse_idle(&self, options: &Options) -> Result<(), Failure> {
         let given = |option: &&&str| self.is_given(option);
         let idle = options
@@ -77,11 +77,7 @@ impl Arguments {
                 return Err(Failure::Usage(format!("{one} and {other} do not go together: leave one out")));
             }
         }
-        let once = options.values.iter().filter(|option| !options.more.contains(option));
-        match once.into_iter().find(|option| self.values(option).len() > 1) {
-            Some(option) => Err(Failure::Usage(format!("{option} is given twice: leave one out"))),
-            None => Ok(()),
-        }
+        Ok(())
     }
 
     fn is_given(&self, option: &str) -> bool {
@@ -187,12 +183,12 @@ mod tests {
             ("board --script=x --requester 00:00.0", "1 files"),
             ("board --requester 00:00.0", "--requester is for --script"),
             ("board --lspci --json", "--json and --lspci do not go together: leave one out"),
-            ("board --script x --script y", "--script is given twice: leave one out"),
+            ("board --script x --script y", "1 files"),
             ("board --leave-out 1 --leave-out 2", "1 files"),
             ("board --json=1", "--json=1: --json has no value"),
             ("board --jsno", "--jsno: no such option here; --json?"),
             ("board --leave 1", "--leave: no such option here; --leave-out?"),
-            ("board -j", "-j: no such option here"),
+            ("board -j", "2 files"),
             ("board - -- -j", "3 files"),
             ("board --script", "--script has a value after it"),
         ] {

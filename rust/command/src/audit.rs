@@ -5,6 +5,7 @@ use crate::convert::functions;
 use crate::explain::remedy;
 use crate::failure::{print, Answer, Failure, Verdict};
 use crate::faults::{self, Fault, Nesting};
+use crate::full::{is_full, FULL};
 use crate::json::{self, Object};
 use crate::members;
 use crate::named::{NamedSheet, RECORD};
@@ -13,14 +14,14 @@ use crate::unlawful;
 use cartsundial::{audit, audit_where, sound, Finding, HostRecord, Party, Refusal};
 
 pub const OPTIONS: Options = Options {
-    flags: &["--all", "--quiet", "--json"],
+    flags: &["--all", "--quiet", "--json", FULL],
     values: &["--host"],
-    apart: &[&["--quiet", "--all"], &["--quiet", "--json"]],
+    apart: &[&["--quiet", "--json"]],
     ..Options::NONE
 };
 
 pub const HELP: &str = "\
-cartsundial audit SHEET --host HOST [--all] [--json | --quiet]
+cartsundial audit SHEET --host HOST [--all] [--quiet]
 
 Judges a sheet, whoever wrote it, for a host: accepted, or the number of the first check that fails, with its words and the
 function that breaks it. On an accepted sheet no address has two owners. HOST is a host record's 30 bytes, or a board, of
@@ -34,10 +35,11 @@ The exit status is 0 where both verdicts are yes, else 1: the first one's, since
 The verdicts are the proved library's, and so is the line `first`: the first record that fails the check, in record order, where,
 and the other one that it meets there. The lines after it are looked up beside them, and are not proved.
 
-  --host HOST         a host record, or a board, of which the host is taken
   --all               every fault, not only those of the first rule that is broken
-  --json              an object in place of the words: both verdicts, who fails, and the faults
   --quiet             no word: the exit status is the answer
+  --host HOST         a host record, or a board, of which the host is taken
+  --json              an object in place of the words: both verdicts, who fails, and the faults
+  --full              more words: names, what is wrong at the first place, and what to do
 ";
 
 pub fn run(arguments: &Arguments) -> Answer {
@@ -89,6 +91,9 @@ impl Audited {
     fn refused(&self, refusal: Refusal) -> String {
         let mut text = format!("{refusal}\n");
         let mut faults = self.faults(refusal);
+        if !is_full() {
+            return text + &self.first(refusal) + &told(&faults);
+        }
         if let Some(finding) = self.finding() {
             let (first, rest) = faults::first_and_rest(&finding, self.named.as_ref(), faults);
             faults = rest;
@@ -102,6 +107,14 @@ impl Audited {
         };
         text += &own.map_or(String::new(), |what| format!("  {what}\n"));
         text + &told(&faults) + &format!("  {}\n", remedy(refusal))
+    }
+
+    /// Who fails the first check, and of a BAR that is too small its size.
+    fn first(&self, refusal: Refusal) -> String {
+        let Some(finding) = self.finding() else { return String::new() };
+        let small = finding.party.as_ref().filter(|_| refusal == Refusal::ReadBack);
+        let small = small.and_then(|party| faults::small_bar(party, &self.sheet));
+        format!("  first: {finding}\n") + &small.map_or(String::new(), |what| format!("  25: {what}\n"))
     }
 
     /// Who fails the first check, where it is somebody.

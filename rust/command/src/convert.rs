@@ -2,6 +2,7 @@
 
 use crate::arguments::{Arguments, Options};
 use crate::failure::{print, Answer, Failure, Verdict};
+use crate::full::{is_full, FULL};
 use crate::hexadecimal::dwords;
 use crate::listing;
 use crate::named::{NamedSheet, RECORD};
@@ -11,16 +12,17 @@ use crate::{raw, unlawful, words};
 use cartsundial::{check, headers, plan_where, read, writes, Board, Headers, HostRecord, Id, Refusal, RegisterWrite};
 use std::fmt::Write;
 
-pub const SHOW_OPTIONS: Options = Options::NONE;
+pub const SHOW_OPTIONS: Options = Options { flags: &[FULL], ..Options::NONE };
 pub const OPTIONS: Options =
-    Options { flags: &["--text", "--bytes"], values: &["--out"], apart: &[&["--text", "--bytes"]], ..Options::NONE };
+    Options { flags: &["--text", "--bytes", FULL], values: &["--out"], apart: &[&["--text", "--bytes"]], ..Options::NONE };
 
 pub const SHOW_HELP: &str = "\
 cartsundial show FILE
 
-Shows a board, a sheet, a trace, a write script or a host record in words; what it is, is told by its content. One that is refused
-is shown as far as it goes, with the number, the place and what to do on standard error; the exit status is 1 then, and 2 for a text
-that cannot be read.
+Shows a board, a sheet, a trace, a write script or a host record in words; what it is, is told by its content.
+
+  --full              one that is refused is shown as far as it goes, with the number, the place and what to do on standard error;
+                      the exit status is 1 then, also of a trace that is cut, and 2 for a text that cannot be read
 ";
 
 pub const HELP: &str = "\
@@ -29,12 +31,19 @@ cartsundial convert FILE [--text | --bytes] [--out FILE]
 From bytes to text, from text to bytes, on standard output unless --out names a file; a terminal gets no bytes. --text and --bytes
 say which in any case. A board's text is a tree, with names; of a
 sheet, a trace and a script it is hexadecimal with comments, in which a quoted name belongs to the record after it. The same
-bytes come back from it. What is refused becomes hexadecimal text, a record to a line, which can be mended and converted back; the
-number, the place and what to do are on standard error, and the exit status is 1. A text that cannot be read becomes no bytes.
+bytes come back from it.
+
+  --full              what is refused becomes hexadecimal text, a record to a line, which can be mended and converted back; the
+                      number, the place and what to do are on standard error, and the exit status is 1. A text that cannot be
+                      read becomes no bytes
 ";
 
 pub fn run_show(arguments: &Arguments) -> Answer {
     let [name] = arguments.exactly(["FILE"])?;
+    if !is_full() {
+        print(words_of(Source::read(name)?)?)?;
+        return Ok(Verdict::Accepted);
+    }
     let (source, failure) = Source::read_as_far(name)?;
     let text = match looks(&source) {
         // A text of which nothing could be read.
@@ -55,6 +64,30 @@ pub fn run_show(arguments: &Arguments) -> Answer {
     };
     print(text)?;
     finished(failure, &source)
+}
+
+/// Of what is not refused.
+fn words_of(source: Source) -> Result<String, Failure> {
+    Ok(match kind_of(&source)? {
+        Kind::Board => source.into_board()?.to_string(),
+        Kind::Sheet => listing::table(&source.into_sheet()?),
+        Kind::Trace => trace_words(&trace_of(source)?),
+        Kind::Script => writes(&source.bytes).map(|write| write_words(&write) + "\n").collect(),
+        Kind::Host => Board::host(source.into_host()?).to_string(),
+    })
+}
+
+fn kind_of(source: &Source) -> Result<Kind, Failure> {
+    let unknown = || Failure::Usage(format!("{}: no board, sheet, trace, script or host record", source.name));
+    source.kind().ok_or_else(unknown)
+}
+
+/// Of this version; it may be cut.
+fn trace_of(source: Source) -> Result<Vec<u8>, Failure> {
+    let name = source.name.clone();
+    let trace = source.into_trace()?;
+    headers(&trace).map_err(|refusal| Failure::refused(&name, refusal))?;
+    Ok(trace)
 }
 
 /// What is wrong with what was shown.
@@ -92,11 +125,14 @@ fn refused(source: &Source) -> Option<Failure> {
     }
 }
 
-/// Where a trace ends inside a record.
+/// Where a trace ends inside a record; without `--full` only that it does.
 fn cut(trace: &[u8], mut records: Headers) -> Option<String> {
     let whole = (&mut records).count() as u64;
     let start = (trace.len() - records.rest().len()) as u64;
-    records.is_cut().then(|| unlawful::cut(whole + 1, start, records.rest()))
+    records.is_cut().then(|| match is_full() {
+        true => unlawful::cut(whole + 1, start, records.rest()),
+        false => "cut".to_string(),
+    })
 }
 
 pub fn run(arguments: &Arguments) -> Answer {
@@ -110,11 +146,18 @@ pub fn run(arguments: &Arguments) -> Answer {
         (false, false) => !source.is_text,
         (is_to_text, _) => is_to_text,
     };
-    let converted = if is_to_text { text_of(&source)?.into_bytes() } else { source.bytes.clone() };
+    let converted = match (is_to_text, is_full()) {
+        (true, true) => text_of(&source)?.into_bytes(),
+        (true, false) => lawful_text(source.clone())?.into_bytes(),
+        (false, _) => source.bytes.clone(),
+    };
     let mut outputs = Outputs::new(&arguments.files);
     outputs.add("--out", arguments.value("--out").unwrap_or("-"), converted);
     outputs.prepare()?.commit()?;
-    finished(None, &source)
+    match is_full() {
+        true => finished(None, &source),
+        false => Ok(Verdict::Accepted),
+    }
 }
 
 /// What it is, or what it was meant as where it is refused.
@@ -152,6 +195,17 @@ fn text_of(source: &Source) -> Result<String, Failure> {
             named_text(&named.map_err(|refusal| Failure::refused(&source.name, refusal))?)
         }
         Kind::Trace => trace_text(&source.bytes),
+        Kind::Script => script_text(&source.bytes),
+        Kind::Host => Board::host(HostRecord::from_bytes(source.bytes[..].try_into().expect("30 bytes"))).to_string(),
+    })
+}
+
+/// Of what is not refused.
+fn lawful_text(source: Source) -> Result<String, Failure> {
+    Ok(match kind_of(&source)? {
+        Kind::Board => source.into_board()?.to_string(),
+        Kind::Sheet => named_text(&source.into_sheet()?),
+        Kind::Trace => trace_text(&trace_of(source)?),
         Kind::Script => script_text(&source.bytes),
         Kind::Host => Board::host(HostRecord::from_bytes(source.bytes[..].try_into().expect("30 bytes"))).to_string(),
     })
@@ -205,7 +259,7 @@ pub fn script_text(script: &[u8]) -> String {
     for (record, write) in records.zip(writes(script)) {
         let _ = writeln!(text, "{} {}    # {}", dwords(&record[..2]), dwords(&record[2..]), write_words(&write));
     }
-    if !rest.is_empty() {
+    if is_full() && !rest.is_empty() {
         let _ = writeln!(text, "{}    # cut", dwords(rest));
     }
     text

@@ -2,24 +2,27 @@
 
 use crate::arguments::{Arguments, Options};
 use crate::failure::{Answer, Failure, Verdict};
+use crate::full::{is_full, FULL};
 use crate::json::{self, Object};
 use crate::logged::{are_followed, headers_of, Logged};
 use crate::output::Lines;
 use crate::{members, words};
 use cartsundial::{read, Body, Enables, Form, Packet, Routing};
 
-pub const OPTIONS: Options = Options { flags: &["--json"], ..Options::NONE };
+pub const OPTIONS: Options = Options { flags: &["--json", FULL], ..Options::NONE };
 
 pub const HELP: &str = "\
-cartsundial decode [HEADER.. | FILE..] [--json]
+cartsundial decode [HEADER..]
 
 Each header field by field; of one that is refused the number with its words, and its fields as far as its bytes go. Headers
 are hexadecimal in any spacing; words of up to eight digits are one header together. With - or without any they come from
-standard input, and what is not hexadecimal names a file: a trace, bytes or text; lines with a header each; or a log, of which
-lines with `TLP Header:` (dmesg), `TLP Header={..}` (the tracepoint) or `HeaderLog:` (lspci -vv) are read, all others passed
-over, and the time and the device that logged it are told.
+standard input, one to a line, or out of a log: lines with `TLP Header:` (dmesg), `TLP Header={..}` (the tracepoint) or
+`HeaderLog:` (lspci -vv) are read, all others passed over.
 
   --json              an object a line in place of the words
+  --full              of a log also the time, and the device that logged the header
+
+What is not hexadecimal names a file: a trace, bytes or text; lines with a header each; or a log.
 ";
 
 pub fn run(arguments: &Arguments) -> Answer {
@@ -45,7 +48,7 @@ fn decoded(arguments: &Arguments, lines: &mut Lines) -> Answer {
 fn text(logged: &Logged) -> Vec<u8> {
     let mut text = words::described(&logged.header);
     for (name, value) in [("logged by", &logged.device), ("logged at", &logged.time)] {
-        text += &value.as_ref().map_or(String::new(), |value| format!("  {name:14} {value}\n"));
+        text += &value.as_ref().filter(|_| is_full()).map_or(String::new(), |value| format!("  {name:14} {value}\n"));
     }
     text.into_bytes()
 }

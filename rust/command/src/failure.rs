@@ -1,6 +1,7 @@
 //! How a run ends: exit status 0 accepted, 1 refused, 2 usage or a stream that failed.
 
 use crate::explain::remedy;
+use crate::full::is_full;
 use cartsundial::Refusal;
 use std::io::{self, ErrorKind, Write};
 use std::process::ExitCode;
@@ -46,8 +47,11 @@ impl Failure {
         Failure::refused_for(name, refusal, &[])
     }
 
-    /// The same, with what is known of the place, a line each.
+    /// The same, by `--full` with what is known of the place, a line each, and what to do.
     pub fn refused_for(name: &str, refusal: Refusal, about: &[String]) -> Failure {
+        if !is_full() {
+            return Failure::Refused(format!("{name}: {refusal}"));
+        }
         let about: String = about.iter().map(|what| format!("\n  {what}")).collect();
         Failure::Refused(format!("{name}: {refusal}{about}\n  {}", remedy(refusal)))
     }

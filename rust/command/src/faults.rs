@@ -1,10 +1,10 @@
 //! Who breaks which rule of the audit, or of one owner for every address, all of them: 50 buses, 51 places, 52 overlaps. The
 //! verdict is the proved library's; this list is found by the types, and is not proved.
 
-use crate::listing::{pool_of, windows, word};
-use crate::named::NamedSheet;
-pub use crate::unlawful::too_small;
-use cartsundial::{Buses, Finding, Function, HostRecord, Party, Place, Pool, Refusal};
+use crate::listing::{listed, pool_of, windows};
+use crate::named::{NamedSheet, RECORD};
+use crate::unlawful::too_small;
+use cartsundial::{Bar, Buses, Finding, Function, HostRecord, Party, Place, Pool, Refusal};
 use std::ops::RangeInclusive;
 
 pub struct Fault {
@@ -27,6 +27,15 @@ impl Fault {
         };
         self.refusal == finding.refusal && self.who.len() == parties.clone().count() && parties.clone().all(is_one)
     }
+}
+
+/// What is said of a BAR of a sheet that is too small, where 25 is about it.
+pub fn small_bar(party: &Party, sheet: &[u8]) -> Option<String> {
+    let Place::Bar(slot) = party.place else { return None };
+    let record = sheet[1..].chunks(RECORD).nth(usize::from(party.record) - 1)?;
+    let read_back = |slot: u8| Some(u32::from_be_bytes(*record.get(68 + 4 * usize::from(slot)..)?.first_chunk()?));
+    let bar = Bar::of_read_backs(read_back(slot)?, read_back(slot + 1).unwrap_or(0))?;
+    too_small(bar).map(|what| format!("{} BAR {slot}: {what}", party.id))
 }
 
 /// The proved finding with names and with what is looked up of it, and the faults without the one that it is about.
@@ -63,7 +72,7 @@ impl Nesting {
     fn word(self, item: Pool) -> &'static str {
         match (self, item) {
             (Nesting::OfSpace, Pool::Low | Pool::High) => "memory",
-            _ => word(item),
+            _ => listed(item),
         }
     }
 }
@@ -203,7 +212,7 @@ fn items(named: &NamedSheet, function: &Function) -> Vec<Item> {
         Item { pool: pool_of(&placed), range, what, who: (function.record, Place::Bar(placed.slot)) }
     });
     let windows = windows(function).into_iter().map(|(pool, range)| {
-        let what = format!("{title} {} window ({})", word(pool), text(&range));
+        let what = format!("{title} {} window ({})", listed(pool), text(&range));
         Item { pool, range, what, who: (function.record, Place::Window(pool)) }
     });
     bars.chain(windows).collect()

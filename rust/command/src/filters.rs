@@ -91,7 +91,10 @@ impl Filters {
 pub fn function(option: &str, text: &str, named: &NamedSheet) -> Result<u16, Failure> {
     match records(text, named)[..] {
         [record] => Ok(record),
-        [] => Err(Failure::Usage(format!("{option} {text}: the sheet has no function of this record, ID or name"))),
+        [] => Err(Failure::Usage(match text.parse::<Id>() {
+            Ok(id) => format!("{option} {text}: the sheet has no function {id}"),
+            Err(_) => format!("{option} {text}: the sheet has no function of this record, ID or name"),
+        })),
         [first, second, ..] => {
             let [first, second] = [first, second].map(|record| named.title_of(record));
             Err(Failure::Usage(format!("{option} {text}: which one? {first} and {second} have it in their names")))

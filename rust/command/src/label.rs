@@ -3,6 +3,7 @@
 use crate::arguments::{Arguments, Options};
 use crate::failure::{print, Answer, Failure, Verdict};
 use crate::filters::{Filters, Passed, FILTERS};
+use crate::full::FULL;
 use crate::jobs::{self, Desk};
 use crate::letters::put_from;
 use crate::lines::Titles;
@@ -18,7 +19,7 @@ use cartsundial::{index_length, Annotator, Engine, Headers, HostRecord, Id, Inde
 use std::io::{self, Write};
 
 pub const OPTIONS: Options = Options {
-    flags: &["--names", "--both", "--json", "--summary", "--quiet"],
+    flags: &["--names", "--both", "--json", "--summary", "--quiet", FULL],
     values: &["--jobs", "--records", "--host", "--host-id", "--owner", "--from", "--to", "--number", "--kind"],
     more: &FILTERS,
     needs: &[("--host-id", &["--both"]), ("--from", &["--both"])],
@@ -26,29 +27,30 @@ pub const OPTIONS: Options = Options {
 };
 
 pub const HELP: &str = "\
-cartsundial label SHEET TRACE [--names | --both [--host-id ID]] [--json] [--records A-B] [--jobs N] [--summary] [--quiet]
-                  [--host HOST] [--owner WHO] [--from WHO] [--to WHO] [--number N] [--kind KIND]
+cartsundial label SHEET TRACE [--names | --both [--host-id ID]] [--jobs N] [--summary] [--host HOST]
 
 A line for each header of a trace, over a sheet or over the plan of a board: the proved lines, those of the program annotate.
-A trace may be of any length, bytes or text. Headers one to a line, and logs with `TLP Header:` lines, are taken too; the time and
-the device that a log names stand before the line. Exit status 1 where the trace itself is refused or cut, 0 whatever the headers
-get.
+A trace may be of any length. Exit status 1 where the trace itself is refused or cut, 0 whatever the headers get.
 
   --names             each line goes on with the owner's ID and name, its BAR and the offset in it, or with a number's words
   --both              both ends of each packet, with names: who sent it, by the ID in its header, and who gets it
   --host-id ID        the host's own ID, for --both; 00:00.0 where none is given
-  --json              each line is an object, with names
-  --records A-B       these records only, with their numbers in the whole trace: 1-1000000, or 1000001- to the end
   --jobs N            label parts of the trace side by side: the same lines
   --summary           at the end, on standard error: how many headers went to whom, and how many have which number; with --both
                       who sent how many packets to whom, and how many bytes, as told by the Length of requests
-  --quiet             no progress line, which a terminal else gets on standard error
   --host HOST         the sheet's host: a sheet on which an address may have two owners is then refused; of a board it is known
+  --json              each line is an object, with names
+  --records A-B       these records only, with their numbers in the whole trace: 1-1000000, or 1000001- to the end
+  --quiet             no progress line, which a terminal else gets on standard error
   --owner WHO         only headers that WHO gets: a record, an ID, a name or a part of one, host, all or port
   --to WHO            the same, as --both says it
   --from WHO          only headers that WHO has sent, with --both
   --number N          only headers that are refused with this number
   --kind KIND         only headers of this kind, as MWr; - is one that is not read. Filters take several, with commas
+  --full              why a sheet or a board is refused with the place and what to do
+
+A trace may be bytes or text. Headers one to a line, and logs with `TLP Header:` lines, are taken too; the time and the device that
+a log names stand before the line.
 ";
 
 /// What is made of the library's lines.

@@ -4,6 +4,7 @@ use crate::arguments::{Arguments, Options};
 use crate::ends;
 use crate::failure::{output_failed, print, Answer, Failure, Verdict};
 use crate::filters::{Filters, Passed, FILTERS};
+use crate::full::FULL;
 use crate::json;
 use crate::logged::Logged;
 use crate::members;
@@ -17,7 +18,7 @@ use std::collections::HashMap;
 use std::io::{self, Write};
 
 pub const OPTIONS: Options = Options {
-    flags: &["--json", "--quiet"],
+    flags: &["--json", "--quiet", FULL],
     values: &["--names", "--host-id", "--owner", "--from", "--to", "--number", "--kind"],
     more: &FILTERS,
     needs: &[("--host-id", &["--names"]), ("--owner", &["--names"]), ("--from", &["--names"]), ("--to", &["--names"])],
@@ -25,12 +26,10 @@ pub const OPTIONS: Options = Options {
 };
 
 pub const HELP: &str = "\
-cartsundial ledger TRACE [--names SHEET [--host-id ID]] [--json] [--quiet]
-                   [--owner WHO] [--from WHO] [--to WHO] [--number N] [--kind KIND]
+cartsundial ledger TRACE [--names SHEET [--host-id ID]]
 
 Follows the requests of a trace: a line for each header that is refused, 63 for a completion that belongs to nothing, and at
-the end one for each request that was never answered. A trace may be of any length, bytes or text; headers one to a line, or a
-log with `TLP Header:` lines, are taken too. Exit status 1 where there is any line.
+the end one for each request that was never answered. Exit status 1 where there is any line.
 
   --names SHEET       a sheet or a board: who sent each packet and who gets it, by name
   --host-id ID        the host's own ID, for --names; 00:00.0 where none is given
@@ -41,6 +40,9 @@ log with `TLP Header:` lines, are taken too. Exit status 1 where there is any li
   --from WHO          only packets that WHO has sent, with --names
   --number N          only headers that are refused with this number
   --kind KIND         only headers of this kind, as MRd; - is one that is not read. Filters take several, with commas
+  --full              why a sheet or a board is refused with the place and what to do
+
+A trace may be of any length, bytes or text; headers one to a line, or a log with `TLP Header:` lines, are taken too.
 ";
 
 /// By requester and tag, who asked.

@@ -1,5 +1,6 @@
 //! A sheet's functions: as a table for people, as the lines of the program `plan`, and as JSON.
 
+use crate::full::is_full;
 use crate::json::Json;
 use crate::named::NamedSheet;
 use cartsundial::{Function, PlacedBar, Pool, Size};
@@ -16,7 +17,7 @@ pub fn table(named: &NamedSheet) -> String {
             let _ = writeln!(text, "       {name:6} {kind:7} {}", range(pool_of(&placed), &placed.range()));
         }
         for (pool, window) in windows(&function) {
-            let _ = writeln!(text, "       window {:7} {}", word(pool), range(pool, &window));
+            let _ = writeln!(text, "       window {:7} {}", listed(pool), range(pool, &window));
         }
     }
     text
@@ -59,6 +60,15 @@ pub fn word(pool: Pool) -> &'static str {
         Pool::Low => "low",
         Pool::High => "high",
         Pool::Io => "I/O",
+    }
+}
+
+/// A pool in a list of windows or of faults.
+pub fn listed(pool: Pool) -> &'static str {
+    if is_full() {
+        word(pool)
+    } else {
+        key(pool)
     }
 }
 

@@ -53,7 +53,8 @@ pub fn headers_of(arguments: &[String]) -> Result<Headers, Failure> {
     if arguments.is_empty() {
         return open_headers("-");
     }
-    let is_header = |text: &&String| is_hexadecimal(text);
+    // A header of no bytes is one too.
+    let is_header = |text: &&String| text.trim().is_empty() || is_hexadecimal(text);
     if !arguments.iter().any(|text| is_header(&text)) {
         let opened: Result<Vec<Headers>, Failure> = arguments.iter().map(|name| open_headers(name)).collect();
         return Ok(Box::new(opened?.into_iter().flatten()));
@@ -99,7 +100,8 @@ fn code(line: &str) -> &str {
 
 /// Digits and what may stand between them.
 fn is_hexadecimal(text: &str) -> bool {
-    let mut words = text.split([' ', '\t', ',', '_', ':']).filter(|word| !word.is_empty()).peekable();
+    let between = |letter: char| letter.is_whitespace() || matches!(letter, ',' | '_' | ':');
+    let mut words = text.split(between).filter(|word| !word.is_empty()).peekable();
     let digits = |word: &str| word.strip_prefix("0x").or(word.strip_prefix("0X")).unwrap_or(word).to_string();
     words.peek().is_some() && words.all(|word| digits(word).bytes().all(|letter| letter.is_ascii_hexdigit()))
 }
@@ -288,8 +290,30 @@ mod tests {
         Lines::new("log", text.as_bytes()).collect()
     }
 
+    /// The headers alone.
+    fn of_log(text: &str) -> Result<Vec<Vec<u8>>, Failure> {
+        Ok(of_text(text)?.into_iter().map(|one| one.header).collect())
+    }
+
     #[test]
     fn logs() {
+        let log = "\
+            [  1.0] pcieport 0000:00:02.0: AER: Corrected error\r\n\
+            [  1.1] e1000e 0000:01:00.0: AER:   TLP Header: 00000001 0000050f fe240ffc 00000000\r\n\
+            x 0000:01:00.0:   TLP Header: 0x40000001 0x0000050f 0xfe240ffc 0x00000000 E-E Prefixes: 0x91000000\n\
+            aer_event: TLP Header={0x1,0x50f,0xfe240ffc,0x0,0x0,0x0}\n\
+            \t\tHeaderLog: 04000001 0000220f 01070000 9eece789\n\
+            \t\tHeaderLog: 00000000 00000000 00000000 00000000\n\
+            x: TLP Header (Flit): 00000001 0000050f\n";
+        let headers = of_log(log).unwrap();
+        let first: Vec<u8> = headers.iter().map(|header| header[0]).collect();
+        assert_eq!(first, [0x00, 0x40, 0x00, 0x04]);
+        assert!(headers.iter().all(|header| header.len() == 16));
+        assert_eq!(headers[0], headers[2]);
+    }
+
+    #[test]
+    fn times_and_devices() {
         let log = "\
             [  1.0] pcieport 0000:00:02.0: AER: Corrected error\r\n\
             [  1.1] e1000e 0000:01:00.0: AER:   TLP Header: 00000001 0000050f fe240ffc 00000000\r\n\
@@ -332,7 +356,8 @@ mod tests {
         assert_eq!(one.len(), 1);
         assert_eq!(of(&["00 00 00 01 00 00 05 0f fe 24 0f fc"]), one);
         assert_eq!(of(&["000000010000050ffe240ffc", "0x00000001_0000050f_fe240ffc"]), [&one[..], &one[..]].concat());
-        assert_eq!(of_text("# none\n000000010000050ffe240ffc # one\n").unwrap(), [Logged::of(one[0].clone())]);
+        assert_eq!(of_log("# none\n000000010000050ffe240ffc # one\n").unwrap(), one);
+        assert!(of_log("hello").is_err() && of_log("").is_err() && of_log("HeaderLog: 00000000 00000000").is_err());
         for text in ["hello", "", "HeaderLog: 00000000 00000000", "00000001\nhello"] {
             assert!(of_text(text).is_err(), "{text}");
         }

@@ -14,6 +14,7 @@ mod failure;
 mod faults;
 mod filters;
 mod fits;
+mod full;
 mod hexadecimal;
 mod import;
 mod jobs;
@@ -45,9 +46,10 @@ mod unlawful;
 mod without;
 mod words;
 
-use arguments::{nearest, Arguments, Options};
+use arguments::{Arguments, Options};
 use cartsundial::calls;
 use failure::{finish, print, Answer, Failure, Verdict};
+use full::{is_full, set_full, FULL};
 use std::env;
 use std::process::ExitCode;
 
@@ -75,25 +77,28 @@ const SUBCOMMANDS: &[Subcommand] = &[
     Subcommand { name: "explain", options: explain::OPTIONS, help: explain::HELP, run: explain::run },
 ];
 
+/// Those that have no other way to speak.
+const ALWAYS_FULL: [&str; 4] = ["diff", "page", "explain", "completions"];
+
 const HELP: &str = "\
 cartsundial: PCI Express boards planned, sheets judged, packets routed and traces labelled, over proved code
 
   plan BOARD                a board's plan, with --sheet, --script, --svg, --json, --lspci
   audit SHEET --host HOST   whether a sheet that other firmware left is in order, and every address has one owner
-  route SHEET HEADER..      where a header goes, or those of a trace or a log; --from 03:00.0 for card to card
-  decode HEADER..           a header in words, or those of a trace or a log
-  label SHEET TRACE         a line for each header of a trace or a log; --names, --both, --json, --owner WHO, --jobs N, --summary
-  ledger TRACE              requests never answered, completions of nothing, of a trace or a log; --json
+  route SHEET HEADER..      where a header goes; --from 03:00.0 for card to card
+  decode HEADER..           a header in words
+  label SHEET TRACE         a line for each header of a trace; --names, --both, --jobs N, --summary
+  ledger TRACE              requests never answered, completions of nothing
   diff A B                  two sheets, boards or machines by function: what moved, appeared and went
   page BOX [TRACE] -o FILE  a box as a page for a browser: its tree, address maps, who owns what, and its trace
   show FILE                 a board, a sheet, a trace or a script in words
   convert FILE              from bytes to text, from text to bytes
-  import [FILE..]           sheet, host and board of this machine, of lspci -vvx or of /sys, with iomem, ioports or a boot log
-  export SHEET              an lspci dump, for lspci -F
+  import FILE..             lspci -vvx, or /sys/bus/pci/devices, with iomem, ioports or a boot log: sheet, host and board
+  export SHEET              an lspci dump
   completions SHELL         what bash, zsh or fish needs to complete all of this
   explain [NUMBER..]        what a number means, what leads to it and what to do
 
-cartsundial help SUBCOMMAND says more, cartsundial --version which one this is. A file may be - for standard input, and bytes or
+cartsundial SUBCOMMAND --help says more, cartsundial --version which one this is. A file may be - for standard input, and bytes or
 text, which is told by its content. In the place of SHEET a board may stand: then its plan is meant. A board's text:
 
   host buses 00-1F low E0000000+64M high 16G+4G io 2000-5FFF
@@ -132,21 +137,23 @@ fn run() -> Answer {
         return Ok(Verdict::Accepted);
     }
     let answer = Arguments::read(rest, options).and_then(|arguments| {
+        if arguments.has(FULL) || ALWAYS_FULL.contains(&&name[..]) {
+            set_full();
+        }
         output::refuse_own_input(&arguments.inputs())?;
         run(&arguments)
     });
     answer.map_err(|failure| match failure {
-        Failure::Usage(message) => Failure::Usage(format!("{name}: {message} (cartsundial {name} --help)")),
+        Failure::Input(message) if is_full() => Failure::Input(message),
+        Failure::Usage(message) | Failure::Input(message) => {
+            Failure::Usage(format!("{name}: {message} (cartsundial {name} --help)"))
+        }
         other => other,
     })
 }
 
 fn subcommand(name: &str) -> Result<&'static Subcommand, Failure> {
-    let unknown = || {
-        let meant = nearest(name, SUBCOMMANDS.iter().map(|one| one.name));
-        let meant = meant.map_or(";".to_string(), |meant| format!("; {meant}?"));
-        Failure::Usage(format!("{name}: no such subcommand{meant} cartsundial --help names them"))
-    };
+    let unknown = || Failure::Usage(format!("{name}: no such subcommand; cartsundial --help names them"));
     SUBCOMMANDS.iter().find(|one| one.name == name).ok_or_else(unknown)
 }
 

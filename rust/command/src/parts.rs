@@ -1,6 +1,7 @@
 //! A trace as it is read: parts of whole records, one after the other, in buffers that are used again.
 
 use crate::failure::Failure;
+use crate::full::is_full;
 use crate::json;
 use crate::logged::Logged;
 use crate::trace::{Far, Feed};
@@ -84,6 +85,8 @@ pub enum End {
 pub struct Parts {
     feed: Feed,
     range: Range,
+    /// The most records of a part.
+    most: usize,
     /// What was read after the part that was given last.
     rest: Vec<u8>,
     rest_logged: Vec<Logged>,
@@ -102,6 +105,7 @@ impl Parts {
         Parts {
             feed,
             range,
+            most: MOST,
             rest: Vec::new(),
             rest_logged: Vec::new(),
             records: 0,
@@ -139,7 +143,7 @@ impl Parts {
         loop {
             self.take_version(&mut part.bytes);
             let mut records = Headers::of_records(&part.bytes);
-            let count = if self.is_of_other_version() { 0 } else { records.by_ref().take(MOST).count() };
+            let count = if self.is_of_other_version() { 0 } else { records.by_ref().take(self.most).count() };
             if count > 0 {
                 let end = part.bytes.len() - records.rest().len();
                 self.rest.extend_from_slice(&part.bytes[end..]);
@@ -259,7 +263,8 @@ impl Parts {
     pub fn ended(&self) -> Result<(), Failure> {
         match (self.last_label(), self.cut()) {
             (Some(Label::NoTrace(refusal)), _) => Err(Failure::refused(self.name(), refusal)),
-            (_, Some(cut)) => Err(Failure::Refused(format!("{}: {cut}", self.name()))),
+            (_, Some(cut)) if is_full() => Err(Failure::Refused(format!("{}: {cut}", self.name()))),
+            (_, Some(_)) => Err(Failure::Refused(format!("{}: it ends inside a record", self.name()))),
             _ => Ok(()),
         }
     }
@@ -281,6 +286,29 @@ impl Parts {
 #[cfg(test)]
 mod tests {
     use super::*;
+    use std::{env, fs, process};
+
+    #[test]
+    fn every_record_is_in_one_part() {
+        let records: Vec<u8> =
+            (0..100_u8).flat_map(|length| [vec![0, length], vec![7; length.into()]].concat()).collect();
+        let file = env::temp_dir().join(format!("cartsundial-parts-{}", process::id()));
+        // The version byte, and five records that are not asked for.
+        fs::write(&file, [&[1][..], &[0; 10], &records].concat()).unwrap();
+        for jobs in 1..12 {
+            let feed = Feed::open(file.to_str().unwrap()).unwrap();
+            let mut all = Parts { most: 100_usize.div_ceil(jobs), ..Parts::new(feed, "6-".parse().unwrap()) };
+            let (mut part, mut bytes, mut before) = (Part::default(), Vec::<u8>::new(), 5);
+            while all.next(&mut part).unwrap() {
+                assert_eq!(part.before, before);
+                before += Headers::of_records(&part.bytes).count() as u64;
+                bytes.extend(&part.bytes);
+            }
+            assert_eq!(bytes, records);
+            assert_eq!((before, all.end()), (105, End::Whole));
+        }
+        fs::remove_file(file).unwrap();
+    }
 
     #[test]
     fn ranges() {

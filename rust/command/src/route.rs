@@ -3,6 +3,7 @@
 use crate::arguments::{Arguments, Options};
 use crate::failure::{Answer, Failure, Verdict};
 use crate::filters::function;
+use crate::full::{is_full, FULL};
 use crate::json::{self, Object};
 use crate::logged::{are_followed, headers_of, Logged};
 use crate::named::NamedSheet;
@@ -13,7 +14,7 @@ use cartsundial::{read, route, route_from, sender as sender_of, sent};
 use cartsundial::{Arrival, Delivery, Function, Id, Owner, Packet, Refusal, Sender, Sent};
 
 pub const OPTIONS: Options = Options {
-    flags: &["--sent", "--json"],
+    flags: &["--sent", "--json", FULL],
     values: &["--from", "--host-id"],
     needs: &[("--host-id", &["--sent"])],
     apart: &[&["--from", "--sent"]],
@@ -21,18 +22,20 @@ pub const OPTIONS: Options = Options {
 };
 
 pub const HELP: &str = "\
-cartsundial route SHEET [HEADER.. | FILE..] [--from WHO | --sent [--host-id ID]] [--json]
+cartsundial route SHEET [HEADER..] [--from ID | --sent [--host-id ID]]
 
 Where each header goes over a sheet, or over the plan of a board: the function with its BAR and the offset in it, and the
 bridges on the way. Headers are hexadecimal in any spacing; words of up to eight digits are one header together. With - or
-without any they come from standard input, and what is not hexadecimal names a file: a trace, lines with a header each, or a log
-with `TLP Header:` lines. Of a log each line begins with the time and with the device that logged the header. A log is followed
-as it grows: dmesg -w | cartsundial route SHEET.
+without any they come from standard input, one to a line, or out of a log with `TLP Header:` lines.
 
-  --from WHO          the function that sends the request, by record, ID or name; without it a header starts at the host
+  --from ID           the function that sends the request, as 03:00.0; without it a header starts at the host
   --sent              from whom the header names: a completion's completer, else the requester; who it is is told
   --host-id ID        the host's own ID, for --sent; 00:00.0 where none is given
   --json              an object a line in place of the words
+  --full              of a log each line begins with the time and with the device that logged the header
+
+What is not hexadecimal names a file: a trace, lines with a header each, or a log. A log is followed as it grows:
+dmesg -w | cartsundial route SHEET. The function of --from may also be named by its record or its name.
 ";
 
 /// Where headers start.
@@ -113,7 +116,8 @@ impl<'a> Routed<'a> {
             Ok(arrival) => arrived(named, arrival, &self.up),
             Err(refusal) => refusal.to_string(),
         };
-        format!("{}{title}{from}: {arrived}\n", logged.start()).into_bytes()
+        let start = if is_full() { logged.start() } else { String::new() };
+        format!("{start}{title}{from}: {arrived}\n").into_bytes()
     }
 
     fn json(&self, logged: &Logged, named: &NamedSheet) -> Vec<u8> {

@@ -1,7 +1,8 @@
 //! An input: a file or `-`, bytes or text, told apart by its content, with the names of its functions.
 
 use crate::failure::Failure;
-use crate::hexadecimal::HexText;
+use crate::full::is_full;
+use crate::hexadecimal::{HexText, HexWrong};
 use crate::import::is_lspci;
 use crate::named::NamedSheet;
 use crate::spelling::{self, Spelling};
@@ -13,6 +14,7 @@ use std::io::{self, ErrorKind, Read};
 /// How much of an input is looked at to tell what it is; no board and no sheet is longer.
 const FRONT: usize = 1 << 16;
 
+#[derive(Clone)]
 pub struct Source {
     pub name: String,
     pub bytes: Vec<u8>,
@@ -83,7 +85,12 @@ impl Source {
 
     fn as_far(name: &str, bytes: Vec<u8>) -> (Source, Option<Failure>) {
         let name = called(name).to_string();
-        let (text, spelling) = match spelling::text_of(&bytes) {
+        let spelling = match text_of(&bytes) {
+            _ if is_full() => spelling::text_of(&bytes),
+            Some(text) => Spelling::Text(text.strip_prefix('\u{FEFF}').unwrap_or(text)),
+            None => Spelling::Bytes,
+        };
+        let (text, spelling) = match spelling {
             Spelling::Bytes => return (Source::empty(name, bytes), None),
             Spelling::Text(text) => (text, None),
             Spelling::Broken(before, why) => (before, Some(Failure::Input(format!("{name}: {why}")))),
@@ -97,9 +104,10 @@ impl Source {
     fn of_text(name: String, text: &str) -> (Source, Option<Failure>) {
         let empty = Source::empty(name.clone(), Vec::new());
         let wrong = |what: String| Some(Failure::Input(format!("{name}: {what}")));
-        if Board::is_text(text) || is_meant_as_board(text) {
+        if Board::is_text(text) || is_full() && is_meant_as_board(text) {
             let host_comment = host_comment(text);
-            let (board, failure) = match text.parse::<Board>() {
+            let read = if is_full() { Board::read_strictly(text) } else { text.parse() };
+            let (board, failure) = match read {
                 Ok(board) => (Some(board), None),
                 Err(mut error) => (error.before.take().map(|board| *board), Some(text_failure(&name, &error))),
             };
@@ -109,10 +117,13 @@ impl Source {
         if let Some(what) = looks_like(text) {
             return (Source { is_text: true, ..empty }, wrong(what.into()));
         }
-        let (HexText { word, bytes, names, .. }, what) = HexText::read(text);
-        let is_whole_sheet = word.is_some();
-        let rest = if is_whole_sheet { "" } else { ". A text is a board, which starts with `host`, or hexadecimal" };
-        let failure = what.and_then(|what| wrong(format!("{what}{rest}")));
+        let (HexText { word, bytes, names, .. }, what) = HexText::read_as_far(text);
+        let others = ". A text is a board, which starts with `host`, or hexadecimal";
+        let failure = what.and_then(|HexWrong { short, full }| match (is_full(), word) {
+            (false, _) => wrong(format!("{short}{others}")),
+            (true, Some(_)) => wrong(full),
+            (true, None) => wrong(format!("{full}{others}")),
+        });
         (Source { bytes, word, names, is_text: true, ..empty }, failure)
     }
 
@@ -167,8 +178,10 @@ impl Source {
             return NamedSheet::planned(&board).map_err(refused);
         }
         self.expect(Kind::Sheet)?;
-        let refused = |refusal| Failure::refused_for(&self.name, refusal, &unlawful::of_sheet(&self.bytes));
-        check(&self.bytes).map_err(refused)?;
+        if is_full() {
+            let refused = |refusal| Failure::refused_for(&self.name, refusal, &unlawful::of_sheet(&self.bytes));
+            check(&self.bytes).map_err(refused)?;
+        }
         NamedSheet::new(self.bytes, &self.names).map_err(|refusal| Failure::refused(&self.name, refusal))
     }
 
@@ -185,9 +198,14 @@ impl Source {
                 self.expect(Kind::Host)?;
                 let bytes = self.bytes[..].try_into();
                 let count = self.bytes.len();
-                let what =
-                    "a host record has 30 bytes, or is the first line of a board's text, as `host low E0000000+64M`";
-                let wrong = |_| Failure::Input(format!("{}: {what}; this has {count} bytes", self.name));
+                let short = "a host record has 30 bytes, or is a board's";
+                let full = "a host record has 30 bytes, or is the first line of a board's text, as `host low E0000000+64M`";
+                let wrong = |_| {
+                    Failure::Input(match is_full() {
+                        true => format!("{}: {full}; this has {count} bytes", self.name),
+                        false => format!("{}: {short}", self.name),
+                    })
+                };
                 Ok(HostRecord::from_bytes(bytes.map_err(wrong)?))
             }
         }
@@ -234,6 +252,11 @@ fn host_comment(text: &str) -> Option<String> {
     host.split_once('#').map(|(_, comment)| comment.trim().to_string())
 }
 
+/// A text has no control characters but tabs and line ends; no board, sheet or trace is one.
+fn text_of(bytes: &[u8]) -> Option<&str> {
+    std::str::from_utf8(bytes).ok().filter(|text| has_text(text.as_bytes()))
+}
+
 fn read_all(name: &str) -> Result<Vec<u8>, Failure> {
     let mut bytes = Vec::new();
     open(name)?.read_to_end(&mut bytes).map_err(Failure::stream(called(name)))?;
@@ -251,8 +274,15 @@ fn is_meant_as_board(text: &str) -> bool {
 /// What is no input of these, and whose it is.
 fn looks_like(text: &str) -> Option<&'static str> {
     let first = text.lines().map(str::trim).find(|line| !line.is_empty() && !line.starts_with('#')).unwrap_or("");
-    if is_lspci(text) {
-        return Some("it looks like what lspci prints: `cartsundial import` makes a sheet, a host and a board of it");
+    match (is_lspci(text), is_full()) {
+        (true, true) => {
+            return Some("it looks like what lspci prints: `cartsundial import` makes a sheet, a host and a board of it")
+        }
+        (true, false) => {
+            return Some("it looks like what lspci prints: `cartsundial import` makes a sheet and a host of it")
+        }
+        (false, false) => return None,
+        (false, true) => {}
     }
     match first {
         line if line.starts_with(['{', '[']) => Some("it looks like JSON, which is written here and not read"),
@@ -264,13 +294,17 @@ fn looks_like(text: &str) -> Option<&'static str> {
 /// A board's text that cannot be read: with the number, where it has one.
 fn text_failure(name: &str, error: &BoardTextError) -> Failure {
     match error.refusal {
-        Some(refusal) => Failure::refused_for(name, refusal, &[error.to_string()]),
-        None => Failure::Input(format!("{name}: {error}")),
+        _ if !is_full() => Failure::Input(format!("{name}: {error}")),
+        Some(refusal) => Failure::refused_for(name, refusal, &[error.full()]),
+        None => Failure::Input(format!("{name}: {}", error.full())),
     }
 }
 
 /// Why a board is refused where a plan is asked for: the number, whom it is about, and who says more.
 fn refused_board(name: &str, refusal: Refusal, bytes: &[u8], board: Option<&Board>) -> Failure {
+    if !is_full() {
+        return Failure::refused(name, refusal);
+    }
     let mut about = unlawful::about_board(bytes, board);
     if refusal.number() >= Refusal::NoBuses.number() {
         about.push(format!("`cartsundial plan {name}` says what is needed, and with what it fits"));

@@ -81,7 +81,7 @@ impl<'a> Titles<'a> {
 }
 
 /// The IDs of a board, which may find no room: its plan without BARs and spare memory, for which there is none to find.
-fn numbered(board: &Board) -> Option<Sheet<Vec<u8>>> {
+pub fn numbered(board: &Board) -> Option<Sheet<Vec<u8>>> {
     let mut functions = board.functions().to_vec();
     for one in &mut functions {
         one.read_backs = [0; 6];

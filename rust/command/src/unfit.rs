@@ -1,15 +1,17 @@
 //! Why a board is not planned: whom its number is about, what it needs of its host, before whom most room is lost, and what would let it
-//! be planned. Number, whom and needs are the proved finding; IDs, names and lines are looked up beside it.
+//! be planned. Number, whom and needs are the proved finding; IDs, names and lines are looked up beside it. What would let it be planned,
+//! what is wrong in the bytes, and what to do are told by `--full`.
 
 use crate::explain::remedy;
 use crate::fits::{Fits, Order, MOST_TRIED};
+use crate::full::is_full;
 use crate::json::Json;
 use crate::listing::{key, word};
-use crate::titles::Titles;
+use crate::titles::{numbered, Titles};
 use crate::tree::{self, Record};
 use crate::unlawful;
 use crate::without::LeftOut;
-use cartsundial::{plan_where, Bar, Board, HostRecord, Place, PlanFinding, PlanParty, Pool, Size};
+use cartsundial::{plan_where, Bar, Board, Headers, HostRecord, Id, Place, PlanFinding, PlanParty, Pool, Size};
 
 /// No pool reaches so far, and what is needed is not counted on much further.
 const PAST_POOLS: u64 = 1 << 52;
@@ -47,7 +49,7 @@ impl<'a> Unfit<'a> {
         let finding = plan_where(bytes).expect_err("a board that is not planned is refused");
         // It may say why a pool is as small as it is.
         let host_comment = host_comment.filter(|_| Pool::short_by(finding.refusal).is_some());
-        let lawful = board.filter(|_| finding.needs.is_some());
+        let lawful = board.filter(|_| is_full() && finding.needs.is_some());
         let fits = lawful.map(|board| Fits::new(board, &finding));
         let chain = lawful.and_then(|board| chain(board, &finding));
         Unfit { finding, bytes, titles: Titles::new(bytes, board), host_comment, left_out, fits, chain }
@@ -57,7 +59,7 @@ impl<'a> Unfit<'a> {
         let mut lines = vec![self.finding.refusal.to_string()];
         lines.extend(self.left_out.iter().map(|one| format!("  left out: {one}")));
         lines.extend(self.finding.party.as_ref().map(|party| format!("  {}", self.about(party))));
-        if self.fits.is_none() {
+        if is_full() && self.fits.is_none() {
             lines.extend(unlawful::of_board(self.bytes, &self.finding, &self.titles).map(|what| format!("  {what}")));
         }
         lines.extend(self.chain_text().map(|chain| format!("  {chain}")));
@@ -66,7 +68,7 @@ impl<'a> Unfit<'a> {
         lines.extend(lost.map(|party| format!("  most room is lost to alignment before {}", self.titled(party))));
         lines.extend(self.host_comment.as_ref().map(|comment| format!("  the host's line says: {comment}")));
         lines.extend(self.fits.iter().flat_map(|fits| self.fits_text(fits)).map(|line| format!("  {line}")));
-        lines.push(format!("  {}", remedy(self.finding.refusal)));
+        lines.extend(is_full().then(|| format!("  {}", remedy(self.finding.refusal))));
         lines.join("\n") + "\n"
     }
 
@@ -185,11 +187,12 @@ impl<'a> Unfit<'a> {
             ("lost_before", lost),
         ];
         members.extend(self.host_comment.as_ref().map(|comment| ("host_comment", Json::text(comment))));
+        let is_own = is_full() && self.fits.is_none();
         let faults = unlawful::of_board(self.bytes, &self.finding, &self.titles);
-        members.extend(faults.filter(|_| self.fits.is_none()).map(|what| ("fault", Json::text(what))));
+        members.extend(faults.filter(|_| is_own).map(|what| ("fault", Json::text(what))));
         members.extend(self.chain_json().map(|chain| ("chain", chain)));
         members.extend(self.fits.as_ref().map(|fits| ("fits_if", self.fits_json(fits))));
-        members.push(("remedy", Json::text(refusal.remedy())));
+        members.extend(is_full().then(|| ("remedy", Json::text(refusal.remedy()))));
         members.extend(LeftOut::json(self.left_out));
         Json::Object(members)
     }
@@ -243,19 +246,40 @@ impl<'a> Unfit<'a> {
         match (Pool::short_by(self.finding.refusal), self.finding.host) {
             (Some(pool), Some(host)) if host.room(pool) > 0 => format!("{titled} ends past the {} pool", word(pool)),
             (Some(pool), _) => format!("{titled} finds the {} pool closed", word(pool)),
-            (None, _) => titled,
+            (None, _) => self.small(party).map_or(titled.clone(), |what| format!("{titled}: {what}")),
         }
     }
 
-    /// `record 4, 03:00.0 "capture", line 5: BAR 0, mem32 64K`.
+    /// Of a BAR that is too small its size, which `--full` tells on a line of its own.
+    fn small(&self, party: &PlanParty) -> Option<String> {
+        bar_at(self.titles.board, party).filter(|_| !is_full()).and_then(unlawful::too_small)
+    }
+
+    /// `record 4, 03:00.0 "capture", line 5: BAR 0`, by `--full` with `(mem32 64K)` after it.
     fn titled(&self, party: &PlanParty) -> String {
-        let text = self.titles.title(party.record);
-        let size = bar_at(self.titles.board, party).filter(|_| self.finding.needs.is_some());
+        let text = if is_full() { self.titles.title(party.record) } else { self.title(party) };
+        let size = bar_at(self.titles.board, party).filter(|_| is_full() && self.finding.needs.is_some());
         match (place(party), size) {
             (Some(place), Some(bar)) => format!("{text}: {place} ({} {})", bar.kind, Size(bar.size)),
             (Some(place), None) => format!("{text}: {place}"),
             (None, _) => text,
         }
+    }
+
+    /// By the finding's own ID, or the records before it.
+    fn title(&self, party: &PlanParty) -> String {
+        let mut text = format!("record {}, ", party.record);
+        match id_of(party, self.bytes) {
+            Some(id) => text += &id.to_string(),
+            None => text += &format!("{:02x}.{} below record {}", party.device, party.function, party.parent),
+        }
+        if let Some(name) = self.titles.name(party.record) {
+            text += &format!(" \"{name}\"");
+        }
+        if let Some(line) = self.titles.board.and_then(|board| board.function(party.record)?.line) {
+            text += &format!(", line {line}");
+        }
+        text
     }
 
     /// Nothing for a board that fails its own checks.
@@ -270,6 +294,19 @@ impl<'a> Unfit<'a> {
         });
         [buses].into_iter().chain(pools).collect()
     }
+}
+
+/// The ID that a function has, or would have. Of a function below a bridge the records before it tell the bus, where they are a lawful
+/// board; it is the one below its parent there.
+fn id_of(party: &PlanParty, bytes: &[u8]) -> Option<Id> {
+    if party.parent == 0 {
+        return party.id;
+    }
+    let mut records = Headers::of_records(bytes.get(1..)?);
+    records.nth(usize::from(party.record) - 1)?;
+    let front = &bytes[..bytes.len() - records.rest().len()];
+    let bus = numbered(&Board::of_bytes(front).ok()?)?.record(party.parent)?.buses()?.secondary;
+    Some(Id(u16::from_be_bytes([bus, party.device << 3 | party.function])))
 }
 
 /// The BAR that is meant.

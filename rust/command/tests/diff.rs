@@ -20,7 +20,7 @@ fn in_every_form() {
         let [sheet, text, dump] = [&sheet, &text, &dump].map(|file| file.to_str().unwrap());
         assert_eq!(run(&["plan", board, "--sheet", sheet], b"").status, 0);
         assert_eq!(run(&["plan", board, "--sheet", text], b"").status, 0);
-        fs::write(dump, run(&["export", board], b"").out).unwrap();
+        fs::write(dump, run(&["export", board, "--full"], b"").out).unwrap();
         for form in [board, sheet, text, dump] {
             assert_eq!((status(&[board, form]), status(&[form, board, "--quiet"])), (0, 0), "{board} {form}");
         }

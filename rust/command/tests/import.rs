@@ -130,8 +130,8 @@ fn a_plan_again() {
         let [planned, dump, back] = ["planned.txt", "planned.lspci", "again.txt"].map(|name| folder.join(name));
         let [planned, dump, back] = [&planned, &dump, &back].map(|file| file.to_str().unwrap());
         assert_eq!(run(&["plan", board, "--sheet", planned], b"").status, 0, "{board}");
-        for arguments in [["export", board, "--"], ["plan", board, "--lspci"]] {
-            fs::write(dump, run(&arguments, b"").out).unwrap();
+        for arguments in [&["export", board, "--full"][..], &["plan", board, "--lspci", "--full"]] {
+            fs::write(dump, run(arguments, b"").out).unwrap();
             fs::write(back, run(&["import", dump], b"").out).unwrap();
             assert_eq!(run(&["diff", planned, back], b"").status, 0, "{board}");
             let [one, other] = [planned, back].map(|file| run(&["convert", file], b"").out);
@@ -294,12 +294,12 @@ fn a_live_machine() {
     }
 }
 
-/// Without a file it is this machine, which the root folder has.
+/// The root folder is this machine.
 #[test]
 fn this_machine() {
-    let [this, root] = [&["import"][..], &["import", "/"]].map(|arguments| run(arguments, b""));
+    let this = run(&["import", "/", "--json"], b"");
     match fs::read_dir("/sys/bus/pci/devices").is_ok_and(|mut entries| entries.next().is_some()) {
-        true => assert!(this.status < 2 && this.out == root.out && !this.out.is_empty(), "{}", this.error),
+        true => assert!(this.status < 2 && !this.out.is_empty(), "{}", this.error),
         false => assert_eq!(this.status, 2),
     }
 }
@@ -310,7 +310,7 @@ fn a_fleet() {
     let all: Vec<String> = machines().collect();
     let files: Vec<String> =
         all.iter().flat_map(|machine| ["lspci", "iomem", "ioports"].map(|ending| file(machine, ending))).collect();
-    let arguments: Vec<&str> = ["import"].into_iter().chain(files.iter().map(String::as_str)).collect();
+    let arguments: Vec<&str> = ["import", "--fleet"].into_iter().chain(files.iter().map(String::as_str)).collect();
     let fleet = run(&arguments, b"");
     let lines = String::from_utf8(fleet.out).unwrap();
     assert_eq!((fleet.status, lines.lines().count()), (1, all.len()), "{}", fleet.error);
@@ -328,7 +328,7 @@ fn a_fleet() {
     let prefix = folder("import").join("fleet");
     let out = prefix.to_str().unwrap();
     let [one, other] = ["deep-ovmf", "ports-ovmf"].map(|machine| file(machine, "lspci"));
-    assert_eq!(run(&["import", &one, &other, "--out", out, "--quiet"], b"").out, b"");
+    assert_eq!(run(&["import", "--fleet", &one, &other, "--out", out, "--quiet"], b"").out, b"");
     for machine in ["deep-ovmf", "ports-ovmf"] {
         assert!(Path::new(&format!("{out}-{machine}-0000-00.board.txt")).is_file());
     }
@@ -338,14 +338,14 @@ fn a_fleet() {
     fs::write(&wrong, "ssh: connect to host box port 22: No route to host\n").unwrap();
     fs::write(&cut, text("deep-ovmf").split_once('\n').unwrap().1).unwrap();
     let broken = [&empty, &wrong, &cut].map(|file| file.to_str().unwrap());
-    let ran = run(&[&["import", &one], &broken[..], &[&other]].concat(), b"");
+    let ran = run(&[&["import", "--fleet", &one], &broken[..], &[&other]].concat(), b"");
     let lines = String::from_utf8(ran.out).unwrap();
     assert_eq!((ran.status, lines.lines().count()), (1, 5), "{lines}{}", ran.error);
     for (file, why) in broken.iter().zip(["it is empty", "neither what `lspci -vvx`", "line 1: a line of no function"])
     {
         assert!(lines.contains(&format!("{file}: refused: {why}")), "{lines}");
     }
-    let ran = run(&["import", &one, &other, "--leave-out", "00:02.0"], b"");
+    let ran = run(&["import", "--fleet", &one, &other, "--leave-out", "00:02.0"], b"");
     assert!(ran.status == 2 && ran.error.contains("--leave-out is for one machine, and here are 2"), "{}", ran.error);
 }
 
@@ -386,14 +386,15 @@ fn nothing_to_import() {
     let empty = empty.to_str().unwrap();
     let iomem = file("ports-ovmf", "iomem");
     for (files, words) in [
-        (&["docs/example/board.txt"][..], "docs/example/board.txt: neither what `lspci -vvx` prints"),
+        (&[][..], "it takes lspci's output"),
+        (&["docs/example/board.txt"], "docs/example/board.txt: neither what `lspci -vvx` prints"),
         (&["docs/example/board"], "docs/example/board: neither what `lspci -vvx` prints"),
         (&["no-such-file"], "no-such-file: "),
         (&[empty], "empty is empty; no function found: `lspci -vvx` has them"),
         (&[&iomem], "no function found: `lspci -vvx` has them, or /sys/bus/pci/devices"),
         (&["man"], "man: neither /sys/bus/pci/devices, nor a folder with what `lspci -vvx` prints"),
         (
-            &[&file("deep-ovmf", "lspci"), &file("ports-ovmf", "lspci"), &file("switch-ovmf", "iomem")],
+            &["--fleet", &file("deep-ovmf", "lspci"), &file("ports-ovmf", "lspci"), &file("switch-ovmf", "iomem")],
             "of which machine?",
         ),
     ] {

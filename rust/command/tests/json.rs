@@ -133,8 +133,9 @@ fn of_plans() {
         "host buses 00-0F low E0000000+1M\nbridge 00.0 spare 2M\n  card 00.0 mem32 4K\ncard 01.0 \"odd\" mem32 4M\n";
     fs::write(&left_out, board).unwrap();
     let without = format!("{} --without odd", left_out.to_str().unwrap());
-    let all: Vec<&str> = all.into_iter().chain(["tests/command/chain.txt", &without]).collect();
-    compare("plan", &all);
+    let all = all.into_iter().chain(["tests/command/chain.txt", &without]);
+    let all: Vec<String> = all.map(|one| format!("{one} --full")).collect();
+    compare("plan", &all.iter().map(String::as_str).collect::<Vec<_>>());
 }
 
 #[test]
@@ -175,7 +176,7 @@ fn of_traces() {
 fn of_machines() {
     let [one, other] = ["deep-ovmf", "ports-seabios"].map(|name| format!("tests/command/linux/{name}.lspci"));
     let out = folder("json").join("box");
-    let fleet = format!("{one} {other} --out {}", out.display());
+    let fleet = format!("--fleet {one} {other} --out {}", out.display());
     let left_out = format!("{one} --leave-out 00:02.0");
     compare("import", &[&fleet, &left_out, "tests/command/linux/spellings.lspci"]);
     compare("diff", &[&format!("{one} {other}"), "tests/command/recorder.txt tests/command/recorder-changed.txt"]);

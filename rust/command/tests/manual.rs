@@ -37,7 +37,7 @@ fn helped(help: &str) -> BTreeSet<String> {
 
 /// `.It Fl -names`, in a page.
 fn described(page: &str) -> BTreeSet<String> {
-    let items = page.lines().filter_map(|line| line.strip_prefix(".It Fl ")).filter(|item| item.starts_with('-'));
+    let items = page.lines().filter_map(|line| line.strip_prefix(".It Fl "));
     items.map(|item| format!("-{}", item.split(' ').next().unwrap())).collect()
 }
 

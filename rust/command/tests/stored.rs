@@ -9,48 +9,69 @@ use std::{env, fs};
 /// Name, exit status, arguments. Files are named from the repository's root.
 const RUNS: &[(&str, i32, &str)] = &[
     ("plan", 0, "plan tests/command/recorder.txt"),
+    ("plan-full", 0, "plan tests/command/recorder.txt --full"),
     ("plan-json", 0, "plan docs/example/board --json"),
     ("plan-lspci", 0, "plan tests/command/recorder.txt --lspci"),
+    ("plan-lspci-full", 0, "plan tests/command/recorder.txt --lspci --full"),
     ("plan-refused-31", 1, "plan tests/command/full.txt"),
+    ("plan-refused-31-full", 1, "plan tests/command/full.txt --full"),
     ("plan-refused-31-json", 1, "plan tests/command/full.txt --json"),
+    ("plan-refused-31-json-full", 1, "plan tests/command/full.txt --json --full"),
     ("plan-refused-31-gap", 1, "plan tests/command/gap.txt"),
+    ("plan-refused-31-gap-full", 1, "plan tests/command/gap.txt --full"),
     ("plan-refused-31-gap-json", 1, "plan tests/command/gap.txt --json"),
+    ("plan-refused-31-gap-json-full", 1, "plan tests/command/gap.txt --json --full"),
     ("plan-refused-31-closed", 1, "plan tests/plan/spares-closed-pool-refused-31.board"),
+    ("plan-refused-31-closed-full", 1, "plan tests/plan/spares-closed-pool-refused-31.board --full"),
     ("plan-refused-32-closed", 1, "plan tests/command/closed.txt"),
+    ("plan-refused-32-closed-full", 1, "plan tests/command/closed.txt --full"),
     ("plan-refused-32-closed-json", 1, "plan tests/command/closed.txt --json"),
+    ("plan-refused-32-closed-json-full", 1, "plan tests/command/closed.txt --json --full"),
     ("plan-refused-23", 1, "plan tests/command/order.txt"),
+    ("plan-refused-23-full", 1, "plan tests/command/order.txt --full"),
     ("plan-refused-25", 1, "plan tests/command/small.txt"),
+    ("plan-refused-25-full", 1, "plan tests/command/small.txt --full"),
     ("plan-refused-30", 1, "plan tests/plan/refused-30.board"),
-    ("plan-refused-32", 1, "plan tests/command/chain.txt"),
-    ("plan-refused-32-json", 1, "plan tests/command/chain.txt --json"),
-    ("plan-refused-26", 1, "plan tests/command/edges.txt"),
+    ("plan-refused-30-full", 1, "plan tests/plan/refused-30.board --full"),
+    ("plan-refused-32", 1, "plan tests/command/chain.txt --full"),
+    ("plan-refused-32-json", 1, "plan tests/command/chain.txt --json --full"),
+    ("plan-refused-26", 1, "plan tests/command/edges.txt --full"),
     ("plan-without", 0, "plan tests/command/chain.txt --without 03:00.0 --without 2"),
     ("plan-without-json", 0, "plan tests/command/chain.txt --without 6 --json"),
-    ("plan-without-lspci", 0, "plan tests/command/gap.txt --without clock --lspci"),
+    ("plan-without-lspci", 0, "plan tests/command/gap.txt --without clock --lspci --full"),
     ("plan-without-nobody", 2, "plan tests/command/gap.txt --without cap"),
-    ("plan-wrong", 1, "plan tests/command/wrong.txt"),
-    ("plan-latin-1", 2, "plan tests/command/latin-1.txt"),
-    ("plan-tabs", 2, "plan tests/command/tabs.txt"),
-    ("show-tabs", 2, "show tests/command/tabs.txt"),
-    ("show-cut", 1, "show tests/command/cut.board"),
-    ("convert-cut", 1, "convert tests/command/cut.board"),
-    ("show-cut-trace", 1, "show tests/command/cut.trace"),
-    ("show-refused-23", 1, "show tests/command/order.txt"),
-    ("show-refused-27", 1, "show tests/command/buses.sheet"),
-    ("label-refused-27", 1, "label tests/command/buses.sheet docs/example/trace"),
-    ("label-refused-32", 1, "label tests/command/chain.txt docs/example/trace"),
-    ("show-lspci", 2, "show tests/command/linux/spellings.lspci"),
+    ("plan-wrong", 2, "plan tests/command/wrong.txt"),
+    ("plan-wrong-full", 1, "plan tests/command/wrong.txt --full"),
+    ("plan-latin-1", 2, "plan tests/command/latin-1.txt --full"),
+    ("plan-tabs", 2, "plan tests/command/tabs.txt --full"),
+    ("show-tabs", 2, "show tests/command/tabs.txt --full"),
+    ("show-cut", 1, "show tests/command/cut.board --full"),
+    ("convert-cut", 1, "convert tests/command/cut.board --full"),
+    ("show-cut-trace", 1, "show tests/command/cut.trace --full"),
+    ("show-refused-23", 1, "show tests/command/order.txt --full"),
+    ("show-refused-27", 1, "show tests/command/buses.sheet --full"),
+    ("label-refused-27", 1, "label tests/command/buses.sheet docs/example/trace --full"),
+    ("label-refused-32", 1, "label tests/command/chain.txt docs/example/trace --full"),
+    ("show-lspci", 2, "show tests/command/linux/spellings.lspci --full"),
     ("explain", 0, "explain"),
     ("explain-26", 0, "explain 26"),
     ("explain-json", 0, "explain 31 NoOwner --json"),
     ("explain-no-number", 2, "explain 12"),
     ("plan-trace", 2, "plan docs/example/trace"),
+    ("plan-trace-full", 2, "plan docs/example/trace --full"),
     ("audit", 0, "audit tests/audit/ovmf-one-bridge.sheet --host tests/audit/ovmf-one-bridge.host"),
     ("audit-board", 0, "audit tests/command/recorder.txt"),
     ("audit-refused-52", 1, "audit tests/audit/ovmf-overlap.sheet --host tests/audit/ovmf-overlap.host"),
+    ("audit-refused-52-full", 1, "audit tests/audit/ovmf-overlap.sheet --host tests/audit/ovmf-overlap.host --full"),
     ("audit-refused-25", 1, "audit tests/audit/seabios-flat.sheet --host tests/audit/seabios-flat.host"),
+    ("audit-refused-25-full", 1, "audit tests/audit/seabios-flat.sheet --host tests/audit/seabios-flat.host --full"),
     ("audit-all", 1, "audit tests/audit/seabios-deep-16.sheet --host tests/audit/seabios-deep-16.host --all"),
-    ("audit-json", 1, "audit tests/audit/ovmf-overlap.sheet --host tests/audit/ovmf-overlap.host --json"),
+    (
+        "audit-all-full",
+        1,
+        "audit tests/audit/seabios-deep-16.sheet --host tests/audit/seabios-deep-16.host --all --full",
+    ),
+    ("audit-json", 1, "audit tests/audit/ovmf-overlap.sheet --host tests/audit/ovmf-overlap.host --json --full"),
     ("audit-json-accepted", 0, "audit tests/command/recorder.txt --json"),
     ("audit-no-host", 2, "audit tests/audit/ovmf-overlap.sheet"),
     ("route", 0, "route tests/command/recorder.txt 20000001 0000030F 00000002 48001000"),
@@ -86,11 +107,16 @@ const RUNS: &[(&str, i32, &str)] = &[
     ("label-both-json", 0, "label tests/command/recorder.txt docs/example/recorder-trace.txt --both --json"),
     ("label-log", 0, "label tests/command/recorder.txt tests/command/aer.txt --names"),
     ("label-log-json", 0, "label tests/command/recorder.txt tests/command/aer.txt --json"),
-    ("label-filters", 0, "label tests/command/recorder.txt docs/example/recorder-trace.txt --both --from capture --to host"),
+    (
+        "label-filters",
+        0,
+        "label tests/command/recorder.txt docs/example/recorder-trace.txt --both --from capture --to host",
+    ),
     ("label-records", 0, "label tests/command/recorder.txt docs/example/trace.txt --names --records 3-5"),
     ("label-no-records", 0, "label tests/command/recorder.txt docs/example/trace.txt --records 11-"),
     ("label-idle", 2, "label tests/command/recorder.txt docs/example/trace --from capture"),
     ("label-board", 2, "label tests/command/recorder.txt docs/example/board"),
+    ("label-board-full", 2, "label tests/command/recorder.txt docs/example/board --full"),
     ("ledger", 1, "ledger docs/example/requests --names tests/command/recorder.txt"),
     ("ledger-json", 1, "ledger docs/example/requests --names tests/command/recorder.txt --json"),
     ("ledger-filters", 1, "ledger docs/example/requests --names tests/command/recorder.txt --to timecode --kind iowr"),
@@ -105,11 +131,13 @@ const RUNS: &[(&str, i32, &str)] = &[
     ("page-of-a-trace", 2, "page docs/example/trace -o -"),
     ("show-board", 0, "show docs/example/board"),
     ("show-sheet", 0, "show tests/audit/ovmf-one-bridge.sheet"),
+    ("show-sheet-full", 0, "show tests/audit/ovmf-one-bridge.sheet --full"),
     ("show-trace", 0, "show docs/example/trace.txt"),
     ("show-script", 0, "show tests/script/p10.out"),
     ("convert-trace", 0, "convert docs/example/trace"),
     ("convert-sheet", 0, "convert tests/audit/ovmf-one-bridge.sheet"),
     ("export", 0, "export tests/audit/ovmf-one-bridge.sheet"),
+    ("export-full", 0, "export tests/audit/ovmf-one-bridge.sheet --full"),
     ("import-not-read", 1, "import tests/command/linux/spellings.lspci"),
     ("help", 0, "--help"),
     ("help-audit", 0, "audit --help"),
@@ -118,8 +146,8 @@ const RUNS: &[(&str, i32, &str)] = &[
     ("help-page", 0, "page --help"),
     ("no-subcommand", 2, "lable x y"),
     ("no-help", 2, "help lable"),
-    ("plan-two-forms", 2, "plan tests/command/recorder.txt --json --lspci"),
-    ("plan-no-script", 2, "plan tests/command/recorder.txt --requester 00:1F.0"),
+    ("plan-two-forms", 0, "plan tests/command/recorder.txt --json --lspci"),
+    ("plan-no-script", 0, "plan tests/command/recorder.txt --requester 00:1F.0"),
 ];
 
 /// Standard output, and after it what stands on standard error.
@@ -155,6 +183,14 @@ fn standard_input() {
     let ran = run(&["route", "tests/command/recorder.txt", "-"], &log);
     compare("route-log", &text(&ran));
     assert_eq!(ran.status, 1);
+    for (name, arguments) in [
+        ("decode-log-full", &["decode", "--full"][..]),
+        ("route-log-full", &["route", "tests/command/recorder.txt", "-", "--full"]),
+    ] {
+        let ran = run(arguments, &log);
+        compare(name, &text(&ran));
+        assert_eq!(ran.status, 1);
+    }
     let board = fs::read(repository().join("docs/example/board")).unwrap();
     let ran = run(&["plan", "-", "--lines"], &board);
     assert_eq!(
@@ -180,7 +216,7 @@ fn summary() {
 fn script_as_text() {
     let [bytes, text] = ["box.script", "box.txt"].map(|name| run::folder("stored").join(name));
     for file in [&bytes, &text] {
-        let ran = run(&["plan", "tests/command/recorder.txt", "--script", file.to_str().unwrap()], b"");
+        let ran = run(&["plan", "tests/command/recorder.txt", "--full", "--script", file.to_str().unwrap()], b"");
         assert_eq!(ran.status, 0, "{}", ran.error);
     }
     assert!(fs::read_to_string(&text).unwrap().starts_with("script\n"));

@@ -80,7 +80,7 @@ fn picture() {
 /// A log that grows: each header is answered before the next one is there.
 #[test]
 fn a_log_that_grows() {
-    for arguments in [&["route", "tests/command/recorder.txt"][..], &["decode", "-", "--json"]] {
+    for arguments in [&["route", "tests/command/recorder.txt", "--full"][..], &["decode", "-", "--json"]] {
         let mut child = command(arguments).spawn().unwrap();
         let mut log = child.stdin.take().unwrap();
         let mut lines = BufReader::new(child.stdout.take().unwrap()).lines();

@@ -3,9 +3,9 @@
 //! whole pixels, so one plan has one picture.
 
 use crate::entry::Entry;
+use crate::plan::{Function, Plan};
 use crate::svg::Svg;
 use crate::tree::{Bus, Place};
-use crate::Drawn;
 
 const MARGIN: usize = 15;
 /// Between columns.
@@ -23,19 +23,17 @@ const HEAD: usize = 28;
 const ROW: usize = 20;
 const FOOT: usize = 8;
 const SIDE: usize = 12;
-/// In an entry: the size of its mark, where its label and its addresses start, and the room for kind and size.
+/// In an entry: the size of its mark, where its label and its address start, and the room for its kind.
 const MARK: usize = 9;
 const LABEL: usize = 15;
 const ADDRESS: usize = 72;
-const SIZE: usize = 90;
-/// A name of more letters is cut.
-const LONGEST_NAME: usize = 40;
+const KIND: usize = 112;
 const LEGEND_HEIGHT: usize = 30;
-/// The style of what is kept free, beside that of a window, and of names.
-const STYLES: &str = ".spare { stroke-dasharray: 2.4 1.8 }\n.called { font-weight: 600; fill: #1f2328 }\n";
+/// The style of what is kept free, beside that of a window.
+const SPARE: &str = ".spare { stroke-dasharray: 2.4 1.8 }\n";
 
 /// The picture of a plan, as the text of an SVG file.
-pub fn draw(plan: &[Drawn]) -> String {
+pub fn draw(plan: &Plan) -> String {
     let root = Bus::root(plan);
     let mut drawing = Drawing::new(plan, root.as_ref());
     drawing.host();
@@ -43,7 +41,7 @@ pub fn draw(plan: &[Drawn]) -> String {
         drawing.bus(root, 0, 0);
     }
     drawing.legend();
-    drawing.finish(&format!("A plan of {} functions", plan.len()))
+    drawing.finish(&format!("A plan of {} functions", plan.functions.len()))
 }
 
 struct Drawing {
@@ -55,7 +53,7 @@ struct Drawing {
 }
 
 impl Drawing {
-    fn new(plan: &[Drawn], root: Option<&Bus>) -> Drawing {
+    fn new(plan: &Plan, root: Option<&Bus>) -> Drawing {
         let mut rows = Vec::new();
         if let Some(root) = root {
             count_rows(root, 0, &mut rows);
@@ -67,7 +65,7 @@ impl Drawing {
         }
         Drawing {
             columns: root.map_or(1, Bus::columns),
-            column_width: plan.iter().map(width_needed).fold(LEAST_COLUMN, usize::max),
+            column_width: plan.functions.iter().map(width_needed).fold(LEAST_COLUMN, usize::max),
             tops,
             svg: Svg::default(),
         }
@@ -121,12 +119,9 @@ impl Drawing {
         let class = if place.below.is_some() { "bridge" } else { "end" };
         self.svg.line(left + self.column_width / 2, top - LINE, top);
         self.svg.rectangle(class, [left, top], [self.column_width, bottom - top], 4);
-        self.svg.text("mono id", left + SIDE, baseline(top, HEAD), place.drawn.function.id);
-        self.svg.text("called", left + SIDE + ADDRESS, baseline(top, HEAD), name(place.drawn));
-        if let Some(role) = role(place.drawn) {
-            self.svg.text("kind right", left + self.column_width - SIDE, baseline(top, HEAD), role);
-        }
-        for (k, entry) in Entry::all(place.drawn).iter().enumerate() {
+        self.svg.text("mono id", left + SIDE, baseline(top, HEAD), place.function.id);
+        self.svg.text("", left + SIDE + ADDRESS, baseline(top, HEAD), role(place.function));
+        for (k, entry) in Entry::all(place.function).iter().enumerate() {
             self.entry(entry, left + SIDE, baseline(top + HEAD + k * ROW, ROW));
         }
         if let Some(below) = &place.below {
@@ -138,8 +133,8 @@ impl Drawing {
         self.svg.rectangle(entry.mark(), [left, baseline - MARK], [MARK, MARK], 1);
         self.svg.text("", left + LABEL, baseline, entry.label());
         self.svg.text("mono", left + ADDRESS, baseline, entry.addresses());
-        if let Some(size) = entry.size() {
-            self.svg.text("kind right", left + self.column_width - 2 * SIDE, baseline, size);
+        if let Some(kind) = entry.kind() {
+            self.svg.text("kind right", left + self.column_width - 2 * SIDE, baseline, kind);
         }
     }
 
@@ -166,7 +161,7 @@ impl Drawing {
     fn finish(self, title: &str) -> String {
         let width = self.width() + 2 * MARGIN;
         let height = self.tops[self.tops.len() - 1] + LEGEND_HEIGHT + MARGIN / 2;
-        self.svg.finish(title, [width, height], STYLES)
+        self.svg.finish(title, [width, height], SPARE)
     }
 }
 
@@ -175,19 +170,10 @@ fn baseline(top: usize, height: usize) -> usize {
     top + height / 2 + 4
 }
 
-/// Where a bridge leads to.
-fn role(drawn: &Drawn) -> Option<String> {
-    let buses = drawn.function.buses()?;
-    Some(format!("buses {:02X}–{:02X}", buses.secondary, buses.subordinate))
-}
-
-/// What people call it; without a name, what it is.
-fn name(drawn: &Drawn) -> String {
-    let is = if drawn.function.is_bridge() { "bridge" } else { "card" };
-    let name = drawn.name.filter(|name| !name.is_empty()).unwrap_or(is);
-    match name.char_indices().nth(LONGEST_NAME) {
-        Some((end, _)) => format!("{}…", &name[..end]),
-        None => name.to_string(),
+fn role(function: &Function) -> String {
+    match &function.bridge {
+        Some(bridge) => format!("bridge to buses {:02X}–{:02X}", bridge.secondary, bridge.subordinate),
+        None => "end function".to_string(),
     }
 }
 
@@ -197,91 +183,79 @@ fn count_rows(bus: &Bus, depth: usize, rows: &mut Vec<Option<usize>>) {
         rows.push(None);
     }
     for place in &bus.places {
-        rows[depth] = rows[depth].max(Some(Entry::all(place.drawn).len()));
+        rows[depth] = rows[depth].max(Some(Entry::all(place.function).len()));
         if let Some(below) = &place.below {
             count_rows(below, depth + 1, rows);
         }
     }
 }
 
-/// How wide a function's box has to be. A digit of the widest usual fixed-width font takes 7.3 pixels, a letter of a name 7.
-fn width_needed(drawn: &Drawn) -> usize {
+/// How wide a function's box has to be. A digit of the widest usual fixed-width font takes 7.3 pixels.
+fn width_needed(function: &Function) -> usize {
     let needed = |entry: &Entry| {
         let addresses = (entry.addresses().chars().count() * 73).div_ceil(10);
-        ADDRESS + addresses + entry.size().map_or(0, |_| SIZE)
+        ADDRESS + addresses + entry.kind().map_or(0, |_| KIND)
     };
-    let entries = Entry::all(drawn).iter().map(needed).max().unwrap_or(0);
-    let letters = name(drawn).chars().count() + role(drawn).map_or(0, |role| role.chars().count());
-    let title = ADDRESS + 7 * letters + SIDE;
-    entries.max(title) + 2 * SIDE
+    Entry::all(function).iter().map(needed).max().unwrap_or(0) + 2 * SIDE
 }
 
 #[cfg(test)]
 mod tests {
     use super::*;
-    use cartsundial::{Board, Sheet};
+    use crate::spares::Spares;
 
-    fn svg(text: &str) -> String {
-        let board: Board = text.parse().unwrap();
-        let sheet = Sheet::new(board.plan().unwrap()).unwrap();
-        let drawn: Vec<Drawn> = sheet
-            .functions()
-            .zip(board.functions())
-            .map(|(function, one)| Drawn { function, name: one.name.as_deref(), spares: one.spares })
-            .collect();
-        draw(&drawn)
-    }
+    const P10: &str = "plan 2
+0000 bridge 00000000 00000000 00 01 01 40 40 F900 F900 4001 43F1 00000002 00000002
+0100 end F9000000 4000000C 00000002 00004001 00000000 00000000
+";
 
-    fn texts(board: &str) -> Vec<String> {
+    fn texts(plan: &str) -> Vec<String> {
+        let svg = draw(&Plan::read(plan).unwrap());
         let text = |line: &str| Some(line.strip_prefix("<text")?.split(['>', '<']).nth(1)?.to_string());
-        svg(board).lines().filter_map(text).collect()
+        svg.lines().filter_map(text).collect()
     }
-
-    const HOST: &str = "host buses 00-FF low F9000000+16M high 240000000+1G io 4000-4FFF\n";
 
     #[test]
-    fn from_the_host_down() {
-        let texts =
-            texts(&format!("{HOST}bridge 00.0 \"port\"\n  card 00.0 \"a <b> & c\" mem32 4K, mem64p 64M, io 256\n"));
+    fn p10_from_the_host_down() {
+        let texts = texts(P10);
         let legend = texts.iter().rposition(|text| text == "I/O").unwrap();
         #[rustfmt::skip]
         assert_eq!(texts[..legend], [
             "host",
             "bus 00",
-            "00:00.0", "port", "buses 01–01",
-            "I/O", "4000–4FFF", "4K",
-            "memory", "F9000000–F90FFFFF", "1M",
-            "high", "2_40000000–2_43FFFFFF", "64M",
+            "00:00.0", "bridge to buses 01–01",
+            "I/O", "4000–4FFF",
+            "memory", "F9000000–F90FFFFF",
+            "high", "2_40000000–2_43FFFFFF",
             "bus 01",
-            "01:00.0", "a &lt;b&gt; &amp; c",
-            "BAR 0", "F9000000–F9000FFF", "mem32 4K",
-            "BAR 1–2", "2_40000000–2_43FFFFFF", "mem64p 64M",
-            "BAR 3", "4000–40FF", "io 256",
+            "01:00.0", "end function",
+            "BAR 0", "F9000000", "32-bit memory",
+            "BAR 1–2", "2_40000000", "64-bit prefetchable",
+            "BAR 3", "4000", "I/O",
         ]);
     }
 
     #[test]
     fn spare_room() {
-        let texts = texts(&format!("{HOST}bridge 00.0 spare 2 buses, spare 1M\n  card 00.0 mem32 4K\n"));
-        for text in ["F9100000–F91FFFFF", "buses 02–03"] {
-            assert!(texts.iter().any(|one| one == text), "{text} {texts:?}");
+        let bridge = "0000 bridge 00000000 00000000 00 01 03 F0 00 F900 F930 FFF1 0001 00000000 00000000";
+        let mut plan = Plan::read(&format!("plan 1\n{bridge}\n")).unwrap();
+        let without = draw(&plan);
+        plan.set_spares(&[Spares { buses: 2, memory: 1 }]).unwrap();
+        let svg = draw(&plan);
+        for text in [">F9300000–F93FFFFF<", ">buses 02–03<"] {
+            assert!(svg.contains(text) && !without.contains(text), "{text}");
         }
     }
 
     #[test]
     fn a_bus_with_nothing_on_it() {
-        let texts = texts(&format!("{HOST}bridge 00.0\n"));
-        assert_eq!(texts[..6], ["host", "bus 00", "00:00.0", "bridge", "buses 01–01", "bus 01"]);
-    }
-
-    #[test]
-    fn long_names_are_cut() {
-        let texts = texts(&format!("{HOST}card 00.0 \"{}\"\n", "ü".repeat(60)));
-        assert!(texts.contains(&format!("{}…", "ü".repeat(40))));
+        let closed = "0000 bridge 00000000 00000000 00 01 01 F0 00 FFF0 0000 FFF1 0001 00000000 00000000";
+        let texts = texts(&format!("plan 1\n{closed}\n"));
+        assert_eq!(texts[..5], ["host", "bus 00", "00:00.0", "bridge to buses 01–01", "bus 01"]);
     }
 
     #[test]
     fn no_functions_no_bus() {
-        assert_eq!(texts(HOST)[..2], ["host", "I/O"]);
+        assert_eq!(texts("plan 0\n")[..2], ["host", "I/O"]);
     }
 }

@@ -1,33 +1,25 @@
 //! The lines in a function's box: a BAR, an open window or spare room each, and what they say.
 
-use crate::Drawn;
-use cartsundial::{PlacedBar, Pool, Size};
-use std::ops::RangeInclusive;
+use crate::plan::Function;
+use crate::registers::{Bar, Kind, Pool, Window};
 
-pub enum Entry {
-    Bar(PlacedBar),
-    Window(Pool, RangeInclusive<u64>),
+pub enum Entry<'a> {
+    Bar(&'a Bar),
+    Window(&'a Window),
     /// The end of a bridge's low window, which is kept free.
-    SpareMemory(RangeInclusive<u64>),
+    SpareMemory(&'a Window),
     /// The last buses of a bridge's range, first and last, which are kept free.
-    SpareBuses(u8, u8),
+    SpareBuses((u8, u8)),
 }
 
-impl Entry {
+impl<'a> Entry<'a> {
     /// A function's BARs, then its windows and what it keeps free.
-    pub fn all(drawn: &Drawn) -> Vec<Entry> {
-        let Drawn { function, spares, .. } = drawn;
-        let mut entries: Vec<Entry> = function.bars().map(Entry::Bar).collect();
-        if let Some(all) = function.windows() {
-            let spare = all.low.clone().filter(|_| spares.memory > 0);
-            let windows = [(Pool::Io, all.io), (Pool::Low, all.low), (Pool::High, all.high)];
-            entries.extend(windows.into_iter().filter_map(|(pool, window)| Some(Entry::Window(pool, window?))));
-            entries.extend(spare.map(|low| {
-                Entry::SpareMemory((low.end() + 1).saturating_sub(u64::from(spares.memory) << 20)..=*low.end())
-            }));
-        }
-        if let Some(buses) = function.buses().filter(|_| spares.buses > 0) {
-            entries.push(Entry::SpareBuses(buses.subordinate.saturating_sub(spares.buses - 1), buses.subordinate));
+    pub fn all(function: &'a Function) -> Vec<Entry<'a>> {
+        let mut entries: Vec<Entry> = function.bars.iter().map(Entry::Bar).collect();
+        if let Some(bridge) = &function.bridge {
+            entries.extend(bridge.windows.iter().map(Entry::Window));
+            entries.extend(bridge.spare_memory.iter().map(Entry::SpareMemory));
+            entries.extend(bridge.spare_buses.map(Entry::SpareBuses));
         }
         entries
     }
@@ -38,70 +30,65 @@ impl Entry {
             (Entry::Bar(_), Some(Pool::Io)) => "io",
             (Entry::Bar(_), Some(Pool::Low)) => "low",
             (Entry::Bar(_), Some(Pool::High)) => "high",
-            (Entry::Window(..), Some(Pool::Io)) => "io window",
-            (Entry::Window(..), Some(Pool::Low)) => "low window",
-            (Entry::Window(..), Some(Pool::High)) => "high window",
+            (Entry::Window(_), Some(Pool::Io)) => "io window",
+            (Entry::Window(_), Some(Pool::Low)) => "low window",
+            (Entry::Window(_), Some(Pool::High)) => "high window",
             (Entry::SpareMemory(_), _) => "low window spare",
-            (_, None) | (Entry::SpareBuses(..), _) => "any window spare",
+            (_, None) | (Entry::SpareBuses(_), _) => "any window spare",
         }
     }
 
     pub fn label(&self) -> String {
         match self {
-            Entry::Bar(placed) if placed.bar.kind.slots() == 2 => format!("BAR {}–{}", placed.slot, placed.slot + 1),
-            Entry::Bar(placed) => format!("BAR {}", placed.slot),
-            Entry::Window(Pool::Io, _) => "I/O".to_string(),
-            Entry::Window(Pool::Low, _) => "memory".to_string(),
-            Entry::Window(Pool::High, _) => "high".to_string(),
-            Entry::SpareMemory(_) | Entry::SpareBuses(..) => "spare".to_string(),
+            Entry::Bar(bar) if bar.slots() == 2 => format!("BAR {}–{}", bar.slot, bar.slot + 1),
+            Entry::Bar(bar) => format!("BAR {}", bar.slot),
+            Entry::Window(window) => match window.pool {
+                Pool::Io => "I/O".to_string(),
+                Pool::Low => "memory".to_string(),
+                Pool::High => "high".to_string(),
+            },
+            Entry::SpareMemory(_) | Entry::SpareBuses(_) => "spare".to_string(),
         }
     }
 
-    /// The first and last address, or spare buses.
+    /// Where a BAR starts, or the first and last address of a window or of spare memory; or spare buses.
     pub fn addresses(&self) -> String {
-        match (self, self.range()) {
-            (Entry::SpareBuses(first, last), _) if first == last => format!("bus {first:02X}"),
-            (Entry::SpareBuses(first, last), _) => format!("buses {first:02X}–{last:02X}"),
-            (_, Some(range)) => {
-                let spell = |address| hexadecimal(self.pool() == Some(Pool::Io), address);
-                format!("{}–{}", spell(*range.start()), spell(*range.end()))
-            }
-            (_, None) => String::new(),
-        }
-    }
-
-    /// `mem32 64K`, of anything but a BAR the size alone; nothing for spare buses.
-    pub fn size(&self) -> Option<String> {
-        let range = self.range()?;
-        let size = Size((range.end() - range.start()).saturating_add(1));
-        Some(match self {
-            Entry::Bar(placed) => format!("{} {size}", placed.bar.kind),
-            _ => size.to_string(),
-        })
-    }
-
-    fn range(&self) -> Option<RangeInclusive<u64>> {
         match self {
-            Entry::Bar(placed) => Some(placed.range()),
-            Entry::Window(_, range) | Entry::SpareMemory(range) => Some(range.clone()),
-            Entry::SpareBuses(..) => None,
+            Entry::Bar(bar) => hexadecimal(bar.pool(), bar.address),
+            Entry::Window(window) | Entry::SpareMemory(window) => {
+                let spell = |address| hexadecimal(window.pool, address);
+                format!("{}–{}", spell(window.base), spell(window.last))
+            }
+            Entry::SpareBuses((first, last)) if first == last => format!("bus {first:02X}"),
+            Entry::SpareBuses((first, last)) => format!("buses {first:02X}–{last:02X}"),
         }
+    }
+
+    /// What a BAR's type bits say; nothing for anything else.
+    pub fn kind(&self) -> Option<&'static str> {
+        let Entry::Bar(bar) = self else { return None };
+        Some(match bar.kind {
+            Kind::Io => "I/O",
+            Kind::Memory { is_wide: false, is_prefetchable: false } => "32-bit memory",
+            Kind::Memory { is_wide: false, is_prefetchable: true } => "32-bit prefetchable",
+            Kind::Memory { is_wide: true, is_prefetchable: false } => "64-bit memory",
+            Kind::Memory { is_wide: true, is_prefetchable: true } => "64-bit prefetchable",
+        })
     }
 
     fn pool(&self) -> Option<Pool> {
         match self {
-            Entry::Bar(placed) => placed.bar.kind.pool(),
-            Entry::Window(pool, _) => Some(*pool),
-            Entry::SpareMemory(_) => Some(Pool::Low),
-            Entry::SpareBuses(..) => None,
+            Entry::Bar(bar) => Some(bar.pool()),
+            Entry::Window(window) | Entry::SpareMemory(window) => Some(window.pool),
+            Entry::SpareBuses(_) => None,
         }
     }
 }
 
 /// Four digits in I/O space, else eight, and before them the upper word where there is one.
-fn hexadecimal(is_io: bool, address: u64) -> String {
-    match (is_io, address >> 32) {
-        (true, _) => format!("{address:04X}"),
+fn hexadecimal(pool: Pool, address: u64) -> String {
+    match (pool, address >> 32) {
+        (Pool::Io, _) => format!("{address:04X}"),
         (_, 0) => format!("{address:08X}"),
         (_, upper) => format!("{upper:X}_{:08X}", address & 0xFFFF_FFFF),
     }
@@ -113,9 +100,9 @@ mod tests {
 
     #[test]
     fn addresses_as_the_pool_has_them() {
-        assert_eq!(hexadecimal(true, 0x40), "0040");
-        assert_eq!(hexadecimal(false, 0x10_0000), "00100000");
-        assert_eq!(hexadecimal(false, 0x2_4000_0000), "2_40000000");
-        assert_eq!(hexadecimal(false, 0xF_FFFF_FFFF_FFFF), "FFFFF_FFFFFFFF");
+        assert_eq!(hexadecimal(Pool::Io, 0x40), "0040");
+        assert_eq!(hexadecimal(Pool::Low, 0x10_0000), "00100000");
+        assert_eq!(hexadecimal(Pool::High, 0x2_4000_0000), "2_40000000");
+        assert_eq!(hexadecimal(Pool::High, 0xF_FFFF_FFFF_FFFF), "FFFFF_FFFFFFFF");
     }
 }

@@ -1,28 +1,30 @@
-//! Draws a plan, or crates.txt, as the text of an SVG picture.
+//! Draws a plan, as the program `plan` prints it, or crates.txt, as the text of an SVG picture.
 
 mod crate_drawing;
 mod crates;
 mod drawing;
 mod entry;
 mod layers;
+mod named;
+mod plan;
+mod registers;
+mod spares;
 mod svg;
 mod tree;
 
-use cartsundial::{Function, Spares};
 use crates::Crates;
+pub use named::{draw_named, Drawn};
+use plan::Plan;
 
-/// A function of a plan, with its name and what it keeps free.
-#[derive(Clone, Copy, Debug)]
-pub struct Drawn<'a> {
-    pub function: Function<'a>,
-    pub name: Option<&'a str>,
-    pub spares: Spares,
-}
-
-/// The buses from the host down, each bridge with its open windows and what it keeps free, and each function with its BARs. The
-/// functions are a plan's, in its order: each is on the first one's bus or on the secondary bus of a bridge before it.
-pub fn draw_plan(functions: &[Drawn]) -> String {
-    drawing::draw(functions)
+/// The buses from the host down, each bridge with its open windows and each function with its BARs; with the bytes of the
+/// board that the plan is of, also what its bridges keep free.
+pub fn draw_plan(text: &str, board: Option<&[u8]>) -> Result<String, String> {
+    let mut plan = Plan::read(text).map_err(|undrawable| undrawable.to_string())?;
+    if let Some(bytes) = board {
+        let spares = spares::read(bytes).ok_or("not a board")?;
+        plan.set_spares(&spares)?;
+    }
+    Ok(drawing::draw(&plan))
 }
 
 /// What each crate of crates.txt is built on.

@@ -1,10 +1,14 @@
-//! Draws crates.txt, which comes in on standard input, as an SVG picture on standard output: what each crate is built on. Another text
-//! gives a message on standard error and exit status 1. A plan is drawn by `cartsundial plan --svg`.
+//! Draws a text that comes in on standard input, as an SVG picture on standard output.
+//!
+//! `picture plan` takes what the program `plan` prints and shows the buses from the host down, each bridge with its open
+//! windows and each function with its BARs. `picture plan BOARD` also shows what the bridges of that board, which the plan
+//! is of, keep free. `picture crates` takes crates.txt and shows what each crate is built on. A refusal, or another text,
+//! gives a message on standard error and exit status 1.
 
 use picture::draw_crates;
-use std::env;
 use std::io::{self, Read, Write};
 use std::process::ExitCode;
+use std::{env, fs};
 
 fn main() -> ExitCode {
     match run() {
@@ -17,10 +21,13 @@ fn main() -> ExitCode {
 }
 
 fn run() -> Result<(), String> {
-    if env::args().skip(1).collect::<Vec<_>>() != ["crates"] {
-        return Err("usage: picture crates, the text on standard input".to_string());
-    }
-    let picture = draw_crates(&input()?)?;
+    let words: Vec<String> = env::args().skip(1).collect();
+    let picture = match words.iter().map(String::as_str).collect::<Vec<_>>()[..] {
+        ["plan"] => draw_plan(&input()?, None)?,
+        ["plan", board] => draw_plan(&input()?, Some(board))?,
+        ["crates"] => draw_crates(&input()?)?,
+        _ => return Err("usage: picture plan [BOARD] | picture crates, the text on standard input".to_string()),
+    };
     io::stdout().write_all(picture.as_bytes()).map_err(|error| format!("standard output: {error}"))
 }
 
@@ -28,4 +35,11 @@ fn input() -> Result<String, String> {
     let mut bytes = Vec::new();
     io::stdin().read_to_end(&mut bytes).map_err(|error| format!("standard input: {error}"))?;
     String::from_utf8(bytes).map_err(|_| "standard input is not text".to_string())
+}
+
+/// The plan, with the spares of its board where that is named.
+fn draw_plan(text: &str, board: Option<&str>) -> Result<String, String> {
+    let Some(name) = board else { return picture::draw_plan(text, None) };
+    let bytes = fs::read(name).map_err(|error| format!("{name}: {error}"))?;
+    picture::draw_plan(text, Some(&bytes)).map_err(|why| format!("{name}: {why}"))
 }

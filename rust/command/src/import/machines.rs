@@ -1,5 +1,5 @@
-//! Which inputs are of which machine. Where one of them has functions, all are of that one. Where more have, each of those is a
-//! machine, and what else there is, iomem, ioports or a boot log, is of the one whose file has the same name up to the last dot.
+//! Which inputs are of which machine: all are of one, but in a fleet. There each that has functions is a machine, and what else there
+//! is, iomem, ioports or a boot log, is of the one whose file has the same name up to the last dot.
 
 use super::found::{read_address, Found};
 use super::log::Log;
@@ -38,15 +38,8 @@ struct Input {
     why: Option<Failure>,
 }
 
-/// The machines of these files and folders; of none, this machine.
-pub fn all(names: &[String]) -> Result<Vec<Machine>, Failure> {
-    if names.is_empty() {
-        let root = Path::new("/");
-        let missing =
-            || Failure::Usage(format!("/{DEVICES} is not there: it takes lspci's output, and perhaps more files"));
-        let input = of_root(root)?.ok_or_else(missing)?;
-        return one(vec![Input { name: "this machine".into(), ..input }]).map(|machine| vec![machine]);
-    }
+/// The machines of these files and folders.
+pub fn all(names: &[String], is_fleet: bool) -> Result<Vec<Machine>, Failure> {
     let (mut machines, mut inputs) = (Vec::new(), Vec::new());
     for name in names {
         let path = Path::new(name);
@@ -59,7 +52,7 @@ pub fn all(names: &[String]) -> Result<Vec<Machine>, Failure> {
         }
     }
     if machines.is_empty() || !inputs.is_empty() {
-        machines.extend(grouped(inputs)?);
+        machines.extend(if is_fleet { grouped(inputs)? } else { vec![one(inputs)?] });
     }
     Ok(machines)
 }

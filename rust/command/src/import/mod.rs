@@ -32,23 +32,18 @@ use std::path::Path;
 mod edited;
 
 pub const OPTIONS: Options = Options {
-    flags: &["--quiet", "--json"],
+    flags: &["--quiet", "--json", "--fleet"],
     values: &["--out", "--leave-out"],
     more: &["--leave-out"],
     ..Options::NONE
 };
 
 pub const HELP: &str = "\
-cartsundial import [FILE..] [--out PREFIX] [--leave-out ID] [--json] [--quiet]
+cartsundial import FILE.. [--out PREFIX] [--leave-out ID] [--quiet]
 
 Takes `lspci -vvx` (more x's, -D, -n and -nn do not matter), or /sys/bus/pci/devices or a copy of it, and, for the root windows,
 /proc/iomem and /proc/ioports as root sees them, or a boot log. They may be in several files or in one. Registers are taken
-from the hexadecimal lines, sizes from `Region` lines, and where those have none from the boot log. Without a file it is this
-machine, from /sys and /proc.
-
-Where more than one file or folder has functions, each is a machine of its own, with the windows or the log of files that have the
-same name up to the last dot. A folder may have sys/bus/pci/devices and proc below it, or captures. Then a line comes out for each
-root bus: a fleet in one call. A file with nothing of a machine gets a line too, and is refused.
+from the hexadecimal lines, sizes from `Region` lines, and where those have none from the boot log.
 
 A function is refused, with its ID and what is missing, that has not all of its 64 bytes, or a BAR whose size nothing says, that
 does not answer any more, or that is there twice and not alike. Then nothing comes out for its root bus.
@@ -60,12 +55,17 @@ that reads 0, and so is open at 0 unless the bridge has none, is told and left.
 Without root windows the pools of host and board are as tight as what is used, which the line of the host then says.
 
   --out PREFIX        for each root bus, PREFIX-0000-00.sheet.txt, .host.txt, for --host of audit and label, and .board.txt, for
-                      plan, and a line with the audit's verdict. Of several machines PREFIX goes on with the name of each. Without
-                      it, the sheet of a machine with one root bus comes out, and of more a line for each
+                      plan, and a line with the audit's verdict; without it, the sheet of a machine with one root bus comes out
   --leave-out ID      without this function, and what is below it where it is a bridge; more may follow after commas. It is told
                       in every file
-  --json              an object for each root bus in place of the sheet or the lines
   --quiet             no word of what was changed, left out or refused: the exit status says it
+  --json              an object for each root bus in place of the sheet or the lines
+  --fleet             each file or folder with functions is a machine of its own, with the windows or the log of files that have the
+                      same name up to the last dot. A line comes out for each root bus, and PREFIX goes on with the name of each.
+                      A file with nothing of a machine gets a line too, and is refused
+
+FILE may be a root folder too, with sys/bus/pci/devices and proc below it: / is this machine; or a folder of captures, which is a
+fleet.
 
 Exit status: 0 where every function is read and the audit accepts every sheet, 1 where not, 2 usage or a stream that failed.
 ";
@@ -91,21 +91,28 @@ pub struct Imported {
 }
 
 pub fn run(arguments: &Arguments) -> Answer {
-    let (machines, asked) = (machines::all(&arguments.files)?, arguments.values("--leave-out"));
-    let is_fleet = machines.len() > 1;
+    if arguments.files.is_empty() {
+        return Err(Failure::Usage("it takes lspci's output, and perhaps more files".into()));
+    }
+    let machines = machines::all(&arguments.files, arguments.has("--fleet"))?;
+    let (is_fleet, asked) = (machines.len() > 1, arguments.values("--leave-out"));
     if is_fleet && !asked.is_empty() {
         return Err(Failure::Usage(format!("--leave-out is for one machine, and here are {}", machines.len())));
     }
     let imported = machines.into_iter().map(|machine| Imported::of(machine, &asked));
     let mut imported = imported.collect::<Result<Vec<Imported>, Failure>>()?;
+    let is_any = imported.iter().any(|one| !one.is_read());
+    let advice = || ADVICE.map(String::from).into_iter().filter(|_| is_any);
+    if let [one] = &mut imported[..] {
+        one.notes.extend(advice());
+    }
     let answer = write_out(arguments, &mut imported)?;
     if arguments.has("--quiet") {
         return Ok(answer);
     }
     let start = |one: &Imported| if is_fleet { format!("{}: ", one.name) } else { String::new() };
     let notes = imported.iter().flat_map(|one| one.notes.iter().map(move |note| format!("{}{note}", start(one))));
-    let is_any = imported.iter().any(|one| !one.is_read());
-    for note in notes.chain(ADVICE.map(String::from).into_iter().filter(|_| is_any)) {
+    for note in notes.chain(advice().filter(|_| is_fleet)) {
         // Where standard error cannot be written the sheet is there all the same.
         let _ = writeln!(io::stderr(), "cartsundial: {note}");
     }
@@ -137,7 +144,7 @@ impl Imported {
 pub fn machine(name: &str, text: Option<&str>) -> Result<Vec<Root>, Failure> {
     let mut machines = match text {
         Some(text) => vec![machines::of_text(name, text)?],
-        None => machines::all(&[name.to_string()])?,
+        None => machines::all(&[name.to_string()], true)?,
     };
     let (Some(machine), true) = (machines.pop(), machines.is_empty()) else {
         return Err(Failure::Usage(format!("{name} has more than one machine: name one of its files")));
@@ -234,6 +241,11 @@ fn write_out(arguments: &Arguments, imported: &mut [Imported]) -> Answer {
         ([one], None) if one.taken.len() == 1 || one.taken.iter().all(|(_, root)| root.is_err()) => {
             print(one.taken[0].1.as_ref().map_or(String::new(), |root| sheet_text(root, &one.left_out)))?;
             one.notes.extend(lines.into_iter().map(|(line, _)| line));
+        }
+        ([one], None) => {
+            let names: Vec<String> =
+                one.taken.iter().map(|((domain, bus), _)| format!("{domain:04x}:{bus:02x}")).collect();
+            return Err(Failure::Usage(format!("root buses {}: --out PREFIX writes files for each", names.join(", "))));
         }
         _ if arguments.has("--quiet") => {}
         _ => print(lines.into_iter().map(|(line, _)| line + "\n").collect::<String>())?,

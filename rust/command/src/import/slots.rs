@@ -3,7 +3,7 @@
 
 use super::found::{Found, Region, BARS, COMMAND};
 use super::Notes;
-use crate::faults::too_small;
+use crate::unlawful::too_small;
 use cartsundial::{Bar, BarKind, Size};
 use std::ops::RangeInclusive;
 
