@@ -37,11 +37,11 @@ put_next-next-requires c = let e = sym c.next_at.ensures ∙ c.in-Record.is in
 
 pub overflow_add-at : goal.overflow_add-at
 overflow_add-at c = let e = sym c.next_at.ensures ∙ c.in-Record.is in
-    omega (arith, fits_at c.args.board.now c.loop-next.at _ e, c.well-formed.1.0.1)
+    omega (arith, fits_at c.args.board.now c.loop-next.at _ e)
 
 pub overflow_add-at-in-Record : goal.overflow_add-at-in-Record
 overflow_add-at-in-Record c = let e = sym c.next_at.ensures ∙ c.in-Record.is in
-    omega (arith, fits_at c.args.board.now c.loop-next.at _ e, c.well-formed.1.0.1)
+    omega (arith, fits_at c.args.board.now c.loop-next.at _ e)
 
 pub overflow_add-i : goal.overflow_add-i
 overflow_add-i c = let e = sym c.next_at.ensures ∙ c.in-Record.is in

@@ -23,10 +23,10 @@ pub last_below-last-requires : goal.last_below-last-requires
 last_below-last-requires c = c.requires.part_value.1.stored (bridge (goal.at.last_below-last-requires c).Else-not-is_bridge)
 
 pub overflow_add-i : goal.overflow_add-i
-overflow_add-i c = omega (arith, c.requires.part_value.1.stored (bridge (goal.at.overflow_add-i c).Else-not-is_bridge), c.well-formed.1.1.1.0.1)
+overflow_add-i c = omega (arith, c.requires.part_value.1.stored (bridge (goal.at.overflow_add-i c).Else-not-is_bridge))
 
 pub overflow_add-i-2 : goal.overflow_add-i-2
-overflow_add-i-2 c = omega (arith, c.requires.part_value.1.stored (bridge (goal.at.overflow_add-i-2 c).Else-not-is_bridge), c.well-formed.1.1.1.0.1)
+overflow_add-i-2 c = omega (arith, c.requires.part_value.1.stored (bridge (goal.at.overflow_add-i-2 c).Else-not-is_bridge))
 
 pub number_at-requires : goal.number_at-requires
 number_at-requires c = rw (add-one c.args.i) (c.requires.part_value.1.below (bridge (goal.at.number_at-requires c).Else-not-is_bridge))

@@ -14,8 +14,9 @@ part_at-part-requires c = fits_at c.args.board.now c.args.at c.args.n c.requires
 pub put_buses-requires : goal.put_buses-requires
 put_buses-requires c = let room = rw c.in-Buses.is at c.requires.n_in_bounds in
     let ws = ap length (buses_placed 0 c.args.boot c.args.counts.now (function_at c.args.board.now c.args.at c.args.n) c.args.memo.now c.args.i
-    c.args.cursors.now) in (
-      (
+    c.args.cursors.now) in
+    record {
+      part_value = (
         ap header_wrong c.part_at-part.ensures ∙ c.requires.board_value.1,
         rw c.part_at-part.ensures (record {
           own = c.requires.placeable.0.numbered;
@@ -23,9 +24,9 @@ put_buses-requires c = let room = rw c.in-Buses.is at c.requires.n_in_bounds in
           stored = λ b. (c.requires.placeable.1 b).stored;
           last = λ b. (c.requires.placeable.1 b).last_numbered;
         }),
-      ),
-      rw c.part_at-part.ensures (omega (arith, room, ws)),
-    )
+      );
+      part_in_bounds = rw c.part_at-part.ensures (omega (arith, room, ws));
+    }
 
 pub put_placed-requires : goal.put_placed-requires
 put_placed-requires c = record { board_value = c.requires.board_value; placeable = c.requires.placeable; n_in_bounds = rw c.in-Registers.is at c.requires.n_in_bounds }

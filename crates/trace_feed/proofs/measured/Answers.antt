@@ -50,7 +50,7 @@ pub settle-kept-requires : goal.settle-kept-requires
 settle-kept-requires c = ap length c.keep-kept.ensures.1 ∙ length_head c.event_of-event.result c.loop-i.auto c.loop-i.head ∙ c.loop-i.invariant.0
 
 pub overflow_add-i : goal.overflow_add-i
-overflow_add-i c = omega (arith, c.loop-i-test.true, c.well-formed.1.1.1.0)
+overflow_add-i c = omega (arith, c.loop-i-test.true)
 
 pub loop-i-smaller : goal.loop-i-smaller
 loop-i-smaller c = omega (arith, c.loop-i-test.true)

@@ -27,11 +27,11 @@ put_line-at-requires c = c.requires.0
 
 pub overflow_add-i : goal.overflow_add-i
 overflow_add-i c = let fits = whole_fits c.loop-i.stage c.args.piece.now c.loop-i.i _ (sym c.next_in.ensures ∙ c.in-Record.is) in
-    omega (arith, fits, c.well-formed.1.1.1.0)
+    omega (arith, fits)
 
 pub overflow_add-i-in-Record : goal.overflow_add-i-in-Record
 overflow_add-i-in-Record c = let fits = whole_fits c.loop-i.stage c.args.piece.now c.loop-i.i _ (sym c.next_in.ensures ∙ c.in-Record.is) in
-    omega (arith, fits, c.well-formed.1.1.1.0)
+    omega (arith, fits)
 
 pub loop-i-smaller-in-Record : goal.loop-i-smaller-in-Record
 loop-i-smaller-in-Record c = omega (arith, c.loop-i-test.true)
@@ -63,7 +63,7 @@ pub settle-kept-requires : goal.settle-kept-requires
 settle-kept-requires c = ap length c.keep-kept.ensures.1 ∙ length_head c.event_of-event.result c.loop-i.auto c.loop-i.head ∙ c.loop-i.invariant.0
 
 pub overflow_add-i-in-loop-i : goal.overflow_add-i-in-loop-i
-overflow_add-i-in-loop-i c = omega (arith, c.loop-i-test.true, c.well-formed.1.1.1.0)
+overflow_add-i-in-loop-i c = omega (arith, c.loop-i-test.true)
 
 pub loop-i-smaller : goal.loop-i-smaller
 loop-i-smaller c = omega (arith, c.loop-i-test.true)
