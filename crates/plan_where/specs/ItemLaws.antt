@@ -101,7 +101,7 @@ module _ (h : Host) (fs : List Function) (lawful : Lawful fs) (q : Pool) where
   -- the root bus item named is the first that runs out of its pool
   pub record NamedOut (party : Party) : Type 0 where
     pub is_first_out : FirstOf (runs_out h q) (items_of h fs)
-    pub party_is : party ≡ party_of first_out.one
+    pub party_is : party ≡ party_of is_first_out.one
 
   pub named_out : out_of_pool h fs q ≡ true → NamedOut (first_out h fs q)
   unfolding first_out
