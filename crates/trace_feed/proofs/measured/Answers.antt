@@ -23,7 +23,7 @@ pub slice_bounds-keep-end : goal.slice_bounds-keep-end
 slice_bounds-keep-end c = sym c.loop-i.invariant.0
 
 pub slice_bounds-front-end : goal.slice_bounds-front-end
-slice_bounds-front-end c = sym (ap length c.keep-kept.ensures.1 ∙ length_head c.event_of-event.result c.loop-i.auto c.loop-i.head ∙ c.loop-i.invariant.0)
+slice_bounds-front-end c = sym (ap length c.keep-kept.ensures.1 ∙ length_head c.event_of-event.result c.loop-i.kept c.loop-i.head ∙ c.loop-i.invariant.0)
 
 pub size_of-size-requires : goal.size_of-size-requires
 size_of-size-requires c = c.requires
@@ -33,7 +33,7 @@ overflow_sub-room c = c.loop-i.invariant.1.fits
 
 pub returns-then-room-total : goal.returns-then-room-total
 returns-then-room-total c = let moved =
-    turn (line_of c.args.engine c.args.bytes.now) (tracing c.loop-i.stage c.loop-i.n c.loop-i.auto c.loop-i.head)
+    turn (line_of c.args.engine c.args.bytes.now) (tracing c.loop-i.stage c.loop-i.n c.loop-i.kept c.loop-i.head)
     c.args.piece.now c.loop-i.i c.loop-i-test.true _ c.event_of-event.ensures _ c.emitted-emits.ensures _ _ _ _ _ refl
     c.number_after-n.ensures c.keep-kept.ensures.0 c.keep-kept.ensures.1 c.front.ensures _ _ refl refl in
     let line = line_of c.args.engine c.args.bytes.now in
@@ -44,10 +44,10 @@ pub overflow_add-total : goal.overflow_add-total
 overflow_add-total c = omega (arith, c.loop-i.invariant.1.fits)
 
 pub slice_bounds-settle-end : goal.slice_bounds-settle-end
-slice_bounds-settle-end c = sym (ap length c.keep-kept.ensures.1 ∙ length_head c.event_of-event.result c.loop-i.auto c.loop-i.head ∙ c.loop-i.invariant.0)
+slice_bounds-settle-end c = sym (ap length c.keep-kept.ensures.1 ∙ length_head c.event_of-event.result c.loop-i.kept c.loop-i.head ∙ c.loop-i.invariant.0)
 
 pub settle-kept-requires : goal.settle-kept-requires
-settle-kept-requires c = ap length c.keep-kept.ensures.1 ∙ length_head c.event_of-event.result c.loop-i.auto c.loop-i.head ∙ c.loop-i.invariant.0
+settle-kept-requires c = ap length c.keep-kept.ensures.1 ∙ length_head c.event_of-event.result c.loop-i.kept c.loop-i.head ∙ c.loop-i.invariant.0
 
 pub overflow_add-i : goal.overflow_add-i
 overflow_add-i c = omega (arith, c.loop-i-test.true)
@@ -56,9 +56,9 @@ pub loop-i-smaller : goal.loop-i-smaller
 loop-i-smaller c = omega (arith, c.loop-i-test.true)
 
 pub loop-i-preserved : goal.loop-i-preserved
-loop-i-preserved c = let kept = ap length c.keep-kept.ensures.1 ∙ length_head c.event_of-event.result c.loop-i.auto c.loop-i.head ∙ c.loop-i.invariant.0 in
+loop-i-preserved c = let kept = ap length c.keep-kept.ensures.1 ∙ length_head c.event_of-event.result c.loop-i.kept c.loop-i.head ∙ c.loop-i.invariant.0 in
     let moved =
-    turn (line_of c.args.engine c.args.bytes.now) (tracing c.loop-i.stage c.loop-i.n c.loop-i.auto c.loop-i.head)
+    turn (line_of c.args.engine c.args.bytes.now) (tracing c.loop-i.stage c.loop-i.n c.loop-i.kept c.loop-i.head)
     c.args.piece.now c.loop-i.i c.loop-i-test.true _ c.event_of-event.ensures _ c.emitted-emits.ensures _ _ _ _ _
     c.stage_after-stage.ensures c.number_after-n.ensures c.keep-kept.ensures.0 c.keep-kept.ensures.1 c.front.ensures
     _ _ c.settle-kept.ensures.0 c.settle-kept.ensures.1 in (

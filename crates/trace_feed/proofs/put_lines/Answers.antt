@@ -39,7 +39,7 @@ loop-i-smaller-in-Record c = omega (arith, c.loop-i-test.true)
 pub loop-i-preserved-in-Record : goal.loop-i-preserved-in-Record
 loop-i-preserved-in-Record c = let is = sym c.next_in.ensures ∙ c.in-Record.is in
     let moved =
-    turn_whole (line_of c.args.engine c.args.bytes.now) (tracing c.loop-i.stage c.loop-i.n c.loop-i.auto c.loop-i.head)
+    turn_whole (line_of c.args.engine c.args.bytes.now) (tracing c.loop-i.stage c.loop-i.n c.loop-i.kept c.loop-i.head)
     c.args.piece.now c.loop-i.i _ c.loop-i.invariant.0 is _ _ _ c.number_after-n.ensures c.part_at.ensures c.front-header.ensures in
     (refl, putting_more _ _ _ _ c.loop-i.invariant.1 moved (whole_fits c.loop-i.stage c.args.piece.now c.loop-i.i _ is) c.put_line-at.ensures)
     -- a byte
@@ -51,16 +51,16 @@ pub slice_bounds-keep-end : goal.slice_bounds-keep-end
 slice_bounds-keep-end c = sym c.loop-i.invariant.0
 
 pub slice_bounds-front-end : goal.slice_bounds-front-end
-slice_bounds-front-end c = sym (ap length c.keep-kept.ensures.1 ∙ length_head c.event_of-event.result c.loop-i.auto c.loop-i.head ∙ c.loop-i.invariant.0)
+slice_bounds-front-end c = sym (ap length c.keep-kept.ensures.1 ∙ length_head c.event_of-event.result c.loop-i.kept c.loop-i.head ∙ c.loop-i.invariant.0)
 
 pub put_emitted-at-requires : goal.put_emitted-at-requires
 put_emitted-at-requires c = c.requires.0
 
 pub slice_bounds-settle-end : goal.slice_bounds-settle-end
-slice_bounds-settle-end c = sym (ap length c.keep-kept.ensures.1 ∙ length_head c.event_of-event.result c.loop-i.auto c.loop-i.head ∙ c.loop-i.invariant.0)
+slice_bounds-settle-end c = sym (ap length c.keep-kept.ensures.1 ∙ length_head c.event_of-event.result c.loop-i.kept c.loop-i.head ∙ c.loop-i.invariant.0)
 
 pub settle-kept-requires : goal.settle-kept-requires
-settle-kept-requires c = ap length c.keep-kept.ensures.1 ∙ length_head c.event_of-event.result c.loop-i.auto c.loop-i.head ∙ c.loop-i.invariant.0
+settle-kept-requires c = ap length c.keep-kept.ensures.1 ∙ length_head c.event_of-event.result c.loop-i.kept c.loop-i.head ∙ c.loop-i.invariant.0
 
 pub overflow_add-i-in-loop-i : goal.overflow_add-i-in-loop-i
 overflow_add-i-in-loop-i c = omega (arith, c.loop-i-test.true)
@@ -69,9 +69,9 @@ pub loop-i-smaller : goal.loop-i-smaller
 loop-i-smaller c = omega (arith, c.loop-i-test.true)
 
 pub loop-i-preserved : goal.loop-i-preserved
-loop-i-preserved c = let kept = ap length c.keep-kept.ensures.1 ∙ length_head c.event_of-event.result c.loop-i.auto c.loop-i.head ∙ c.loop-i.invariant.0 in
+loop-i-preserved c = let kept = ap length c.keep-kept.ensures.1 ∙ length_head c.event_of-event.result c.loop-i.kept c.loop-i.head ∙ c.loop-i.invariant.0 in
     let moved =
-    turn (line_of c.args.engine c.args.bytes.now) (tracing c.loop-i.stage c.loop-i.n c.loop-i.auto c.loop-i.head)
+    turn (line_of c.args.engine c.args.bytes.now) (tracing c.loop-i.stage c.loop-i.n c.loop-i.kept c.loop-i.head)
     c.args.piece.now c.loop-i.i c.loop-i-test.true _ c.event_of-event.ensures _ c.emitted-emits.ensures _ _ _ _ _
     c.stage_after-stage.ensures c.number_after-n-in-loop-i.ensures c.keep-kept.ensures.0 c.keep-kept.ensures.1 c.front.ensures
     _ _ c.settle-kept.ensures.0 c.settle-kept.ensures.1 in (
@@ -84,7 +84,7 @@ shape_of-out c = c.loop-i.invariant.1.same_room
 
 pub returns : goal.returns
 returns c = let line = line_of c.args.engine c.args.bytes.now in
-    let state = tracing c.loop-i.stage c.loop-i.n c.loop-i.auto c.loop-i.head in
+    let state = tracing c.loop-i.stage c.loop-i.n c.loop-i.kept c.loop-i.head in
     let done =
     subst (λ (t : Trace). Done line c.args.piece.now c.args.out.now t c.loop-i.out state c.loop-i.at)
     c.head_of-head.ensures.0 (putting_done _ _ _ _ c.loop-i.invariant.1 c.loop-i-test.false) in
