@@ -11,10 +11,10 @@ slice_bounds-write-end-2 c = sym (length-take-le _ _ (omega arith))
 pub returns-in-Written : goal.returns-in-Written
 returns-in-Written c = let both = wrote c.args.p c.args.room.now c.args.written.now c.space_for-space.result c.space_for-space.ensures.value c.write.result c.write.ensures.0 _
     c.write.ensures.1 _ _ (rw c.in-Written.is (c.give_one.ensures.value, c.give_one.ensures.out_after)) in
-    record { value = both.0; room_after = both.1; written_after = both.2 }
+    record { value = both.0; room_after = both.1.0; written_after = both.1.1 }
 
 pub returns-in-Refused : goal.returns-in-Refused
 returns-in-Refused c = let both = wrote c.args.p c.args.room.now c.args.written.now c.space_for-space.result c.space_for-space.ensures.value c.write.result c.write.ensures.0 _
     c.write.ensures.1 _ _
     (rw c.in-Refused.is (refl, refl)) in
-    record { value = both.0; room_after = both.1; written_after = both.2 }
+    record { value = both.0; room_after = both.1.0; written_after = both.1.1 }

@@ -8,20 +8,20 @@ pub returns-then-taken-ne0 : goal.returns-then-taken-ne0
 returns-then-taken-ne0 c = let line = line_of c.args.engine c.args.bytes.now in
     let both = not_taken line c.args.state.now c.args.piece.now c.args.lines.now c.args.written.now c.state_of-taken.result c.state_of-taken.ensures
     c.if-taken-ne0.true in
-    record { value = both.0; state_after = both.1; lines_after = both.2; written_after = both.3 }
+    record { value = both.0; state_after = both.1.0; lines_after = both.1.1.0; written_after = both.1.1.1 }
 
 pub returns-then-written-eq0 : goal.returns-then-written-eq0
 returns-then-written-eq0 c = let line = line_of c.args.engine c.args.bytes.now in
     let both = no_slice line c.args.state.now c.args.piece.now c.args.lines.now c.args.written.now c.state_of-taken.result c.state_of-taken.ensures
     c.if-taken-ne0.false c.if-written-eq0.true in
-    record { value = both.0; state_after = both.1; lines_after = both.2; written_after = both.3 }
+    record { value = both.0; state_after = both.1.0; lines_after = both.1.1.0; written_after = both.1.1.1 }
 
 pub returns-then-fed-ne0 : goal.returns-then-fed-ne0
 returns-then-fed-ne0 c = let line = line_of c.args.engine c.args.bytes.now in
     let both = not_fed line c.args.state.now c.args.piece.now c.args.lines.now c.args.written.now c.state_of-taken.result c.state_of-taken.ensures
     c.if-taken-ne0.false c.if-written-eq0.false c.feed_by-fed.result c.feed_by-fed.ensures.0 _ c.feed_by-fed.ensures.1
     c.if-fed-ne0.true in
-    record { value = both.0; state_after = both.1; lines_after = both.2; written_after = both.3 }
+    record { value = both.0; state_after = both.1.0; lines_after = both.1.1.0; written_after = both.1.1.1 }
 
 pub put_state-requires : goal.put_state-requires
 put_state-requires c = let line = line_of c.args.engine c.args.bytes.now in
@@ -34,4 +34,4 @@ returns c = let line = line_of c.args.engine c.args.bytes.now in
     c.if-taken-ne0.false c.if-written-eq0.false c.feed_by-fed.result c.feed_by-fed.ensures.0 _ c.feed_by-fed.ensures.1
     c.if-fed-ne0.false
     _ _ _ c.put_state.ensures (c.give_one.ensures.value, c.give_one.ensures.out_after) in
-    record { value = both.0; state_after = both.1; lines_after = both.2; written_after = both.3 }
+    record { value = both.0; state_after = both.1.0; lines_after = both.1.1.0; written_after = both.1.1.1 }
