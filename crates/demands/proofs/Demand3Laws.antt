@@ -2,7 +2,7 @@
 use Rattle.std.specs.Prelude.{◌≡◌, refl, ◌⊎◌, ◌↔◌, true, List, reverse, ℕ, ◌≤◌, ◌<◌, length, take}
 use Rattle.std.proofs.Common.{sym, subst, ◌∙◌, inl, inr, ⊎_elim, arith}
 use Rattle.std.proofs.Math.Path.{ap}
-use Rattle.std.proofs.Math.Logic.{Iff·trans}
+use Rattle.std.proofs.Math.Logic.Iff.{trans}
 use Rattle.std.proofs.Math.ListN.{drop}
 use Rattle.std.proofs.Math.Seq.{drop_at}
 use borrow.Author.Tests.{eq-eqb, ne_eqb, lt-ltb, le-ltb}
@@ -138,10 +138,10 @@ module _ (b room : List ℕ) (lawful : Lawful b) where
   answers_by_number : AnswersByNumber b room
   answers_by_number =
       record {
-        no_buses_left = Iff·trans (number_iff 30 (omega arith)) exactly.no_buses_left;
-        no_low_room = Iff·trans (number_iff 31 (omega arith)) exactly.no_low_room;
-        no_high_room = Iff·trans (number_iff 32 (omega arith)) exactly.no_high_room;
-        no_io_room = Iff·trans (number_iff 33 (omega arith)) exactly.no_io_room;
+        no_buses_left = trans (number_iff 30 (omega arith)) exactly.no_buses_left;
+        no_low_room = trans (number_iff 31 (omega arith)) exactly.no_low_room;
+        no_high_room = trans (number_iff 32 (omega arith)) exactly.no_high_room;
+        no_io_room = trans (number_iff 33 (omega arith)) exactly.no_io_room;
         short_room_lem = short_iff;
         planned_else = planned_iff;
       }

@@ -2,7 +2,7 @@
 -- one (AuditLaws). Assumes nothing.
 use Rattle.std.specs.Prelude.{◌≡◌, refl, ◌⊎◌, ◌↔◌, Bool, List, [], ◌∷◌, reverse, ℕ, ◌≤◌, ◌<◌, length}
 use Rattle.std.proofs.Common.{sym, ap, subst, ◌∙◌, inl, inr, suc-ne-zero, arith}
-use Rattle.std.proofs.Math.Logic.{Iff·trans}
+use Rattle.std.proofs.Math.Logic.Iff.{trans}
 use Rattle.pairs.specs.declared.MessageRouting.TheVariants.{ToRoot, ByAddress, ById, Broadcast, Local, Gathered}
 use Rattle.packet.specs.declared.Packet.{Packet}
 use Rattle.packet.specs.declared.Packet.TheVariants.{Memory, Io, Config, Completion, Message}
@@ -111,7 +111,7 @@ module _ (Owner : ℕ → Type 0) (above : ℕ → List ℕ) (most : ℕ) (t : L
           λ (d, e, is_k). subst Owner is_k (owner_of d e).0,
           λ o. delivered_to k (length (above k)) (delivered_of_owner k o),
         );
-        else_no_owner = Iff·trans (number_iff_refused 40 (omega arith)) comes.else_no_owner;
+        else_no_owner = trans (number_iff_refused 40 (omega arith)) comes.else_no_owner;
         delivered_or_40 = owner_or_40 outcome refl;
         one_owner = comes.one_owner;
         arrives_unchanged = λ d e. ((delivered_iff d).0 e).1;

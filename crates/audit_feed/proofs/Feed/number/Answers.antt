@@ -8,7 +8,7 @@ use Rattle.audit_feed.specs.Feed.{number_of}
 use Rattle.audit_feed.proofs.Feed.number.Goals as goal
 
 pub long_number-requires : goal.long_number-requires
-long_number-requires c = ap length c.front.ensures ∙ length-take-le host_length c.args.kept.now (omega (arith, c.front-arg-1.given.0))
+long_number-requires c = ap length c.front.ensures ∙ length-take-le host_length c.args.kept.now (omega (arith, c.front-arg-1.given))
 
 pub returns-then-is_long : goal.returns-then-is_long
 unfolding number_of
