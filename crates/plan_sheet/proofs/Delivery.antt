@@ -15,7 +15,7 @@ use Rattle.board.specs.Board.{board_number, host_of, functions_of}
 use Rattle.board.specs.ToPlacing.{to_host, to_placing, devfn_of}
 use Rattle.walk.specs.Registers.{Node, Registers, nodes, root_of}
 use Rattle.walk.specs.Tally.{tally_on}
-use Rattle.walk.specs.Walk.{Outcome, walk_from}
+use Rattle.walk.specs.Walk.{walk_from}
 use Rattle.walk.specs.Good.{FirstOn, Good}
 use Rattle.walk.proofs.Delivery.{outcome_of, root_is_first, outcome_from_first}
 use Rattle.walk.specs.Ids.{tally_by_id}
@@ -36,14 +36,12 @@ use Rattle.plan_good.proofs.DeliveryLaws.{planned_delivers}
 use Rattle.plan_good.proofs.PlannedGood.{planned_good}
 use Rattle.plan_answer.specs.Plan.{plan_of}
 use Rattle.plan_sheet.specs.Fits.{BoardFits}
+use Rattle.plan_sheet.specs.Delivery.{sheet_outcome}
 use Rattle.plan_sheet.proofs.FitsLaws.{devfn_lt}
 use Rattle.plan_sheet.proofs.Accepted.{fits_of_accepted}
-use Rattle.plan_sheet.proofs.Registers.{registers_agree, nodes_agree}
+use Rattle.plan_sheet.proofs.Registers.{registers_agree}
+use Rattle.plan_sheet.proofs.Nodes.{nodes_agree}
 use Rattle.plan_sheet.proofs.Passes.{rewritten_sheet_passes}
-
--- what a request with this start address comes to on a sheet: the walk starts on the bus of the first record
-abbrev pub sheet_outcome : Space → List ℕ → ℕ → Outcome
-sheet_outcome space s address = walk_from (tally_on (enabled_of space s) (registers_of space s) address) (root_of (nodes_of s)) 0
 
 -- what holds of a sheet that is the planned one but for command words
 pub record PlannedSheet (h : Host) (fs : List Function) (t : List ℕ) : Type 0 where

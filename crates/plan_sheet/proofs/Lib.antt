@@ -4,6 +4,7 @@ pub mod Answer
 pub mod BarRanges
 pub mod Delivery
 pub mod FitsLaws
+pub mod Nodes
 pub mod Passes
 pub mod Registers
 pub mod Rising

@@ -41,7 +41,8 @@ use Rattle.plan_sheet.specs.Fits.{FunctionFits, BoardFits}
 use Rattle.plan_sheet.proofs.Windows.{window_nibbled}
 use Rattle.plan_sheet.proofs.Values.{slot_readbacks, values_of_record}
 use Rattle.plan_sheet.proofs.Shaped.{StandsAt, range_at, bars_placed_at, shaped}
-use Rattle.plan_sheet.proofs.Registers.{entries_planned, nodes_agree}
+use Rattle.plan_sheet.proofs.Registers.{entries_planned}
+use Rattle.plan_sheet.proofs.Nodes.{nodes_agree}
 
 -- ## The version (21)
 

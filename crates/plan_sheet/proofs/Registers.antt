@@ -28,17 +28,14 @@ use Rattle.board_record.specs.declared.Host.{Host}
 use Rattle.board_record.specs.declared.Function.{Function}
 use Rattle.board_record.specs.Function.{is_bridge}
 use Rattle.board.specs.ToPlacing.{to_host, to_function, to_placing, devfn_of}
-use Rattle.walk.specs.Registers.{Registers}
 use Rattle.sheet_record.specs.Spaces.{bars_from as ranges_from, node_of, function_of, bars_of as sheet_bars, windows_of as sheet_windows}
 use Rattle.sheet_record.specs.Entry.{Entry}
 use Rattle.sheet.specs.Sheet.{entries_of}
-use Rattle.sheet.specs.Spaces.{functions_from, registers_of, nodes_of}
-use Rattle.sheet.proofs.SheetLaws.{nodes_functions}
+use Rattle.sheet.specs.Spaces.{functions_from, registers_of}
 use Rattle.sheet_bytes.specs.Layout.{Planned, sheet_bytes}
 use Rattle.sheet_bytes.proofs.ReadBack.{entries_of_sheet_bytes}
 use Rattle.plan_good.proofs.Kept.{AllKept, kept_of_planned}
-use Rattle.plan_good.proofs.Items.{nodes_plan}
-use Rattle.plan_good.specs.Registers.{range_of, is_window_of, bars_of, windows_of, plan_node, plan_nodes, plan_register, plan_registers}
+use Rattle.plan_good.specs.Registers.{range_of, is_window_of, bars_of, windows_of, plan_node, plan_register, plan_registers}
 use Rattle.plan_good.proofs.RecordPieces.{windows_of_record, bars_at_lem}
 use Rattle.plan_answer.specs.Plan.{entry_for, planned_from, plan_of}
 use Rattle.plan_sheet.specs.Fits.{FunctionFits, BoardFits}
@@ -192,10 +189,3 @@ module _ (h : Host) (fs : List Function) (fits : BoardFits h fs) (planned : refu
   pub registers_agree : (sp : Space) → registers_of sp (sheet_bytes (plan_of h fs)) ≡ plan_registers sp (to_host h) ps (devfn_of fs)
   unfolding plan_of plan_registers
   registers_agree sp = ap (functions_from sp 1) entries_planned ∙ registers_from sp 0 fs refl fits.functions
-
-  -- so are its functions' places on the buses
-  pub nodes_agree : nodes_of (sheet_bytes (plan_of h fs)) ≡ plan_nodes (to_host h) ps (devfn_of fs)
-  nodes_agree =
-      sym (nodes_functions memory_space 1 (entries_of (sheet_bytes (plan_of h fs))))
-      ∙ ap (map (λ (r : Registers). r.node)) (registers_agree memory_space)
-      ∙ nodes_plan memory_space (to_host h) ps (devfn_of fs)

@@ -31,6 +31,7 @@ use Rattle.plan_function.proofs.WordLaws.{Fitting, all_fitting}
 use Rattle.plan_good.specs.Boards.{IsOpen, HostEdges, Board}
 use Rattle.plan_good.proofs.Kept.{AllKept, not_empty, placed_in_pool, pool_open}
 use Rattle.plan_good.proofs.RecordPieces.{pieces_of_record}
+use Rattle.plan_sheet.specs.Starts.{address_bits}
 
 -- ## The search for a BAR, among the pieces of one record
 
@@ -142,11 +143,6 @@ fitting_at (x ∷ ss) h zero = h.0
 fitting_at (x ∷ ss) h (suc i) = fitting_at ss h.1 i
 
 -- ## Addresses of a pool have so many bits
-
-abbrev pub address_bits : Pool → ℕ
-address_bits Low = 32
-address_bits High = 52
-address_bits Io = 16
 
 last_lt : {h : Host} → HostEdges h → (q : Pool) → IsOpen h q → h.last q < 2 ^ address_bits q
 last_lt e Low l = e.low_ends_below_4_Gi_b l

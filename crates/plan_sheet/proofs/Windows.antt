@@ -22,7 +22,8 @@ use Rattle.lists.specs.Lists.{◌∈◌}
 use Rattle.lists.specs.ListLaws.{all_elim}
 use Rattle.plan_good.specs.Boards.{Board}
 use Rattle.plan_good.proofs.Kept.{AllKept, not_empty}
-use Rattle.plan_sheet.proofs.Starts.{address_bits, end_le}
+use Rattle.plan_sheet.specs.Starts.{address_bits}
+use Rattle.plan_sheet.proofs.Starts.{end_le}
 
 -- ## Closed, or a placed window's
 

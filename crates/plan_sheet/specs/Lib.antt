@@ -2,3 +2,5 @@
 -- Windows, Values, Shaped) and their ranges (WindowRanges, BarRanges); then the theorems that others cite: Registers, Passes, Delivery,
 -- Answer.
 pub mod Fits
+pub mod Starts
+pub mod Delivery

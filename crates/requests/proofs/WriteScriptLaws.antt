@@ -9,7 +9,8 @@ use Rattle.records.specs.Records.{Parts}
 use Rattle.walk.specs.Walk.{refused, no_owner}
 use Rattle.sheet.specs.Sheet.{full_sheet, sheet_number}
 use Rattle.sheet.specs.Spaces.{nodes_of}
-use Rattle.plan_sheet.proofs.Delivery.{sheet_outcome, planned_sheet_of_board}
+use Rattle.plan_sheet.specs.Delivery.{sheet_outcome}
+use Rattle.plan_sheet.proofs.Delivery.{planned_sheet_of_board}
 use Rattle.plan_sheet.proofs.Answer.{planned_of_answer}
 use Rattle.claims.specs.declared.Aim.TheVariants.{Address}
 use Rattle.route_arrival.specs.declared.Heading.TheVariants.{Aimed}

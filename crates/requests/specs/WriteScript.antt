@@ -12,7 +12,7 @@ use Rattle.walk.specs.Walk.{refused, no_owner}
 use Rattle.sheet.specs.Sheet.{full_sheet}
 use Rattle.plan_answer.specs.declared.Planning.TheVariants.{Planned, Refused as NotPlanned}
 use Rattle.plan_answer.specs.Plan.{planning}
-use Rattle.plan_sheet.proofs.Delivery.{sheet_outcome}
+use Rattle.plan_sheet.specs.Delivery.{sheet_outcome}
 use Rattle.route_answer.specs.declared.Routing.TheVariants.{Refused as NotRouted}
 use Rattle.route.specs.Route.{route_packet, route_of}
 use Rattle.script_writes.specs.Writes.{Write}

@@ -21,7 +21,7 @@ use Rattle.plan_good.specs.Registers.{plan_host}
 use Rattle.plan_answer.specs.declared.Planning.TheVariants.{Planned}
 use Rattle.plan_answer.specs.Plan.{planning}
 use Rattle.plan_sheet.proofs.Answer.{AnswersPlanned, planned_of_answer}
-use Rattle.plan_sheet.proofs.Delivery.{sheet_outcome}
+use Rattle.plan_sheet.specs.Delivery.{sheet_outcome}
 use Rattle.route_answer.specs.declared.Delivery.{Delivery}
 use Rattle.route_answer.specs.declared.Routing.TheVariants.{Delivered}
 use Rattle.route.specs.Route.{route_packet}

@@ -28,7 +28,7 @@ use Rattle.sheet.specs.Spaces.{registers_of, nodes_of, enabled_of}
 use Rattle.sheet.specs.Commands.{place_in, InCommand, SameButCommands}
 use Rattle.sheet.proofs.CommandsLaws.{registers_same, nodes_same}
 use Rattle.sheet.proofs.IndexLaws.{length_entries, length_commands, command_index, bit_of_command}
-use Rattle.plan_sheet.proofs.Delivery.{sheet_outcome}
+use Rattle.plan_sheet.specs.Delivery.{sheet_outcome}
 use Rattle.walk_written.specs.Partly.{final_owner_or_none, nothing_enabled}
 use Rattle.script_writes.specs.declared.Pass.TheVariants.{Buses, Registers as Rest, Commands}
 use Rattle.script_writes.specs.Writes.{Write, write_of, named, three_bytes, two_bytes, four_bytes, is_used, slot_writes, bar_writes, window_writes}
