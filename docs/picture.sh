@@ -1,6 +1,6 @@
 #!/usr/bin/env bash
 # Draws the documents' pictures. docs/crates.svg: what each crate of crates.txt is built on. docs/plan.svg: the plan of
-# tests/command/recorder.txt with its names, as `cartsundial plan --svg` draws it. That plan, the stored docs/example/plan.txt, and
+# tests/command/recorder.txt, as `cartsundial plan --svg` draws it. That plan, the stored docs/example/plan.txt, and
 # what the proved program prints for docs/example/board must be one, and board.txt must spell the board's bytes. docs/page.png, a
 # picture of a page, is made by a test of rust/command, and has to be there. With --check nothing is written, and a picture that is
 # not up to date gives exit status 1.

@@ -35,10 +35,10 @@ pub record SoundLabels : Type 0 where
       → (sound_build_number host s (length room) ≡ build_number host s (length room))
       × (sound_index_after host s room ≡ index_after host s room)
   -- "so that the second verdict and the index can be had for a sheet alone": 0 exactly where some host record has it
-  pub alone_exactly : (s : List ℕ) → Bytes s → (alone_number s ≡ 0) ↔ OwnedBySome s
+  pub alone_exactly : (s : List ℕ) → Bytes s → (alone_number s ≡ 0) ↔ ((host : List ℕ) × Bytes host × OneOwner host s)
   -- The same sentences of a sheet alone. An index, exactly then, in room enough
   pub alone_built_exactly : (s room : List ℕ) → Bytes s → IsBuiltAlone s room ↔ (OwnedBySome s × (index_bytes s ≤ length room))
-  pub alone_answers : (s room : List ℕ) → Bytes s → IsBuiltAlone s room
+  pub alone_answers : (s room : List ℕ) → Bytes s → alone_build_number s (length room) ≡ 0
       → (header : List ℕ) → search_of header (alone_index_after s room) ≡ route_of header s
   pub alone_lists : (s room : List ℕ) → Bytes s → IsBuiltAlone s room
       → (header list : List ℕ) → ListedAlike header (alone_index_after s room) s list

@@ -365,7 +365,8 @@ fn read_items<'a>(board: &mut Board, record: u16, text: &'a str, is_strict: bool
     board.set_bars(record, &bars).map_err(|refusal| {
         let what = format!("more BARs than its {words_of_most} slots; one of 64 bits takes two");
         let (item, slot) = past.unwrap_or((text, slots));
-        let expected = format!("it needs slot {slot}, and there are {most}, from 0 on; one of 64 bits takes two, and a bridge has two in all");
+        let many = format!("it needs slot {slot}, and there are {most}, from 0 on");
+        let expected = format!("{many}; one of 64 bits takes two, and a bridge has two in all");
         Wrong { refusal: Some(refusal), ..Wrong::new(item, what, expected) }
     })
 }

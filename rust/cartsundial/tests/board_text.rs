@@ -53,6 +53,38 @@ fn spellings() {
     assert!(Board::is_text(spelled) && !Board::is_text("01 00 1E") && !Board::is_text(""));
 }
 
+#[test]
+fn errors_have_their_lines() {
+    for (text, line, what) in [
+        ("", 1, "starts with `host`"),
+        ("card 00.0", 1, "starts with `host`"),
+        ("host buses 0-255", 1, "hexadecimal"),
+        ("host low 16G+1M", 1, "below 4 GiB"),
+        ("host low F0000000-E0000000", 1, "above its end"),
+        ("host rom 0-1", 1, "buses, low, high and io"),
+        ("host low", 1, "a range"),
+        ("host\nhost", 2, "one host"),
+        ("host\n\ncard 20.0", 3, "1F.7"),
+        ("host\ncard 00.0 \"gpu", 2, "second quote"),
+        ("host\ncard 00.0 mem32 16M io 128", 2, "a comma"),
+        ("host\ncard 00.0 mem128 16M", 2, "a BAR is"),
+        ("host\ncard 00.0 mem32 3M", 2, "power of two"),
+        ("host\ncard 00.0 mem32 8G", 2, "power of two"),
+        ("host\ncard 00.0 mem64 1M, mem64 1M, mem64 1M, io 4", 2, "six slots"),
+        ("host\nbridge 00.0 mem64 1M, io 4", 2, "two slots"),
+        ("host\ncard 00.0 spare 2 buses", 2, "only a bridge"),
+        ("host\nbridge 00.0 spare 300 buses", 2, "0 to 255"),
+        ("host\nbridge 00.0 spare 3K", 2, "whole MiB"),
+        ("host\ncard 00.0\n  card 00.0", 3, "nothing is below a card"),
+        ("host\nbridge 00.0\n    card 00.0\n  card 01.0", 4, "indented"),
+        ("host\nslot 00.0", 2, "`bridge` or `card`"),
+    ] {
+        let error = text.parse::<Board>().unwrap_err();
+        assert_eq!(error.line, line, "{text}");
+        assert!(error.what.contains(what), "{text}: {error}");
+    }
+}
+
 /// Line, column, the item, and what is expected there.
 #[test]
 fn errors_have_their_places() {
@@ -97,13 +129,10 @@ fn errors_have_their_places() {
         ("host\nbridge 00.0\n  card 00.0\n\tcard 01.0", (4, 1), "\t", "line 3 by spaces"),
         ("host\nslot 00.0", (2, 1), "slot", "`bridge` or `card`"),
     ] {
-        let error = text.parse::<Board>().unwrap_err();
-        assert_eq!(
-            ((error.line, error.column), &error.item[..], error.refusal),
-            (place, item, None),
-            "{text}: {error}"
-        );
-        assert!(error.what.contains(what), "{text}: {error}");
+        let error = Board::read_strictly(text).unwrap_err();
+        let full = error.full();
+        assert_eq!(((error.line, error.column), &error.item[..], error.refusal), (place, item, None), "{text}: {full}");
+        assert!(error.expected.contains(what), "{text}: {full}");
     }
 }
 
@@ -125,12 +154,27 @@ fn sizes_of_bars() {
     ] {
         let error = format!("host\n{text}").parse::<Board>().unwrap_err();
         assert_eq!((error.line, error.refusal), (2, Some(Refusal::ReadBack)), "{text}: {error}");
-        assert!(error.what.contains(what) && text.ends_with(&error.item), "{text}: {error}");
+        assert!(error.expected.contains(what) && text.ends_with(&error.item), "{text}: {}", error.full());
     }
     // These have a read-back, so the planner's own check refuses them, with the same number.
     for size in [16, 32, 64] {
         let board: Board = format!("host\ncard 00.0 mem64 {size}").parse().unwrap();
         assert_eq!(board.plan(), Err(Refusal::ReadBack));
+    }
+}
+
+/// What only a strict reader refuses is read as it always was.
+#[test]
+fn slips() {
+    for text in [
+        "host \"box\"",
+        "host\n\"gpu\" card 00.0",
+        "host\ncard 00.+1",
+        "host rom closed",
+        "host\nbridge 00.0\n  card 00.0\n\tbridge 01.0",
+    ] {
+        assert_eq!(text.parse::<Board>().is_ok(), !text.contains('\t'), "{text}");
+        assert!(Board::read_strictly(text).is_err(), "{text}");
     }
 }
 

@@ -4,7 +4,7 @@ use crate::arguments::{Arguments, Options};
 use crate::ends;
 use crate::failure::{output_failed, print, Answer, Failure, Verdict};
 use crate::filters::{Filters, Passed, FILTERS};
-use crate::full::FULL;
+use crate::full::{is_full, FULL};
 use crate::json;
 use crate::logged::Logged;
 use crate::members;
@@ -107,6 +107,10 @@ fn written(arguments: &Arguments) -> Answer {
     }
     report.unanswered();
     report.write()?;
+    // The line `cut` says it; by `--full` also where.
+    if parts.cut().is_some() && !is_full() {
+        return Ok(Verdict::Refused);
+    }
     parts.ended()?;
     if !report.has_line && !report.has_other && !is_json {
         print("every request is answered\n")?;

@@ -128,7 +128,11 @@ fn run() -> Answer {
         return Ok(Verdict::Accepted);
     }
     let is_help = |word: &String| word == "--help" || word == "-h";
-    if is_help(name) || name == "help" {
+    if is_help(name) || name == "help" && rest.is_empty() {
+        print(HELP)?;
+        return Ok(Verdict::Accepted);
+    }
+    if name == "help" {
         return help(rest);
     }
     let Subcommand { options, help, run, .. } = subcommand(name)?;
@@ -157,10 +161,9 @@ fn subcommand(name: &str) -> Result<&'static Subcommand, Failure> {
     SUBCOMMANDS.iter().find(|one| one.name == name).ok_or_else(unknown)
 }
 
-/// Of all, or of a subcommand.
+/// Of a subcommand.
 fn help(names: &[String]) -> Answer {
     match names {
-        [] => print(HELP)?,
         [name] => print(subcommand(name)?.help)?,
         _ => return Err(Failure::Usage("help is of one subcommand: cartsundial help plan".into())),
     }

@@ -318,8 +318,32 @@ fn move_bar(record: &mut [u8], random: &mut Random, up: bool) {
 }
 
 /// Makes some 64-bit BARs prefetchable that were not, or no longer; and of some bridges with no prefetchable window the memory
-/// window, or the upper part of it, the prefetchable one. All stays where it is, so every address keeps its owner.
+/// window prefetchable. All stays where it is, so every address keeps its owner.
 pub fn change_kinds(sheet: &mut [u8], random: &mut Random) {
+    for record in sheet.get_mut(1..).unwrap_or_default().chunks_exact_mut(92) {
+        let mut slot = 0;
+        while slot < 6 {
+            let read_back = 68 + 4 * slot;
+            let is_wide = record[read_back + 3] & 7 == 4;
+            if is_wide && random.chance(1, 2) {
+                record[read_back + 3] ^= 8;
+                record[4 + 0x10 + 4 * slot] ^= 8;
+            }
+            slot += 1 + usize::from(is_wide);
+        }
+        let is_bridge = record[4 + 0x0E] & 0x7F == 1;
+        if is_bridge && is_high_closed(record) && random.chance(1, 2) {
+            // The two edges, of 64-bit form; and no memory window.
+            let edges = [record[4 + 0x20] | 1, record[4 + 0x21], record[4 + 0x22] | 1, record[4 + 0x23]];
+            record[4 + 0x24..4 + 0x28].copy_from_slice(&edges);
+            record[4 + 0x28..4 + 0x30].fill(0);
+            record[4 + 0x20..4 + 0x24].copy_from_slice(&[0xF0, 0xFF, 0, 0]);
+        }
+    }
+}
+
+/// The same, but of some bridges only the upper part of the memory window becomes the prefetchable one.
+pub fn split_kinds(sheet: &mut [u8], random: &mut Random) {
     let before = sheet.to_vec();
     for record in sheet.get_mut(1..).unwrap_or_default().chunks_exact_mut(92) {
         change_bars(record, random);

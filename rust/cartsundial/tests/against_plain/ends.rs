@@ -27,6 +27,14 @@ pub fn compare(random: &mut Random, rounds: u64, tally: &mut Tally) {
         let _ = sent(ends::no_host_id(&sheet, random), &ends::header(host_id, &sheet, random), &sheet, random, tally);
     }
     traces::compare_ends(random, rounds, tally);
+    for _ in 0..3_000 * rounds {
+        let mut sheet = sheets::of_other_kinds(random);
+        cards::enable(&mut sheet, random);
+        let host_id = ends::host_id(&sheet, random);
+        for _ in 0..12 {
+            let _ = sent(host_id.into(), &ends::header(host_id, &sheet, random), &sheet, random, tally);
+        }
+    }
 }
 
 /// Completions between two cards of a planned board with 0 to 64 bridges between them, both ways; the furthest that there can
@@ -49,6 +57,8 @@ pub fn chosen(random: &mut Random, tally: &mut Tally) {
         let up = set_sender(foreign::message(foreign::MSG, 0b000, 0x18, 0), id);
         assert!(sent(NOBODY.into(), &up, &furthest, random, tally).is_ok());
     }
+    // With its own numbers, so that those of the other parts stay.
+    let random = &mut Random::new(15);
     for (_, mut sheet) in indexes::captures() {
         cards::enable(&mut sheet, random);
         let host_id = ends::host_id(&sheet, random);

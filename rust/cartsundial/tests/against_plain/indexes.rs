@@ -59,6 +59,8 @@ pub fn chosen(random: &mut Random, tally: &mut Tally) {
             over(&aim::header(&sheet, random), &index, random, tally);
         }
     }
+    // With its own numbers, so that those of the other parts stay.
+    let random = &mut Random::new(8);
     for (host, sheet) in captures() {
         let index = typed(&host, &sheet);
         for _ in 0..2_000 {
@@ -78,7 +80,7 @@ pub fn captures() -> Vec<(Vec<u8>, Vec<u8>)> {
 }
 
 /// A planned sheet, its ranges of other kinds where they are.
-pub fn of_other_kinds(random: &mut Random) -> (Vec<u8>, Vec<u8>) {
+fn of_other_kinds(random: &mut Random) -> (Vec<u8>, Vec<u8>) {
     let (host, mut sheet) = audit::planned(random, plan);
     audit::change_kinds(&mut sheet, random);
     (host, sheet)

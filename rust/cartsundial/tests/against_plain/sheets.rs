@@ -33,18 +33,12 @@ pub fn any(random: &mut Random) -> Vec<u8> {
     sheet
 }
 
-/// A sheet for packets by both ends: any, one that an audit accepts, one with ranges of other kinds where they are, or one on
-/// which the ways up and down differ.
+/// A sheet for packets by both ends: any, one that an audit accepts, or one on which the ways up and down differ.
 pub fn any_for_ends(random: &mut Random) -> Vec<u8> {
     let mut sheet = match random.below(8) {
         0..=2 => ends::sheet(random),
         3 => audit::nested(random).1,
-        4 => planned(random),
-        5 => {
-            let mut sheet = planned(random);
-            audit::change_kinds(&mut sheet, random);
-            sheet
-        }
+        4 | 5 => planned(random),
         _ => return any(random),
     };
     match random.below(12) {
@@ -52,6 +46,13 @@ pub fn any_for_ends(random: &mut Random) -> Vec<u8> {
         1 => registers::spoil(&mut sheet, random),
         _ => {}
     }
+    sheet
+}
+
+/// A planned sheet with ranges of other kinds where they are.
+pub fn of_other_kinds(random: &mut Random) -> Vec<u8> {
+    let mut sheet = planned(random);
+    audit::split_kinds(&mut sheet, random);
     sheet
 }
 

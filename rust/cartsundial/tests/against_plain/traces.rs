@@ -21,24 +21,34 @@ pub fn compare(random: &mut Random, rounds: u64, tally: &mut Tally) {
         }
     }
     for _ in 0..5_000 * rounds {
+        let (host, sheet) = accepted(random);
+        by_index(&host, &sheet, random, tally);
+    }
+    for _ in 0..2_500 * rounds {
         let (host, sheet) = owned(random);
-        let trace = trace::any(&sheet, random);
-        label(&host, &sheet, &trace, random, tally);
-        // Bytes that no build left.
-        let built = indexes::typed(&host, &sheet);
-        let other = indexes::damaged(built.bytes().to_vec(), random);
-        in_pieces(By::Index(&other), None, &trace, random, tally);
-        for bytes in [built.bytes(), &other] {
-            from_any_state(By::Index(bytes), &sheet, random, tally);
-            from_no_state(By::Index(bytes), &sheet, random, tally);
-        }
+        by_index(&host, &sheet, random, tally);
+    }
+}
+
+fn by_index(host: &[u8], sheet: &[u8], random: &mut Random, tally: &mut Tally) {
+    let trace = trace::any(sheet, random);
+    label(host, sheet, &trace, random, tally);
+    // Bytes that no build left.
+    let built = indexes::typed(host, sheet);
+    let other = indexes::damaged(built.bytes().to_vec(), random);
+    in_pieces(By::Index(&other), None, &trace, random, tally);
+    for bytes in [built.bytes(), &other] {
+        from_any_state(By::Index(bytes), sheet, random, tally);
+        from_no_state(By::Index(bytes), sheet, random, tally);
     }
 }
 
 /// The same with both ends.
 pub fn compare_ends(random: &mut Random, rounds: u64, tally: &mut Tally) {
-    for _ in 0..10_000 * rounds {
-        let mut sheet = sheets::any_for_ends(random);
+    for number in 0..11_000 * rounds {
+        // The last ones have ranges of other kinds.
+        let is_last = number >= 10_000 * rounds;
+        let mut sheet = if is_last { sheets::of_other_kinds(random) } else { sheets::any_for_ends(random) };
         cards::enable(&mut sheet, random);
         let host_id = ends::host_id(&sheet, random);
         let trace = trace::any_sent(host_id, &sheet, random);
@@ -51,17 +61,21 @@ pub fn compare_ends(random: &mut Random, rounds: u64, tally: &mut Tally) {
     }
 }
 
-/// A host record and a sheet with one owner for every address: most the audit accepts, and some have ranges of other kinds.
-fn owned(random: &mut Random) -> (Vec<u8>, Vec<u8>) {
-    if random.chance(1, 3) {
-        return indexes::of_other_kinds(random);
-    }
+/// A host record and a sheet that the audit accepts for it.
+fn accepted(random: &mut Random) -> (Vec<u8>, Vec<u8>) {
     loop {
         let (host, sheet) = audit::any(random, indexes::plan);
-        if plain::sound(&host, &sheet) == 0 {
+        if plain::audit(&host, &sheet) == 0 {
             return (host, sheet);
         }
     }
+}
+
+/// A host record and a sheet with one owner for every address: some the audit accepts, and most have ranges of other kinds.
+fn owned(random: &mut Random) -> (Vec<u8>, Vec<u8>) {
+    let (host, mut sheet) = audit::planned(random, indexes::plan);
+    audit::split_kinds(&mut sheet, random);
+    (host, sheet)
 }
 
 /// What the headers of a trace are labelled by.
