@@ -18,7 +18,7 @@ line_of (Ends host_id number) bytes = line_ends host_id bytes
 
 -- no line is longer
 abbrev pub longest_of : Engine → ℕ
-longest_of (Owner finder) = 40
+longest_of (Owner _) = 40
 longest_of (Ends host_id number) = 51
 
 -- nor by any engine

@@ -35,5 +35,5 @@ half_fit engine bytes t piece room most sound is short =
 
 -- a room for any line has room for one
 pub some_fit : (engine : Engine) (room : ℕ) → longest_line ≤ room → 0 < room / longest_of engine
-some_fit (Owner finder) room h = omega arith
+some_fit (Owner _) room h = omega arith
 some_fit (Ends host_id number) room h = omega arith
