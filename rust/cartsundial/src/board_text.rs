@@ -237,8 +237,7 @@ impl Tree {
             false => self.board.card(parent, device, function, &[]),
         };
         let many = "more than 65,535 functions";
-        let full =
-            |refusal: Refusal| Wrong { refusal: Some(refusal), ..Wrong::new(word, refusal.to_string(), many) };
+        let full = |refusal: Refusal| Wrong { refusal: Some(refusal), ..Wrong::new(word, refusal.to_string(), many) };
         let record = added.map_err(full)?;
         if let Err(wrong) = read_items(&mut self.board, record, items, self.is_strict) {
             self.board.functions.pop();
@@ -342,7 +341,8 @@ fn digits(text: &str, is_strict: bool) -> Option<&str> {
 /// What stands after a function's name, between commas.
 fn read_items<'a>(board: &mut Board, record: u16, text: &'a str, is_strict: bool) -> Result<(), Wrong<'a>> {
     let (mut bars, mut slots, mut past) = (Vec::new(), 0, None);
-    let (most, words_of_most) = if board.functions[usize::from(record) - 1].is_bridge { (2, "two") } else { (6, "six") };
+    let (most, words_of_most) =
+        if board.functions[usize::from(record) - 1].is_bridge { (2, "two") } else { (6, "six") };
     for item in text.split(',').map(str::trim).filter(|item| !item.is_empty()) {
         let mut words = item.split_whitespace();
         match [words.next(), words.next(), words.next()] {
@@ -561,8 +561,7 @@ fn set_range<'a>(host: &mut HostRecord, word: &'a str, range: (u64, u64), text: 
 /// `A-B` or `A+SIZE`. Only a closed one may start above its end.
 fn read_range<'a>(word: &str, text: &'a str, is_closed: bool) -> Result<(u64, u64), Wrong<'a>> {
     let what = format!("`{text}`: a range is first-last or first+size, as E0000000-E3FFFFFF or E0000000+64M");
-    let wrong =
-        || Wrong::new(text, what.clone(), format!("a range is first-last or first+size, {}", example(word)));
+    let wrong = || Wrong::new(text, what.clone(), format!("a range is first-last or first+size, {}", example(word)));
     let (first, last) = if let Some((first, size)) = text.split_once('+') {
         let first = read_address(first).ok_or_else(wrong)?;
         let no_size = |why| Wrong::new(size, what.clone(), format!("{why}, {}", example(word)));

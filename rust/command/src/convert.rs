@@ -13,8 +13,12 @@ use cartsundial::{check, headers, plan_where, read, writes, Board, Headers, Host
 use std::fmt::Write;
 
 pub const SHOW_OPTIONS: Options = Options { flags: &[FULL], ..Options::NONE };
-pub const OPTIONS: Options =
-    Options { flags: &["--text", "--bytes", FULL], values: &["--out"], apart: &[&["--text", "--bytes"]], ..Options::NONE };
+pub const OPTIONS: Options = Options {
+    flags: &["--text", "--bytes", FULL],
+    values: &["--out"],
+    apart: &[&["--text", "--bytes"]],
+    ..Options::NONE
+};
 
 pub const SHOW_HELP: &str = "\
 cartsundial show FILE

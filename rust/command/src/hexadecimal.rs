@@ -125,7 +125,8 @@ fn spelled(text: &str) -> Result<Vec<u8>, Wrong<'_>> {
     match odd {
         Some(word) if digits.len() % 2 != 0 => {
             let short = format!("{} hexadecimal digits: a byte has two", digits.len());
-            let full = format!("`{word}`: {} hexadecimal digits in all, and a byte has two, as `0{word}`", digits.len());
+            let full =
+                format!("`{word}`: {} hexadecimal digits in all, and a byte has two, as `0{word}`", digits.len());
             Err((word, HexWrong { short, full }))
         }
         _ => Ok(digits.chunks_exact(2).map(|pair| pair[0] << 4 | pair[1]).collect()),

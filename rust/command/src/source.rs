@@ -199,7 +199,8 @@ impl Source {
                 let bytes = self.bytes[..].try_into();
                 let count = self.bytes.len();
                 let short = "a host record has 30 bytes, or is a board's";
-                let full = "a host record has 30 bytes, or is the first line of a board's text, as `host low E0000000+64M`";
+                let full =
+                    "a host record has 30 bytes, or is the first line of a board's text, as `host low E0000000+64M`";
                 let wrong = |_| {
                     Failure::Input(match is_full() {
                         true => format!("{}: {full}; this has {count} bytes", self.name),
@@ -276,7 +277,9 @@ fn looks_like(text: &str) -> Option<&'static str> {
     let first = text.lines().map(str::trim).find(|line| !line.is_empty() && !line.starts_with('#')).unwrap_or("");
     match (is_lspci(text), is_full()) {
         (true, true) => {
-            return Some("it looks like what lspci prints: `cartsundial import` makes a sheet, a host and a board of it")
+            return Some(
+                "it looks like what lspci prints: `cartsundial import` makes a sheet, a host and a board of it",
+            )
         }
         (true, false) => {
             return Some("it looks like what lspci prints: `cartsundial import` makes a sheet and a host of it")

@@ -315,9 +315,7 @@ mod tests {
             let fed = pieces.iter().try_for_each(|piece| stream.feed(piece, &mut bytes));
             fed.and_then(|()| stream.finish()).map(|()| bytes).map_err(|Wrong(what)| what)
         };
-        let (expected, wrong) = crate::hexadecimal::HexText::read(text);
-        assert_eq!(wrong, None);
-        let expected = expected.bytes;
+        let expected = crate::hexadecimal::HexText::read(text).unwrap().bytes;
         for cut in 0..=text.len() {
             let (front, rest) = text.as_bytes().split_at(cut);
             assert_eq!(bytes(&[front, rest]), Ok(expected.clone()), "{cut}");
@@ -329,7 +327,7 @@ mod tests {
             ("00x1", "line 1, column 3: "),
         ] {
             assert!(bytes(&[text.as_bytes()]).unwrap_err().starts_with(place), "{text}");
-            assert!(crate::hexadecimal::HexText::read(text).1.is_some(), "{text}");
+            assert!(crate::hexadecimal::HexText::read(text).is_err(), "{text}");
         }
     }
 }

@@ -3,9 +3,9 @@
 //! whole pixels, so one plan has one picture.
 
 use super::entry::Entry;
-use crate::svg::Svg;
 use super::tree::{Bus, Place};
 use super::Drawn;
+use crate::svg::Svg;
 
 const MARGIN: usize = 15;
 /// Between columns.
