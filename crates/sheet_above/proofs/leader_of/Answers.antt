@@ -32,4 +32,4 @@ overflow_cast-result c = omega (arith, inside (goal.at.overflow_cast-result c).E
 
 pub returns : goal.returns
 returns c = leads_one _ c.requires.framed _ c.count-records.ensures _ _ c.next_leader-first.ensures (inside (goal.at.returns c).Else-first-records) _
-    c.next_leader-second.ensures (omega (arith, c.if-second-records.false))
+    c.next_leader-second.ensures (omega arith)
