@@ -3,6 +3,7 @@ use Rattle.std.specs.Prelude.{◌≡◌, refl, ℕ, zero, suc, ◌+◌, ◌*◌,
 use Rattle.std.proofs.Common.{sym, ap, ap₂, ◌∙◌, add-zero, zero-add, suc-add, add_assoc, add_comm, mul_assoc, add-mul, mul-add, zero-lt-suc, mod-lt, mod-eq_of_lt, div-one, pow-suc, arith, pow-add}
 use Rattle.std.proofs.Math.Nat.{div-div-eq-div-mul, add-mul-div_right, one-le-pow, pow-succ'}
 use Rattle.std.proofs.lemmas.List.Edits.{sets}
+use Rattle.std.proofs.lemmas.Nat.{div-add-mod'}
 use Rattle.std.proofs.Math.Arith.{digits_lt, digits_div, mod-mul}
 use Rattle.endian.specs.Endian.{Bytes, be, be_bytes, le, le_bytes}
 use Rattle.endian.specs.SetsLaws.{sets_append}
@@ -70,6 +71,11 @@ length_be_bytes = order.length_write big_endian
 
 pub bytes_be_bytes : (n x : ℕ) → Bytes (be_bytes n x)
 bytes_be_bytes = order.bytes_write big_endian
+
+-- n bytes are those of what is left of the number below 256 ^ n
+pub be_bytes_low : (n x : ℕ) → be_bytes n (x % 256 ^ n) ≡ be_bytes n x
+be_bytes_low n x =
+    sym (be_bytes_above n (x / 256 ^ n) (x % 256 ^ n)) ∙ ap (be_bytes n) (div-add-mod' x (256 ^ n))
 
 be_bytes_add : (m n x : ℕ) → be_bytes (m + n) x ≡ be_bytes m (x / 256 ^ n) ++ be_bytes n x
 unfolding be_bytes
@@ -140,6 +146,13 @@ length_le_bytes = order.length_write little_endian
 
 pub bytes_le_bytes : (n x : ℕ) → Bytes (le_bytes n x)
 bytes_le_bytes = order.bytes_write little_endian
+
+pub le_bytes_low : (n x : ℕ) → le_bytes n (x % 256 ^ n) ≡ le_bytes n x
+unfolding le_bytes little_endian
+le_bytes_low zero x = refl
+le_bytes_low (suc n) x =
+    let e : x % 256 + 256 * (x / 256 % 256 ^ n) ≡ x % 256 ^ suc n = little_endian.step_first n x in
+    rw (← e) (ap₂ ◌∷◌ (omega arith) (ap (le_bytes n) (omega arith) ∙ le_bytes_low n (x / 256)))
 
 le_bytes_add : (m n x : ℕ) → le_bytes (m + n) x ≡ le_bytes m x ++ le_bytes n (x / 256 ^ m)
 unfolding le_bytes

@@ -1,9 +1,10 @@
 -- Stores of several elements from a place on (`sets` of lib.Seq): two runs that meet, that stand apart, one over the other; and what
 -- stands at each index after. Assumes nothing.
-use Rattle.std.specs.Prelude.{◌≡◌, refl, ℕ, zero, suc, ◌+◌, ◌≤◌, ◌<◌, List, [], ◌∷◌, ◌++◌, length, get_or, set}
-use Rattle.std.proofs.Common.{sym, ap, ◌∙◌, add-zero, add-suc, suc-add, arith, length-set, set-set, get_or-set_same, get_or-set_other}
-use Rattle.std.proofs.lemmas.List.Edits.{sets}
-use Rattle.std.proofs.lemmas.List.{set_comm}
+use Rattle.std.specs.Prelude.{◌≡◌, refl, ℕ, zero, suc, ◌+◌, ◌-◌, ◌≤◌, ◌<◌, List, [], ◌∷◌, ◌++◌, length, get_or, set}
+use Rattle.std.proofs.Common.{sym, ap, ◌∙◌, append_assoc, add-zero, add-suc, suc-add, arith, length-set, set-set, get_or-set_same, get_or-set_other}
+use Rattle.std.proofs.lemmas.List.Edits.{sets, sets-eq}
+use Rattle.std.proofs.lemmas.List.{set_comm, drop-drop}
+use borrow.Rule.Slice.PartMut.{put_mid}
 
 module _ {ℓ} {A : Type ℓ} where
   -- two runs of stores that meet are one
@@ -64,3 +65,10 @@ module _ {ℓ} {A : Type ℓ} where
   get_d_sets_at o i (v ∷ vs) (suc k) d h l =
       ap (λ (j : ℕ). get_or (sets (set o i v) (suc i) vs) j d) (add-suc i k ∙ sym (suc-add i k))
       ∙ get_d_sets_at (set o i v) (suc i) vs k d (omega arith) (omega (arith, length-set o i v))
+
+-- a part of a slice that was copied over is a run of stores
+pub sets_of_copy : {A : Type 0} (o : List A) (at end : ℕ) (vs : List A) → at + length vs ≡ end → end ≤ length o
+    → put_mid at (end - at) o vs ≡ sets o at vs
+sets_of_copy o at end vs e h =
+    let n : end - at ≡ length vs = omega arith in
+    rw (n, drop-drop (length vs) at o, ← append_assoc) (sym (sets-eq vs o at (omega arith)))

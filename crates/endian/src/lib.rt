@@ -1,6 +1,6 @@
 // Numbers in bytes: 2, 4 and 8 bytes of a slice read as a number, and a number stored as that many, in both orders.
-// A wider number is two narrower ones, but for the 8 bytes that a search reads key by key. The definitions and their laws stand in
-// specs/Endian and specs/EndianLaws.
+// The bytes are std's: compiled, each read is one load and each write one store. The definitions and their laws stand in specs/Endian and
+// specs/EndianLaws.
 #![tactic(auto)]
 
 ghost use Rattle.std.specs.Prelude.{◌≡◌, ◌+◌, ◌<◌, ◌≤◌, length};
@@ -11,7 +11,7 @@ ghost use Rattle.endian.specs.Endian.{be, be_bytes, le, le_bytes};
 pub fn wide(x: u8) -> u64
     ensures { (result ≡ x) × (result < 256) }
 {
-    x as u64
+    u64::from(x)
 }
 
 // ---- big-endian
@@ -20,23 +20,30 @@ pub fn read_be16(s: &[u8], at: usize) -> u64
     requires { at + 2 ≤ length s.now }
     ensures { (result ≡ be 2 s.now at) × (result < 65536) }
 {
-    let high = wide(s[at]);
-    let low = wide(s[at + 1]);
-    high * 256 + low
+    u64::from(u16::from_be_bytes([s[at], s[at + 1]]))
 }
 
 pub fn read_be32(s: &[u8], at: usize) -> u64
     requires { at + 4 ≤ length s.now }
     ensures { (result ≡ be 4 s.now at) × (result < 4294967296) }
 {
-    read_be16(s, at) * 65536 + read_be16(s, at + 2)
+    u64::from(u32::from_be_bytes([s[at], s[at + 1], s[at + 2], s[at + 3]]))
 }
 
 pub fn read_be64(s: &[u8], at: usize) -> u64
     requires { at + 8 ≤ length s.now }
     ensures { (result ≡ be 8 s.now at) × (result < 18446744073709551616) }
 {
-    read_be32(s, at) * 4294967296 + read_be32(s, at + 4)
+    u64::from_be_bytes([
+        s[at],
+        s[at + 1],
+        s[at + 2],
+        s[at + 3],
+        s[at + 4],
+        s[at + 5],
+        s[at + 6],
+        s[at + 7],
+    ])
 }
 
 // The low 2 bytes of v.
@@ -44,8 +51,8 @@ pub fn write_be16(out: &mut [u8], at: usize, v: u64)
     requires { at + 2 ≤ length out.old }
     ensures { out.new ≡ sets out.old at (be_bytes 2 v) }
 {
-    out[at] = (v / 256 % 256) as u8;
-    out[at + 1] = (v % 256) as u8;
+    let low = (v % 65536) as u16;
+    out[at..at + 2].copy_from_slice(&low.to_be_bytes());
 }
 
 // The low 4 bytes of v.
@@ -53,16 +60,15 @@ pub fn write_be32(out: &mut [u8], at: usize, v: u64)
     requires { at + 4 ≤ length out.old }
     ensures { out.new ≡ sets out.old at (be_bytes 4 v) }
 {
-    write_be16(out, at, v / 65536);
-    write_be16(out, at + 2, v);
+    let low = (v % 4294967296) as u32;
+    out[at..at + 4].copy_from_slice(&low.to_be_bytes());
 }
 
 pub fn write_be64(out: &mut [u8], at: usize, v: u64)
     requires { at + 8 ≤ length out.old }
     ensures { out.new ≡ sets out.old at (be_bytes 8 v) }
 {
-    write_be32(out, at, v / 4294967296);
-    write_be32(out, at + 4, v);
+    out[at..at + 8].copy_from_slice(&v.to_be_bytes());
 }
 
 // ---- little-endian
@@ -71,42 +77,30 @@ pub fn read_le16(s: &[u8], at: usize) -> u64
     requires { at + 2 ≤ length s.now }
     ensures { (result ≡ le 2 s.now at) × (result < 65536) }
 {
-    let low = wide(s[at]);
-    let high = wide(s[at + 1]);
-    low + 256 * high
+    u64::from(u16::from_le_bytes([s[at], s[at + 1]]))
 }
 
 pub fn read_le32(s: &[u8], at: usize) -> u64
     requires { at + 4 ≤ length s.now }
     ensures { (result ≡ le 4 s.now at) × (result < 4294967296) }
 {
-    read_le16(s, at) + 65536 * read_le16(s, at + 2)
+    u64::from(u32::from_le_bytes([s[at], s[at + 1], s[at + 2], s[at + 3]]))
 }
 
-// Byte by byte, each place the one before plus 1: compiled, one load.
 pub fn read_le64(s: &[u8], at: usize) -> u64
     requires { at + 8 ≤ length s.now }
     ensures { (result ≡ le 8 s.now at) × (result < 18446744073709551616) }
 {
-    let b = at + 1;
-    let c = b + 1;
-    let d = c + 1;
-    let e = d + 1;
-    let f = e + 1;
-    let g = f + 1;
-    let h = g + 1;
-    wide(s[at])
-        + 256
-            * (wide(s[b])
-                + 256
-                    * (wide(s[c])
-                        + 256
-                            * (wide(s[d])
-                                + 256
-                                    * (wide(s[e])
-                                        + 256
-                                            * (wide(s[f])
-                                                + 256 * (wide(s[g]) + 256 * wide(s[h])))))))
+    u64::from_le_bytes([
+        s[at],
+        s[at + 1],
+        s[at + 2],
+        s[at + 3],
+        s[at + 4],
+        s[at + 5],
+        s[at + 6],
+        s[at + 7],
+    ])
 }
 
 // The low 2 bytes of v.
@@ -114,8 +108,8 @@ pub fn write_le16(out: &mut [u8], at: usize, v: u64)
     requires { at + 2 ≤ length out.old }
     ensures { out.new ≡ sets out.old at (le_bytes 2 v) }
 {
-    out[at] = (v % 256) as u8;
-    out[at + 1] = (v / 256 % 256) as u8;
+    let low = (v % 65536) as u16;
+    out[at..at + 2].copy_from_slice(&low.to_le_bytes());
 }
 
 // The low 4 bytes of v.
@@ -123,14 +117,13 @@ pub fn write_le32(out: &mut [u8], at: usize, v: u64)
     requires { at + 4 ≤ length out.old }
     ensures { out.new ≡ sets out.old at (le_bytes 4 v) }
 {
-    write_le16(out, at, v);
-    write_le16(out, at + 2, v / 65536);
+    let low = (v % 4294967296) as u32;
+    out[at..at + 4].copy_from_slice(&low.to_le_bytes());
 }
 
 pub fn write_le64(out: &mut [u8], at: usize, v: u64)
     requires { at + 8 ≤ length out.old }
     ensures { out.new ≡ sets out.old at (le_bytes 8 v) }
 {
-    write_le32(out, at, v);
-    write_le32(out, at + 4, v / 4294967296);
+    out[at..at + 8].copy_from_slice(&v.to_le_bytes());
 }

@@ -1,5 +1,5 @@
--- `endian::read_be16` meets its contract. Two bytes are one step of `be` twice. Assumes nothing.
-use native.Mathlib.Omega.{arith}
+-- `endian::read_be16` meets its contract: the definition, byte by byte. Assumes nothing.
+use Rattle.std.proofs.Common.{arith}
 use Rattle.endian.specs.Endian.{be}
 use Rattle.endian.proofs.read_be16.Goals as goal
 

@@ -1,5 +1,5 @@
--- `endian::read_le16` meets its contract. Two bytes are one step of `le` twice. Assumes nothing.
-use native.Mathlib.Omega.{arith}
+-- `endian::read_le16` meets its contract: the definition, byte by byte. Assumes nothing.
+use Rattle.std.proofs.Common.{arith}
 use Rattle.endian.specs.Endian.{le}
 use Rattle.endian.proofs.read_le16.Goals as goal
 

@@ -1,7 +1,8 @@
--- `endian::read_le32` meets its contract: the law is `le_add` at 2 and 2 bytes. Assumes nothing.
-use native.Mathlib.Omega.{arith}
-use Rattle.endian.specs.EndianLaws.{le_add}
+-- `endian::read_le32` meets its contract: the definition, byte by byte. Assumes nothing.
+use Rattle.std.proofs.Common.{add_assoc, arith}
+use Rattle.endian.specs.Endian.{le}
 use Rattle.endian.proofs.read_le32.Goals as goal
 
 pub returns : goal.returns
-returns c = (omega (arith, le_add 2 2 c.args.s.now c.args.at), omega arith)
+unfolding le
+returns c = (simp add_assoc (omega arith), omega arith)

@@ -1,14 +1,9 @@
--- `endian::write_be16` meets its contract. Two stores are `sets` of the two bytes, by computation. Assumes nothing.
-use native.Mathlib.Nat.{div-one}
-use native.Mathlib.Numerals.{add-one}
-use native.Mathlib.Omega.{arith}
-use lib.ListN.{length-set}
-use Rattle.endian.specs.Endian.{be_bytes}
+-- `endian::write_be16` meets its contract: the bytes that are copied are those of `be_bytes`. Assumes nothing.
+use Rattle.std.proofs.Common.{◌∙◌}
+use Rattle.endian.proofs.StoreLaws.{be_stored}
 use Rattle.endian.proofs.write_be16.Goals as goal
 
-pub bounds-out-at-2 : goal.bounds-out-at-2
-bounds-out-at-2 c = simp length-set (omega arith)
-
 pub returns : goal.returns
-unfolding be_bytes
-returns c = rw (add-one c.args.at, div-one c.args.v)
+returns c =
+    be_stored 2 c.args.out.now c.args.at c.args.v c.requires
+    (c.copy_from_slice.ensures.after ∙ c.to_be_bytes.ensures)

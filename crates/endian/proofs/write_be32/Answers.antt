@@ -1,6 +1,9 @@
--- `endian::write_be32` meets its contract: the law is `sets_be_bytes` at 2 and 2 bytes. Assumes nothing.
-use Rattle.endian.specs.EndianLaws.{sets_be_bytes}
+-- `endian::write_be32` meets its contract: the bytes that are copied are those of `be_bytes`. Assumes nothing.
+use Rattle.std.proofs.Common.{◌∙◌}
+use Rattle.endian.proofs.StoreLaws.{be_stored}
 use Rattle.endian.proofs.write_be32.Goals as goal
 
 pub returns : goal.returns
-returns c = sets_be_bytes 2 2 c.args.out.now c.args.at c.args.v c.write_be16.ensures c.write_be16-2.ensures
+returns c =
+    be_stored 4 c.args.out.now c.args.at c.args.v c.requires
+    (c.copy_from_slice.ensures.after ∙ c.to_be_bytes.ensures)

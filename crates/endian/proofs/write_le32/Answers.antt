@@ -1,6 +1,9 @@
--- `endian::write_le32` meets its contract: the law is `sets_le_bytes` at 2 and 2 bytes. Assumes nothing.
-use Rattle.endian.specs.EndianLaws.{sets_le_bytes}
+-- `endian::write_le32` meets its contract: the bytes that are copied are those of `le_bytes`. Assumes nothing.
+use Rattle.std.proofs.Common.{◌∙◌}
+use Rattle.endian.proofs.StoreLaws.{le_stored}
 use Rattle.endian.proofs.write_le32.Goals as goal
 
 pub returns : goal.returns
-returns c = sets_le_bytes 2 2 c.args.out.now c.args.at c.args.v c.write_le16.ensures c.write_le16-2.ensures
+returns c =
+    le_stored 4 c.args.out.now c.args.at c.args.v c.requires
+    (c.copy_from_slice.ensures.after ∙ c.to_le_bytes.ensures)

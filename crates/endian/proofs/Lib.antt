@@ -1,0 +1,2 @@
+-- What the stores rest on.
+pub mod StoreLaws
