@@ -1,10 +1,11 @@
 -- Texts put one after the other, and how the digits of a number go on. Assumes nothing.
 use Rattle.std.specs.Prelude.{◌≡◌, refl, ℕ, zero, suc, ◌+◌, ◌-◌, ◌*◌, ◌/◌, ◌%◌, ◌≤◌, ◌<◌, min, Bool, true, false, cond, List, [], ◌∷◌, ◌++◌, length, get_or, take, drop, set, ltb, leb}
-use Rattle.std.proofs.Common.{sym, ap, ◌∙◌, zero-add, add-zero, add-one, arith, length-append, length-take, take-suc, lt-ltb, le-ltb, ltb-true, ltb-false, leb-true, leb-false}
+use Rattle.std.proofs.Common.{sym, ap, ◌∙◌, zero-add, add-zero, add-one, arith, length-append, length-take, take-suc, take-append-drop, lt-ltb, le-ltb, ltb-true, ltb-false, leb-true, leb-false}
 use Rattle.std.proofs.Math.Nat.{min-eq_left, min-eq_right, div-div-eq-div-mul}
 use Rattle.std.proofs.lemmas.List.Edits.{sets, sets-eq}
 use Rattle.std.proofs.Math.Seq.{set_out, length-sets}
-use Rattle.endian.specs.SetsLaws.{sets_sets, sets_comm}
+use borrow.Rule.Slice.PartMut.{put_mid}
+use Rattle.endian.specs.SetsLaws.{sets_sets, sets_comm, sets_of_copy}
 use Rattle.text.specs.Text.{Put, ascii, digit, hexadecimal, decimal_over, decimal, refusal_text}
 
 -- stores past the end change nothing
@@ -54,6 +55,31 @@ copied_more o text start i h =
     ∙ sets_sets o start (take i text) b
     ∙ ap (sets o start) (sym (ap (λ (k : ℕ). take k text) (add-one i) ∙ take-suc text i 0 h))
 
+-- stores that pass the end, of which only the first fit
+sets_cut : (o : List ℕ) (i : ℕ) (vs : List ℕ) → i ≤ length o → length o ≤ i + length vs → sets o i (take (length o - i) vs) ≡ sets o i vs
+sets_cut o i vs h l =
+    let k = length o - i in
+    let a = take k vs in
+    let n : length a ≡ k = omega (arith, length-take k vs) in
+    let out : length (sets o i a) ≤ i + length a = omega (arith, length-sets o i a) in
+    sym (ap (sets o i) (sym (take-append-drop k vs)) ∙ sym (sets_sets o i a (drop k vs)) ∙ sets_out (sets o i a) (i + length a) (drop k vs) out)
+
+module _ {o text ys : List ℕ} {at start : ℕ} (p : Put o at [] o start) where
+  -- a text copied to the place where it goes
+  pub put_copied : start + length text ≤ length o → ys ≡ text
+      → Put o at text (put_mid start (start + length text - start) o ys) (start + length text)
+  put_copied h e =
+      put_append p (record { stored = rw e (sets_of_copy o start (start + length text) text refl h); place = omega arith })
+
+  -- and one that passes the end: what fits of it
+  pub put_cut : start ≤ length o → length o - start ≤ length text → ys ≡ take (length o - start) text
+      → Put o at text (put_mid start (length o - start) o ys) (length (put_mid start (length o - start) o ys))
+  put_cut h l e =
+      let n : length (take (length o - start) text) ≡ length o - start = omega (arith, length-take (length o - start) text) in
+      let s : put_mid start (length o - start) o ys ≡ sets o start text =
+      rw e (sets_of_copy o start (length o) (take (length o - start) text) (omega arith) (omega arith) ∙ sets_cut o start text h (omega arith)) in
+      put_append p (record { stored = s; place = rw s (omega (arith, length-sets o start text)) })
+
 -- the last hexadecimal digit, and those in front of it
 pub hexadecimal_more : (width n : ℕ) → (width ≡ 0 → ⊥) → hexadecimal width n ≡ hexadecimal (width - 1) (n / 16) ++ (digit (n % 16) ∷ [])
 unfolding hexadecimal
@@ -100,6 +126,28 @@ tens_positive (suc d) = omega (arith, tens_positive d)
 
 pub one_digit : (n : ℕ) → n < 10 → 1 ≡ length (decimal n)
 one_digit n h = sym (ap length (decimal_one n h))
+
+some_digit : (n : ℕ) → 0 < length (decimal n)
+some_digit n = go (ltb n 10) refl
+  where
+    go : (b : Bool) → ltb n 10 ≡ b → 0 < length (decimal n)
+    go true e = omega (arith, one_digit n (ltb-true n 10 e))
+    go false e = omega (arith, one_more n (ltb-false n 10 e))
+
+-- how many digits say whether there is more than one
+pub one_of_digits : (n : ℕ) → length (decimal n) ≤ 1 → n < 10
+one_of_digits n h = go (ltb n 10) refl
+  where
+    go : (b : Bool) → ltb n 10 ≡ b → n < 10
+    go true e = ltb-true n 10 e
+    go false e = absurd (omega (arith, one_more n (ltb-false n 10 e), some_digit (n / 10)))
+
+pub more_of_digits : (n : ℕ) → 1 < length (decimal n) → 10 ≤ n
+more_of_digits n h = go (ltb n 10) refl
+  where
+    go : (b : Bool) → ltb n 10 ≡ b → 10 ≤ n
+    go true e = absurd (omega (arith, one_digit n (ltb-true n 10 e)))
+    go false e = ltb-false n 10 e
 
 -- a number from 10 to the power d on, and below ten times that
 pub digits_between : (d n : ℕ) → tens d ≤ n → n < tens (suc d) → suc d ≡ length (decimal n)

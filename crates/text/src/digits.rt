@@ -1,26 +1,17 @@
 // Hexadecimal digits read back: the value of a digit in either case, and two values as a byte.
 ghost use Rattle.std.specs.Prelude.{◌≡◌, ◌+◌, ◌*◌, ◌%◌};
-ghost use Rattle.text.specs.Digits.{is_within, value_of};
+ghost use Rattle.text.specs.Digits.{value_of};
 
-#[derive(Clone, Copy)]
-pub enum Digit {
-    Value(u8),
-    Nothing,
-}
-
-pub fn value_of(byte: u8) -> Digit
+#[tactic(auto, unfolding(crate::specs::Digits::value_of))]
+pub fn value_of(byte: u8) -> Option<u8>
     ensures { result ≡ value_of byte }
 {
-    if is_within(b'0', byte, b'9') {
-        return Digit::Value(byte - b'0');
+    match byte {
+        b'0'..=b'9' => Some(byte - b'0'),
+        b'A'..=b'F' => Some(byte - b'A' + 10),
+        b'a'..=b'f' => Some(byte - b'a' + 10),
+        _ => None,
     }
-    if is_within(b'A', byte, b'F') {
-        return Digit::Value(byte - b'A' + 10);
-    }
-    if is_within(b'a', byte, b'f') {
-        return Digit::Value(byte - b'a' + 10);
-    }
-    Digit::Nothing
 }
 
 // Two digits as a byte. Below 16, as digits are, the remainders change nothing.
@@ -28,10 +19,4 @@ pub fn joined(high: u8, low: u8) -> u8
     ensures { result ≡ high % 16 * 16 + low % 16 }
 {
     high % 16 * 16 + low % 16
-}
-
-fn is_within(first: u8, byte: u8, last: u8) -> bool
-    ensures { result ≡ is_within first byte last }
-{
-    (first <= byte) & (byte <= last)
 }

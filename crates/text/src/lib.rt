@@ -25,35 +25,14 @@ pub fn put_text(out: &mut [u8], at: usize, text: &[u8]) -> usize
     ensures { Put out.old at text.now out.new result }
 {
     let start = place(out, at);
-    if out.len() - start < text.len() {
-        return put_part(out, at, text);
+    let room = out.len() - start;
+    if room < text.len() {
+        out[start..].copy_from_slice(&text[..room]);
+        return out.len();
     }
-    copy_in(out, start, text);
-    start + text.len()
-}
-
-fn copy_in(out: &mut [u8], start: usize, text: &[u8])
-    requires { start + length text.now ≤ length out.old }
-    ensures { out.new ≡ sets out.old start text.now }
-{
-    let mut i = 0;
-    while i < text.len() {
-        let at = start + i;
-        out[at] = text[i];
-        i += 1;
-    }
-}
-
-fn put_part(out: &mut [u8], at: usize, text: &[u8]) -> usize
-    ensures { Put out.old at text.now out.new result }
-{
-    let mut next = place(out, at);
-    let mut i = 0;
-    while i < text.len() {
-        next = put_byte(out, next, text[i]);
-        i += 1;
-    }
-    next
+    let end = start + text.len();
+    out[start..end].copy_from_slice(text);
+    end
 }
 
 // The last `width` hexadecimal digits, with zeros in front.
@@ -95,11 +74,9 @@ fn store_digits(out: &mut [u8], start: usize, count: usize, number: u64)
     ensures { out.new ≡ sets out.old start (decimal number) }
 {
     let mut left = number;
-    let mut i = start + count;
-    while 10 <= left {
-        i -= 1;
-        out[i] = digit(left % 10);
-        left = left / 10;
+    for i in (1..count).rev() {
+        out[start + i] = digit(left % 10);
+        left /= 10;
     }
     out[start] = digit(left);
 }
@@ -111,7 +88,7 @@ fn digit_count(number: u64) -> usize
     let mut left = number;
     let mut count = 0;
     while 100000000 <= left {
-        left = left / 100000000;
+        left /= 100000000;
         count += 8;
     }
     count + small_count(left)
@@ -121,28 +98,16 @@ fn small_count(number: u64) -> usize
     requires { number < 100000000 }
     ensures { (result ≡ length (decimal number)) × (result ≤ 8) }
 {
-    if number < 10 {
-        return 1;
+    match number {
+        ..10 => 1,
+        ..100 => 2,
+        ..1000 => 3,
+        ..10000 => 4,
+        ..100000 => 5,
+        ..1000000 => 6,
+        ..10000000 => 7,
+        _ => 8,
     }
-    if number < 100 {
-        return 2;
-    }
-    if number < 1000 {
-        return 3;
-    }
-    if number < 10000 {
-        return 4;
-    }
-    if number < 100000 {
-        return 5;
-    }
-    if number < 1000000 {
-        return 6;
-    }
-    if number < 10000000 {
-        return 7;
-    }
-    8
 }
 
 // A name and a number in decimal.
@@ -171,7 +136,7 @@ pub fn put_named_hexadecimal(
 pub fn put_refusal(out: &mut [u8], at: usize, number: u8) -> usize
     ensures { Put out.old at (refusal_text number) out.new result }
 {
-    let next = put_named(out, at, b"refused ", number as u64);
+    let next = put_named(out, at, b"refused ", u64::from(number));
     put_byte(out, next, b'\n')
 }
 
@@ -179,18 +144,14 @@ pub fn put_refusal(out: &mut [u8], at: usize, number: u8) -> usize
 pub fn place(out: &[u8], at: usize) -> usize
     ensures { Put out.now at [] out.now result }
 {
-    let size = out.len();
-    if at < size { at } else { size }
+    at.min(out.len())
 }
 
 // The first `count` bytes, or all: what was put, for a writer.
 pub fn front(bytes: &[u8], count: usize) -> &[u8]
     ensures { result.now ≡ take count bytes.now }
 {
-    if count < bytes.len() {
-        return &bytes[..count];
-    }
-    bytes
+    &bytes[..count.min(bytes.len())]
 }
 
 fn digit(value: u64) -> u8

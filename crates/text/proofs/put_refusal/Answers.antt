@@ -5,4 +5,4 @@ use Rattle.text.proofs.put_refusal.Goals as goal
 
 pub returns : goal.returns
 unfolding ascii refusal_text
-returns c = put_append c.put_named-next.ensures c.put_byte.ensures
+returns c = rw (← c.from.ensures) (put_append c.put_named-next.ensures c.put_byte.ensures)

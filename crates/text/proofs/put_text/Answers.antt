@@ -1,8 +1,10 @@
--- `text::put_text` meets its contract: a text that fits is copied from the place where it goes. Assumes nothing.
-use native.Mathlib.Omega.{arith}
-use Rattle.text.specs.TextLaws.{put_append}
+-- `text::put_text` meets its contract: a text is copied from the place where it goes, as far as it fits. Assumes nothing.
+use Rattle.std.proofs.Common.{arith}
+use Rattle.text.specs.TextLaws.{put_copied, put_cut}
 use Rattle.text.proofs.put_text.Goals as goal
 
+pub returns-then-room-text : goal.returns-then-room-text
+returns-then-room-text c = put_cut c.place-start.ensures (omega arith) (omega arith) c.copy_from_slice.ensures.after
+
 pub returns : goal.returns
-returns c = put_append c.place-start.ensures
-    (record { stored = c.copy_in.ensures; place = omega (arith, c.place-start.ensures.place, c.if-out-start.false) })
+returns c = put_copied c.place-start.ensures (omega arith) c.copy_from_slice-2.ensures.after

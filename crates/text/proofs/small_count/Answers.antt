@@ -1,35 +1,35 @@
 -- `text::small_count` meets its contract: each answer between two powers of ten. Assumes nothing.
-use native.Mathlib.Omega.{arith}
+use Rattle.std.proofs.Common.{arith}
 use Rattle.text.specs.TextLaws.{tens, one_digit, digits_between}
 use Rattle.text.proofs.small_count.Goals as goal
 
-pub returns-then-number-lt10 : goal.returns-then-number-lt10
-returns-then-number-lt10 c = (one_digit _ c.if-number-lt10.true, omega arith)
+pub returns-in-0-to-9 : goal.returns-in-0-to-9
+returns-in-0-to-9 c = (one_digit c.args.number (omega arith), omega arith)
 
-pub returns-then-number-lt100 : goal.returns-then-number-lt100
+pub returns-in-0-to-99 : goal.returns-in-0-to-99
 unfolding tens
-returns-then-number-lt100 c = (digits_between 1 c.args.number (omega arith) (omega arith), omega arith)
+returns-in-0-to-99 c = (digits_between 1 c.args.number (omega arith) (omega arith), omega arith)
 
-pub returns-then-number-lt1000 : goal.returns-then-number-lt1000
+pub returns-in-0-to-999 : goal.returns-in-0-to-999
 unfolding tens
-returns-then-number-lt1000 c = (digits_between 2 c.args.number (omega arith) (omega arith), omega arith)
+returns-in-0-to-999 c = (digits_between 2 c.args.number (omega arith) (omega arith), omega arith)
 
-pub returns-then-number-lt10000 : goal.returns-then-number-lt10000
+pub returns-in-0-to-9999 : goal.returns-in-0-to-9999
 unfolding tens
-returns-then-number-lt10000 c = (digits_between 3 c.args.number (omega arith) (omega arith), omega arith)
+returns-in-0-to-9999 c = (digits_between 3 c.args.number (omega arith) (omega arith), omega arith)
 
-pub returns-then-number-lt100000 : goal.returns-then-number-lt100000
+pub returns-in-0-to-99999 : goal.returns-in-0-to-99999
 unfolding tens
-returns-then-number-lt100000 c = (digits_between 4 c.args.number (omega arith) (omega arith), omega arith)
+returns-in-0-to-99999 c = (digits_between 4 c.args.number (omega arith) (omega arith), omega arith)
 
-pub returns-then-number-lt1000000 : goal.returns-then-number-lt1000000
+pub returns-in-0-to-999999 : goal.returns-in-0-to-999999
 unfolding tens
-returns-then-number-lt1000000 c = (digits_between 5 c.args.number (omega arith) (omega arith), omega arith)
+returns-in-0-to-999999 c = (digits_between 5 c.args.number (omega arith) (omega arith), omega arith)
 
-pub returns-then-number-lt10000000 : goal.returns-then-number-lt10000000
+pub returns-in-0-to-9999999 : goal.returns-in-0-to-9999999
 unfolding tens
-returns-then-number-lt10000000 c = (digits_between 6 c.args.number (omega arith) (omega arith), omega arith)
+returns-in-0-to-9999999 c = (digits_between 6 c.args.number (omega arith) (omega arith), omega arith)
 
-pub returns : goal.returns
+pub returns-in_default : goal.returns-in_default
 unfolding tens
-returns c = (digits_between 7 c.args.number (omega arith) (omega arith), omega arith)
+returns-in_default c = (digits_between 7 c.args.number (omega arith) (omega arith), omega arith)
