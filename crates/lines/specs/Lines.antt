@@ -1,8 +1,6 @@
 -- A line of text as a state that each byte moves on: a comment, or a word and then bytes in hexadecimal. Assumes nothing.
-use Rattle.std.specs.Prelude.{◌≡◌, ℕ, ◌+◌, ◌*◌, ◌%◌, cond, List, [], ◌∷◌, eqb}
+use Rattle.std.specs.Prelude.{◌≡◌, ℕ, ◌+◌, ◌*◌, ◌%◌, cond, Option, Some, None, List, [], ◌∷◌, eqb}
 use Rattle.text.specs.Digits.{value_of}
-use Rattle.text.specs.declared.digits.Digit.{Digit}
-use Rattle.text.specs.declared.digits.Digit.TheVariants.{Value, Nothing}
 use Rattle.lines.specs.declared.Stage.{Stage}
 use Rattle.lines.specs.declared.Stage.TheVariants.{Start, Comment, Letter, Space, Half, Byte, Wrong}
 use Rattle.lines.specs.declared.Ended.{Ended}
@@ -16,16 +14,16 @@ first_of byte = cond (eqb byte 32) Start (cond (eqb byte 35) Comment (Letter byt
 unfoldable pub letter_of : ℕ → Stage
 letter_of byte = cond (eqb byte 32) Space (Letter byte)
 
-abbrev pub half_of : Digit → Stage
-half_of (Value high) = Half high
-half_of Nothing = Wrong
+abbrev pub half_of : Option ℕ → Stage
+half_of (Some high) = Half high
+half_of None = Wrong
 
 unfoldable pub between_of : ℕ → Stage
 between_of byte = cond (eqb byte 32) Space (half_of (value_of byte))
 
-abbrev pub whole_of : ℕ → Digit → Stage
-whole_of high (Value low) = Byte (high % 16 * 16 + low % 16)
-whole_of high Nothing = Wrong
+abbrev pub whole_of : ℕ → Option ℕ → Stage
+whole_of high (Some low) = Byte (high % 16 * 16 + low % 16)
+whole_of high None = Wrong
 
 unfoldable pub second_of : ℕ → ℕ → Stage
 second_of high byte = whole_of high (value_of byte)
@@ -77,5 +75,5 @@ said_of stage (b ∷ t) = shown (next_of stage b) (said_of (next_of stage b) t)
 pub data Spells : List ℕ → List ℕ → Type 0 where
   ends : Spells [] []
   space : {t bs : List ℕ} → Spells t bs → Spells (32 ∷ t) bs
-  byte : (a b : ℕ) {high low : ℕ} {t bs : List ℕ} → value_of a ≡ Value high → value_of b ≡ Value low → Spells t bs
+  byte : (a b : ℕ) {high low : ℕ} {t bs : List ℕ} → value_of a ≡ Some high → value_of b ≡ Some low → Spells t bs
       → Spells (a ∷ b ∷ t) ((high * 16 + low) ∷ bs)

@@ -1,10 +1,8 @@
 -- After a line's word, the machine takes exactly the texts that spell bytes, and finds those bytes. Assumes nothing.
-use Rattle.std.specs.Prelude.{◌≡◌, refl, ℕ, ◌+◌, ◌-◌, ◌*◌, ◌%◌, ◌≤◌, ◌<◌, Bool, true, false, cond, List, [], ◌∷◌, eqb, leb}
+use Rattle.std.specs.Prelude.{◌≡◌, refl, ℕ, ◌+◌, ◌-◌, ◌*◌, ◌%◌, ◌≤◌, ◌<◌, Bool, true, false, cond, Option, Some, None, List, [], ◌∷◌, eqb, leb}
 use Rattle.std.proofs.Common.{sym, ap, ◌∙◌, subst, mod-eq_of_lt, arith, true≢false, leb-true, eqb-true}
 use Rattle.std.proofs.Math.Bool.{and-eq-true_iff}
 use Rattle.text.specs.Digits.{is_within, value_of}
-use Rattle.text.specs.declared.digits.Digit.{Digit}
-use Rattle.text.specs.declared.digits.Digit.TheVariants.{Value, Nothing}
 use Rattle.lines.specs.declared.Stage.TheVariants.{Space, Half, Byte, Wrong}
 use Rattle.lines.specs.declared.Ended.{Ended}
 use Rattle.lines.specs.declared.Ended.TheVariants.{Passed, Whole, Wrong as NotWhole}
@@ -12,13 +10,13 @@ use Rattle.lines.specs.Lines.{half_of, between_of, whole_of, second_of, Said, wi
 
 -- a digit is below 16, and a space is none
 
-abbrev digit_of : Digit → ℕ
-digit_of (Value d) = d
-digit_of Nothing = 0
+abbrev digit_of : Option ℕ → ℕ
+digit_of (Some d) = d
+digit_of None = 0
 
-abbrev is_digit : Digit → Bool
-is_digit (Value d) = true
-is_digit Nothing = false
+abbrev is_digit : Option ℕ → Bool
+is_digit (Some d) = true
+is_digit None = false
 
 last_le : (first b last : ℕ) → is_within first b last ≡ true → b ≤ last
 last_le first b last e = leb-true b last ((and-eq-true_iff (leb first b) (leb b last)).0 e).1
@@ -28,22 +26,22 @@ unfolding value_of
 value_lt b = go (is_within 48 b 57) (is_within 65 b 70) (is_within 97 b 102) refl refl refl
   where
     go : (p q r : Bool) → is_within 48 b 57 ≡ p → is_within 65 b 70 ≡ q → is_within 97 b 102 ≡ r
-        → digit_of (cond p (Value (b - 48)) (cond q (Value (b - 65 + 10)) (cond r (Value (b - 97 + 10)) Nothing))) < 16
+        → digit_of (cond p (Some (b - 48)) (cond q (Some (b - 65 + 10)) (cond r (Some (b - 97 + 10)) None))) < 16
     go true q r e f g = omega (arith, last_le 48 b 57 e)
     go false true r e f g = omega (arith, last_le 65 b 70 f)
     go false false true e f g = omega (arith, last_le 97 b 102 g)
     go false false false e f g = omega arith
 
-digit_lt : (b : ℕ) {d : ℕ} → value_of b ≡ Value d → d < 16
+digit_lt : (b : ℕ) {d : ℕ} → value_of b ≡ Some d → d < 16
 digit_lt b e = subst (λ x. digit_of x < 16) e (value_lt b)
 
-space_value : value_of 32 ≡ Nothing
+space_value : value_of 32 ≡ None
 unfolding value_of
 space_value = refl
 
 -- what comes after a space, and after a first digit
 
-half_next : (a : ℕ) {high : ℕ} → value_of a ≡ Value high → between_of a ≡ Half high
+half_next : (a : ℕ) {high : ℕ} → value_of a ≡ Some high → between_of a ≡ Half high
 unfolding between_of
 half_next a {high} e = go (eqb a 32) refl
   where
@@ -53,7 +51,7 @@ half_next a {high} e = go (eqb a 32) refl
         absurd (true≢false (sym (ap is_digit e) ∙ g ∙ ap is_digit space_value))
     go false f = ap half_of e
 
-byte_next : (a b : ℕ) {high low : ℕ} → value_of a ≡ Value high → value_of b ≡ Value low → second_of high b ≡ Byte (high * 16 + low)
+byte_next : (a b : ℕ) {high low : ℕ} → value_of a ≡ Some high → value_of b ≡ Some low → second_of high b ≡ Byte (high * 16 + low)
 unfolding second_of
 byte_next a b {high} {low} e f =
     let h : high % 16 ≡ high = mod-eq_of_lt (digit_lt a e) in
@@ -71,7 +69,7 @@ said_space : (t : List ℕ) → said_of Space (32 ∷ t) ≡ said_of Space t
 unfolding said_of between_of
 said_space t = refl
 
-said_pair : (a b : ℕ) {high low : ℕ} (t : List ℕ) → value_of a ≡ Value high → value_of b ≡ Value low
+said_pair : (a b : ℕ) {high low : ℕ} (t : List ℕ) → value_of a ≡ Some high → value_of b ≡ Some low
     → said_of Space (a ∷ b ∷ t) ≡ with_byte (high * 16 + low) (said_of Space t)
 unfolding said_of
 said_pair a b {high} {low} t e f =
@@ -107,23 +105,23 @@ unfolding said_of
 said_wrong [] = refl
 said_wrong (b ∷ t) = said_wrong t
 
-wrong_next : (a : ℕ) → eqb a 32 ≡ false → value_of a ≡ Nothing → between_of a ≡ Wrong
+wrong_next : (a : ℕ) → eqb a 32 ≡ false → value_of a ≡ None → between_of a ≡ Wrong
 unfolding between_of
 wrong_next a e f = rw (e, f)
 
-wrong_second : (high b : ℕ) → value_of b ≡ Nothing → second_of high b ≡ Wrong
+wrong_second : (high b : ℕ) → value_of b ≡ None → second_of high b ≡ Wrong
 unfolding second_of
 wrong_second high b e = ap (whole_of high) e
 
-said_no_digit : (a : ℕ) (t : List ℕ) → eqb a 32 ≡ false → value_of a ≡ Nothing → (said_of Space (a ∷ t)).end ≡ NotWhole
+said_no_digit : (a : ℕ) (t : List ℕ) → eqb a 32 ≡ false → value_of a ≡ None → (said_of Space (a ∷ t)).end ≡ NotWhole
 unfolding said_of
 said_no_digit a t e f = rw (wrong_next a e f) (said_wrong t)
 
-said_half : (a : ℕ) {high : ℕ} → value_of a ≡ Value high → (said_of Space (a ∷ [])).end ≡ NotWhole
+said_half : (a : ℕ) {high : ℕ} → value_of a ≡ Some high → (said_of Space (a ∷ [])).end ≡ NotWhole
 unfolding said_of
 said_half a e = rw (half_next a e)
 
-said_one_digit : (a b : ℕ) {high : ℕ} (t : List ℕ) → value_of a ≡ Value high → value_of b ≡ Nothing
+said_one_digit : (a b : ℕ) {high : ℕ} (t : List ℕ) → value_of a ≡ Some high → value_of b ≡ None
     → (said_of Space (a ∷ b ∷ t)).end ≡ NotWhole
 unfolding said_of
 said_one_digit a b {high} t e f = rw (half_next a e, wrong_second high b f) (said_wrong t)
@@ -146,17 +144,17 @@ spelling_space a t e on =
 spelling_one : (a : ℕ) → eqb a 32 ≡ false → Spelling (a ∷ [])
 spelling_one a e = go (value_of a) refl
   where
-    go : (d : Digit) → value_of a ≡ d → Spelling (a ∷ [])
-    go (Value high) f = not_whole (said_half a f)
-    go Nothing f = not_whole (said_no_digit a [] e f)
+    go : (d : Option ℕ) → value_of a ≡ d → Spelling (a ∷ [])
+    go (Some high) f = not_whole (said_half a f)
+    go None f = not_whole (said_no_digit a [] e f)
 
 spelling_two : (a b : ℕ) (t : List ℕ) → eqb a 32 ≡ false → Spelling t → Spelling (a ∷ b ∷ t)
 spelling_two a b t e on = go (value_of a) (value_of b) refl refl
   where
-    go : (x y : Digit) → value_of a ≡ x → value_of b ≡ y → Spelling (a ∷ b ∷ t)
-    go Nothing y f g = not_whole (said_no_digit a (b ∷ t) e f)
-    go (Value high) Nothing f g = not_whole (said_one_digit a b t f g)
-    go (Value high) (Value low) f g = spelling_of_said (a ∷ b ∷ t) (said_pair a b t f g) (λ h. byte a b f g (on h))
+    go : (x y : Option ℕ) → value_of a ≡ x → value_of b ≡ y → Spelling (a ∷ b ∷ t)
+    go None y f g = not_whole (said_no_digit a (b ∷ t) e f)
+    go (Some high) None f g = not_whole (said_one_digit a b t f g)
+    go (Some high) (Some low) f g = spelling_of_said (a ∷ b ∷ t) (said_pair a b t f g) (λ h. byte a b f g (on h))
 
 pub spells_of_said : (t : List ℕ) → (said_of Space t).end ≡ Whole → Spells t (said_of Space t).bytes
 spells_of_said [] = spelling_none

@@ -8,7 +8,6 @@ ghost use Rattle.std.specs.Prelude.{◌≡◌};
 ghost use Rattle.lines.specs.Lines.{first_of, letter_of, between_of, second_of, next_of, ended_of};
 
 use text::digits;
-use text::digits::Digit;
 
 // Room for a word. No program has a word this long, so what is kept of a longer one is none either.
 pub const WORD: usize = 8;
@@ -47,12 +46,10 @@ pub fn next(stage: Stage, byte: u8) -> Stage
 {
     match stage {
         Stage::Start => first(byte),
-        Stage::Comment => Stage::Comment,
         Stage::Letter(_) => letter(byte),
-        Stage::Space => between(byte),
+        Stage::Space | Stage::Byte(_) => between(byte),
         Stage::Half(high) => second(high, byte),
-        Stage::Byte(_) => between(byte),
-        Stage::Wrong => Stage::Wrong,
+        Stage::Comment | Stage::Wrong => stage,
     }
 }
 
@@ -60,17 +57,14 @@ pub fn end(stage: Stage) -> Ended
     ensures { result ≡ ended_of stage }
 {
     match stage {
-        Stage::Start => Ended::Passed,
-        Stage::Comment => Ended::Passed,
-        Stage::Letter(_) => Ended::Whole,
-        Stage::Space => Ended::Whole,
-        Stage::Half(_) => Ended::Wrong,
-        Stage::Byte(_) => Ended::Whole,
-        Stage::Wrong => Ended::Wrong,
+        Stage::Start | Stage::Comment => Ended::Passed,
+        Stage::Letter(_) | Stage::Space | Stage::Byte(_) => Ended::Whole,
+        Stage::Half(_) | Stage::Wrong => Ended::Wrong,
     }
 }
 
 // A space in front, a comment, or the word's first letter.
+#[tactic(auto, unfolding(crate::specs::Lines::first_of))]
 fn first(byte: u8) -> Stage
     ensures { result ≡ first_of byte }
 {
@@ -84,6 +78,7 @@ fn first(byte: u8) -> Stage
 }
 
 // A letter more, or the space after the word.
+#[tactic(auto, unfolding(crate::specs::Lines::letter_of))]
 fn letter(byte: u8) -> Stage
     ensures { result ≡ letter_of byte }
 {
@@ -94,6 +89,7 @@ fn letter(byte: u8) -> Stage
 }
 
 // A space, or the first digit of a byte.
+#[tactic(auto, unfolding(crate::specs::Lines::between_of))]
 fn between(byte: u8) -> Stage
     ensures { result ≡ between_of byte }
 {
@@ -101,17 +97,18 @@ fn between(byte: u8) -> Stage
         return Stage::Space;
     }
     match digits::value_of(byte) {
-        Digit::Value(high) => Stage::Half(high),
-        Digit::Nothing => Stage::Wrong,
+        Some(high) => Stage::Half(high),
+        None => Stage::Wrong,
     }
 }
 
 // The second digit of a byte.
+#[tactic(auto, unfolding(crate::specs::Lines::second_of))]
 fn second(high: u8, byte: u8) -> Stage
     ensures { result ≡ second_of high byte }
 {
     match digits::value_of(byte) {
-        Digit::Value(low) => Stage::Byte(digits::joined(high, low)),
-        Digit::Nothing => Stage::Wrong,
+        Some(low) => Stage::Byte(digits::joined(high, low)),
+        None => Stage::Wrong,
     }
 }
