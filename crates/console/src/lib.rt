@@ -49,12 +49,8 @@ pub fn read_piece(rt: HostRuntime, left: u64, room: &mut [u8]) -> Piece
     }
     let mut input = rt.stdin();
     match input.read(room) {
-        Ok(count) => {
-            if count == 0 {
-                return Piece::End;
-            }
-            Piece::Bytes(count, left - 1)
-        }
+        Ok(0) => Piece::End,
+        Ok(count) => Piece::Bytes(count, left - 1),
         Err(_) => {
             report_not_read(rt);
             Piece::Failed
@@ -76,29 +72,11 @@ impl Reader {
         ensures { Nearer self result }
     {
         let at = self.at;
-        let count = self.count;
-        let left = self.left;
-        if at < count {
-            if at < room.len() {
-                return Next::Byte(
-                    room[at],
-                    Reader {
-                        at: at + 1,
-                        count,
-                        left,
-                    },
-                );
-            }
+        if at < self.count && at < room.len() {
+            return Next::Byte(room[at], Reader { at: at + 1, ..self });
         }
-        match read_piece(rt, left, room) {
-            Piece::Bytes(more, fewer) => Next::Byte(
-                room[0],
-                Reader {
-                    at: 1,
-                    count: more,
-                    left: fewer,
-                },
-            ),
+        match read_piece(rt, self.left, room) {
+            Piece::Bytes(count, left) => Next::Byte(room[0], Reader { at: 1, count, left }),
             Piece::End => Next::End,
             Piece::Failed => Next::Failed,
         }
@@ -107,11 +85,11 @@ impl Reader {
 
 // Whether all of it was written.
 pub fn print(rt: HostRuntime, bytes: &[u8]) -> bool {
-    if rt.stdout().write_all(bytes).is_ok() {
-        return true;
+    let written = rt.stdout().write_all(bytes).is_ok();
+    if !written {
+        report(rt, b"standard output could not be written\n");
     }
-    report(rt, b"standard output could not be written\n");
-    false
+    written
 }
 
 fn report_not_read(rt: HostRuntime) {
