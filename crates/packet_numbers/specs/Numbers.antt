@@ -1,7 +1,8 @@
 -- A packet as twenty numbers: kind, form, TC, Attr, TD, EP, AT, Length, requester, tag, last enables, first enables, address, target,
 -- register, completer, status, BCM, byte count, lower address. A message has its routing, its code and its bytes 8 to 15 where a request
 -- has its enables and its address. A field that the kind does not have is 0. Assumes nothing.
-use Rattle.std.specs.Prelude.{ℕ, Bool, true, false, List, [], ◌∷◌, ◌++◌}
+use Rattle.std.specs.Int.{from_bool}
+use Rattle.std.specs.Prelude.{◌≡◌, refl, ℕ, Bool, true, false, List, [], ◌∷◌, ◌++◌}
 use Rattle.pairs.specs.declared.Kind.TheVariants.{Memory as MemoryKind, Io as IoKind, Config as ConfigKind, Completion as CompletionKind}
 use Rattle.pairs.specs.declared.MessageKind.{MessageKind}
 use Rattle.pairs.specs.declared.MessageKind.TheVariants.{Msg, MsgD}
@@ -21,6 +22,11 @@ size = 20
 abbrev pub bit : Bool → ℕ
 bit true = 1
 bit false = 0
+
+-- a flag as a number is its bit
+pub flag_bit : (b : Bool) → from_bool b ≡ bit b
+flag_bit true = refl
+flag_bit false = refl
 
 abbrev pub message_code : MessageKind → ℕ
 message_code Msg = 13

@@ -5,7 +5,7 @@
 
 ghost use Rattle.std.specs.Prelude.{◌≡◌, [], ◌∷◌, ◌++◌, ◌+◌, ◌≤◌, length};
 ghost use Rattle.std.proofs.lemmas.List.Edits.{sets};
-ghost use Rattle.packet_numbers.specs.Numbers.{bit as bit_of, message_code, head_numbers, request_numbers, message_numbers};
+ghost use Rattle.packet_numbers.specs.Numbers.{message_code, head_numbers, request_numbers, message_numbers};
 ghost use Rattle.packet_numbers.specs.Numbers.{outcome_numbers, absent, numbers_of};
 
 use packet::{Enables, Head, Outcome, Packet};
@@ -57,8 +57,8 @@ fn put_head(out: &mut [u64], at: usize, kind: u8, h: Head)
     requires { at + 10 ≤ length out.old }
     ensures { out.new ≡ sets out.old at (head_numbers kind h) }
 {
-    let td = bit(h.td);
-    let ep = bit(h.ep);
+    let td = u64::from(h.td);
+    let ep = u64::from(h.ep);
     put_five(
         out,
         at,
@@ -143,7 +143,7 @@ fn put_outcome(out: &mut [u64], at: usize, o: Outcome)
     requires { at + 10 ≤ length out.old }
     ensures { out.new ≡ sets out.old at (absent ++ outcome_numbers o) }
 {
-    let bcm = bit(o.bcm);
+    let bcm = u64::from(o.bcm);
     put_five(out, at, 0, 0, 0, 0, 0);
     put_five(
         out,
@@ -165,10 +165,4 @@ fn put_five(out: &mut [u64], at: usize, a: u64, b: u64, c: u64, d: u64, e: u64)
     out[at + 2] = c;
     out[at + 3] = d;
     out[at + 4] = e;
-}
-
-fn bit(b: bool) -> u64
-    ensures { result ≡ bit_of b }
-{
-    if b { 1 } else { 0 }
 }

@@ -1,6 +1,7 @@
 -- A packet's text: its kind, its form in dwords, and its fields by name, in the order of document 01's header layout: what every
 -- packet has, then what its kind has. Assumes nothing.
-use Rattle.std.specs.Prelude.{ℕ, Bool, cond, List, ◌++◌}
+use Rattle.std.specs.Prelude.{◌≡◌, refl, ℕ, Bool, true, false, cond, List, ◌++◌}
+use Rattle.std.specs.Int.{from_bool}
 use Prim.Native.String.{String}
 use Rattle.text.specs.Text.{ascii, decimal, hexadecimal}
 use Rattle.pairs.specs.declared.Kind.{Kind}
@@ -31,6 +32,11 @@ named_hexadecimal name width n = ascii name ++ hexadecimal width n
 
 abbrev pub bit_of : Bool → ℕ
 bit_of b = cond b 1 0
+
+-- a flag as a number is its bit
+pub flag_bit : (b : Bool) → from_bool b ≡ bit_of b
+flag_bit true = refl
+flag_bit false = refl
 
 -- ## Kinds
 

@@ -3,15 +3,15 @@
 // code and tail are hexadecimal. The text stands in specs/Labels.
 #![tactic(auto)]
 
-ghost use Rattle.std.specs.Prelude.{◌≡◌, get_or, take};
+ghost use Rattle.std.specs.Prelude.{◌≡◌};
 ghost use Rattle.text.specs.Text.{Put};
-ghost use Rattle.packet_text.specs.Labels.{bit_of, kind_text, marks_text, transaction_text, head_text};
+ghost use Rattle.packet_text.specs.Labels.{kind_text, marks_text, transaction_text, head_text};
 ghost use Rattle.packet_text.specs.Labels.{enables_text, address_text, target_text, count_text, outcome_text, content_text, body_text};
 ghost use Rattle.packet_text.specs.Labels.{packet_text};
 
 use packet::{Enables, Head, Outcome, Packet, Target};
 use pairs::{CompletionKind, ConfigKind, IoKind, Kind, MemoryKind, MessageKind, MessageRouting};
-use text::{front, put_named, put_named_hexadecimal, put_text};
+use text::{put_named, put_named_hexadecimal, put_text};
 
 // Puts the packet's text at a place, as far as it fits, and answers the next place.
 pub fn put_packet(out: &mut [u8], start: usize, p: Packet) -> usize
@@ -26,44 +26,32 @@ pub fn put_packet(out: &mut [u8], start: usize, p: Packet) -> usize
 pub fn put_kind(out: &mut [u8], at: usize, kind: Kind) -> usize
     ensures { Put out.old at (kind_text kind) out.new result }
 {
-    let name = name_of(kind);
-    let count = name[8] as usize;
-    put_text(out, at, front(&name, count))
+    put_text(out, at, name_of(kind))
 }
 
-// A kind's name, zeros up to the longest, and its length. An array for each kind is checked quicker than a text put for each.
-fn name_of(kind: Kind) -> [u8; 9]
-    ensures { take (get_or result 8 0) result ≡ kind_text kind }
+#[tactic(auto, unfolding(text::specs::Text::ascii))]
+fn name_of(kind: Kind) -> &'static [u8]
+    ensures { result.now ≡ kind_text kind }
 {
     match kind {
-        Kind::Memory(k) => match k {
-            MemoryKind::MRd => [b'M', b'R', b'd', 0, 0, 0, 0, 0, 3],
-            MemoryKind::MRdLk => [b'M', b'R', b'd', b'L', b'k', 0, 0, 0, 5],
-            MemoryKind::MWr => [b'M', b'W', b'r', 0, 0, 0, 0, 0, 3],
-        },
-        Kind::Io(k) => match k {
-            IoKind::IORd => [b'I', b'O', b'R', b'd', 0, 0, 0, 0, 4],
-            IoKind::IOWr => [b'I', b'O', b'W', b'r', 0, 0, 0, 0, 4],
-        },
-        Kind::Config(k) => match k {
-            ConfigKind::CfgRd0 => [b'C', b'f', b'g', b'R', b'd', b'0', 0, 0, 6],
-            ConfigKind::CfgWr0 => [b'C', b'f', b'g', b'W', b'r', b'0', 0, 0, 6],
-            ConfigKind::CfgRd1 => [b'C', b'f', b'g', b'R', b'd', b'1', 0, 0, 6],
-            ConfigKind::CfgWr1 => [b'C', b'f', b'g', b'W', b'r', b'1', 0, 0, 6],
-        },
-        Kind::Completion(k) => match k {
-            CompletionKind::Cpl => [b'C', b'p', b'l', 0, 0, 0, 0, 0, 3],
-            CompletionKind::CplD => [b'C', b'p', b'l', b'D', 0, 0, 0, 0, 4],
-            CompletionKind::CplLk => [b'C', b'p', b'l', b'L', b'k', 0, 0, 0, 5],
-            CompletionKind::CplDLk => [b'C', b'p', b'l', b'D', b'L', b'k', 0, 0, 6],
-        },
-        Kind::Message(k, _) => match k {
-            MessageKind::Msg => [b'M', b's', b'g', 0, 0, 0, 0, 0, 3],
-            MessageKind::MsgD => [b'M', b's', b'g', b'D', 0, 0, 0, 0, 4],
-        },
-        Kind::FetchAdd => [b'F', b'e', b't', b'c', b'h', b'A', b'd', b'd', 8],
-        Kind::Swap => [b'S', b'w', b'a', b'p', 0, 0, 0, 0, 4],
-        Kind::Cas => [b'C', b'A', b'S', 0, 0, 0, 0, 0, 3],
+        Kind::Memory(MemoryKind::MRd) => b"MRd",
+        Kind::Memory(MemoryKind::MRdLk) => b"MRdLk",
+        Kind::Memory(MemoryKind::MWr) => b"MWr",
+        Kind::Io(IoKind::IORd) => b"IORd",
+        Kind::Io(IoKind::IOWr) => b"IOWr",
+        Kind::Config(ConfigKind::CfgRd0) => b"CfgRd0",
+        Kind::Config(ConfigKind::CfgWr0) => b"CfgWr0",
+        Kind::Config(ConfigKind::CfgRd1) => b"CfgRd1",
+        Kind::Config(ConfigKind::CfgWr1) => b"CfgWr1",
+        Kind::Completion(CompletionKind::Cpl) => b"Cpl",
+        Kind::Completion(CompletionKind::CplD) => b"CplD",
+        Kind::Completion(CompletionKind::CplLk) => b"CplLk",
+        Kind::Completion(CompletionKind::CplDLk) => b"CplDLk",
+        Kind::Message(MessageKind::Msg, _) => b"Msg",
+        Kind::Message(MessageKind::MsgD, _) => b"MsgD",
+        Kind::FetchAdd => b"FetchAdd",
+        Kind::Swap => b"Swap",
+        Kind::Cas => b"CAS",
     }
 }
 
@@ -102,8 +90,8 @@ fn put_head(out: &mut [u8], start: usize, h: Head) -> usize
 fn put_marks(out: &mut [u8], start: usize, h: Head) -> usize
     ensures { Put out.old start (marks_text h) out.new result }
 {
-    let mut at = put_named(out, start, b" td ", bit(h.td));
-    at = put_named(out, at, b" ep ", bit(h.ep));
+    let mut at = put_named(out, start, b" td ", u64::from(h.td));
+    at = put_named(out, at, b" ep ", u64::from(h.ep));
     put_named(out, at, b" at ", h.at as u64)
 }
 
@@ -146,7 +134,7 @@ fn put_outcome(out: &mut [u8], start: usize, o: Outcome) -> usize
 fn put_count(out: &mut [u8], start: usize, o: Outcome) -> usize
     ensures { Put out.old start (count_text o) out.new result }
 {
-    let mut at = put_named(out, start, b" bcm ", bit(o.bcm));
+    let mut at = put_named(out, start, b" bcm ", u64::from(o.bcm));
     at = put_named(out, at, b" count ", o.count as u64);
     put_named_hexadecimal(out, at, b" lower ", 2, o.lower as u64)
 }
@@ -162,10 +150,4 @@ fn put_content(out: &mut [u8], start: usize, routing: MessageRouting, code: u8, 
     );
     at = put_named_hexadecimal(out, at, b" code ", 2, code as u64);
     put_named_hexadecimal(out, at, b" tail ", 16, tail)
-}
-
-fn bit(b: bool) -> u64
-    ensures { result ≡ bit_of b }
-{
-    if b { 1 } else { 0 }
 }
