@@ -31,7 +31,7 @@ pub fn request_head_at(form: u8, s: &[u8]) -> Head
 {
     let dwords = length_of(code_at(s));
     let requester = id_at(s, 4);
-    let low = wide(s[6]);
+    let low = u16::from(s[6]);
     head_at(form, dwords, requester, low, s)
 }
 
@@ -41,7 +41,7 @@ pub fn completion_head_at(k: CompletionKind, form: u8, s: &[u8]) -> Head
 {
     let dwords = completion_length(k, code_at(s));
     let requester = id_at(s, 8);
-    let low = wide(s[10]);
+    let low = u16::from(s[10]);
     head_at(form, dwords, requester, low, s)
 }
 
@@ -51,7 +51,7 @@ pub fn message_head_at(k: MessageKind, form: u8, s: &[u8]) -> Head
 {
     let dwords = message_length(k, code_at(s));
     let requester = id_at(s, 4);
-    let low = wide(s[6]);
+    let low = u16::from(s[6]);
     head_at(form, dwords, requester, low, s)
 }
 
@@ -91,7 +91,7 @@ pub fn target_at(s: &[u8]) -> Target
     ensures { result ≡ target_at s.now }
 {
     let id = id_at(s, 8);
-    let register = wide(s[10]) % 16 * 64 + wide(s[11]) / 4;
+    let register = u16::from(s[10]) % 16 * 64 + u16::from(s[11]) / 4;
     Target { id, register }
 }
 
@@ -100,7 +100,7 @@ pub fn outcome_at(s: &[u8]) -> Outcome
     ensures { result ≡ outcome_at s.now }
 {
     let completer = id_at(s, 4);
-    let count = wide(s[6]) % 16 * 256 + wide(s[7]);
+    let count = u16::from(s[6]) % 16 * 256 + u16::from(s[7]);
     Outcome {
         completer,
         status: s[6] / 32,
@@ -115,14 +115,14 @@ pub fn unnamed(posted: bool, s: &[u8]) -> bool
     ensures { result ≡ unnamed_at posted s.now }
 {
     let b = s[1];
-    (posted & ((b / 128 % 2 == 1) | (b / 8 % 2 == 1))) | (b / 2 % 2 == 1) | (b / 1 % 2 == 1)
+    (posted & ((b / 128 % 2 == 1) | (b / 8 % 2 == 1))) | (b / 2 % 2 == 1) | (b % 2 == 1)
 }
 
 pub fn unnamed_target(s: &[u8]) -> bool
     requires { 12 ≤ length s.now }
     ensures { result ≡ unnamed_target s.now }
 {
-    !(s[10] / 16 == 0) | !(s[11] % 4 == 0)
+    (s[10] / 16 != 0) | (s[11] % 4 != 0)
 }
 
 pub fn unnamed_lower(s: &[u8]) -> bool
@@ -136,7 +136,7 @@ fn head_at(form: u8, dwords: u16, requester: u16, low: u16, s: &[u8]) -> Head
     requires { (12 ≤ length s.now) × (low < 256) }
     ensures { result ≡ head_at form dwords requester low s.now }
 {
-    let tag = wide(s[1]) / 128 % 2 * 512 + wide(s[1]) / 8 % 2 * 256 + low;
+    let tag = u16::from(s[1]) / 128 % 2 * 512 + u16::from(s[1]) / 8 % 2 * 256 + low;
     Head {
         form,
         tc: s[1] / 16 % 8,
@@ -154,10 +154,8 @@ fn completion_length(k: CompletionKind, code: u16) -> u16
     ensures { result ≡ completion_length k code }
 {
     match k {
-        CompletionKind::Cpl => code,
-        CompletionKind::CplD => length_of(code),
-        CompletionKind::CplLk => code,
-        CompletionKind::CplDLk => length_of(code),
+        CompletionKind::Cpl | CompletionKind::CplLk => code,
+        CompletionKind::CplD | CompletionKind::CplDLk => length_of(code),
     }
 }
 
@@ -180,7 +178,7 @@ fn code_at(s: &[u8]) -> u16
     requires { 12 ≤ length s.now }
     ensures { (result ≡ code_at s.now) × (result < 1024) }
 {
-    wide(s[2]) % 4 * 256 + wide(s[3])
+    u16::from(s[2]) % 4 * 256 + u16::from(s[3])
 }
 
 fn low_at(form: u8) -> usize
@@ -194,10 +192,4 @@ fn id_at(s: &[u8], at: usize) -> u16
     ensures { result ≡ be 2 s.now at }
 {
     endian::read_be16(s, at) as u16
-}
-
-fn wide(x: u8) -> u16
-    ensures { (result ≡ x) × (result < 256) }
-{
-    x as u16
 }

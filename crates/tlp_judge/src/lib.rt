@@ -126,7 +126,7 @@ fn is_lawful_message(s: &[u8]) -> bool
 fn memory_keeps(h: Head, e: Enables, a: u64) -> bool
     ensures { Keeps result h e a }
 {
-    if !(a % 4 == 0) {
+    if a % 4 != 0 {
         return false;
     }
     if h.at == 3 {
@@ -135,7 +135,7 @@ fn memory_keeps(h: Head, e: Enables, a: u64) -> bool
     if (h.form == 4) & (a < 4294967296) {
         return false;
     }
-    if 4096 < a % 4096 + 4 * wide(h.length) {
+    if 4096 < a % 4096 + 4 * u64::from(h.length) {
         return false;
     }
     enables_keep(h.length, a, e)
@@ -148,7 +148,7 @@ fn enables_keep(n: u16, a: u64, e: Enables) -> bool
         return e.last == 0;
     }
     if (n == 2) & (a % 8 == 0) {
-        return !(e.last == 0) & !(e.first == 0);
+        return (e.last != 0) & (e.first != 0);
     }
     is_first(e.first) & is_last(e.last)
 }
@@ -156,62 +156,40 @@ fn enables_keep(n: u16, a: u64, e: Enables) -> bool
 fn is_first(x: u8) -> bool
     ensures { result ≡ is_first x }
 {
-    (x == 15) | (x == 14) | (x == 12) | (x == 8)
+    matches!(x, 15 | 14 | 12 | 8)
 }
 
 fn is_last(x: u8) -> bool
     ensures { result ≡ is_last x }
 {
-    (x == 15) | (x == 7) | (x == 3) | (x == 1)
+    matches!(x, 15 | 7 | 3 | 1)
 }
 
 fn is_message(b: u8) -> bool
     ensures { result ≡ is_message b }
 {
-    (b == 0x30)
-        | ((b == 0x31)
-            | ((b == 0x32)
-                | ((b == 0x33)
-                    | ((b == 0x34)
-                        | ((b == 0x35)
-                            | ((b == 0x70)
-                                | ((b == 0x71)
-                                    | ((b == 0x72)
-                                        | ((b == 0x73) | ((b == 0x74) | (b == 0x75)))))))))))
+    matches!(b, 0x30..=0x35 | 0x70..=0x75)
 }
 
 fn message_kind(b: u8) -> MessageKind
     ensures { result ≡ message_kind b }
 {
     if b < 0x40 {
-        return MessageKind::Msg;
+        MessageKind::Msg
+    } else {
+        MessageKind::MsgD
     }
-    MessageKind::MsgD
 }
 
 fn message_routing(b: u8) -> MessageRouting
     ensures { result ≡ message_routing b }
 {
-    if b % 8 == 0 {
-        return MessageRouting::ToRoot;
+    match b % 8 {
+        0 => MessageRouting::ToRoot,
+        1 => MessageRouting::ByAddress,
+        2 => MessageRouting::ById,
+        3 => MessageRouting::Broadcast,
+        4 => MessageRouting::Local,
+        _ => MessageRouting::Gathered,
     }
-    if b % 8 == 1 {
-        return MessageRouting::ByAddress;
-    }
-    if b % 8 == 2 {
-        return MessageRouting::ById;
-    }
-    if b % 8 == 3 {
-        return MessageRouting::Broadcast;
-    }
-    if b % 8 == 4 {
-        return MessageRouting::Local;
-    }
-    MessageRouting::Gathered
-}
-
-fn wide(x: u16) -> u64
-    ensures { (result ≡ x) × (result < 65536) }
-{
-    x as u64
 }

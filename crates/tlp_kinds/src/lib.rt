@@ -11,19 +11,17 @@ use pairs::{CompletionKind, ConfigKind, IoKind, MemoryKind};
 pub fn is_memory(b: u8) -> bool
     ensures { result ≡ is_memory b }
 {
-    (b == 0x00) | ((b == 0x20) | ((b == 0x01) | ((b == 0x21) | ((b == 0x40) | (b == 0x60)))))
+    matches!(b, 0x00 | 0x20 | 0x01 | 0x21 | 0x40 | 0x60)
 }
 
 pub fn memory_kind(b: u8) -> MemoryKind
     ensures { result ≡ memory_kind b }
 {
-    if (b == 0x40) | (b == 0x60) {
-        return MemoryKind::MWr;
+    match b {
+        0x40 | 0x60 => MemoryKind::MWr,
+        0x01 | 0x21 => MemoryKind::MRdLk,
+        _ => MemoryKind::MRd,
     }
-    if (b == 0x01) | (b == 0x21) {
-        return MemoryKind::MRdLk;
-    }
-    MemoryKind::MRd
 }
 
 pub fn memory_form(b: u8) -> u8
@@ -35,7 +33,7 @@ pub fn memory_form(b: u8) -> u8
 pub fn is_io(b: u8) -> bool
     ensures { result ≡ is_io b }
 {
-    (b == 0x02) | (b == 0x42)
+    matches!(b, 0x02 | 0x42)
 }
 
 pub fn io_kind(b: u8) -> IoKind
@@ -51,43 +49,33 @@ pub fn io_kind(b: u8) -> IoKind
 pub fn is_config(b: u8) -> bool
     ensures { result ≡ is_config b }
 {
-    (b == 0x04) | ((b == 0x44) | ((b == 0x05) | (b == 0x45)))
+    matches!(b, 0x04 | 0x44 | 0x05 | 0x45)
 }
 
 pub fn config_kind(b: u8) -> ConfigKind
     ensures { result ≡ config_kind b }
 {
-    if b == 0x04 {
-        return ConfigKind::CfgRd0;
-    }
-    if b == 0x44 {
-        return ConfigKind::CfgWr0;
-    }
-    if b == 0x05 {
-        ConfigKind::CfgRd1
-    } else {
-        ConfigKind::CfgWr1
+    match b {
+        0x04 => ConfigKind::CfgRd0,
+        0x44 => ConfigKind::CfgWr0,
+        0x05 => ConfigKind::CfgRd1,
+        _ => ConfigKind::CfgWr1,
     }
 }
 
 pub fn is_completion(b: u8) -> bool
     ensures { result ≡ is_completion b }
 {
-    (b == 0x0a) | ((b == 0x4a) | ((b == 0x0b) | (b == 0x4b)))
+    matches!(b, 0x0a | 0x4a | 0x0b | 0x4b)
 }
 
 pub fn completion_kind(b: u8) -> CompletionKind
     ensures { result ≡ completion_kind b }
 {
-    if b == 0x0a {
-        return CompletionKind::Cpl;
-    }
-    if b == 0x4a {
-        return CompletionKind::CplD;
-    }
-    if b == 0x0b {
-        CompletionKind::CplLk
-    } else {
-        CompletionKind::CplDLk
+    match b {
+        0x0a => CompletionKind::Cpl,
+        0x4a => CompletionKind::CplD,
+        0x0b => CompletionKind::CplLk,
+        _ => CompletionKind::CplDLk,
     }
 }

@@ -1,5 +1,6 @@
 -- Document 01, "Header layout": a packet's 12 or 16 bytes. Assumes nothing.
-use Rattle.std.specs.Prelude.{ℕ, ◌+◌, ◌*◌, ◌/◌, ◌%◌, Bool, true, false, cond, List, [], ◌∷◌, ◌++◌, eqb}
+use Rattle.std.specs.Int.{from_bool}
+use Rattle.std.specs.Prelude.{◌≡◌, refl, ℕ, ◌+◌, ◌*◌, ◌/◌, ◌%◌, Bool, true, false, cond, List, [], ◌∷◌, ◌++◌, eqb}
 use Rattle.endian.specs.Endian.{be_bytes}
 use Rattle.pairs.specs.declared.Row.{Row}
 use Rattle.pairs.specs.declared.Pair.{Pair}
@@ -16,6 +17,11 @@ use Rattle.packet.specs.Fields.{kind_of, head_of}
 abbrev pub bit : Bool → ℕ
 bit true = 1
 bit false = 0
+
+-- a flag as a number is its bit
+pub flag_bit : (b : Bool) → from_bool b ≡ bit b
+flag_bit true = refl
+flag_bit false = refl
 
 -- Length counts dwords; code 0 means 1,024
 abbrev pub length_code : ℕ → ℕ

@@ -7,7 +7,6 @@ ghost use Rattle.packet.specs.Verdict.{verdict_of};
 ghost use Rattle.packet.proofs.WidthsLaws.{HeadBounds, OutcomeBounds};
 ghost use Rattle.packet.specs.declared.Verdict.TheVariants.{Lawful};
 ghost use Rattle.tlp_layout.specs.Layout.{
-  bit as bit_of,
   front_bytes,
   request_bytes,
   address_bytes,
@@ -37,8 +36,8 @@ fn put_front(row: Row, h: Head, room: &mut [u8])
     requires { (12 ≤ length room.old) × HeadBounds h }
     ensures { room.new ≡ sets room.old 0 (front_bytes row h) }
 {
-    let td = bit(h.td);
-    let ep = bit(h.ep);
+    let td = u8::from(h.td);
+    let ep = u8::from(h.ep);
     let code = h.length % 1024;
     room[0] = row.byte;
     let bit9 = (h.tag / 512) as u8;
@@ -93,9 +92,9 @@ fn put_address(h: Head, a: u64, room: &mut [u8])
 {
     if h.form == 4 {
         endian::write_be64(room, 8, a);
-        return;
+    } else {
+        endian::write_be32(room, 8, a);
     }
-    endian::write_be32(room, 8, a);
 }
 
 // Bytes 8 to 11 of a configuration request.
@@ -123,7 +122,7 @@ fn put_outcome(o: Outcome, room: &mut [u8])
     requires { (12 ≤ length room.old) × OutcomeBounds o }
     ensures { room.new ≡ sets room.old 4 (outcome_bytes o) }
 {
-    let bcm = bit(o.bcm);
+    let bcm = u8::from(o.bcm);
     endian::write_be16(room, 4, o.completer as u64);
     room[6] = o.status * 32 + bcm * 16 + (o.count / 256) as u8;
     room[7] = (o.count % 256) as u8;
@@ -137,10 +136,4 @@ fn put_message(h: Head, code: u8, room: &mut [u8])
     endian::write_be16(room, 4, h.requester as u64);
     room[6] = (h.tag % 256) as u8;
     room[7] = code;
-}
-
-fn bit(b: bool) -> u8
-    ensures { (result ≡ bit_of b) × (result < 2) }
-{
-    if b { 1 } else { 0 }
 }

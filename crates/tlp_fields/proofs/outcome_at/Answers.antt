@@ -4,4 +4,4 @@ use Rattle.tlp_fields.proofs.outcome_at.Goals as goal
 
 pub returns : goal.returns
 unfolding outcome_at
-returns c = rw (c.id_at-completer.ensures, c.wide.ensures.0, c.wide-2.ensures.0)
+returns c = rw (c.id_at-completer.ensures, c.from.ensures, c.from-2.ensures)

@@ -2,5 +2,5 @@
 use Rattle.tlp_fields.proofs.request_head_at.Goals as goal
 
 pub returns : goal.returns
-returns c = rw (← c.code_at.ensures.0, ← c.length_of-dwords.ensures, ← c.id_at-requester.ensures, ← c.wide-low.ensures.0)
+returns c = rw (← c.code_at.ensures.0, ← c.length_of-dwords.ensures, ← c.id_at-requester.ensures, ← c.from-low.ensures)
     c.head_at.ensures

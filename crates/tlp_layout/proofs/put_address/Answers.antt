@@ -7,6 +7,6 @@ pub returns-then-h-eq4 : goal.returns-then-h-eq4
 unfolding address_bytes
 returns-then-h-eq4 c = rw (eq-eqb _ _ c.if-h-eq4.true) c.write_be64.ensures
 
-pub returns : goal.returns
+pub returns-else-h-eq4 : goal.returns-else-h-eq4
 unfolding address_bytes
-returns c = rw (ne_eqb _ _ c.if-h-eq4.false) c.write_be32.ensures
+returns-else-h-eq4 c = rw (ne_eqb _ _ c.if-h-eq4.false) c.write_be32.ensures

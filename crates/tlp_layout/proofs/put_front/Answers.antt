@@ -1,5 +1,6 @@
 -- `tlp_layout::put_front` meets its contract. Assumes nothing.
-use Rattle.tlp_layout.specs.Layout.{front_bytes}
+use Rattle.tlp_layout.specs.Layout.{flag_bit, front_bytes}
+use mathlib.Core.Path.{◌∙◌}
 use lib.ListN.{length-set}
 use native.Mathlib.Omega.{arith}
 use Rattle.tlp_layout.proofs.put_front.Goals as goal
@@ -15,4 +16,4 @@ bounds-room-3 c = simp length-set (omega arith)
 
 pub returns : goal.returns
 unfolding front_bytes
-returns c = rw (c.bit-td.ensures.0, c.bit-ep.ensures.0)
+returns c = rw (c.from-td.ensures ∙ flag_bit c.args.h.td, c.from-ep.ensures ∙ flag_bit c.args.h.ep)
