@@ -1,5 +1,5 @@
 -- What a header asks for, in the words of the code: the word that opening puts, or the number that refuses it. Assumes nothing.
-use Rattle.std.specs.Prelude.{◌≡◌, List, ℕ, ◌+◌, ◌*◌, ◌%◌, ◌<◌, eqb}
+use Rattle.std.specs.Prelude.{Option, Some, None, ◌≡◌, List, ℕ, ◌+◌, ◌*◌, ◌%◌, ◌<◌}
 use Rattle.std.proofs.Common.{sym, ap, ◌∙◌, arith, eq-eqb, ne_eqb}
 use Rattle.pairs.specs.declared.Kind.{Kind}
 use Rattle.packet.specs.declared.Head.{Head}
@@ -8,8 +8,6 @@ use Rattle.packet.specs.Fields.{kind_of, head_of}
 use Rattle.tlp.specs.declared.Reading.TheVariants.{Accepted, Refused as Unread}
 use Rattle.tlp.specs.Reading.{read_of}
 use Rattle.ledger.specs.declared.Asked.{Asked}
-use Rattle.ledger.specs.declared.Class.{Class}
-use Rattle.ledger.specs.declared.Class.TheVariants.{NonPosted, Other}
 use Rattle.ledger.specs.declared.Verdict.{Verdict}
 use Rattle.ledger.specs.declared.Verdict.TheVariants.{Refused}
 use Rattle.ledger.specs.Words.{half, word_of}
@@ -37,12 +35,12 @@ pub asks_number : (s : List ℕ) (n : ℕ) (a : Asked) → read_of s ≡ Unread 
 unfolding opening_of
 asks_number s n a read none low small = λ ws. on_number_lem a n ws none low small ∙ rw read
 
-on_class_lem : (h : Head) (ws : List ℕ) (a : Asked) (class : Class) → AsksAs class h.requester h.tag h.length a
+on_class_lem : (h : Head) (ws : List ℕ) (a : Asked) (class : Option ℕ) → AsksAs class h.requester h.tag h.length a
     → on_asked a ws ≡ on_class class h ws
-on_class_lem h ws a (NonPosted class) (key, low) =
+on_class_lem h ws a (Some class) (key, low) =
     let word : key_for h * half + (h.length * 8 + class) ≡ word_of (key_for h) h.length class = omega arith in
     rw (key, low, ne_eqb (key_for h) 0 (λ z. omega (arith, z))) (rw word)
-on_class_lem h ws a Other (key, low) = on_number_lem a 60 ws key low (omega arith)
+on_class_lem h ws a None (key, low) = on_number_lem a 60 ws key low (omega arith)
 
 pub asks_word : (s : List ℕ) (p : Packet) → read_of s ≡ Accepted p → (kind : Kind) → kind ≡ kind_of p → (h : Head) → h ≡ head_of p
     → (a : Asked) → AsksAs (class_of kind) h.requester h.tag h.length a → Asks a s

@@ -1,5 +1,5 @@
 -- What an opening and a completion do at their place, and that opened is closed plus in use after every history. Assumes nothing.
-use Rattle.std.specs.Prelude.{◌≡◌, refl, true, cond, List, [], ◌∷◌, ℕ, ◌+◌, ◌*◌, ◌≤◌, ◌<◌, length, get_or}
+use Rattle.std.specs.Prelude.{Some, None, ◌≡◌, refl, true, cond, List, [], ◌∷◌, ℕ, ◌+◌, ◌*◌, ◌≤◌, ◌<◌, length, get_or}
 use Rattle.std.proofs.Common.{sym, ap, subst, ◌∙◌, arith, length-set}
 use Rattle.std.proofs.lemmas.List.{length-replicate}
 use Rattle.endian.specs.Endian.{Bytes}
@@ -16,7 +16,6 @@ use Rattle.packet.specs.Widths.{length_fits}
 use Rattle.packet.proofs.WidthsLaws.{fields_fit_elim, length_in_elim}
 use Rattle.packet.proofs.VerdictLaws.{lawful_elim}
 use Rattle.tlp.specs.RoundTrip.{read_lawful}
-use Rattle.ledger.specs.declared.Class.TheVariants.{NonPosted, Other}
 use Rattle.ledger.specs.declared.Verdict.{Verdict}
 use Rattle.ledger.specs.declared.Verdict.TheVariants.{Opened, Kept, Closed, Refused}
 use Rattle.ledger.specs.Kinds.{kind_reads, kind_configures, kind_locks}
@@ -46,7 +45,7 @@ length_after (c ∷ cs) = length_after_step (after cs) (verdict_of c (after cs))
 pub key_not_zero : (p : Packet) → key_is p ≡ 0 → ⊥
 key_not_zero p e = omega (arith, e)
 
-other_not : (n : ℕ) → Other ≡ NonPosted n → ⊥
+other_not : (n : ℕ) → None ≡ Some n → ⊥
 other_not n e = let z : ◌≡◌ {A = ℕ} 0 1 = cc in omega arith
 
 -- the three bits of a class are its kind's
@@ -56,10 +55,10 @@ record Bits (k : Kind) (n : ℕ) : Type 0 where
   pub configures : is_config n ≡ kind_configures k
   pub locks : is_locked n ≡ kind_locks k
 
-bits_of : (k : Kind) (m n : ℕ) → Bits k m → NonPosted m ≡ NonPosted n → Bits k n
+bits_of : (k : Kind) (m n : ℕ) → Bits k m → Some m ≡ Some n → Bits k n
 bits_of k m n b e = let z : m ≡ n = cc in subst (λ (x : ℕ). Bits k x) z b
 
-class_bits : (k : Kind) (n : ℕ) → class_of k ≡ NonPosted n → Bits k n
+class_bits : (k : Kind) (n : ℕ) → class_of k ≡ Some n → Bits k n
 class_bits (MemoryKind MRd) n e = bits_of _ 4 n (record { small = omega arith; reads = refl; configures = refl; locks = refl }) e
 class_bits (MemoryKind MRdLk) n e = bits_of _ 5 n (record { small = omega arith; reads = refl; configures = refl; locks = refl }) e
 class_bits (MemoryKind MWr) n e = absurd (other_not n e)
@@ -76,7 +75,7 @@ class_bits Swap n e = absurd (other_not n e)
 class_bits Cas n e = absurd (other_not n e)
 
 -- a request that the reader takes has 1 to 1,024 dwords
-length_of_request : (p : Packet) (n : ℕ) → class_of (kind_of p) ≡ NonPosted n → length_fits p ≡ true
+length_of_request : (p : Packet) (n : ℕ) → class_of (kind_of p) ≡ Some n → length_fits p ≡ true
     → (1 ≤ (head_of p).length) × ((head_of p).length ≤ 1024)
 unfolding length_fits
 length_of_request (Memory k h e a) n c f = length_in_elim h.length f

@@ -1,5 +1,5 @@
 -- Verdicts in the words of the code. Assumes nothing.
-use Rattle.std.specs.Prelude.{◌≡◌, Bool, true, false, ◌&&◌, List, ℕ, ◌*◌, ◌-◌, ◌≤◌, ◌<◌, length, get_or, ltb}
+use Rattle.std.specs.Prelude.{Option, ◌≡◌, refl, Bool, true, false, not, ◌&&◌, List, ℕ, ◌*◌, ◌-◌, ◌≤◌, ◌<◌, length, get_or, ltb}
 use Rattle.std.proofs.Math.Path.{ap}
 use Rattle.std.proofs.Common.{◌∙◌}
 use borrow.Author.Tests.{lt-ltb, le-ltb}
@@ -11,12 +11,19 @@ use Rattle.packet.specs.Fields.{kind_of, head_of}
 use Rattle.tlp.specs.declared.Reading.{Reading}
 use Rattle.tlp.specs.declared.Reading.TheVariants.{Accepted, Refused as Unread}
 use Rattle.tlp.specs.Reading.{read_of, number_of as reading_number}
-use Rattle.ledger.specs.declared.Class.{Class}
 use Rattle.ledger.specs.declared.Verdict.{Verdict}
 use Rattle.ledger.specs.declared.Verdict.TheVariants.{Opened, Kept, Closed, Refused}
 use Rattle.ledger.specs.Words.{left_in, is_read, place_of}
 use Rattle.ledger.specs.Ledger.{class_of, on_request, on_class, opening_of, on_packet, on_completion, completing_of}
-use Rattle.ledger.specs.Ledger.{settled, on_success}
+use Rattle.ledger.specs.Ledger.{differ, settled, on_success}
+use mathlib.Core.Bool.{beq}
+
+-- two flags that are not equal
+pub differ_not : (a b : Bool) → not (beq a b) ≡ differ a b
+differ_not true true = refl
+differ_not true false = refl
+differ_not false true = refl
+differ_not false false = refl
 
 -- ## The reader's number comes first
 
@@ -30,7 +37,7 @@ module _ (s ws : List ℕ) (r : Reading) (read : r ≡ read_of s) where
   completing_unread n m told e = rw (← read, told) (ap Refused (e ∙ ap reading_number told))
 
   module _ (p : Packet) (told : r ≡ Accepted p) where
-    pub opening_accepted : (h : Head) (kind : Kind) (class : Class) (v : Verdict) → h ≡ head_of p → kind ≡ kind_of p → class ≡ class_of kind
+    pub opening_accepted : (h : Head) (kind : Kind) (class : Option ℕ) (v : Verdict) → h ≡ head_of p → kind ≡ kind_of p → class ≡ class_of kind
         → v ≡ on_class class h ws → v ≡ opening_of s ws
     unfolding opening_of
     opening_accepted h kind class v eh ek ec ev = rw (← read, told, ← eh, ← ek, ← ec) ev

@@ -1,5 +1,5 @@
 -- A header that a ledger refuses, to open or to complete, has a number from 1 to 99. Assumes nothing.
-use Rattle.std.specs.Prelude.{refl, cond, ◌&&◌, List, ℕ, ◌*◌, ◌-◌, length, get_or, ltb}
+use Rattle.std.specs.Prelude.{Option, Some, None, refl, cond, ◌&&◌, List, ℕ, ◌*◌, ◌-◌, length, get_or, ltb}
 use Rattle.refusals.specs.Refusals.{IsRefusal}
 use Rattle.refusals.specs.RefusalsLaws.{refusal, either}
 use Rattle.pairs.specs.declared.CompletionKind.{CompletionKind as Completing}
@@ -11,8 +11,6 @@ use Rattle.tlp.specs.declared.Reading.{Reading}
 use Rattle.tlp.specs.declared.Reading.TheVariants.{Accepted, Refused as Unread}
 use Rattle.tlp.specs.Reading.{read_of}
 use Rattle.tlp.specs.NumberLaws.{NumberedReading, numbered_read}
-use Rattle.ledger.specs.declared.Class.{Class}
-use Rattle.ledger.specs.declared.Class.TheVariants.{NonPosted, Other}
 use Rattle.ledger.specs.declared.Verdict.{Verdict}
 use Rattle.ledger.specs.declared.Verdict.TheVariants.{Opened, Kept, Closed, Refused}
 use Rattle.ledger.specs.Words.{word_of, left_in, is_read, place_of}
@@ -34,9 +32,9 @@ numbered_request key word ws =
     either Numbered (ltb (place_of key ws) (length ws)) (Refused 61) free (refusal 61 refl)
     (either Numbered (ltb (place_of 0 ws) (length ws)) (Opened (place_of 0 ws) word) (Refused 62) tt (refusal 62 refl))
 
-numbered_class : (class : Class) (h : Head) (ws : List ℕ) → Numbered (on_class class h ws)
-numbered_class (NonPosted class) h ws = numbered_request (key_for h) (word_of (key_for h) h.length class) ws
-numbered_class Other h ws = refusal 60 refl
+numbered_class : (class : Option ℕ) (h : Head) (ws : List ℕ) → Numbered (on_class class h ws)
+numbered_class (Some class) h ws = numbered_request (key_for h) (word_of (key_for h) h.length class) ws
+numbered_class None h ws = refusal 60 refl
 
 pub numbered_opening : (header ws : List ℕ) → Numbered (opening_of header ws)
 unfolding opening_of

@@ -1,5 +1,5 @@
 -- The numbers of the two calls and what they close, by the keys that are open and the headers that opened them. Assumes nothing.
-use Rattle.std.specs.Prelude.{◌≡◌, refl, ◌↔◌, Bool, false, List, ◌∷◌, ℕ, ◌+◌, ◌*◌, ◌-◌, ◌≤◌, ◌<◌, length, get_or, set, ltb}
+use Rattle.std.specs.Prelude.{Option, Some, None, ◌≡◌, refl, ◌↔◌, Bool, false, List, ◌∷◌, ℕ, ◌+◌, ◌*◌, ◌-◌, ◌≤◌, ◌<◌, length, get_or, set, ltb}
 use Rattle.std.proofs.Common.{sym, ap, ◌∙◌, true≢false, arith, length-set, get_or-set_same, get_or-set_other}
 use Rattle.std.proofs.Math.Bool.{true}
 use Rattle.std.proofs.Math.Dec.{eqb}
@@ -15,8 +15,6 @@ use Rattle.packet.proofs.VerdictLaws.{head_of_lawful}
 use Rattle.tlp.specs.declared.Reading.TheVariants.{Accepted, Refused as Unread}
 use Rattle.tlp.specs.Reading.{read_of}
 use Rattle.tlp.specs.RoundTrip.{read_lawful}
-use Rattle.ledger.specs.declared.Class.{Class}
-use Rattle.ledger.specs.declared.Class.TheVariants.{NonPosted, Other}
 use Rattle.ledger.specs.declared.Verdict.{Verdict}
 use Rattle.ledger.specs.declared.Verdict.TheVariants.{Opened, Kept, Closed, Refused}
 use Rattle.ledger.specs.Kinds.{kind_completes, kind_reads, kind_configures, kind_locks}
@@ -34,7 +32,7 @@ use Rattle.ledger.proofs.StepLaws.{Opens, Completes, Step, opening, closing, ste
 use Rattle.ledger.proofs.HistoryLaws.{key_not_zero}
 use Rattle.ledger.proofs.StandingLaws.{standing}
 
-class_not_other : {n : ℕ} → NonPosted n ≡ Other → ⊥
+class_not_other : {n : ℕ} → Some n ≡ None → ⊥
 class_not_other e = let z : ◌≡◌ {A = ℕ} 0 1 = cc in omega arith
 
 -- ## The reader's number, and 60
@@ -47,17 +45,17 @@ module _ (ws s : List ℕ) (p : Packet) (read : read_of s ≡ Accepted p) where
   opening_read : opening_of s ws ≡ on_class (class_of (kind_of p)) (head_of p) ws
   opening_read = sym (opening_accepted s ws (read_of s) refl p read (head_of p) (kind_of p) (class_of (kind_of p)) _ refl refl refl refl)
 
-  pub no_request : (open_number s ws ≡ 60) ↔ (class_of (kind_of p) ≡ Other)
+  pub no_request : (open_number s ws ≡ 60) ↔ (class_of (kind_of p) ≡ None)
   no_request = rw opening_read (by_class (class_of (kind_of p)))
     where
-      by_place : (key word n : ℕ) (v : Verdict) → Requested key word ws v → (number_of v ≡ 60) ↔ (NonPosted n ≡ Other)
+      by_place : (key word n : ℕ) (v : Verdict) → Requested key word ws v → (number_of v ≡ 60) ↔ (Some n ≡ None)
       by_place key word n v (held h) = (λ e. absurd (omega arith), λ e. absurd (class_not_other e))
       by_place key word n v (full x y) = (λ e. absurd (omega arith), λ e. absurd (class_not_other e))
       by_place key word n v (placed x y) = (λ e. absurd (omega arith), λ e. absurd (class_not_other e))
 
-      by_class : (class : Class) → (number_of (on_class class (head_of p) ws) ≡ 60) ↔ (class ≡ Other)
-      by_class (NonPosted n) = by_place (key_is p) _ n _ (requested (key_is p) (word_of (key_is p) (head_of p).length n) ws)
-      by_class Other = (λ e. refl, λ e. refl)
+      by_class : (class : Option ℕ) → (number_of (on_class class (head_of p) ws) ≡ 60) ↔ (class ≡ None)
+      by_class (Some n) = by_place (key_is p) _ n _ (requested (key_is p) (word_of (key_is p) (head_of p).length n) ws)
+      by_class None = (λ e. refl, λ e. refl)
 
   pub no_completion : (complete_number s ws ≡ 60) ↔ (kind_completes (kind_of p) ≡ false)
   no_completion = rw (sym (completing_accepted s ws (read_of s) refl p read _ refl)) (by_packet p)

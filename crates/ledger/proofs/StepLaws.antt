@@ -1,5 +1,5 @@
 -- What is known of a call by its verdict. Assumes nothing.
-use Rattle.std.specs.Prelude.{◌≡◌, refl, Bool, true, false, cond, ◌&&◌, List, ℕ, ◌*◌, ◌-◌, ◌≤◌, ◌<◌, length, get_or, ltb}
+use Rattle.std.specs.Prelude.{Option, Some, None, ◌≡◌, refl, Bool, true, false, cond, ◌&&◌, List, ℕ, ◌*◌, ◌-◌, ◌≤◌, ◌<◌, length, get_or, ltb}
 use Rattle.std.proofs.Common.{ltb-true, ltb-false}
 use Rattle.arith.specs.BoolLaws.{both_of_and}
 use Rattle.pairs.specs.declared.CompletionKind.{CompletionKind as Completing}
@@ -11,8 +11,6 @@ use Rattle.packet.specs.Fields.{kind_of, head_of}
 use Rattle.tlp.specs.declared.Reading.{Reading}
 use Rattle.tlp.specs.declared.Reading.TheVariants.{Accepted, Refused as Unread}
 use Rattle.tlp.specs.Reading.{read_of}
-use Rattle.ledger.specs.declared.Class.{Class}
-use Rattle.ledger.specs.declared.Class.TheVariants.{NonPosted, Other}
 use Rattle.ledger.specs.declared.Verdict.{Verdict}
 use Rattle.ledger.specs.declared.Verdict.TheVariants.{Opened, Kept, Closed, Refused}
 use Rattle.ledger.specs.Words.{word_of, left_in, is_read, place_of}
@@ -91,7 +89,7 @@ pub record Opens (s ws : List ℕ) (i w : ℕ) : Type 0 where
   pub packet : Packet
   pub class : ℕ
   pub read : read_of s ≡ Accepted packet
-  pub non_posted : class_of (kind_of packet) ≡ NonPosted class
+  pub non_posted : class_of (kind_of packet) ≡ Some class
   pub word : w ≡ word_of (key_is packet) (head_of packet).length class
   pub new : length ws ≤ place_of (key_is packet) ws
   pub first : i ≡ place_of 0 ws
@@ -126,7 +124,7 @@ opening_step : (s ws : List ℕ) → Step ws (opens s) (opening_of s ws)
 unfolding opening_of
 opening_step s ws = by_reading (read_of s) refl
   where
-    by_place : (p : Packet) (class : ℕ) → read_of s ≡ Accepted p → class_of (kind_of p) ≡ NonPosted class → (v : Verdict)
+    by_place : (p : Packet) (class : ℕ) → read_of s ≡ Accepted p → class_of (kind_of p) ≡ Some class → (v : Verdict)
         → Requested (key_is p) (word_of (key_is p) (head_of p).length class) ws v → Step ws (opens s) v
     by_place p class r c v (held h) = refusing
     by_place p class r c v (full n f) = refusing
@@ -134,10 +132,10 @@ opening_step s ws = by_reading (read_of s) refl
         opening
         (record { packet = p; class = class; read = r; non_posted = c; word = refl; new = n; first = refl; inside = f })
 
-    by_class : (p : Packet) → read_of s ≡ Accepted p → (class : Class) → class_of (kind_of p) ≡ class
+    by_class : (p : Packet) → read_of s ≡ Accepted p → (class : Option ℕ) → class_of (kind_of p) ≡ class
         → Step ws (opens s) (on_class class (head_of p) ws)
-    by_class p r (NonPosted n) c = by_place p n r c _ (requested (key_is p) (word_of (key_is p) (head_of p).length n) ws)
-    by_class p r Other c = refusing
+    by_class p r (Some n) c = by_place p n r c _ (requested (key_is p) (word_of (key_is p) (head_of p).length n) ws)
+    by_class p r None c = refusing
 
     by_reading : (r : Reading) → read_of s ≡ r → Step ws (opens s) (opening_by r ws)
     by_reading (Unread n) r = refusing

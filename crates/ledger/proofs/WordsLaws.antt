@@ -1,10 +1,11 @@
 -- The place of a key and the places in use, in the words of the two loops over places. Assumes nothing.
-use Rattle.std.specs.Prelude.{◌≡◌, false, cond, length, get_or, drop, eqb}
+use Rattle.std.specs.Prelude.{◌≡◌, Bool, true, false, not, cond, count_by, length, get_or, drop, eqb}
 use Rattle.std.proofs.Math.Path.{refl}
-use Rattle.std.proofs.Common.{subst, arith, eq-eqb, ne_eqb}
+use Rattle.std.proofs.Common.{subst, zero-add, arith, eq-eqb, ne_eqb}
 use mathlib.Core.List.{List, [], ◌∷◌}
 use Prim.Native.Nat.{ℕ, zero, suc, ◌+◌, ◌≤◌, ◌<◌}
 use Rattle.std.proofs.lemmas.Bool.{eqb-false}
+use Rattle.std.proofs.lemmas.List.Recursion.{is_count_by}
 use Rattle.arith.specs.BoolLaws.{false_of_or}
 use Rattle.ledger.specs.Words.{key_in, used_by, place_of, in_use}
 use Rattle.ledger.specs.WordsLaws.{is_among_four}
@@ -71,18 +72,11 @@ in_use_drop i [] h = absurd (omega arith)
 in_use_drop zero (w ∷ ws) h = refl
 in_use_drop (suc i) (w ∷ ws) h = in_use_drop i ws (omega arith)
 
-in_use_past : (i : ℕ) (ws : List ℕ) → length ws ≤ i → in_use (drop i ws) ≡ 0
+-- the code counts them
+pub in_use_count : (ws : List ℕ) → in_use ws ≡ count_by (λ w. not (eqb (key_in w) 0)) ws
 unfolding in_use
-in_use_past zero [] h = refl
-in_use_past (suc i) [] h = refl
-in_use_past zero (w ∷ ws) h = absurd (omega arith)
-in_use_past (suc i) (w ∷ ws) h = in_use_past i ws (omega arith)
-
--- in the words of the count, which has passed i places
-pub count_turn : (n i all used : ℕ) (ws : List ℕ) → i < length ws → n + in_use (drop i ws) ≡ all → used ≡ used_by (get_or ws i 0)
-    → n + used + in_use (drop (i + 1) ws) ≡ all
-count_turn n i all used ws h e same =
-    let one : i + 1 ≡ suc i = omega arith in rw one (omega (arith, in_use_drop i ws h, e, same))
-
-pub count_end : (n i all : ℕ) (ws : List ℕ) → length ws ≤ i → n + in_use (drop i ws) ≡ all → n ≡ all
-count_end n i all ws h e = omega (arith, in_use_past i ws h, e)
+in_use_count = is_count_by in_use (λ w. not (eqb (key_in w) 0)) refl (λ w ws. one_more (eqb (key_in w) 0) (in_use ws))
+  where
+    one_more : (free : Bool) (n : ℕ) → cond free 0 1 + n ≡ cond (not free) (1 + n) n
+    one_more true n = zero-add n
+    one_more false n = refl

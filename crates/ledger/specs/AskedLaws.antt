@@ -1,8 +1,6 @@
 -- What a header asks for, in the words of the code: the word that opening puts, or the number that refuses it. Assumes nothing.
-use Rattle.std.specs.Prelude.{◌≡◌, cond, List, ℕ, ◌+◌, ◌*◌, ◌%◌, eqb}
+use Rattle.std.specs.Prelude.{Option, Some, None, ◌≡◌, cond, List, ℕ, ◌+◌, ◌*◌, ◌%◌, eqb}
 use Rattle.ledger.specs.declared.Asked.{Asked}
-use Rattle.ledger.specs.declared.Class.{Class}
-use Rattle.ledger.specs.declared.Class.TheVariants.{NonPosted, Other}
 use Rattle.ledger.specs.declared.Verdict.{Verdict}
 use Rattle.ledger.specs.declared.Verdict.TheVariants.{Refused}
 use Rattle.ledger.specs.Words.{half, key_of}
@@ -13,9 +11,9 @@ abbrev pub word_from : ℕ → ℕ → ℕ
 word_from key low = key * half + low
 
 -- what a class asks for
-abbrev pub AsksAs : Class → ℕ → ℕ → ℕ → Asked → Type 0
-AsksAs (NonPosted class) requester tag dwords a = (a.key ≡ key_of requester tag) × (a.low ≡ dwords * 8 + class)
-AsksAs Other requester tag dwords a = (a.key ≡ 0) × (a.low ≡ 60)
+abbrev pub AsksAs : Option ℕ → ℕ → ℕ → ℕ → Asked → Type 0
+AsksAs (Some class) requester tag dwords a = (a.key ≡ key_of requester tag) × (a.low ≡ dwords * 8 + class)
+AsksAs None requester tag dwords a = (a.key ≡ 0) × (a.low ≡ 60)
 
 abbrev pub on_asked : Asked → List ℕ → Verdict
 on_asked a ws = cond (eqb a.key 0) (Refused (a.low % 256)) (on_request a.key (word_from a.key a.low) ws)

@@ -1,5 +1,5 @@
 -- Document 02, E12: what opening a request and completing one does to a ledger, on any header and any words. Assumes nothing.
-use Rattle.std.specs.Prelude.{ℕ, ◌+◌, ◌*◌, ◌-◌, ◌<◌, Bool, true, false, cond, not, ◌&&◌, ◌||◌, List, length, get_or, set, eqb, ltb}
+use Rattle.std.specs.Prelude.{Option, Some, None, ℕ, ◌+◌, ◌*◌, ◌-◌, ◌<◌, Bool, true, false, cond, not, ◌&&◌, ◌||◌, List, length, get_or, set, eqb, ltb}
 use Rattle.pairs.specs.declared.Kind.{Kind}
 use Rattle.pairs.specs.declared.Kind.TheVariants.{Memory as MemoryKind, Io as IoKind, Config as ConfigKind, Completion as CompletionKind}
 use Rattle.pairs.specs.declared.Kind.TheVariants.{Message as MessageKind, FetchAdd, Swap, Cas}
@@ -15,8 +15,6 @@ use Rattle.packet.specs.Fields.{kind_of, head_of}
 use Rattle.tlp.specs.declared.Reading.{Reading}
 use Rattle.tlp.specs.declared.Reading.TheVariants.{Accepted, Refused as Unread}
 use Rattle.tlp.specs.Reading.{read_of}
-use Rattle.ledger.specs.declared.Class.{Class}
-use Rattle.ledger.specs.declared.Class.TheVariants.{NonPosted, Other}
 use Rattle.ledger.specs.declared.Verdict.{Verdict}
 use Rattle.ledger.specs.declared.Verdict.TheVariants.{Opened, Kept, Closed, Refused}
 use Rattle.ledger.specs.Words.{key_of, word_of, left_in, is_read, is_config, is_locked, place_of}
@@ -55,21 +53,21 @@ abbrev locked : ℕ
 locked = 1
 
 -- the non-posted requests, with what a word keeps of their kind
-abbrev pub class_of : Kind → Class
-class_of (MemoryKind MRd) = NonPosted read
-class_of (MemoryKind MRdLk) = NonPosted (read + locked)
-class_of (MemoryKind MWr) = Other
-class_of (IoKind IORd) = NonPosted read
-class_of (IoKind IOWr) = NonPosted 0
-class_of (ConfigKind CfgRd0) = NonPosted (read + configuration)
-class_of (ConfigKind CfgWr0) = NonPosted configuration
-class_of (ConfigKind CfgRd1) = NonPosted (read + configuration)
-class_of (ConfigKind CfgWr1) = NonPosted configuration
-class_of (CompletionKind k) = Other
-class_of (MessageKind k routing) = Other
-class_of FetchAdd = Other
-class_of Swap = Other
-class_of Cas = Other
+abbrev pub class_of : Kind → Option ℕ
+class_of (MemoryKind MRd) = Some read
+class_of (MemoryKind MRdLk) = Some (read + locked)
+class_of (MemoryKind MWr) = None
+class_of (IoKind IORd) = Some read
+class_of (IoKind IOWr) = Some 0
+class_of (ConfigKind CfgRd0) = Some (read + configuration)
+class_of (ConfigKind CfgWr0) = Some configuration
+class_of (ConfigKind CfgRd1) = Some (read + configuration)
+class_of (ConfigKind CfgWr1) = Some configuration
+class_of (CompletionKind k) = None
+class_of (MessageKind k routing) = None
+class_of FetchAdd = None
+class_of Swap = None
+class_of Cas = None
 
 abbrev pub key_for : Head → ℕ
 key_for h = key_of h.requester h.tag
@@ -81,9 +79,9 @@ on_request key word ws =
     (cond (ltb (place_of 0 ws) (length ws)) (Opened (place_of 0 ws) word) (Refused 62))
 
 -- "Opening anything but a non-posted request .. is 60"
-abbrev pub on_class : Class → Head → List ℕ → Verdict
-on_class (NonPosted class) h ws = on_request (key_for h) (word_of (key_for h) h.length class) ws
-on_class Other h ws = Refused 60
+abbrev pub on_class : Option ℕ → Head → List ℕ → Verdict
+on_class (Some class) h ws = on_request (key_for h) (word_of (key_for h) h.length class) ws
+on_class None h ws = Refused 60
 
 -- "the reader's number comes first"
 abbrev pub opening_by : Reading → List ℕ → Verdict

@@ -1,6 +1,6 @@
 -- What stands open after a history, in the words that E12's sentences are said in: keys open and new, what a word holds of the header that
 -- opened it, requests and completions by their headers. Assumes nothing.
-use Rattle.std.specs.Prelude.{◌≡◌, Bool, List, ℕ, ◌+◌, ◌≤◌, get_or}
+use Rattle.std.specs.Prelude.{Some, ◌≡◌, Bool, List, ℕ, ◌+◌, ◌≤◌, get_or}
 use Rattle.endian.specs.Endian.{Bytes}
 use Rattle.lists.specs.Lists.{All}
 use Rattle.pairs.specs.declared.Kind.{Kind}
@@ -12,7 +12,6 @@ use Rattle.packet.specs.declared.Packet.TheVariants.{Completion}
 use Rattle.packet.specs.Fields.{kind_of, head_of}
 use Rattle.tlp.specs.declared.Reading.TheVariants.{Accepted}
 use Rattle.tlp.specs.Reading.{read_of}
-use Rattle.ledger.specs.declared.Class.TheVariants.{NonPosted}
 use Rattle.ledger.specs.declared.Verdict.TheVariants.{Closed}
 use Rattle.ledger.specs.Kinds.{kind_reads, kind_configures, kind_locks}
 use Rattle.ledger.specs.Words.{key_in, left_in, is_read, is_config, is_locked, place_of}
@@ -36,7 +35,7 @@ IsNew key ws = ¬ IsOpen key ws
 pub record Asks (s : List ℕ) (p : Packet) : Type 0 where
   pub class : ℕ
   pub read : read_of s ≡ Accepted p
-  pub non_posted : class_of (kind_of p) ≡ NonPosted class
+  pub non_posted : class_of (kind_of p) ≡ Some class
 
 -- the header is a completion
 abbrev pub Answers : List ℕ → Completing → Head → Outcome → Type 0

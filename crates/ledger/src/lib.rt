@@ -4,9 +4,9 @@
 
 ghost use Rattle.std.specs.Prelude.{◌≡◌, true, ◌+◌, ◌≤◌, length, drop, get_or};
 ghost use Rattle.tlp_kinds.specs.Kinds.{is_memory, is_io, is_config as is_config_request};
-ghost use Rattle.ledger.specs.Words.{key_of, key_in, left_in, is_read, is_config, is_locked, place_of, in_use, used_by, empty};
+ghost use Rattle.ledger.specs.Words.{key_of, key_in, left_in, is_read, is_config, is_locked, place_of, in_use, empty};
 ghost use Rattle.ledger.specs.WordsLaws.{is_among_four};
-ghost use Rattle.ledger.specs.Ledger.{class_of, has_data, in_locked_form, differ, disagrees, on_success, settled, on_completion, on_request};
+ghost use Rattle.ledger.specs.Ledger.{class_of, has_data, in_locked_form, disagrees, on_success, settled, on_completion, on_request};
 ghost use Rattle.ledger.specs.Ledger.{Inside, opening_of, completing_of, number_of, words_after};
 ghost use Rattle.ledger.specs.Ledger.{open_number, open_after, complete_number, complete_after};
 ghost use Rattle.ledger.specs.AskedLaws.{word_from, AsksAs, Asks, Told};
@@ -23,14 +23,6 @@ pub enum Verdict {
     Kept(usize, u64),
     Closed(usize),
     Refused(u8),
-}
-
-// A kind that is a non-posted request, with the three bits that its word keeps of it: a read (4), a configuration request (2), a locked
-// one (1).
-#[derive(Clone, Copy)]
-pub enum Class {
-    NonPosted(u8),
-    Other,
 }
 
 // What a header asks for: the two halves of the word that opens it, or with the key 0 the number that refuses it. 0 and 0 is not told by
@@ -92,13 +84,7 @@ pub fn complete_in(words: &mut [u64], header: &[u8]) -> u8
 pub fn count(words: &[u64]) -> usize
     ensures { result ≡ in_use words.now }
 {
-    let mut n: usize = 0;
-    let mut i: usize = 0;
-    while i < words.len() {
-        n += used_by(words[i]);
-        i += 1;
-    }
-    n
+    words.iter().filter(|word| key_in(**word) != 0).count()
 }
 
 // ---- verdicts
@@ -218,13 +204,7 @@ fn disagree(word: u64, k: CompletionKind, status: u8) -> bool
 {
     ((status == RETRY) & !is_config(word))
         | ((status == SUCCESS)
-            & (differ(has_data(k), is_read(word)) | differ(in_locked_form(k), is_locked(word))))
-}
-
-fn differ(a: bool, b: bool) -> bool
-    ensures { result ≡ differ a b }
-{
-    (a & !b) | (!a & b)
+            & ((has_data(k) != is_read(word)) | (in_locked_form(k) != is_locked(word))))
 }
 
 // ---- what a header asks for
@@ -339,63 +319,46 @@ fn asked_by_kind(kind: Kind, requester: u16, tag: u16, dwords: u16) -> Asked
     ensures { AsksAs (class_of kind) requester tag dwords result }
 {
     match class_of(kind) {
-        Class::NonPosted(class) => Asked {
+        Some(class) => Asked {
             key: key_of(requester, tag),
             low: (dwords as u32) * 8 + (class as u32),
         },
-        Class::Other => Asked { key: 0, low: 60 },
+        None => Asked { key: 0, low: 60 },
     }
 }
 
 // ---- kinds
 
-fn class_of(kind: Kind) -> Class
+// Of a kind that is a non-posted request, the three bits that its word keeps of it: a read (4), a configuration request (2), a locked
+// one (1).
+fn class_of(kind: Kind) -> Option<u8>
     ensures { result ≡ class_of kind }
 {
     match kind {
-        Kind::Memory(k) => match k {
-            MemoryKind::MRd => Class::NonPosted(4),
-            MemoryKind::MRdLk => Class::NonPosted(5),
-            MemoryKind::MWr => Class::Other,
-        },
-        Kind::Io(k) => match k {
-            IoKind::IORd => Class::NonPosted(4),
-            IoKind::IOWr => Class::NonPosted(0),
-        },
-        Kind::Config(k) => match k {
-            ConfigKind::CfgRd0 => Class::NonPosted(6),
-            ConfigKind::CfgWr0 => Class::NonPosted(2),
-            ConfigKind::CfgRd1 => Class::NonPosted(6),
-            ConfigKind::CfgWr1 => Class::NonPosted(2),
-        },
-        Kind::Completion(_) => Class::Other,
-        Kind::Message(_, _) => Class::Other,
-        Kind::FetchAdd => Class::Other,
-        Kind::Swap => Class::Other,
-        Kind::Cas => Class::Other,
+        Kind::Memory(MemoryKind::MRd) | Kind::Io(IoKind::IORd) => Some(4),
+        Kind::Memory(MemoryKind::MRdLk) => Some(5),
+        Kind::Io(IoKind::IOWr) => Some(0),
+        Kind::Config(ConfigKind::CfgRd0 | ConfigKind::CfgRd1) => Some(6),
+        Kind::Config(ConfigKind::CfgWr0 | ConfigKind::CfgWr1) => Some(2),
+        Kind::Memory(MemoryKind::MWr)
+        | Kind::Completion(_)
+        | Kind::Message(_, _)
+        | Kind::FetchAdd
+        | Kind::Swap
+        | Kind::Cas => None,
     }
 }
 
 fn has_data(k: CompletionKind) -> bool
     ensures { result ≡ has_data k }
 {
-    match k {
-        CompletionKind::Cpl => false,
-        CompletionKind::CplD => true,
-        CompletionKind::CplLk => false,
-        CompletionKind::CplDLk => true,
-    }
+    matches!(k, CompletionKind::CplD | CompletionKind::CplDLk)
 }
 
 fn in_locked_form(k: CompletionKind) -> bool
     ensures { result ≡ in_locked_form k }
 {
-    match k {
-        CompletionKind::Cpl => false,
-        CompletionKind::CplD => false,
-        CompletionKind::CplLk => true,
-        CompletionKind::CplDLk => true,
-    }
+    matches!(k, CompletionKind::CplLk | CompletionKind::CplDLk)
 }
 
 // ---- words
@@ -447,16 +410,6 @@ fn is_locked(word: u64) -> bool
     word % 2 == 1
 }
 
-// 0 for a free place.
-fn used_by(word: u64) -> usize
-    ensures { (result ≡ used_by word) × (result ≤ 1) }
-{
-    if key_in(word) == 0 {
-        return 0;
-    }
-    1
-}
-
 // ---- the search
 
 // The first place with the key, or how many places there are.
@@ -466,7 +419,8 @@ fn find(words: &[u64], key: u32) -> usize
     find_from(words, key, skip(words, key))
 }
 
-// As far as none of four places has the key: one comparison for all four.
+// As far as none of four places has the key: one comparison for all four. By a counter of its own, which is the answer where the loop
+// ends.
 fn skip(words: &[u64], key: u32) -> usize
     ensures { (result ≤ length words.now)
         × (result + place_of key (drop result words.now) ≡ place_of key words.now) }
@@ -494,12 +448,10 @@ fn find_from(words: &[u64], key: u32, start: usize) -> usize
     requires { start ≤ length words.now }
     ensures { result ≡ start + place_of key (drop start words.now) }
 {
-    let mut i: usize = start;
-    while i < words.len() {
+    for i in start..words.len() {
         if key_in(words[i]) == key {
             return i;
         }
-        i += 1;
     }
-    i
+    words.len()
 }

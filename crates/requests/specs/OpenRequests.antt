@@ -2,7 +2,7 @@
 -- of calls from empty on, the latest first; bytes are what a slice of u8 holds. That the numbers are "tried in that order" is the text of
 -- ledger's Ledger.antt, and that the two calls do what it says on any words their contracts. `open_requests` of OpenRequestsLaws proves the
 -- rest. Assumes nothing.
-use Rattle.std.specs.Prelude.{◌≡◌, ◌↔◌, true, false, List, ◌∷◌, ℕ, ◌+◌, ◌≤◌, ◌<◌, get_or}
+use Rattle.std.specs.Prelude.{None, ◌≡◌, ◌↔◌, true, false, List, ◌∷◌, ℕ, ◌+◌, ◌≤◌, ◌<◌, get_or}
 use Rattle.endian.specs.Endian.{Bytes}
 use Rattle.pairs.specs.declared.CompletionKind.{CompletionKind as Completing}
 use Rattle.packet.specs.declared.Head.{Head}
@@ -11,7 +11,6 @@ use Rattle.packet.specs.declared.Packet.{Packet}
 use Rattle.packet.specs.Fields.{kind_of, head_of}
 use Rattle.tlp.specs.declared.Reading.TheVariants.{Accepted, Refused as NotRead}
 use Rattle.tlp.specs.Reading.{read_of}
-use Rattle.ledger.specs.declared.Class.TheVariants.{Other}
 use Rattle.ledger.specs.declared.Verdict.TheVariants.{Opened, Closed}
 use Rattle.ledger.specs.Kinds.{kind_completes, kind_reads}
 use Rattle.ledger.specs.Words.{key_in, left_in, in_use}
@@ -36,7 +35,7 @@ pub record OpenRequests : Type 0 where
   -- "the reader's number comes first"
   pub reader_first : (c : Call) (ws : List ℕ) (n : ℕ) → read_of (header_of c) ≡ NotRead n → number_of (verdict_of c ws) ≡ n
   -- "Opening anything but a non-posted request, or completing with anything but a completion, is 60"
-  pub no_request_exactly : (ws s : List ℕ) (p : Packet) → read_of s ≡ Accepted p → (open_number s ws ≡ 60) ↔ (class_of (kind_of p) ≡ Other)
+  pub no_request_exactly : (ws s : List ℕ) (p : Packet) → read_of s ≡ Accepted p → (open_number s ws ≡ 60) ↔ (class_of (kind_of p) ≡ None)
   pub no_completion_exactly : (ws s : List ℕ) (p : Packet) → read_of s ≡ Accepted p
       → (complete_number s ws ≡ 60) ↔ (kind_completes (kind_of p) ≡ false)
   -- "a key already open 61, with 256 open 62"; else it is opened

@@ -2,8 +2,8 @@
 use mathlib.Core.Path.{refl}
 use Rattle.ledger.proofs.asked_by_kind.Goals as goal
 
-pub returns-in-NonPosted : goal.returns-in-NonPosted
-returns-in-NonPosted c = rw (← c.class_of.ensures, c.in-NonPosted.is) (c.key_of.ensures, refl)
+pub returns-in-Some : goal.returns-in-Some
+returns-in-Some c = rw (← c.class_of.ensures, c.in-Some.is) (c.key_of.ensures, refl)
 
-pub returns-in-Other : goal.returns-in-Other
-returns-in-Other c = rw (← c.class_of.ensures, c.in-Other.is) (refl, refl)
+pub returns-in-None : goal.returns-in-None
+returns-in-None c = rw (← c.class_of.ensures, c.in-None.is) (refl, refl)

@@ -1,6 +1,5 @@
 -- `ledger::skip` meets its contract. Invariant: the places passed, and the place of the key in the rest, make the place of the key.
 -- Measure: places left. Assumes nothing.
-use Prim.Native.Nat.{◌-◌}
 use mathlib.Core.Path.{sym, ◌∙◌}
 use native.Mathlib.Omega.{arith}
 use Rattle.ledger.proofs.WordsLaws.{skip_four}
