@@ -26,7 +26,7 @@ pub enum Verdict {
 }
 
 // What a header asks for: the two halves of the word that opens it, or with the key 0 the number that refuses it. 0 and 0 is not told by
-// the header's bytes alone: it takes a packet.
+// the header's bytes alone: it takes a packet. Two plain numbers for speed, as docs/PROVING.md says of a key and its word.
 #[derive(Clone, Copy)]
 struct Asked {
     key: u32,

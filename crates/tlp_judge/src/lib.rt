@@ -153,6 +153,7 @@ fn enables_keep(n: u16, a: u64, e: Enables) -> bool
     is_first(e.first) & is_last(e.last)
 }
 
+// Not packet's own, which are bits of a number with no branch: here each test that fails is a branch to the slow way.
 fn is_first(x: u8) -> bool
     ensures { result ≡ is_first x }
 {
