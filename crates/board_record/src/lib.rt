@@ -210,10 +210,8 @@ fn readbacks_of(part: &[u8]) -> [u32; 6]
 {
     let mut set = [0u32; 6];
     let n = bar::slot_count(part[3]);
-    let mut j: usize = 0;
-    while j < n {
+    for j in 0..n {
         set[j] = endian::read_be32(part, 6 + 4 * j) as u32;
-        j += 1;
     }
     set
 }
