@@ -223,3 +223,15 @@ module _ (s : List ℕ) (at : ℕ) where
       go End e = ap (λ (r : Parts). r.whole) (parts_end s at e)
       go Broken e = absurd (other e)
       go (Record n) e = let z : take n (drop (at + 2) s) ∷ parts_from s (at + 2 + n) ≡ [] = sym (ap (λ (r : Parts). r.parts) (parts_record s at n e)) ∙ h in cc
+
+-- there are no more parts than bytes
+pub few_parts : (s : List ℕ) (at : ℕ) → length (parts_from s at) ≤ length s
+few_parts s at = omega (arith, few (drop at s), length-drop at s)
+  where
+    few : (t : List ℕ) → length (parts_of t).parts ≤ length t
+    few =
+        parts_elim
+        (λ (t : List ℕ) (r : Parts). length r.parts ≤ length t)
+        (omega arith)
+        (λ t e. omega arith)
+        (λ t n e rest on. omega (arith, fits_of_record t n e, length-drop (2 + n) t))
