@@ -78,10 +78,8 @@ fn put_bars(part: &[u8], boot: Boot, from: Place, room: &mut [u8]) -> Place
 {
     let n = sheet_record::slot_count(part);
     let mut next = from;
-    let mut j: usize = 0;
-    while j < n {
+    for j in 0..n {
         next = put_slot(part, j, boot, next, room);
-        j += 1;
     }
     next
 }
@@ -103,7 +101,7 @@ fn is_used(part: &[u8], j: usize) -> bool
     ensures { result ≡ is_used part.now j }
 {
     let at = places::READBACK0 + 4 * j;
-    !(endian::read_be32(part, at) == 0)
+    endian::read_be32(part, at) != 0
 }
 
 // A bridge's window registers, closed or not.
