@@ -1,7 +1,6 @@
 -- `next` of `records::Records` gives the part at the cursor, and nothing where no record stands there. Assumes nothing.
 use Rattle.std.proofs.Common.{◌≡◌, ℕ, ◌+◌, ◌≤◌, List, refl, ap, sym, ◌∙◌, length, take, drop, arith, rules}
-use Rattle.records.specs.Records.{Parts, next_of, after, parts_of}
-use Rattle.records.specs.declared.Next.TheVariants.{Record}
+use Rattle.records.specs.Records.{Parts, after, parts_of}
 use Rattle.records.specs.RecordsLaws.{fits_at, parts_record, none_left}
 use Rattle.records.proofs.RecordsIterator.next.Goals as goal
 use Rattle.records.proofs.RecordsIterator.next.Goals.{In-Record}
