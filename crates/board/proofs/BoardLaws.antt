@@ -11,7 +11,7 @@ use Rattle.lists.specs.Lists.{any}
 use Rattle.records.specs.declared.Next.{Next}
 use Rattle.records.specs.declared.Next.TheVariants.{End, Record, Broken}
 use Rattle.records.specs.Records.{next_of, Parts, parts_of, parts_from, any_part}
-use Rattle.records.specs.RecordsLaws.{length_part, parts_record, parts_end, parts_broken, pass_record}
+use Rattle.records.specs.RecordsLaws.{length_part, parts_record, parts_end, parts_broken}
 use Rattle.records.specs.Limits.{most_functions}
 use Rattle.board_record.specs.declared.Host.{Host}
 use Rattle.board_record.specs.declared.Function.{Function}

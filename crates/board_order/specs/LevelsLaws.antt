@@ -1,9 +1,9 @@
 -- The laws of open buses in arrays: finding a parent's level, and one turn of the pass over functions. Assumes nothing.
 use Rattle.std.proofs.Math.Path.{◌≡◌, refl, ap}
 use Rattle.std.proofs.Common.{sym, ap₂, ◌∙◌, add-one, length-set, get_or-set_same, get_or-set_other}
-use Rattle.std.specs.Prelude.{◌≢◌, Bool, cond, not, ◌||◌, Option, None, Some, length, get_or, take, drop, set, ltb}
+use Rattle.std.specs.Prelude.{◌≢◌, Bool, cond, not, ◌||◌, None, Some, length, get_or, set, ltb}
 use Rattle.std.proofs.Math.Bool.{true, false}
-use mathlib.Core.List.{List, [], ◌∷◌, map}
+use mathlib.Core.List.{List, [], ◌∷◌}
 use Prim.Native.Nat.{ℕ, zero, suc, ◌+◌, ◌/◌, ◌%◌, ◌≤◌, ◌<◌}
 use native.Mathlib.Omega.{arith}
 use Rattle.std.proofs.Math.Dec.{eqb}
@@ -11,8 +11,8 @@ use borrow.Author.Tests.{eq-eqb, ne_eqb, ltb-false}
 use Rattle.arith.specs.BoolLaws.{false_of_or}
 use Rattle.records.specs.Limits.{most_above}
 use Rattle.board_record.specs.declared.Function.{Function}
-use Rattle.board_record.specs.Function.{is_bridge, function_of_part}
-use Rattle.board_order.specs.Stack.{Level, fresh, close_to, unplaced_at, entered, enter, shared_after, first_unplaced}
+use Rattle.board_record.specs.Function.{is_bridge}
+use Rattle.board_order.specs.Stack.{fresh, close_to, unplaced_at, entered, enter, shared_after, first_unplaced}
 use Rattle.board_order.specs.Levels.{level_at, deepest, found_in, open_after}
 
 -- ---- finding

@@ -118,9 +118,8 @@ fn outside(q: Pool, x: Span) -> bool
     ensures { result ≡ is_outside q x }
 {
     match q {
-        Pool::Low => false,
         Pool::High => (x.base < 4294967296) | (4503599627370496 <= x.last),
-        Pool::Io => false,
+        Pool::Low | Pool::Io => false,
     }
 }
 

@@ -1,7 +1,7 @@
 -- `board_order::first_misplaced` meets its contract. The invariant: with the levels that are open, the functions left from the cursor on
 -- decide which is the first of 23, and their headers passed check 24; the measure is the bytes left. Assumes nothing.
 use Rattle.board_record.specs.Host.{functions_at}
-use Prim.Native.Nat.{◌+◌, ◌-◌, ◌≤◌}
+use Prim.Native.Nat.{◌+◌, ◌≤◌}
 use mathlib.Core.Path.{◌≡◌}
 use mathlib.Core.Bool.{false}
 use mathlib.Core.List.{[], map}
