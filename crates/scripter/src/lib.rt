@@ -331,10 +331,10 @@ fn put_command(part: &[u8], counts: &[u8], boot: Boot, from: Place, room: &mut [
 {
     let parent = board_record::parent_of(part) as usize;
     let bus = plan_pass::number_at(boot.root, counts, parent, parent);
-    let command = command_of(part);
+    let [low, high] = command_of(part).to_le_bytes();
     let bytes = Dword {
-        first: (command % 256) as u8,
-        second: (command / 256) as u8,
+        first: low,
+        second: high,
         third: 0,
         fourth: 0,
     };
