@@ -1,6 +1,8 @@
 -- The passes over a board's records, one law for each thing that can stand at the cursor. Assumes nothing.
-use Rattle.std.specs.Prelude.{◌≡◌, refl, Bool, true, false, cond, not, ◌||◌, List, [], ◌∷◌, map, ℕ, suc, ◌+◌, ◌≤◌, length, get_or, take, drop, eqb, ltb}
-use Rattle.std.proofs.Common.{sym, ◌∙◌, true≢false, arith, eq-eqb, ne_eqb, eqb-true, ltb-false}
+use Rattle.std.specs.Option.{is_some, option_map}
+use Rattle.std.specs.List.{slice_get}
+use Rattle.std.specs.Prelude.{Option, None, Some, zero, ◌≡◌, refl, Bool, true, false, cond, not, ◌||◌, List, [], ◌∷◌, map, ℕ, suc, ◌+◌, ◌≤◌, length, get_or, take, drop, eqb, ltb}
+use Rattle.std.proofs.Common.{sym, ◌∙◌, true≢false, arith, eq-eqb, ne_eqb, eqb-true, ltb-true, ltb-false, lt-ltb, le-ltb}
 use Rattle.std.proofs.Math.Path.{ap}
 use Rattle.std.proofs.Math.Bool.{or-true}
 use Rattle.std.proofs.lemmas.Bool.{not-false}
@@ -9,7 +11,7 @@ use Rattle.lists.specs.Lists.{any}
 use Rattle.records.specs.declared.Next.{Next}
 use Rattle.records.specs.declared.Next.TheVariants.{End, Record, Broken}
 use Rattle.records.specs.Records.{next_of, Parts, parts_of, parts_from, any_part}
-use Rattle.records.specs.RecordsLaws.{length_part, parts_record, parts_end, parts_broken, pass_record}
+use Rattle.records.specs.RecordsLaws.{length_part, parts_record, parts_end, parts_broken}
 use Rattle.records.specs.Limits.{most_functions}
 use Rattle.board_record.specs.declared.Host.{Host}
 use Rattle.board_record.specs.declared.Function.{Function}
@@ -20,7 +22,7 @@ use Rattle.board_record.specs.Function.{is_short, function_of_part, wrong_in, he
 use Rattle.board_record.specs.FunctionLaws.{right_of_version}
 use Rattle.board_record.specs.Rules.{breaks}
 use Rattle.board.specs.Pass.{any_breaks}
-use Rattle.board_order.specs.Order.{any_misplaced, first_misplaced}
+use Rattle.board_order.specs.Order.{any_misplaced, first_misplaced, some_number}
 use Rattle.board_order.specs.OrderLaws.{any_misplaced_agree}
 use Rattle.board.specs.Board.{misframed, from_readbacks, from_order, from_edges, from_headers, from_count, from_frame, from_version}
 use Rattle.board.specs.Board.{is_version, board_number, host_of, functions_of}
@@ -33,11 +35,11 @@ any_map test f (p ∷ ps) = ap (λ (t : Bool). test (f p) || t) (any_map test f 
 -- ---- 20
 
 module _ (s : List ℕ) where
-  pub misframed_end : next_of (drop 1 s) ≡ End → misframed (parts_of (drop 1 s)) ≡ true
+  misframed_end : next_of (drop 1 s) ≡ End → misframed (parts_of (drop 1 s)) ≡ true
   unfolding misframed
   misframed_end e = ap misframed (parts_end s 1 e)
 
-  pub misframed_broken : next_of (drop 1 s) ≡ Broken → misframed (parts_of (drop 1 s)) ≡ true
+  misframed_broken : next_of (drop 1 s) ≡ Broken → misframed (parts_of (drop 1 s)) ≡ true
   unfolding misframed
   misframed_broken e = ap misframed (parts_broken s 1 e)
 
@@ -63,6 +65,15 @@ module _ (s : List ℕ) where
       go : (w : Bool) → (not w || false || any_part is_short (parts_from s functions_at)) ≡ (not w || any_part is_short (parts_from s functions_at))
       go true = refl
       go false = refl
+
+  -- no record at all
+  pub misframed_none : ((n : ℕ) → next_of (drop 1 s) ≡ Record n → ⊥) → misframed (parts_of (drop 1 s)) ≡ true
+  misframed_none other = go (next_of (drop 1 s)) refl
+    where
+      go : (q : Next) → next_of (drop 1 s) ≡ q → misframed (parts_of (drop 1 s)) ≡ true
+      go End e = misframed_end e
+      go Broken e = misframed_broken e
+      go (Record n) e = absurd (other n e)
 
   -- a board that is not misframed has a host of 30 bytes first, and its functions from byte 33 on
   pub host_of_framed : misframed (parts_of (drop 1 s)) ≡ false → next_of (drop 1 s) ≡ Record host_length
@@ -97,15 +108,23 @@ module _ (s : List ℕ) where
 
 -- ---- 22
 
-module _ (s : List ℕ) (at : ℕ) where
-  pub length_record : (n : ℕ) → next_of (drop at s) ≡ Record n → length (parts_from s at) ≡ suc (length (parts_from s (at + 2 + n)))
-  length_record n e = pass_record length s at n e
+module _ {A B : Type 0} (view : A → B) where
+  -- there is an item at n where there are more than n
+  pub more_by_nth : (r : Option A) (xs : List B) (n : ℕ) → option_map view r ≡ slice_get xs n → is_some r ≡ ltb n (length xs)
+  more_by_nth r xs n e = some_mapped r ∙ ap is_some e ∙ go xs n
+    where
+      some_mapped : (r : Option A) → is_some r ≡ is_some (option_map view r)
+      some_mapped None = refl
+      some_mapped (Some x) = refl
 
-  pub length_end : next_of (drop at s) ≡ End → length (parts_from s at) ≡ 0
-  length_end e = ap (λ (r : Parts). length r.parts) (parts_end s at e)
-
-  pub length_broken : next_of (drop at s) ≡ Broken → length (parts_from s at) ≡ 0
-  length_broken e = ap (λ (r : Parts). length r.parts) (parts_broken s at e)
+      go : (xs : List B) (n : ℕ) → is_some (slice_get xs n) ≡ ltb n (length xs)
+      go [] n = sym (le-ltb n 0 (omega arith))
+      go (x ∷ xs) zero = sym (lt-ltb 0 (suc (length xs)) (omega arith))
+      go (x ∷ xs) (suc n) = go xs n ∙ later (ltb n (length xs)) refl
+        where
+          later : (t : Bool) → ltb n (length xs) ≡ t → ltb n (length xs) ≡ ltb (suc n) (suc (length xs))
+          later true e = e ∙ sym (lt-ltb (suc n) (suc (length xs)) (omega (arith, ltb-true n (length xs) e)))
+          later false e = e ∙ sym (le-ltb (suc n) (suc (length xs)) (omega (arith, ltb-false n (length xs) e)))
 
 -- ---- the checks in order: what is left once one is passed
 
@@ -144,13 +163,14 @@ module _ (fs : List Function) where
   unfolding from_order
   past_order e = rw e
 
--- 23 by the first that is misplaced: k is its number, 0 where none is
-module _ (fs : List Function) (k : ℕ) (first : k ≡ first_misplaced 0 [] fs) where
-  pub none_misplaced : k ≡ 0 → any_misplaced 0 [] fs ≡ false
-  none_misplaced z = any_misplaced_agree 0 [] fs ∙ rw (sym first ∙ z)
-
-  pub some_misplaced : (k ≡ 0 → ⊥) → any_misplaced 0 [] fs ≡ true
-  some_misplaced d = any_misplaced_agree 0 [] fs ∙ rw (← first, ne_eqb k 0 d)
+-- 23 by the first that is misplaced
+pub misplaced_by_first : (fs : List Function) (first : Option ℕ) → first ≡ some_number (first_misplaced 0 [] fs)
+    → is_some first ≡ any_misplaced 0 [] fs
+misplaced_by_first fs first e = ap is_some e ∙ go (first_misplaced 0 [] fs) ∙ sym (any_misplaced_agree 0 [] fs)
+  where
+    go : (k : ℕ) → is_some (some_number k) ≡ not (eqb k 0)
+    go zero = refl
+    go (suc k) = sym (ap not (ne_eqb (suc k) 0 (λ e. omega arith)))
 
 -- ---- what a board that is accepted keeps
 

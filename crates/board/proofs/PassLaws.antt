@@ -1,32 +1,24 @@
--- A pass that asks one rule of each function: one law for each thing that can stand at the cursor. Assumes nothing.
-use Rattle.std.specs.Prelude.{◌≡◌, refl, true, false, not, List, [], ◌∷◌, ℕ, ◌+◌, take, drop}
-use Rattle.std.proofs.Math.Path.{ap}
-use Rattle.std.proofs.Common.{◌∙◌}
-use Rattle.std.proofs.Math.Bool.{or-true}
-use Rattle.records.specs.declared.Next.TheVariants.{End, Record, Broken}
-use Rattle.records.specs.Records.{next_of, parts_of, any_part}
-use Rattle.records.specs.RecordsLaws.{parts_record, parts_end, parts_broken}
+-- A pass that asks one rule of each function: one law for each step. Assumes nothing.
+use Rattle.std.specs.Prelude.{◌≡◌, refl, true, false, not, List, [], ◌∷◌, ℕ}
+use Rattle.std.proofs.Math.Bool.{or-true, or-false}
+use Rattle.records.specs.Records.{Parts, after, any_part}
 use Rattle.board_record.specs.declared.Rule.{Rule}
 use Rattle.board_record.specs.Rules.{breaks}
 use Rattle.board.specs.Pass.{any_breaks}
 
-module _ (rule : Rule) (s : List ℕ) (at : ℕ) where
-  pub breaks_end : next_of (drop at s) ≡ End → any_breaks rule (parts_of (drop at s)) ≡ false
+module _ (rule : Rule) where
+  -- no part is left
+  pub breaks_none : (left : Parts) → left.parts ≡ [] → any_breaks rule left ≡ not left.whole
   unfolding any_part
-  breaks_end e = ap (any_breaks rule) (parts_end s at e)
+  breaks_none left e = rw e (or-false (not left.whole))
 
-  pub breaks_broken : next_of (drop at s) ≡ Broken → any_breaks rule (parts_of (drop at s)) ≡ true
-  breaks_broken e = ap (any_breaks rule) (parts_broken s at e)
-
-  pub breaks_hit : (n : ℕ) → next_of (drop at s) ≡ Record n → breaks rule (take n (drop (at + 2) s)) ≡ true
-      → any_breaks rule (parts_of (drop at s)) ≡ true
+  pub breaks_hit : (part : List ℕ) (rest : Parts) → breaks rule part ≡ true → any_breaks rule (after part rest) ≡ true
   unfolding any_part
-  breaks_hit n e h = ap (any_breaks rule) (parts_record s at n e) ∙ rw h (or-true (not (parts_of (drop (at + 2 + n) s)).whole))
+  breaks_hit part rest h = rw h (or-true (not rest.whole))
 
-  pub breaks_miss : (n : ℕ) → next_of (drop at s) ≡ Record n → breaks rule (take n (drop (at + 2) s)) ≡ false
-      → any_breaks rule (parts_of (drop at s)) ≡ any_breaks rule (parts_of (drop (at + 2 + n) s))
+  pub breaks_miss : (part : List ℕ) (rest : Parts) → breaks rule part ≡ false → any_breaks rule (after part rest) ≡ any_breaks rule rest
   unfolding any_part
-  breaks_miss n e h = ap (any_breaks rule) (parts_record s at n e) ∙ rw h
+  breaks_miss part rest h = rw h
 
 -- a rule that may be asked of any record is never asked too early
 pub any_never : (ps : List (List ℕ)) → any_part (λ p. false) ps ≡ false

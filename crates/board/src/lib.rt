@@ -10,13 +10,13 @@ ghost use Rattle.board.specs.Pass.{any_breaks};
 ghost use Rattle.board.specs.Board.{is_version, misframed as is_misframed, board_number};
 
 use board_record::{FUNCTIONS, HOST, HOST_LENGTH, Rule};
-use records::Next;
+use records::{MOST_FUNCTIONS, Next};
 
 // Document 01's number of any bytes as a board: 0 is accepted.
 pub fn check(board: &[u8]) -> u8
     ensures { result ≡ board_number board.now }
 {
-    if board.len() == 0 {
+    if board.is_empty() {
         return 20;
     }
     let version = board[0];
@@ -35,7 +35,7 @@ pub fn check(board: &[u8]) -> u8
     if board_record::host_wrong(board_record::host_of(records::part_at(board, HOST, HOST_LENGTH))) {
         return 26;
     }
-    if board_order::first_misplaced(board) != 0 {
+    if board_order::first_misplaced(board).is_some() {
         return 23;
     }
     if any_breaks(Rule::ReadBacks, board) {
@@ -49,7 +49,7 @@ pub fn check(board: &[u8]) -> u8
 fn is_version(v: u8) -> bool
     ensures { result ≡ is_version v }
 {
-    (v == 1) | (v == 2)
+    matches!(v, 1 | 2)
 }
 
 // ---- 20: the host first, of 30 bytes, then functions of 6 or more, whose lengths end at the end
@@ -57,16 +57,10 @@ fn is_version(v: u8) -> bool
 fn misframed(board: &[u8]) -> bool
     ensures { result ≡ is_misframed (parts_of (drop 1 board.now)) }
 {
-    match records::next_at(board, HOST) {
-        Next::End => true,
-        Next::Broken => true,
-        Next::Record(n) => {
-            if n != HOST_LENGTH {
-                return true;
-            }
-            any_breaks(Rule::Length, board)
-        }
-    }
+    let Next::Record(n) = records::next_at(board, HOST) else {
+        return true;
+    };
+    n != HOST_LENGTH || any_breaks(Rule::Length, board)
 }
 
 // The bytes break off, or some function breaks the rule.
@@ -74,23 +68,14 @@ fn any_breaks(rule: Rule, board: &[u8]) -> bool
     requires { any_part (too_early rule) (parts_from board.now functions_at) ≡ false }
     ensures { result ≡ any_breaks rule (parts_of (drop functions_at board.now)) }
 {
-    let mut at = FUNCTIONS;
-    loop {
-        match records::next_at(board, at) {
-            Next::End => {
-                return false;
-            }
-            Next::Broken => {
-                return true;
-            }
-            Next::Record(n) => {
-                if board_record::breaks(rule, records::part_at(board, at, n)) {
-                    return true;
-                }
-                at = at + 2 + n;
-            }
+    // no `for`: whether they broke off is asked after the last
+    let mut parts = records::parts_from(board, FUNCTIONS);
+    while let Some(part) = parts.next() {
+        if board_record::breaks(rule, part) {
+            return true;
         }
     }
+    parts.broke_off()
 }
 
 // ---- 22
@@ -98,23 +83,7 @@ fn any_breaks(rule: Rule, board: &[u8]) -> bool
 fn too_many(board: &[u8]) -> bool
     ensures { result ≡ ltb most_functions (length (parts_from board.now functions_at)) }
 {
-    let mut at = FUNCTIONS;
-    let mut count: usize = 0;
-    loop {
-        match records::next_at(board, at) {
-            Next::End => {
-                return false;
-            }
-            Next::Broken => {
-                return false;
-            }
-            Next::Record(n) => {
-                if count == records::MOST_FUNCTIONS {
-                    return true;
-                }
-                count += 1;
-                at = at + 2 + n;
-            }
-        }
-    }
+    records::parts_from(board, FUNCTIONS)
+        .nth(MOST_FUNCTIONS)
+        .is_some()
 }

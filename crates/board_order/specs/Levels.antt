@@ -1,8 +1,6 @@
 -- The open buses in three arrays, level 0 the host's: what the pass over a board's functions keeps. Assumes nothing.
-use Rattle.std.specs.Prelude.{ℕ, zero, suc, ◌+◌, cond, List, [], ◌∷◌, get_or, eqb}
+use Rattle.std.specs.Prelude.{ℕ, zero, suc, ◌+◌, cond, Option, None, Some, List, [], ◌∷◌, get_or, eqb}
 use Rattle.board_record.specs.declared.Function.{Function}
-use Rattle.board_order.specs.declared.Found.{Found}
-use Rattle.board_order.specs.declared.Found.TheVariants.{At, Nowhere}
 use Rattle.board_record.specs.Function.{is_bridge}
 use Rattle.board_order.specs.Stack.{Level}
 
@@ -15,9 +13,9 @@ deepest buses nexts shared zero = []
 deepest buses nexts shared (suc n) = level_at buses nexts shared n ∷ deepest buses nexts shared n
 
 -- the deepest of the first n levels that is the bus of record p
-unfoldable pub found_in : ℕ → List ℕ → ℕ → Found
-found_in p buses zero = Nowhere
-found_in p buses (suc n) = let rest = found_in p buses n in cond (eqb p (get_or buses n 0)) (At n) rest
+unfoldable pub found_in : ℕ → List ℕ → ℕ → Option ℕ
+found_in p buses zero = None
+found_in p buses (suc n) = let rest = found_in p buses n in cond (eqb p (get_or buses n 0)) (Some n) rest
 
 -- how many are open after a function at level i
 abbrev pub open_after : ℕ → Function → ℕ

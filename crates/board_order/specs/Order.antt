@@ -1,6 +1,6 @@
 -- Document 01, "The board": parents, order, depth and function 0 (23), each said of one function and the records before it.
 -- Records before a function stand nearest first; n is the number of the nearest, and so of all of them. Assumes nothing.
-use Rattle.std.specs.Prelude.{ℕ, zero, suc, ◌/◌, ◌%◌, Bool, false, cond, not, ◌&&◌, ◌||◌, List, [], ◌∷◌, ◌++◌, length, eqb, ltb}
+use Rattle.std.specs.Prelude.{ℕ, zero, suc, ◌/◌, ◌%◌, Bool, false, cond, not, ◌&&◌, ◌||◌, Option, None, Some, List, [], ◌∷◌, ◌++◌, length, eqb, ltb}
 use Rattle.lists.specs.Lists.{any}
 use Rattle.records.specs.Limits.{most_above}
 use Rattle.board_record.specs.declared.Function.{Function}
@@ -48,6 +48,11 @@ misplaced n before f =
 unfoldable pub any_misplaced : ℕ → List Function → List Function → Bool
 any_misplaced n before [] = false
 any_misplaced n before (f ∷ fs) = let later = any_misplaced (suc n) (f ∷ before) fs in misplaced n before f || later
+
+-- a number as an option: none for 0
+abbrev pub some_number : ℕ → Option ℕ
+some_number zero = None
+some_number (suc n) = Some (suc n)
 
 -- the number of the first that is, 0 where none is
 unfoldable pub first_misplaced : ℕ → List Function → List Function → ℕ

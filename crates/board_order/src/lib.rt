@@ -7,26 +7,19 @@ ghost use Rattle.records.specs.Limits.{most_above};
 ghost use Rattle.records.specs.Records.{parts_from, any_part};
 ghost use Rattle.board_record.specs.Function.{function_of_part, header_wrong};
 ghost use Rattle.board_record.specs.Host.{functions_at};
-ghost use Rattle.board_order.specs.Order.{first_misplaced};
+ghost use Rattle.board_order.specs.Order.{first_misplaced, some_number};
 ghost use Rattle.board_order.specs.Stack.{unplaced_at, shared_after};
 ghost use Rattle.board_order.specs.Levels.{found_in, open_after};
 
-use records::{MOST_ABOVE, Next};
+use records::MOST_ABOVE;
 
 // Below the host's bus as many buses as a function may have bridges above it, and one more that the last of them opens.
 const LEVELS: usize = MOST_ABOVE + 2;
 
-// The level of a bus that is open.
-#[derive(Clone, Copy)]
-pub enum Found {
-    At(usize),
-    Nowhere,
-}
-
-// The number of the first function that is misplaced, 0 where none is.
-pub fn first_misplaced(board: &[u8]) -> usize
+// The number of the first function that is misplaced.
+pub fn first_misplaced(board: &[u8]) -> Option<usize>
     requires { any_part header_wrong (parts_from board.now functions_at) ≡ false }
-    ensures { result ≡ first_misplaced 0 [] (map function_of_part (parts_from board.now functions_at)) }
+    ensures { result ≡ some_number (first_misplaced 0 [] (map function_of_part (parts_from board.now functions_at))) }
 {
     // of each level: the record that it is the bus of, one more than the device/function of its last function, and than the device of its
     // last function 0 that is not alone
@@ -34,52 +27,35 @@ pub fn first_misplaced(board: &[u8]) -> usize
     let mut nexts = [0usize; LEVELS];
     let mut shared = [0usize; LEVELS];
     let mut levels: usize = 1;
-    let mut number: usize = 0;
-    let mut at = board_record::FUNCTIONS;
-    loop {
-        match records::next_at(board, at) {
-            Next::End => {
-                return 0;
-            }
-            Next::Broken => {
-                return 0;
-            }
-            Next::Record(n) => {
-                number += 1;
-                let part = records::part_at(board, at, n);
-                let Found::At(i) = level_of(&buses, levels, board_record::parent_of(part) as usize)
-                else {
-                    return number;
-                };
-                if unplaced(part, i, nexts[i], shared[i]) {
-                    return number;
-                }
-                nexts[i] = board_record::devfn_of(part) as usize + 1;
-                shared[i] = shared_after(shared[i], part);
-                buses[i + 1] = number;
-                nexts[i + 1] = 0;
-                shared[i + 1] = 0;
-                levels = open_after(i, part);
-                at = at + 2 + n;
-            }
+    for (before, part) in records::parts_from(board, board_record::FUNCTIONS).enumerate() {
+        let number = before + 1;
+        let Some(i) = level_of(&buses, levels, board_record::parent_of(part) as usize) else {
+            return Some(number);
+        };
+        if unplaced(part, i, nexts[i], shared[i]) {
+            return Some(number);
         }
+        nexts[i] = board_record::devfn_of(part) as usize + 1;
+        shared[i] = shared_after(shared[i], part);
+        buses[i + 1] = number;
+        nexts[i + 1] = 0;
+        shared[i + 1] = 0;
+        levels = open_after(i, part);
     }
+    None
 }
 
 // The deepest of the open levels that is the parent's bus.
-fn level_of(buses: &[usize; LEVELS], levels: usize, parent: usize) -> Found
+fn level_of(buses: &[usize; LEVELS], levels: usize, parent: usize) -> Option<usize>
     requires { levels ≤ most_above + 2 }
     ensures { result ≡ found_in parent buses.now levels }
 {
-    let mut left = levels;
-    while left != 0 {
-        let i = left - 1;
+    for i in (0..levels).rev() {
         if buses[i] == parent {
-            return Found::At(i);
+            return Some(i);
         }
-        left = i;
     }
-    Found::Nowhere
+    None
 }
 
 fn unplaced(part: &[u8], depth: usize, next: usize, shared: usize) -> bool
@@ -88,7 +64,7 @@ fn unplaced(part: &[u8], depth: usize, next: usize, shared: usize) -> bool
 {
     let devfn = board_record::devfn_of(part);
     ((devfn as usize) < next)
-        | (records::MOST_ABOVE < depth)
+        | (MOST_ABOVE < depth)
         | !((devfn % 8 == 0) | (shared == (devfn / 8) as usize + 1))
 }
 

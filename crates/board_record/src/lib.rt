@@ -118,9 +118,8 @@ fn outside(q: Pool, x: Span) -> bool
     ensures { result ≡ is_outside q x }
 {
     match q {
-        Pool::Low => false,
         Pool::High => (x.base < 4294967296) | (4503599627370496 <= x.last),
-        Pool::Io => false,
+        Pool::Low | Pool::Io => false,
     }
 }
 
@@ -210,10 +209,8 @@ fn readbacks_of(part: &[u8]) -> [u32; 6]
 {
     let mut set = [0u32; 6];
     let n = bar::slot_count(part[3]);
-    let mut j: usize = 0;
-    while j < n {
+    for j in 0..n {
         set[j] = endian::read_be32(part, 6 + 4 * j) as u32;
-        j += 1;
     }
     set
 }

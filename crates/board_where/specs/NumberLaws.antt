@@ -1,9 +1,9 @@
 -- What a board's number says of its checks: those before it are passed, and its own is not. Assumes nothing.
-use Rattle.std.specs.Prelude.{◌≡◌, refl, Bool, true, false, cond, length, get_or, drop, eqb, ltb}
+use Rattle.std.specs.Prelude.{◌≡◌, refl, Bool, true, false, cond, Option, length, get_or, drop, eqb, ltb}
 use Rattle.std.proofs.Math.Path.{sym, ap}
 use Rattle.std.proofs.Common.{◌∙◌, arith}
 use mathlib.Core.List.{List, [], map}
-use Prim.Native.Nat.{ℕ, ◌<◌}
+use Prim.Native.Nat.{ℕ, zero, suc, ◌<◌}
 use borrow.Author.Tests.{ne_eqb, eqb-false}
 use Rattle.lists.specs.Lists.{any}
 use Rattle.refusals.specs.RefusalsLaws.{either}
@@ -15,7 +15,8 @@ use Rattle.board_record.specs.declared.Function.{Function}
 use Rattle.board_record.specs.declared.Rule.TheVariants.{Header, ReadBacks}
 use Rattle.board_record.specs.Host.{host_wrong, host_at, host_length, functions_at}
 use Rattle.board_record.specs.Function.{function_of_part, wrong_in, header_wrong, readbacks_wrong}
-use Rattle.board_order.specs.Order.{any_misplaced, first_misplaced}
+use Rattle.std.specs.Option.{unwrap_or}
+use Rattle.board_order.specs.Order.{any_misplaced, first_misplaced, some_number}
 use Rattle.board.specs.Board.{misframed, is_version, from_readbacks, from_order, from_edges, from_headers, from_count, from_frame}
 use Rattle.board.specs.Board.{from_version, board_number, host_of, functions_of}
 use Rattle.board.proofs.BoardLaws.{host_of_framed, right_parts}
@@ -139,13 +140,18 @@ module _ (b : List ℕ) (n : ℕ) (is : n ≡ board_number b) where
   named_24 e r f =
       f ∙ ap (first_breaking (Header (get_or b 0 0))) (sym (framed_at (omega arith)).parts) ∙ sym (failing_24 b (sym is ∙ e))
 
-  pub named_23 : n ≡ 23 → (k : ℕ) → k ≡ first_misplaced 0 [] (map function_of_part (parts_from b functions_at)) → party_of k function_id
-      ≡ failing_of b
+  pub named_23 : n ≡ 23 → (first : Option ℕ) → first ≡ some_number (first_misplaced 0 [] (map function_of_part (parts_from b functions_at)))
+      → party_of (unwrap_or first 0) function_id ≡ failing_of b
   unfolding functions_of
-  named_23 e k f =
+  named_23 e first f =
       ap (λ (j : ℕ). party_of j function_id)
-      (f ∙ ap (λ (ps : List (List ℕ)). first_misplaced 0 [] (map function_of_part ps)) (sym (framed_at (omega arith)).parts))
+      (ap (λ (r : Option ℕ). unwrap_or r 0) f ∙ number_back (first_misplaced 0 [] (map function_of_part (parts_from b functions_at)))
+      ∙ ap (λ (ps : List (List ℕ)). first_misplaced 0 [] (map function_of_part ps)) (sym (framed_at (omega arith)).parts))
       ∙ sym (failing_23 b (sym is ∙ e))
+    where
+      number_back : (k : ℕ) → unwrap_or (some_number k) 0 ≡ k
+      number_back zero = refl
+      number_back (suc k) = refl
 
   pub named_25 : n ≡ 25 → (r : Party) → r ≡ first_breaking ReadBacks (parts_from b functions_at) → r ≡ failing_of b
   named_25 e r f = f ∙ ap (first_breaking ReadBacks) (sym (framed_at (omega arith)).parts) ∙ sym (failing_25 b (sym is ∙ e))

@@ -13,7 +13,6 @@ ghost use Rattle.board_where.specs.Where.{bad_slot, place_in, first_breaking, fa
 use bar::Slot;
 use board_record::{FUNCTIONS, Rule};
 use finding::{NOBODY, Party};
-use records::Next;
 
 // The first function that fails the check of this number, and its place; nobody where the number is about no function.
 pub fn failing(board: &[u8], number: u8) -> Party
@@ -25,7 +24,7 @@ pub fn failing(board: &[u8], number: u8) -> Party
     }
     if number == 23 {
         return Party {
-            number: board_order::first_misplaced(board),
+            number: board_order::first_misplaced(board).unwrap_or(0),
             place: 10,
         };
     }
@@ -40,29 +39,15 @@ fn first_breaking(rule: Rule, board: &[u8]) -> Party
     requires { any_part (too_early rule) (parts_from board.now functions_at) ≡ false }
     ensures { result ≡ first_breaking rule (parts_from board.now functions_at) }
 {
-    let mut number: usize = 0;
-    let mut at = FUNCTIONS;
-    loop {
-        match records::next_at(board, at) {
-            Next::End => {
-                return NOBODY;
-            }
-            Next::Broken => {
-                return NOBODY;
-            }
-            Next::Record(n) => {
-                number += 1;
-                let part = records::part_at(board, at, n);
-                if board_record::breaks(rule, part) {
-                    return Party {
-                        number,
-                        place: place_in(rule, part),
-                    };
-                }
-                at = at + 2 + n;
-            }
+    for (before, part) in records::parts_from(board, FUNCTIONS).enumerate() {
+        if board_record::breaks(rule, part) {
+            return Party {
+                number: before + 1,
+                place: place_in(rule, part),
+            };
         }
     }
+    NOBODY
 }
 
 // Where a record that breaks the rule does so: its slot, or else the function as a whole.
@@ -71,8 +56,7 @@ fn place_in(rule: Rule, part: &[u8]) -> u8
     ensures { result ≡ place_in rule part.now }
 {
     match rule {
-        Rule::Length => 10,
-        Rule::Header(_) => 10,
+        Rule::Length | Rule::Header(_) => 10,
         Rule::ReadBacks => bad_slot(part),
     }
 }
@@ -85,6 +69,7 @@ fn bad_slot(part: &[u8]) -> u8
     let f = board_record::function_of(part);
     let set = f.readbacks;
     let slots = bar::slot_count(f.header);
+    // no `for`: a 64-bit BAR takes two slots
     let mut i: usize = 0;
     while i < slots {
         let x = bar::slot_at(set, slots, i);
@@ -99,10 +84,5 @@ fn bad_slot(part: &[u8]) -> u8
 fn is_bad(x: Slot) -> bool
     ensures { result ≡ is_bad x }
 {
-    match x {
-        Slot::Unused => false,
-        Slot::Bar(_, _, _) => false,
-        Slot::Upper => false,
-        Slot::Bad => true,
-    }
+    matches!(x, Slot::Bad)
 }

@@ -95,26 +95,18 @@ fn walk_records(
     requires { Walking board.now first counts.now memo.now cursors.old }
     ensures { result ≡ see_all w nothing_seen (told_on board.now w.pool) }
 {
+    // no `for` over the parts: `pass_over` takes the place of a record
     let mut seen = nothing_seen();
     let mut at = board_record::FUNCTIONS;
     let mut i: usize = 0;
-    loop {
-        match records::next_at(board, at) {
-            Next::End => {
-                return seen;
-            }
-            Next::Broken => {
-                return seen;
-            }
-            Next::Record(n) => {
-                let f = plan_pass::function_at(board, at, n);
-                seen = see_next(w, seen, f, i, memo, cursors);
-                plan_pass::pass_over(board, at, n, i, first, counts, memo, cursors);
-                at = at + 2 + n;
-                i += 1;
-            }
-        }
+    while let Next::Record(n) = records::next_at(board, at) {
+        let f = plan_pass::function_at(board, at, n);
+        seen = see_next(w, seen, f, i, memo, cursors);
+        plan_pass::pass_over(board, at, n, i, first, counts, memo, cursors);
+        at = at + 2 + n;
+        i += 1;
     }
+    seen
 }
 
 // Record i + 1, from the cursors of its bus and what sizing stored of the bus below it.

@@ -53,23 +53,14 @@ pub fn place_records(
     requires { Ready board.now first counts.now memo.now cursors.old sheet.old }
     ensures { sheet.new ≡ sets sheet.old 0 (sheet_bytes (plan_on board.now)) }
 {
+    // no `for` over the parts: a slice made for a call is stored as two words, so `place_at` takes a place and cuts the record out inside
     let mut at = board_record::FUNCTIONS;
     let mut i: usize = 0;
-    loop {
-        match records::next_at(board, at) {
-            Next::End => {
-                return;
-            }
-            Next::Broken => {
-                return;
-            }
-            Next::Record(n) => {
-                let to = 1 + STRIDE * i;
-                place_at(board, at, n, i, first, counts, memo, cursors, sheet, to);
-                at = at + 2 + n;
-                i += 1;
-            }
-        }
+    while let Next::Record(n) = records::next_at(board, at) {
+        let to = 1 + STRIDE * i;
+        place_at(board, at, n, i, first, counts, memo, cursors, sheet, to);
+        at = at + 2 + n;
+        i += 1;
     }
 }
 
@@ -385,9 +376,7 @@ pub fn fill_cursors(cursors: &mut [u64], base: Cursors)
     requires { 3 * most_buses ≤ length cursors.old }
     ensures { Filled base most_buses cursors.new }
 {
-    let mut b: usize = 0;
-    while b < BUSES {
+    for b in 0..BUSES {
         store_cursors(cursors, b, base);
-        b += 1;
     }
 }

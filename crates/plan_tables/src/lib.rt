@@ -12,32 +12,18 @@ ghost use Rattle.plan_sizing.specs.Functions.{header_in, functions_in};
 ghost use Rattle.plan_tables.specs.Tables.{head_of, Room, Put, Filled};
 ghost use Rattle.plan_tables.specs.Counts.{spare_of, weight_of, most_taken, Countable, AllCounted};
 
-use records::Next;
-
 // How many functions the board has. Function i has its parent record and its head at i, its six read-backs at 6 * i.
 pub fn fill(board: &[u8], parents: &mut [u16], heads: &mut [u32], readbacks: &mut [u32]) -> usize
     requires { (board_number board.now ≡ 0) × Room most_functions parents.old heads.old readbacks.old }
     ensures { Filled (functions_of board.now) parents.old heads.old readbacks.old
         parents.new heads.new readbacks.new result }
 {
-    let mut at = board_record::FUNCTIONS;
-    let mut i: usize = 0;
-    loop {
-        match records::next_at(board, at) {
-            Next::End => {
-                return i;
-            }
-            Next::Broken => {
-                return i;
-            }
-            Next::Record(n) => {
-                let part = records::part_at(board, at, n);
-                put(part, i, parents, heads, readbacks);
-                i += 1;
-                at = at + 2 + n;
-            }
-        }
+    let mut count: usize = 0;
+    for part in records::parts_from(board, board_record::FUNCTIONS) {
+        put(part, count, parents, heads, readbacks);
+        count += 1;
     }
+    count
 }
 
 // The bus numbers that all functions take, and into the counts two bytes for the host and for each function, both modulo 256: at 2 * k how
@@ -50,13 +36,11 @@ pub fn count_buses(parents: &[u16], heads: &[u32], counts: &mut [u8]) -> u32
 {
     put_counts(counts, 0, 0, 0);
     let mut taken: u32 = 0;
-    let mut i: usize = 0;
-    while i < parents.len() {
+    for i in 0..parents.len() {
         let over = over_at(counts, parents[i] as usize);
         let head = heads[i];
         taken += weight(head);
         put_counts(counts, i + 1, taken, over + spare(head));
-        i += 1;
     }
     taken
 }
@@ -76,10 +60,8 @@ fn put_set(readbacks: &mut [u32], at: usize, part: &[u8])
     requires { (header_wrong part.now ≡ false) × (at + 6 ≤ length readbacks.old) }
     ensures { readbacks.new ≡ sets readbacks.old at (function_of_part part.now).readbacks }
 {
-    let mut j: usize = 0;
-    while j < 6 {
+    for j in 0..6 {
         readbacks[at + j] = board_record::readback_at(part, j);
-        j += 1;
     }
 }
 

@@ -2,6 +2,7 @@
 pub mod Limits
 pub mod Records
 pub mod RecordsLaws
+pub mod Iterating
 pub mod Frame
 pub mod FrameLaws
 pub mod Pieces

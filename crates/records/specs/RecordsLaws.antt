@@ -196,3 +196,42 @@ module _ (test : List ℕ → Bool) (s : List ℕ) (at : ℕ) where
       → any_part test (parts_from s (at + 2 + n)) ≡ false
   unfolding any_part
   none_later n e h = (false_of_or (test (take n (drop (at + 2) s))) _ (sym (pass_record (any_part test) s at n e) ∙ h)).1
+
+-- and of the parts in a row
+pub none_first : (test : List ℕ → Bool) (part : List ℕ) (parts : List (List ℕ)) → any_part test (part ∷ parts) ≡ false
+    → (test part ≡ false) × (any_part test parts ≡ false)
+unfolding any_part
+none_first test part parts h = false_of_or (test part) (any_part test parts) h
+
+-- ---- what is left, by what stands at the cursor, for the iterator
+
+module _ (s : List ℕ) (at : ℕ) where
+  -- no record at the cursor: no part is left
+  pub none_left : ((n : ℕ) → next_of (drop at s) ≡ Record n → ⊥) → parts_from s at ≡ []
+  none_left other = go (next_of (drop at s)) refl
+    where
+      go : (q : Next) → next_of (drop at s) ≡ q → parts_from s at ≡ []
+      go End e = ap (λ (r : Parts). r.parts) (parts_end s at e)
+      go Broken e = ap (λ (r : Parts). r.parts) (parts_broken s at e)
+      go (Record n) e = absurd (other n e)
+
+  -- no part is left, and the bytes do not break off there: they end
+  pub whole_left : (next_of (drop at s) ≡ Broken → ⊥) → parts_from s at ≡ [] → (parts_of (drop at s)).whole ≡ true
+  whole_left other h = go (next_of (drop at s)) refl
+    where
+      go : (q : Next) → next_of (drop at s) ≡ q → (parts_of (drop at s)).whole ≡ true
+      go End e = ap (λ (r : Parts). r.whole) (parts_end s at e)
+      go Broken e = absurd (other e)
+      go (Record n) e = let z : take n (drop (at + 2) s) ∷ parts_from s (at + 2 + n) ≡ [] = sym (ap (λ (r : Parts). r.parts) (parts_record s at n e)) ∙ h in cc
+
+-- there are no more parts than bytes
+pub few_parts : (s : List ℕ) (at : ℕ) → length (parts_from s at) ≤ length s
+few_parts s at = omega (arith, few (drop at s), length-drop at s)
+  where
+    few : (t : List ℕ) → length (parts_of t).parts ≤ length t
+    few =
+        parts_elim
+        (λ (t : List ℕ) (r : Parts). length r.parts ≤ length t)
+        (omega arith)
+        (λ t e. omega arith)
+        (λ t n e rest on. omega (arith, fits_of_record t n e, length-drop (2 + n) t))

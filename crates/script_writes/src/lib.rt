@@ -78,10 +78,8 @@ fn put_bars(part: &[u8], boot: Boot, from: Place, room: &mut [u8]) -> Place
 {
     let n = sheet_record::slot_count(part);
     let mut next = from;
-    let mut j: usize = 0;
-    while j < n {
+    for j in 0..n {
         next = put_slot(part, j, boot, next, room);
-        j += 1;
     }
     next
 }
@@ -103,7 +101,7 @@ fn is_used(part: &[u8], j: usize) -> bool
     ensures { result ≡ is_used part.now j }
 {
     let at = places::READBACK0 + 4 * j;
-    !(endian::read_be32(part, at) == 0)
+    endian::read_be32(part, at) != 0
 }
 
 // A bridge's window registers, closed or not.
@@ -142,7 +140,7 @@ pub fn put_known(
     );
     Place {
         at: from.at + STRIDE,
-        tag: ((from.tag as u16 + 1) % 256) as u8,
+        tag: from.tag.wrapping_add(1),
     }
 }
 
@@ -164,7 +162,7 @@ fn put_write(
     put_data(part, offset, enables, room, from.at + DATA);
     Place {
         at: from.at + STRIDE,
-        tag: ((from.tag as u16 + 1) % 256) as u8,
+        tag: from.tag.wrapping_add(1),
     }
 }
 
@@ -191,21 +189,16 @@ fn put_request(requester: u16, tag: u8, enables: u8, room: &mut [u8], at: usize)
     requires { at + 4 ≤ length room.old }
     ensures { room.new ≡ sets room.old at ((requester / 256) ∷ (requester % 256) ∷ tag ∷ enables ∷ []) }
 {
-    put_four(
-        room,
-        at,
-        (requester / 256) as u8,
-        (requester % 256) as u8,
-        tag,
-        enables,
-    );
+    let [high, low] = requester.to_be_bytes();
+    put_four(room, at, high, low, tag, enables);
 }
 
 fn put_target(id: u16, offset: u8, room: &mut [u8], at: usize)
     requires { at + 4 ≤ length room.old }
     ensures { room.new ≡ sets room.old at ((id / 256) ∷ (id % 256) ∷ 0 ∷ offset ∷ []) }
 {
-    put_four(room, at, (id / 256) as u8, (id % 256) as u8, 0, offset);
+    let [high, low] = id.to_be_bytes();
+    put_four(room, at, high, low, 0, offset);
 }
 
 // A register's four bytes, 0 where they are not named.

@@ -3,7 +3,7 @@
 // more stack than the planner.
 #![tactic(auto)]
 
-ghost use Rattle.std.specs.Prelude.{◌≡◌, false, true, ℕ, ◌+◌, ◌*◌, ◌≤◌, ◌<◌, length, take, drop};
+ghost use Rattle.std.specs.Prelude.{◌≡◌, false, true, ℕ, ◌+◌, ◌*◌, ◌≤◌, ◌<◌, length, take, drop, count_by, not, ◌==◌};
 ghost use Rattle.std.proofs.lemmas.List.Edits.{sets};
 ghost use Rattle.records.specs.Limits.{most_functions};
 ghost use Rattle.records.specs.declared.Next.TheVariants.{Record};
@@ -19,7 +19,7 @@ ghost use Rattle.script_writes.specs.Writes.{register_writes, writes_in};
 ghost use Rattle.script_writes.specs.Script.{write_stride};
 ghost use Rattle.script_writes.specs.Wrote.{Wrote};
 ghost use Rattle.scripter.specs.Scripting.{script_of, script_length, scripting_as, scripting, room_as, room_after};
-ghost use Rattle.scripter.specs.Counting.{weight_of, used_in, write_count, count_in};
+ghost use Rattle.scripter.specs.Counting.{write_count, count_in};
 ghost use Rattle.scripter.specs.UnplacedLaws.{Numbered, bus_part, command_part};
 ghost use Rattle.scripter.specs.PassLaws.{ghost_sheet, placed_part, cursors_after, pass_of, front_of, Passing};
 
@@ -96,22 +96,11 @@ fn count_writes(board: &[u8]) -> usize
     requires { board_number board.now ≡ 0 }
     ensures { (result ≡ count_in (functions_of board.now)) × (result ≤ 13 * most_functions) }
 {
-    let mut at = board_record::FUNCTIONS;
     let mut count: usize = 0;
-    loop {
-        match records::next_at(board, at) {
-            Next::End => {
-                return count;
-            }
-            Next::Broken => {
-                return count;
-            }
-            Next::Record(n) => {
-                count += count_of(plan_pass::function_at(board, at, n));
-                at = at + 2 + n;
-            }
-        }
+    for part in records::parts_from(board, board_record::FUNCTIONS) {
+        count += count_of(board_record::function_of(part));
     }
+    count
 }
 
 // Its used BARs and its command word, and a bridge's buses and windows.
@@ -129,21 +118,12 @@ fn count_of(f: Function) -> usize
 // How many of the first n read-backs are not 0.
 fn used_in(readbacks: [u32; 6], n: usize) -> usize
     requires { n ≤ 6 }
-    ensures { (result ≡ used_in n readbacks 0) × (result ≤ n) }
+    ensures { result ≡ count_by (λ x. not (x == 0)) (take n readbacks) }
 {
-    let mut used: usize = 0;
-    let mut j: usize = 0;
-    while j < n {
-        used += weight(readbacks[j]);
-        j += 1;
-    }
-    used
-}
-
-fn weight(readback: u32) -> usize
-    ensures { (result ≡ weight_of readback) × (result ≤ 1) }
-{
-    if readback == 0 { 0 } else { 1 }
+    readbacks[..n]
+        .iter()
+        .filter(|readback| **readback != 0)
+        .count()
 }
 
 // ---- the three parts
@@ -253,26 +233,18 @@ fn pass_records(
     requires { Passing pass board.now boot counts.now memo.now cursors.old from room.old }
     ensures { Wrote boot room.old from (pass_of pass board.now) room.new result }
 {
+    // no `for` over the parts: placing takes the place of a record, and cuts it out inside
     let mut at = board_record::FUNCTIONS;
     let mut i: usize = 0;
     let mut next = from;
-    loop {
-        match records::next_at(board, at) {
-            Next::End => {
-                return next;
-            }
-            Next::Broken => {
-                return next;
-            }
-            Next::Record(n) => {
-                next = put_next(
-                    pass, board, at, n, i, counts, memo, cursors, boot, next, room,
-                );
-                at = at + 2 + n;
-                i += 1;
-            }
-        }
+    while let Next::Record(n) = records::next_at(board, at) {
+        next = put_next(
+            pass, board, at, n, i, counts, memo, cursors, boot, next, room,
+        );
+        at = at + 2 + n;
+        i += 1;
     }
+    next
 }
 
 // Record i + 1 in this part. Only its registers need it placed: its bus numbers, its ID and its command word are told without.
@@ -359,10 +331,10 @@ fn put_command(part: &[u8], counts: &[u8], boot: Boot, from: Place, room: &mut [
 {
     let parent = board_record::parent_of(part) as usize;
     let bus = plan_pass::number_at(boot.root, counts, parent, parent);
-    let command = command_of(part);
+    let [low, high] = command_of(part).to_le_bytes();
     let bytes = Dword {
-        first: (command % 256) as u8,
-        second: (command / 256) as u8,
+        first: low,
+        second: high,
         third: 0,
         fourth: 0,
     };

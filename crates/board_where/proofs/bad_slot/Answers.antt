@@ -1,7 +1,6 @@
 -- `board_where::bad_slot`: the loop over the slots. Invariant: the first bad slot from slot i on is the first of all. Measure: the slots
 -- left. Assumes nothing.
 use mathlib.Core.Path.{sym, ◌∙◌}
-use Prim.Native.Nat.{◌-◌}
 use native.Mathlib.Omega.{arith}
 use Rattle.board_where.specs.PassLaws.{slots_start, slots_end, slot_bad, slot_step}
 use Rattle.board_where.proofs.bad_slot.Goals as goal

@@ -1,83 +1,76 @@
--- `board_where::first_breaking`: the loop over the functions. Invariant: no function left is asked too early, and the first from the cursor
--- on, with so many passed, is the first of all. Measure: the bytes left. Assumes nothing.
-use mathlib.Core.Path.{◌≡◌, refl, sym, ap, ◌∙◌}
-use mathlib.Core.Bool.{false}
-use mathlib.Core.List.{List}
-use Prim.Native.Nat.{ℕ, ◌+◌, ◌-◌, ◌≤◌}
-use native.Mathlib.Omega.{arith}
-use lib.ListN.{length, drop}
-use Rattle.records.specs.declared.Next.TheVariants.{Record}
-use Rattle.records.specs.Records.{next_of}
-use Rattle.records.specs.RecordsLaws.{fits_at, none_here, none_later}
+-- `board_where::first_breaking` meets its contract. Assumes nothing.
+use Rattle.std.proofs.Common.{◌≡◌, ℕ, ◌+◌, false, List, ◌∷◌, length, drop, inl, sym, ap, ◌∙◌, arith}
+use Rattle.std.specs.Iterator.Adapters.{enumerate_source, enumerate_count}
+use Rattle.records.specs.Records.{Parts, parts_of, parts_from, any_part}
+use Rattle.records.specs.RecordsLaws.{none_first, few_parts}
+use Rattle.records.specs.Iterating.{left_of, parts_left}
+use Rattle.board_record.specs.Host.{functions_at}
 use Rattle.board_record.specs.Rules.{too_early}
-use Rattle.board_where.specs.PassLaws.{breaking_end, breaking_broken, breaking_hit, breaking_miss}
+use Rattle.board_where.specs.Where.{first_from, first_breaking}
+use Rattle.board_where.specs.PassLaws.{breaking_after, breaking_hit, breaking_miss}
 use Rattle.board_where.proofs.first_breaking.Goals as goal
-use Rattle.board_where.proofs.first_breaking.Goals.{After-part_at-part, In-Record}
+use Rattle.board_where.proofs.first_breaking.Goals.{After-into_iter-before-iterator, In-Some}
 
--- the board, the cursor, and the length of the record there
-abbrev bytes : In-Record → List ℕ
-bytes c =
-    c.args.board.now
+-- the iteration begins at the first function
+module _ (c : After-into_iter-before-iterator) where
+  start : left_of (enumerate_source c.into_iter-before-iterator.result) ≡ parts_of (drop functions_at c.args.board.now)
+  start =
+      ap (λ i. left_of (enumerate_source i)) c.into_iter-before-iterator.ensures.into_iter_gives
+      ∙ ap left_of c.enumerate-before-items.ensures.source ∙ c.parts_from.ensures
 
-abbrev cursor : In-Record → ℕ
-cursor c = c.loop-n.at
+  none_before : enumerate_count c.into_iter-before-iterator.result ≡ 0
+  none_before = ap enumerate_count c.into_iter-before-iterator.ensures.into_iter_gives ∙ c.enumerate-before-items.ensures.count
 
-abbrev size : In-Record → ℕ
-size c = c.in-Record.n
+-- the rule may be asked of this part and of those after it
+in_time : (c : In-Some) → (too_early c.args.rule c.in-Some.part.now ≡ false)
+    × (any_part (too_early c.args.rule) (parts_left (enumerate_source c.next.new.self)) ≡ false)
+in_time c =
+    none_first (too_early c.args.rule) c.in-Some.part.now (parts_left (enumerate_source c.next.new.self))
+    (sym (ap (λ (r : Parts). any_part (too_early c.args.rule) r.parts) c.in-Some.ensures.steps.0) ∙ c.loop-before.invariant.0)
 
-found : (c : In-Record) → next_of (drop (cursor c) (bytes c)) ≡ Record (size c)
-found c = sym c.next_at.ensures ∙ c.in-Record.is
+turn : (c : In-Some) → breaking_after c.args.rule c.in-Some.before (c.in-Some.part.now ∷ parts_left (enumerate_source c.next.new.self))
+    ≡ first_breaking c.args.rule (parts_from c.args.board.now functions_at)
+turn c =
+    ap (λ (k : ℕ). breaking_after c.args.rule k (c.in-Some.part.now ∷ parts_left (enumerate_source c.next.new.self))) c.in-Some.ensures.steps.1
+    ∙ sym (ap (λ (r : Parts). breaking_after c.args.rule (enumerate_count c.loop-before.before-iterator) r.parts) c.in-Some.ensures.steps.0)
+    ∙ c.loop-before.invariant.1
 
-fits : (c : In-Record) → cursor c + 2 + size c ≤ length (bytes c)
-fits c = fits_at (bytes c) (cursor c) (size c) (found c)
+pub loop-before-init-derived : goal.loop-before-init-derived
+loop-before-init-derived c =
+    let here = (goal.at.loop-before-init-derived c).After-into_iter-before-iterator in
+    let few = ap (λ (r : Parts). length r.parts) (start here) in
+    ((tt, tt, inl (omega (arith, few, few_parts c.args.board.now functions_at, none_before here))), tt)
 
--- the rule may be asked of the part at the cursor
-in-time : (c : After-part_at-part)
-    → too_early c.args.rule c.part_at-part.result.now ≡ false
-in-time c =
-    let early = too_early c.args.rule in
-    ap early c.part_at-part.ensures ∙ none_here early c.args.board.now c.loop-n.at _ (sym c.next_at.ensures ∙ c.in-Record.is) c.loop-n.invariant.1
-
-pub loop-n-init : goal.loop-n-init
-loop-n-init c = (omega arith, c.requires, refl)
-
-pub returns-in-End : goal.returns-in-End
-returns-in-End c = sym (breaking_end c.args.rule c.args.board.now c.loop-n.at c.loop-n.number
-    (sym c.next_at.ensures ∙ c.in-End.is)) ∙ c.loop-n.invariant.2
-
-pub returns-in-Broken : goal.returns-in-Broken
-returns-in-Broken c = sym (breaking_broken c.args.rule c.args.board.now c.loop-n.at c.loop-n.number
-    (sym c.next_at.ensures ∙ c.in-Broken.is)) ∙ c.loop-n.invariant.2
-
-pub overflow_add-number : goal.overflow_add-number
-overflow_add-number c = omega (arith, fits (goal.at.overflow_add-number c).In-Record, c.loop-n.invariant.0)
-
-pub part_at-part-requires : goal.part_at-part-requires
-part_at-part-requires c = fits (goal.at.part_at-part-requires c).In-Record
+pub loop-before-init : goal.loop-before-init
+loop-before-init c =
+    let here = (goal.at.loop-before-init c).After-into_iter-before-iterator in
+    let left : ℕ → Parts → _ = λ k r. breaking_after c.args.rule k r.parts in (
+      ap (λ (r : Parts). any_part (too_early c.args.rule) r.parts) (start here) ∙ c.requires,
+      ap (λ (k : ℕ). left k (left_of (enumerate_source c.into_iter-before-iterator.result))) (none_before here) ∙ ap (left 0) (start here),
+    )
 
 pub breaks-requires : goal.breaks-requires
-breaks-requires c = in-time (goal.at.breaks-requires c).After-part_at-part
+breaks-requires c = (in_time (goal.at.breaks-requires c).In-Some).0
 
 pub place_in-requires : goal.place_in-requires
-place_in-requires c = in-time (goal.at.place_in-requires c).After-part_at-part
+place_in-requires c = (in_time (goal.at.place_in-requires c).In-Some).0
 
 pub returns-then-breaks : goal.returns-then-breaks
-returns-then-breaks c = sym (breaking_hit c.args.rule (bytes (goal.at.returns-then-breaks c).In-Record) (cursor (goal.at.returns-then-breaks c).In-Record) c.loop-n.number _ (found (goal.at.returns-then-breaks c).In-Record) _ c.part_at-part.ensures
-    (sym c.breaks.ensures ∙ c.if-breaks.true) _ c.place_in.ensures) ∙ c.loop-n.invariant.2
+returns-then-breaks c =
+    sym (breaking_hit c.args.rule c.in-Some.before c.in-Some.part.now (parts_left (enumerate_source c.next.new.self))
+    (sym c.breaks.ensures ∙ c.if-breaks.true) _ c.place_in.ensures) ∙ turn (goal.at.returns-then-breaks c).In-Some
 
-pub overflow_add-at : goal.overflow_add-at
-overflow_add-at c = omega (arith, fits (goal.at.overflow_add-at c).In-Record)
+pub loop-before-preserved : goal.loop-before-preserved
+loop-before-preserved c =
+    let next : enumerate_count c.next.new.self ≡ c.in-Some.before + 1 = c.in-Some.ensures.steps.2 ∙ ap (λ (k : ℕ). k + 1) (sym c.in-Some.ensures.steps.1) in (
+      (in_time (goal.at.loop-before-preserved c).In-Some).1,
+      ap (λ (k : ℕ). breaking_after c.args.rule k (parts_left (enumerate_source c.next.new.self))) next
+          ∙ breaking_miss c.args.rule c.in-Some.before c.in-Some.part.now (parts_left (enumerate_source c.next.new.self))
+          (sym c.breaks.ensures ∙ c.if-breaks.false) ∙ turn (goal.at.loop-before-preserved c).In-Some,
+    )
 
-pub overflow_add-at-in-Record : goal.overflow_add-at-in-Record
-overflow_add-at-in-Record c = omega (arith, fits (goal.at.overflow_add-at-in-Record c).In-Record)
-
-pub loop-n-smaller : goal.loop-n-smaller
-loop-n-smaller c = omega (arith, fits (goal.at.loop-n-smaller c).In-Record)
-
-pub loop-n-preserved : goal.loop-n-preserved
-loop-n-preserved c = (
-  omega (arith, c.loop-n.invariant.0),
-  none_later (too_early c.args.rule) (bytes (goal.at.loop-n-preserved c).In-Record) (cursor (goal.at.loop-n-preserved c).In-Record) _ (found (goal.at.loop-n-preserved c).In-Record) c.loop-n.invariant.1,
-  breaking_miss c.args.rule (bytes (goal.at.loop-n-preserved c).In-Record) (cursor (goal.at.loop-n-preserved c).In-Record) c.loop-n.number _ (found (goal.at.loop-n-preserved c).In-Record) _ c.part_at-part.ensures
-      (sym c.breaks.ensures ∙ c.if-breaks.false) ∙ c.loop-n.invariant.2,
-)
+pub returns : goal.returns
+unfolding first_from
+returns c =
+    let left : List (List ℕ) → _ = λ ps. breaking_after c.args.rule (enumerate_count c.loop-before.before-iterator) ps in
+    sym (ap left c.in-None.ensures.steps.0.0) ∙ c.loop-before.invariant.1

@@ -5,8 +5,8 @@ use lib.ListN.{length}
 use Rattle.plan_items.specs.Loop.{Walked}
 use Rattle.plan_items.proofs.walk_records.Given as goal
 
-abbrev pub invariant-loop-seen : goal.invariant-loop-seen
-invariant-loop-seen l = Walked l.board l.w l.initial.cursors l.cursors l.seen l.at l.i
+abbrev pub invariant-loop-n : goal.invariant-loop-n
+invariant-loop-n l = Walked l.board l.w l.initial.cursors l.cursors l.seen l.at l.i
 
-abbrev pub decreases-loop-seen : goal.decreases-loop-seen
-decreases-loop-seen l = length l.board - l.at
+abbrev pub decreases-loop-n : goal.decreases-loop-n
+decreases-loop-n l = length l.board - l.at

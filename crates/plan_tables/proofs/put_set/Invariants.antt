@@ -1,7 +1,6 @@
--- `plan_tables::put_set` meets its contract. The loop's invariant: storing what is left of the set stores all of it. The measure is how
--- many are left. Assumes nothing.
+-- `plan_tables::put_set` meets its contract. The loop's invariant: storing what is left of the set stores all of it. Assumes nothing.
 use mathlib.Core.Path.{◌≡◌}
-use Prim.Native.Nat.{◌+◌, ◌-◌, ◌≤◌}
+use Prim.Native.Nat.{◌+◌}
 use lib.ListN.{length, drop}
 use lib.Seq.{sets}
 use Rattle.board_record.specs.Function.{function_of_part}
@@ -10,7 +9,4 @@ use Rattle.plan_tables.proofs.put_set.Given as goal
 abbrev pub invariant-loop-j : goal.invariant-loop-j
 invariant-loop-j l =
     let set = (function_of_part l.part).readbacks in
-    (l.j ≤ 6) × (length l.readbacks ≡ length l.initial.readbacks) × (sets l.readbacks (l.at + l.j) (drop l.j set) ≡ sets l.initial.readbacks l.at set)
-
-abbrev pub decreases-loop-j : goal.decreases-loop-j
-decreases-loop-j l = 6 - l.j
+    sets l.readbacks (l.at + l.j) (drop l.j set) ≡ sets l.initial.readbacks l.at set

@@ -1,37 +1,33 @@
 -- `scripter::count_writes` meets its contract. Assumes nothing.
-use mathlib.Core.Path.{sym, ◌∙◌}
-use Prim.Native.Nat.{◌-◌}
-use native.Mathlib.Omega.{arith}
-use Rattle.scripter.specs.CountingLaws.{counted_start, counted_end, counted_broken, counted_header}
-use Rattle.scripter.specs.CountingLaws.{counted_fits, counted_turn}
-use Rattle.records.specs.RecordsLaws.{fits_at}
+use Rattle.std.proofs.Common.{◌≡◌, ◌∷◌, ap, sym, ◌∙◌, subst, List, ℕ, arith}
+use Rattle.records.specs.Records.{Parts}
+use Rattle.records.specs.Iterating.{left_of, parts_left}
+use Rattle.scripter.specs.CountingLaws.{Counted, counted_start, counted_end, counted_header, counted_fits, counted_turn}
 use Rattle.scripter.proofs.count_writes.Goals as goal
+use Rattle.scripter.proofs.count_writes.Goals.{In-Some}
 
-pub loop-n-init : goal.loop-n-init
-loop-n-init c = counted_start c.args.board.now c.requires
+-- the part, and those after it
+turn : (c : In-Some) → parts_left c.loop-part.part-iterator ≡ c.in-Some.part.now ∷ parts_left c.next.new.self
+turn c = ap (λ (r : Parts). r.parts) c.in-Some.ensures.steps
 
-pub returns-in-End : goal.returns-in-End
-returns-in-End c = counted_end c.requires c.loop-n.invariant (sym c.next_at.ensures ∙ c.in-End.is)
+pub loop-part-init : goal.loop-part-init
+loop-part-init c =
+    let start = ap left_of c.into_iter-part-iterator.ensures.into_iter_gives ∙ c.parts_from-part-items.ensures in
+    let counted : List (List ℕ) → Type 0 = λ ps. Counted c.args.board.now ps 0 in
+    subst counted (sym (ap (λ (r : Parts). r.parts) start)) (counted_start c.args.board.now c.requires)
 
-pub returns-in-Broken : goal.returns-in-Broken
-returns-in-Broken c = counted_broken c.requires c.loop-n.invariant (sym c.next_at.ensures ∙ c.in-Broken.is)
-
-pub function_at-requires : goal.function_at-requires
-function_at-requires c = let e = (sym c.next_at.ensures ∙ c.in-Record.is) in
-    (e, counted_header c.requires c.loop-n.invariant _ e)
+pub function_of-requires : goal.function_of-requires
+function_of-requires c = counted_header c.requires c.loop-part.invariant _ _ (turn (goal.at.function_of-requires c).In-Some)
 
 pub overflow_add-count : goal.overflow_add-count
-overflow_add-count c = let e = (sym c.next_at.ensures ∙ c.in-Record.is) in
-    omega (arith, counted_fits c.requires c.loop-n.invariant _ e c.function_at.ensures c.count_of-count.ensures.0)
+overflow_add-count c = omega (
+  arith,
+  counted_fits c.requires c.loop-part.invariant _ _ (turn (goal.at.overflow_add-count c).In-Some) c.function_of.ensures c.count_of-count.ensures.0,
+)
 
-pub overflow_add-at : goal.overflow_add-at
-overflow_add-at c = omega (arith, fits_at c.args.board.now c.loop-n.at _ (sym c.next_at.ensures ∙ c.in-Record.is))
+pub loop-part-preserved : goal.loop-part-preserved
+loop-part-preserved c =
+    counted_turn c.requires c.loop-part.invariant _ _ (turn (goal.at.loop-part-preserved c).In-Some) c.function_of.ensures c.count_of-count.ensures.0
 
-pub overflow_add-at-in-Record : goal.overflow_add-at-in-Record
-overflow_add-at-in-Record c = omega (arith, fits_at c.args.board.now c.loop-n.at _ (sym c.next_at.ensures ∙ c.in-Record.is))
-
-pub loop-n-smaller : goal.loop-n-smaller
-loop-n-smaller c = omega (arith, fits_at c.args.board.now c.loop-n.at _ (sym c.next_at.ensures ∙ c.in-Record.is))
-
-pub loop-n-preserved : goal.loop-n-preserved
-loop-n-preserved c = counted_turn c.requires c.loop-n.invariant _ (sym c.next_at.ensures ∙ c.in-Record.is) c.function_at.ensures c.count_of-count.ensures.0
+pub returns : goal.returns
+returns c = counted_end c.requires c.loop-part.invariant c.in-None.ensures.steps.0

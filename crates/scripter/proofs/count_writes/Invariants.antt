@@ -1,11 +1,7 @@
--- `scripter::count_writes` meets its contract. Assumes nothing.
-use Prim.Native.Nat.{◌-◌}
-use lib.ListN.{length}
+-- `scripter::count_writes` meets its contract: those counted and those left are all. Assumes nothing.
+use Rattle.records.specs.Iterating.{parts_left}
 use Rattle.scripter.specs.CountingLaws.{Counted}
 use Rattle.scripter.proofs.count_writes.Given as goal
 
-abbrev pub invariant-loop-n : goal.invariant-loop-n
-invariant-loop-n l = Counted l.board l.at l.count
-
-abbrev pub decreases-loop-n : goal.decreases-loop-n
-decreases-loop-n l = length l.board - l.at
+abbrev pub invariant-loop-part : goal.invariant-loop-part
+invariant-loop-part l = Counted l.board (parts_left l.part-iterator) l.count
