@@ -279,7 +279,7 @@ fn grow(e: Extent, size: u64, align: u64) -> Extent
     let start = plan_rule::start_at(align, e.end);
     Extent {
         end: plan_rule::end_of(start, size),
-        align: plan_rule::larger(e.align, align),
+        align: e.align.max(align),
     }
 }
 
