@@ -34,13 +34,10 @@ inside c = omega (arith, all_there c.args.part.now c.slot_count-slots.ensures, (
 
 pub loop-i-init : goal.loop-i-init
 loop-i-init c = let b = begun c.slots-i-items.ensures c.into_iter-i-iterator.ensures.into_iter_gives in record {
-      over = rw c.readbacks_of-set.ensures at b.over;
-      lawful = rw b.next (lawful_start _ _ _ refl c.slot_count-slots.ensures c.requires.1);
-      same = rw b.next (places_start _ _ _ refl c.slot_count-slots.ensures _);
-    }
-
-pub overflow_cast-result : goal.overflow_cast-result
-overflow_cast-result c = omega (arith, (at (goal.at.overflow_cast-result c).In-Some).inside)
+  over = rw c.readbacks_of-set.ensures at b.over;
+  lawful = rw b.next (lawful_start _ _ _ refl c.slot_count-slots.ensures c.requires.1);
+  same = rw b.next (places_start _ _ _ refl c.slot_count-slots.ensures _);
+}
 
 pub returns-then-left-here : goal.returns-then-left-here
 returns-then-left-here c = let g = (goal.at.returns-then-left-here c).In-Some in
