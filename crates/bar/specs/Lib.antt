@@ -7,3 +7,5 @@ pub mod BarLaws
 pub mod ValuesLaws
 pub mod PlacedLaws
 pub mod Examples
+pub mod Walk
+pub mod WalkLaws

@@ -2,13 +2,14 @@
 // A set is six numbers, handed on together; the first n count: 6 for header type 0, 2 for type 1.
 #![tactic(auto)]
 
-ghost use Rattle.std.specs.Prelude.{◌≡◌, true, cond, not, ◌&&◌, ℕ, ◌+◌, ◌^◌, ◌<◌, ◌≤◌, min, ltb, length, get_or, take, drop};
+ghost use Rattle.std.specs.Prelude.{◌≡◌, true, cond, not, ◌&&◌, ℕ, ◌+◌, ◌-◌, ◌^◌, ◌<◌, ◌≤◌, min, ltb, length, get_or, take, drop};
 ghost use Rattle.arith.specs.Powers.{PowerOfTwo};
 ghost use Rattle.bar.specs.Header.{is_bridge, slot_count};
 ghost use Rattle.bar.specs.Bar.{size_of, sized as sized_of, joined as joined_of, is_io_bar, io_wrong, type_of, without_type, io_slot, is_wide};
 ghost use Rattle.bar.specs.Bar.{narrow_slot, wide_slot, slot_here, slots, is_bad, any_bad, takes_next, span as span_of, SizedSlot};
-ghost use Rattle.pools.specs.Pools.{is_io};
 ghost use Rattle.bar.specs.Values.{value_here, is_bar_value, is_value, values_lawful, base_of, value_of};
+ghost use Rattle.std.specs.Iterator.{at_most};
+ghost use Rattle.bar.specs.Walk.{walk_of, StepsTo};
 
 use pools::Pool;
 
@@ -142,19 +143,12 @@ pub fn wide_slot(r: u32, upper: u32) -> Slot
 
 // ## A set
 
-// A set has six places.
-fn count(n: usize) -> usize
-    ensures { result ≡ min n 6 }
-{
-    if n < 6 { n } else { 6 }
-}
-
 // What stands at place i of the first n, and 0 past them.
 fn entry(set: &[u32; 6], n: usize, i: usize) -> u32
     requires { length set.now ≡ 6 }
     ensures { result ≡ get_or (take n set.now) i 0 }
 {
-    if count(n) <= i {
+    if n.min(6) <= i {
         return 0;
     }
     set[i]
@@ -175,7 +169,7 @@ fn slot_in(set: &[u32; 6], n: usize, i: usize) -> Slot
     requires { length set.now ≡ 6 }
     ensures { result ≡ slot_here (drop i (take n set.now)) }
 {
-    let m = count(n);
+    let m = n.min(6);
     if m <= i {
         return Slot::Unused;
     }
@@ -193,22 +187,44 @@ pub fn slot_at(set: [u32; 6], n: usize, i: usize) -> Slot
 pub fn span(s: Slot) -> usize
     ensures { (result ≡ span_of s) × (0 < result) × (result ≤ 2) }
 {
-    match s {
-        Slot::Unused => 1,
-        Slot::Bar(_, wide, _) => if wide { 2 } else { 1 },
-        Slot::Upper => 1,
-        Slot::Bad => 1,
-    }
+    if takes_next(s) { 2 } else { 1 }
 }
 
 fn is_bad(s: Slot) -> bool
     ensures { result ≡ is_bad s }
 {
-    match s {
-        Slot::Unused => false,
-        Slot::Bar(_, _, _) => false,
-        Slot::Upper => false,
-        Slot::Bad => true,
+    matches!(s, Slot::Bad)
+}
+
+// The slots of the first n read-backs of a set, each with its place. After an unlawful slot the next one is the next place's.
+#[derive(Drop)]
+pub struct SlotWalk {
+    set: [u32; 6],
+    n: usize,
+    next: usize,
+}
+
+pub fn slots(set: [u32; 6], n: usize) -> SlotWalk
+    ensures { result ≡ walk_of set n }
+{
+    SlotWalk { set, n, next: 0 }
+}
+
+impl Iterator for SlotWalk {
+    type Item = (usize, Slot);
+
+    ghost next_gives = { StepsTo };
+
+    ghost remaining = { λ s. at_most (min s.n 6 - s.next) };
+
+    fn next(&mut self) -> Option<(usize, Slot)> {
+        let place = self.next;
+        if self.n.min(6) <= place {
+            return None;
+        }
+        let slot = slot_in(&self.set, self.n, place);
+        self.next = place + span(slot);
+        Some((place, slot))
     }
 }
 
@@ -229,11 +245,11 @@ pub fn is_memory(r: u32) -> bool
     !is_io(r)
 }
 
-// No read-back of the first n gives 25.
+// No read-back of the first n gives 25. Not by `slots`, whose next place waits for the decoded slot: the planner was a quarter slower.
 pub fn is_lawful(set: [u32; 6], n: usize) -> bool
     ensures { result ≡ not (any_bad (slots (take n set))) }
 {
-    let m = count(n);
+    let m = n.min(6);
     let mut i: usize = 0;
     while i < m {
         let r = set[i];
@@ -269,12 +285,7 @@ pub fn is_lawful(set: [u32; 6], n: usize) -> bool
 pub fn takes_next(x: Slot) -> bool
     ensures { result ≡ takes_next x }
 {
-    match x {
-        Slot::Unused => false,
-        Slot::Bar(_, wide, _) => wide,
-        Slot::Upper => false,
-        Slot::Bad => false,
-    }
+    matches!(x, Slot::Bar(_, true, _))
 }
 
 // The number in the registers of the slot x at place i.
@@ -301,8 +312,7 @@ fn type_of(pool: Pool, v: u64) -> u64
     ensures { result ≡ type_of pool v }
 {
     match pool {
-        Pool::Low => v % 16,
-        Pool::High => v % 16,
+        Pool::Low | Pool::High => v % 16,
         Pool::Io => v % 4,
     }
 }
@@ -313,16 +323,6 @@ fn without_type(pool: Pool, v: u64) -> u64
     v - type_of(pool, v)
 }
 
-fn is_io_pool(pool: Pool) -> bool
-    ensures { result ≡ is_io pool }
-{
-    match pool {
-        Pool::Low => false,
-        Pool::High => false,
-        Pool::Io => true,
-    }
-}
-
 // The value has the read-back's type bits, its base is a multiple of the size, and an I/O BAR is at most FFFFh.
 fn is_bar_value(pool: Pool, size: u64, r: u32, v: u64) -> bool
     requires { PowerOfTwo size }
@@ -330,7 +330,7 @@ fn is_bar_value(pool: Pool, size: u64, r: u32, v: u64) -> bool
 {
     (type_of(pool, v) == type_of(pool, r as u64))
         & (without_type(pool, v) & (size - 1) == 0)
-        & (!is_io_pool(pool) | (v <= 65535))
+        & ((pool != Pool::Io) | (v <= 65535))
 }
 
 fn is_value(x: Slot, r: u32, v: u64) -> bool
@@ -349,14 +349,8 @@ fn is_value(x: Slot, r: u32, v: u64) -> bool
 pub fn values_lawful(set: [u32; 6], values: [u32; 6], n: usize) -> bool
     ensures { result ≡ values_lawful (take n set) (take n values) }
 {
-    let m = count(n);
-    let mut i: usize = 0;
-    while i < m {
-        let x = slot_in(&set, n, i);
-        let v = value_in(x, &values, n, i);
-        if is_value(x, set[i], v) {
-            i += span(x);
-        } else {
+    for (i, x) in slots(set, n) {
+        if !is_value(x, set[i], value_in(x, &values, n, i)) {
             return false;
         }
     }
@@ -370,10 +364,8 @@ pub fn base_of(x: Slot, v: u64) -> u64
     ensures { result ≡ base_of x v }
 {
     match x {
-        Slot::Unused => 0,
         Slot::Bar(pool, _, _) => without_type(pool, v),
-        Slot::Upper => 0,
-        Slot::Bad => 0,
+        Slot::Unused | Slot::Upper | Slot::Bad => 0,
     }
 }
 
@@ -382,9 +374,7 @@ pub fn value_of(x: Slot, r: u32, base: u64) -> u64
     ensures { result ≡ value_of x r base }
 {
     match x {
-        Slot::Unused => 0,
         Slot::Bar(pool, _, _) => without_type(pool, base) + type_of(pool, r as u64),
-        Slot::Upper => 0,
-        Slot::Bad => 0,
+        Slot::Unused | Slot::Upper | Slot::Bad => 0,
     }
 }

@@ -33,7 +33,7 @@ use Rattle.plan_rule.specs.declared.Extent.{Extent}
 use Rattle.plan_rule.specs.Sizing.{nothing, extend, with_spare}
 use Rattle.plan_rule.specs.Sizing as sizing
 use Rattle.plan_rule.proofs.ExtentLaws.{window_over_extent, extend_content, select_windows}
-use Rattle.plan_function.specs.Registers.{bars_from, is_window_in, bar_start, window_for, values_from}
+use Rattle.plan_function.specs.Registers.{bars_from, is_window_in, bar_start, values_from}
 use Rattle.plan_function.specs.Function.{Ends, after_bar, bar_starts, after_bars, values_at, is_empty, window_start, window_stop}
 use Rattle.plan_function.specs.Function.{after_function, below_function}
 use Rattle.plan_function.proofs.PassLaws.{first_of}

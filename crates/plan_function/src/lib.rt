@@ -58,7 +58,8 @@ pub struct WindowsPlaced {
     pub below: Cursors,
 }
 
-// The BARs of the first n read-backs of a lawful set, in slot order.
+// The BARs of the first n read-backs of a lawful set, in slot order. Not by `bar::slots`, for speed: the next place asks the read-back
+// alone, and what is decoded here calls nothing (`bar::is_memory`).
 pub fn place_bars(set: [u32; 6], n: usize, c: Cursors) -> BarsPlaced
     requires { (n ≤ 6) × (any_bad (slots (take n set)) ≡ false) }
     ensures { result ≡ bars_placed set n (ends_of c) }
@@ -95,7 +96,7 @@ pub fn place_bars(set: [u32; 6], n: usize, c: Cursors) -> BarsPlaced
         i += 1;
     }
     BarsPlaced {
-        values: values,
+        values,
         cursors: at,
     }
 }
@@ -126,19 +127,13 @@ pub fn place_windows(inner: Extents, c: Cursors, below: Cursors) -> WindowsPlace
     requires { (q : PoolName) → PowerOfTwo (window_align q (extent_in inner q).align) }
     ensures { result ≡ windows_placed inner c below }
 {
-    let low_inner = inner.low;
-    let high_inner = inner.high;
-    let io_inner = inner.io;
-    let low = place_window(Pool::Low, low_inner, c.low, below.low);
-    let high = place_window(Pool::High, high_inner, c.high, below.high);
-    let io = place_window(Pool::Io, io_inner, c.io, below.io);
-    let low_window = low.window;
-    let high_window = high.window;
-    let io_window = io.window;
+    let low = place_window(Pool::Low, inner.low, c.low, below.low);
+    let high = place_window(Pool::High, inner.high, c.high, below.high);
+    let io = place_window(Pool::Io, inner.io, c.io, below.io);
     WindowsPlaced {
-        low: low_window,
-        high: high_window,
-        io: io_window,
+        low: low.window,
+        high: high.window,
+        io: io.window,
         cursors: Cursors {
             low: low.cursor,
             high: high.cursor,
@@ -178,21 +173,9 @@ fn with_cursor(c: Cursors, q: Pool, end: u64) -> Cursors
     ensures { result ≡ with_end c q end }
 {
     match q {
-        Pool::Low => Cursors {
-            low: end,
-            high: c.high,
-            io: c.io,
-        },
-        Pool::High => Cursors {
-            low: c.low,
-            high: end,
-            io: c.io,
-        },
-        Pool::Io => Cursors {
-            low: c.low,
-            high: c.high,
-            io: end,
-        },
+        Pool::Low => Cursors { low: end, ..c },
+        Pool::High => Cursors { high: end, ..c },
+        Pool::Io => Cursors { io: end, ..c },
     }
 }
 
@@ -203,10 +186,8 @@ fn bar_start(c: Cursors, x: Slot) -> u64
     ensures { (result ≡ cap_of (start_of (ends_of c) x)) × (result ≤ limit) }
 {
     match x {
-        Slot::Unused => 0,
         Slot::Bar(q, _, size) => plan_rule::start_at(size, cursor(c, q)),
-        Slot::Upper => 0,
-        Slot::Bad => 0,
+        Slot::Unused | Slot::Upper | Slot::Bad => 0,
     }
 }
 
@@ -216,13 +197,11 @@ fn after_bar(c: Cursors, x: Slot) -> Cursors
     ensures { result ≡ kept_cursors (after_bar (ends_of c) x) }
 {
     match x {
-        Slot::Unused => c,
         Slot::Bar(q, _, size) => {
             let start = plan_rule::start_at(size, cursor(c, q));
             with_cursor(c, q, plan_rule::end_of(start, size))
         }
-        Slot::Upper => c,
-        Slot::Bad => c,
+        Slot::Unused | Slot::Upper | Slot::Bad => c,
     }
 }
 

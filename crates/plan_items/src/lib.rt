@@ -13,10 +13,10 @@ ghost use Rattle.plan_pass.specs.StepLaws.{ends_in};
 ghost use Rattle.finding.specs.Places.{window_place};
 ghost use Rattle.plan_items.specs.Walk.{ends_out, out_after, most_after, see as see_of, see_all, told_at, window_told, record_told, slots_of};
 ghost use Rattle.plan_items.specs.Walk.{seen_after, slot_seen, bars_seen, watched_of, nothing_seen};
-ghost use Rattle.plan_items.specs.Loop.{seen_in, watched_in, told_on, inner_in, told_next, Seeable, Walking, Walkable};
+ghost use Rattle.plan_items.specs.Loop.{seen_in, told_on, inner_in, told_next, Seeable, Walking, Walkable};
 
 use bar::Slot;
-use board_record::{Function, Host, Span};
+use board_record::{Function, Host};
 use finding::Party;
 use plan_rule::Extent;
 use pools::Pool;
@@ -119,17 +119,12 @@ fn see_next(w: Watched, seen: Seen, f: Function, i: usize, memo: &[u64], cursors
     see_record(w, seen, f, i + 1, end, inner_of(memo, q, i))
 }
 
-// The cursor of bus b: three numbers at 3 * b.
+// The cursor of bus b: three numbers at 3 * b, in the order of the pools.
 fn cursor_of(cursors: &[u64], q: Pool, b: usize) -> u64
     requires { 3 * b + 3 ≤ length cursors.now }
     ensures { result ≡ ends_in cursors.now b q }
 {
-    let at = 3 * b;
-    match q {
-        Pool::Low => cursors[at],
-        Pool::High => cursors[at + 1],
-        Pool::Io => cursors[at + 2],
-    }
+    cursors[3 * b + q as usize]
 }
 
 // What sizing stored of the bus below record i + 1.
@@ -145,24 +140,19 @@ fn inner_of(memo: &[u64], q: Pool, i: usize) -> Extent
     }
 }
 
+// A pool with its base above its last address is closed.
 fn watched_pool(host: Host, q: Pool) -> Watched
     ensures { result ≡ watched_of (to_host host) q }
 {
-    match q {
-        Pool::Low => watched_in(q, host.low),
-        Pool::High => watched_in(q, host.high),
-        Pool::Io => watched_in(q, host.io),
-    }
-}
-
-// A pool with its base above its last address is closed.
-fn watched_in(q: Pool, x: Span) -> Watched
-    ensures { result ≡ watched_in q x }
-{
+    let span = match q {
+        Pool::Low => host.low,
+        Pool::High => host.high,
+        Pool::Io => host.io,
+    };
     Watched {
         pool: q,
-        closed: x.last < x.base,
-        last: x.last,
+        closed: span.last < span.base,
+        last: span.last,
     }
 }
 
@@ -185,9 +175,15 @@ fn see_record(w: Watched, seen: Seen, f: Function, k: usize, end: u64, inner: Ex
     requires { (end ≤ limit) × (any_bad (slots_of f) ≡ false) × (is_bridge f ≡ true → PowerOfTwo (max (granule w.pool) inner.align)) }
     ensures { result ≡ see_all w seen (record_told w.pool f k end inner) }
 {
-    let readbacks = f.readbacks;
     let start = BarsSeen { seen, end };
-    let bars = see_bars(w, start, f.parent, k, readbacks, bar::slot_count(f.header));
+    let bars = see_bars(
+        w,
+        start,
+        f.parent,
+        k,
+        f.readbacks,
+        bar::slot_count(f.header),
+    );
     if bar::is_bridge(f.header) {
         return see_window(w, bars, f.parent, k, inner);
     }
@@ -200,15 +196,12 @@ fn see_bars(w: Watched, start: BarsSeen, parent: u16, k: usize, set: [u32; 6], n
     ensures { (result ≡ bars_seen w parent k 0 start (slots (take n set))) × (result.end ≤ limit) }
 {
     let mut done = start;
-    let mut i: usize = 0;
-    while i < n {
-        let x = bar::slot_at(set, n, i);
+    for (i, x) in bar::slots(set, n) {
         let party = Party {
             number: k,
             place: i as u8,
         };
         done = see_slot(w, done, parent, party, x);
-        i += bar::span(x);
     }
     done
 }
@@ -219,10 +212,8 @@ fn see_slot(w: Watched, done: BarsSeen, parent: u16, party: Party, x: Slot) -> B
     ensures { result ≡ slot_seen w parent party.number party.place done x }
 {
     match x {
-        Slot::Unused => done,
         Slot::Bar(p, _, size) => see_bar(w, done, parent, party, p, size),
-        Slot::Upper => done,
-        Slot::Bad => done,
+        Slot::Unused | Slot::Upper | Slot::Bad => done,
     }
 }
 
@@ -230,8 +221,7 @@ fn see_bar(w: Watched, done: BarsSeen, parent: u16, party: Party, p: Pool, size:
     requires { (done.end ≤ limit) × PowerOfTwo size }
     ensures { result ≡ cond (same_pool p w.pool) (seen_after w done (told_at parent party.number party.place done.end size size)) done }
 {
-    let pool = w.pool;
-    if same_pool(p, pool) {
+    if p == w.pool {
         return see_at(w, done, parent, party, size, size);
     }
     done
@@ -271,7 +261,6 @@ fn see_at(w: Watched, done: BarsSeen, parent: u16, party: Party, size: u64, alig
 {
     let start = plan_rule::start_at(align, done.end);
     let stop = plan_rule::end_of(start, size);
-    let seen = done.seen;
     let x = Told {
         root: parent == 0,
         party,
@@ -280,7 +269,7 @@ fn see_at(w: Watched, done: BarsSeen, parent: u16, party: Party, size: u64, alig
         stop,
     };
     BarsSeen {
-        seen: see(w, seen, x),
+        seen: see(w, done.seen, x),
         end: stop,
     }
 }
@@ -289,11 +278,9 @@ fn see(w: Watched, seen: Seen, x: Told) -> Seen
     requires { x.before ≤ x.start }
     ensures { result ≡ see_of w seen x }
 {
-    let out = seen.out;
-    let most = seen.most;
     Seen {
-        out: out_after(w, out, x),
-        most: most_after(most, x),
+        out: out_after(w, seen.out, x),
+        most: most_after(seen.most, x),
     }
 }
 
@@ -311,10 +298,7 @@ fn out_after(w: Watched, out: Party, x: Told) -> Party
 fn ends_out(w: Watched, stop: u64) -> bool
     ensures { result ≡ ends_out w stop }
 {
-    if stop <= w.last {
-        return w.closed;
-    }
-    w.closed | (1 < stop - w.last)
+    w.closed | (1 < stop.saturating_sub(w.last))
 }
 
 // Of two that lose as much, the first stays.
@@ -322,37 +306,17 @@ fn most_after(most: Loss, x: Told) -> Loss
     requires { x.before ≤ x.start }
     ensures { result ≡ most_after most x }
 {
-    let party = x.party;
     let room = x.start - x.before;
     if most.room < room {
-        return Loss { party, room };
+        return Loss {
+            party: x.party,
+            room,
+        };
     }
     most
 }
 
 // ---- pools
-
-fn same_pool(p: Pool, q: Pool) -> bool
-    ensures { result ≡ same_pool p q }
-{
-    match p {
-        Pool::Low => match q {
-            Pool::Low => true,
-            Pool::High => false,
-            Pool::Io => false,
-        },
-        Pool::High => match q {
-            Pool::Low => false,
-            Pool::High => true,
-            Pool::Io => false,
-        },
-        Pool::Io => match q {
-            Pool::Low => false,
-            Pool::High => false,
-            Pool::Io => true,
-        },
-    }
-}
 
 fn window_place(q: Pool) -> u8
     ensures { result ≡ window_place q }

@@ -1,7 +1,6 @@
 -- A host record with its closed pools at 0, as placing sees it. Assumes nothing.
 use Rattle.std.specs.Prelude.{◌≡◌, refl}
 use Rattle.plan_rule.specs.Pools.{Pool, low, high, io}
-use Rattle.plan_rule.specs.Records as placing
 use Rattle.board_record.specs.declared.Host.{Host}
 use Rattle.board.specs.ToPlacing.{to_host}
 use Rattle.plan_needs.specs.Bases.{layout_base, laid_host, laid_host_of}

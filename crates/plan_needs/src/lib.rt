@@ -28,15 +28,11 @@ pub struct Needs {
 pub fn laid_host(h: Host) -> Host
     ensures { result ≡ laid_host_of h }
 {
-    let low = h.low;
-    let high = h.high;
-    let io = h.io;
     Host {
-        first_bus: h.first_bus,
-        last_bus: h.last_bus,
-        low: laid_span(low),
-        high: laid_span(high),
-        io: laid_span(io),
+        low: laid_span(h.low),
+        high: laid_span(h.high),
+        io: laid_span(h.io),
+        ..h
     }
 }
 
@@ -44,12 +40,10 @@ fn laid_span(x: Span) -> Span
     ensures { result ≡ laid_span x }
 {
     if x.last < x.base {
-        return Span {
-            base: 0,
-            last: x.last,
-        };
+        Span { base: 0, ..x }
+    } else {
+        x
     }
-    x
 }
 
 // What a board needs whose bridges and their spares take so many numbers, and whose root bus comes to this from the bases of `laid`.
@@ -57,20 +51,14 @@ pub fn needs_of(laid: Host, bridges: u32, root: Laid) -> Needs
     requires { (bridges < 4294967295) × PastBases laid root }
     ensures { result ≡ needs_by laid bridges root }
 {
-    let low = laid.low;
-    let high = laid.high;
-    let io = laid.io;
-    let in_low = root.low;
-    let in_high = root.high;
-    let in_io = root.io;
     Needs {
         buses: bridges + 1,
-        low: bytes_of(Pool::Low, low.base, in_low),
-        high: bytes_of(Pool::High, high.base, in_high),
-        io: bytes_of(Pool::Io, io.base, in_io),
-        low_align: plan_rule::window_align(Pool::Low, in_low.align),
-        high_align: plan_rule::window_align(Pool::High, in_high.align),
-        io_align: plan_rule::window_align(Pool::Io, in_io.align),
+        low: bytes_of(Pool::Low, laid.low.base, root.low),
+        high: bytes_of(Pool::High, laid.high.base, root.high),
+        io: bytes_of(Pool::Io, laid.io.base, root.io),
+        low_align: plan_rule::window_align(Pool::Low, root.low.align),
+        high_align: plan_rule::window_align(Pool::High, root.high.align),
+        io_align: plan_rule::window_align(Pool::Io, root.io.align),
     }
 }
 

@@ -3,7 +3,7 @@
 // with.
 #![tactic(auto)]
 
-ghost use Rattle.std.specs.Prelude.{◌≡◌, ◌+◌, ◌≤◌, max};
+ghost use Rattle.std.specs.Prelude.{◌≡◌, ◌+◌, ◌≤◌};
 ghost use Rattle.arith.specs.Align.{align_up};
 ghost use Rattle.arith.specs.Powers.{PowerOfTwo};
 ghost use Rattle.plan_rule.specs.Cap.{limit, cap as cap_of};
@@ -24,13 +24,7 @@ const LIMIT: u64 = 4611686018427387904;
 pub fn cap(x: u64) -> u64
     ensures { (result ≡ cap_of x) × (result ≤ limit) }
 {
-    if x < LIMIT { x } else { LIMIT }
-}
-
-pub fn larger(a: u64, b: u64) -> u64
-    ensures { result ≡ max a b }
-{
-    if a < b { b } else { a }
+    x.min(LIMIT)
 }
 
 // Where an item starts: at the first multiple of its alignment at or after the end of the one before.
@@ -61,7 +55,7 @@ pub fn window_size(q: Pool, end: u64) -> u64
 pub fn window_align(q: Pool, largest: u64) -> u64
     ensures { result ≡ window_align q largest }
 {
-    larger(pools::granule(q), largest)
+    pools::granule(q).max(largest)
 }
 
 // The first multiple of a at or after x, by a mask.

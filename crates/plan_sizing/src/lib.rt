@@ -82,13 +82,7 @@ pub fn stored_at(memo: &[u64], i: usize) -> Laid
 pub fn ends_past(last: u64, e: Extent) -> bool
     ensures { result ≡ ends_past last e }
 {
-    if e.align == 0 {
-        return false;
-    }
-    if e.end <= last {
-        return false;
-    }
-    1 < e.end - last
+    (0 < e.align) & (1 < e.end.saturating_sub(last))
 }
 
 // ---- a bus from its functions, a bridge from its bus
@@ -149,19 +143,14 @@ fn own_bars(heads: &[u32], readbacks: &[u32], l: Laid) -> Laid
 {
     let i = l.next;
     let count = bar::slot_count(header_at(heads, i));
-    let own = with_bars(l, set_at(readbacks, i), count);
-    let low = own.low;
-    let high = own.high;
-    let io = own.io;
     Laid {
         next: i + 1,
-        low: low,
-        high: high,
-        io: io,
+        ..with_bars(l, set_at(readbacks, i), count)
     }
 }
 
-// A function's BARs in slot order: those of the first n read-backs of its set.
+// A function's BARs in slot order: those of the first n read-backs of its set. Not by `bar::slots`, for speed: the next place asks the
+// read-back alone (`bar::is_paired`).
 fn with_bars(l: Laid, set: [u32; 6], n: usize) -> Laid
     requires { Whole l × ((n ≤ 6) × (any_bad (slots (take n set)) ≡ false)) }
     ensures { result ≡ cut (add_bars (bars_from 0 (slots (take n set))) (says l)) }
@@ -190,10 +179,8 @@ fn with_slot(l: Laid, s: Slot) -> Laid
     ensures { result ≡ cut (add_slot s (says l)) }
 {
     match s {
-        Slot::Unused => l,
         Slot::Bar(pool, _, size) => with_bar(l, pool, size),
-        Slot::Upper => l,
-        Slot::Bad => l,
+        Slot::Unused | Slot::Upper | Slot::Bad => l,
     }
 }
 
@@ -201,27 +188,18 @@ fn with_bar(l: Laid, pool: Pool, size: u64) -> Laid
     requires { Whole l × PowerOfTwo size }
     ensures { result ≡ cut (add_bar pool size (says l)) }
 {
-    let low = l.low;
-    let high = l.high;
-    let io = l.io;
     match pool {
         Pool::Low => Laid {
-            next: l.next,
-            low: grow(low, size, size),
-            high: high,
-            io: io,
+            low: grow(l.low, size, size),
+            ..l
         },
         Pool::High => Laid {
-            next: l.next,
-            low: low,
-            high: grow(high, size, size),
-            io: io,
+            high: grow(l.high, size, size),
+            ..l
         },
         Pool::Io => Laid {
-            next: l.next,
-            low: low,
-            high: high,
-            io: grow(io, size, size),
+            io: grow(l.io, size, size),
+            ..l
         },
     }
 }
@@ -246,14 +224,9 @@ fn with_spare(l: Laid, spare: u64) -> Laid
     if spare == 0 {
         return l;
     }
-    let low = l.low;
-    let high = l.high;
-    let io = l.io;
     Laid {
-        next: l.next,
-        low: grow(low, spare * MIB, MIB),
-        high: high,
-        io: io,
+        low: grow(l.low, spare * MIB, MIB),
+        ..l
     }
 }
 
@@ -265,7 +238,7 @@ fn with_window(q: Pool, e: Extent, inner: Extent) -> Extent
     if inner.align == 0 {
         return Extent {
             end: plan_rule::cap(e.end),
-            align: e.align,
+            ..e
         };
     }
     let size = plan_rule::window_size(q, inner.end);
@@ -279,7 +252,7 @@ fn grow(e: Extent, size: u64, align: u64) -> Extent
     let start = plan_rule::start_at(align, e.end);
     Extent {
         end: plan_rule::end_of(start, size),
-        align: plan_rule::larger(e.align, align),
+        align: e.align.max(align),
     }
 }
 
@@ -289,10 +262,7 @@ fn grow(e: Extent, size: u64, align: u64) -> Extent
 fn is_child(parents: &[u16], i: usize, bus: usize) -> bool
     ensures { result ≡ is_child parents.now i bus }
 {
-    if i < parents.len() {
-        return parents[i] as usize == bus;
-    }
-    false
+    i < parents.len() && parents[i] as usize == bus
 }
 
 // The header type byte of function i, and its spare room in MiB.
@@ -366,14 +336,11 @@ fn store(memo: &mut [u64], i: usize, l: Laid)
     ensures { memo.new ≡ sets memo.old (7 * i) (numbers_of l) }
 {
     let at = 7 * i;
-    let low = l.low;
-    let high = l.high;
-    let io = l.io;
     memo[at] = l.next as u64;
-    memo[at + 1] = low.end;
-    memo[at + 2] = low.align;
-    memo[at + 3] = high.end;
-    memo[at + 4] = high.align;
-    memo[at + 5] = io.end;
-    memo[at + 6] = io.align;
+    memo[at + 1] = l.low.end;
+    memo[at + 2] = l.low.align;
+    memo[at + 3] = l.high.end;
+    memo[at + 4] = l.high.align;
+    memo[at + 5] = l.io.end;
+    memo[at + 6] = l.io.align;
 }

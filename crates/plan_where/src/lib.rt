@@ -68,12 +68,10 @@ fn where_lawful(board: &[u8]) -> PlanFinding
     let m = measure(board, laid, &mut counts, &mut memo);
     let number = planner::refusal(host, m);
     let parties = parties_under(number, board, host, &counts, &memo);
-    let party = parties.party;
-    let other = parties.other;
     PlanFinding {
         number,
-        party,
-        other,
+        party: parties.party,
+        other: parties.other,
         needs: plan_needs::needs_of(laid, m.bridges, m.root),
     }
 }
@@ -96,16 +94,12 @@ fn parties_under(number: u8, board: &[u8], host: Host, counts: &[u8], memo: &[u6
     requires { 30 < number → Walkable board.now host counts.now memo.now }
     ensures { result ≡ parties_under number (to_host host) (to_placing (functions_of board.now)) }
 {
-    if number == 31 {
-        return in_pool(Pool::Low, board, host, counts, memo);
+    match number {
+        31 => in_pool(Pool::Low, board, host, counts, memo),
+        32 => in_pool(Pool::High, board, host, counts, memo),
+        33 => in_pool(Pool::Io, board, host, counts, memo),
+        _ => NOBODIES,
     }
-    if number == 32 {
-        return in_pool(Pool::High, board, host, counts, memo);
-    }
-    if number == 33 {
-        return in_pool(Pool::Io, board, host, counts, memo);
-    }
-    NOBODIES
 }
 
 // The first item that runs out of the pool, and the one before which most room is lost.
@@ -114,8 +108,8 @@ fn in_pool(q: Pool, board: &[u8], host: Host, counts: &[u8], memo: &[u64]) -> Pa
     ensures { result ≡ in_pool (to_host host) (to_placing (functions_of board.now)) q }
 {
     let seen = plan_items::walk_items(board, host, q, counts, memo);
-    let party = seen.out;
-    let most = seen.most;
-    let other = most.party;
-    Parties { party, other }
+    Parties {
+        party: seen.out,
+        other: seen.most.party,
+    }
 }

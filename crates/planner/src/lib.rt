@@ -94,11 +94,16 @@ pub fn count_and_size(
     let ps = &parents[..n];
     let hs = &heads[..n];
     let bridges = plan_tables::count_buses(ps, hs, counts);
-    let low = host.low;
-    let high = host.high;
-    let io = host.io;
     let sets = &readbacks[..6 * n];
-    let root = plan_sizing::size_board(ps, hs, sets, memo, low.base, high.base, io.base);
+    let root = plan_sizing::size_board(
+        ps,
+        hs,
+        sets,
+        memo,
+        host.low.base,
+        host.high.base,
+        host.io.base,
+    );
     Measured {
         functions: n,
         bridges,
@@ -114,14 +119,13 @@ pub fn refusal(host: Host, m: Measured) -> u8
     if (host.last_bus as u32) < host.first_bus as u32 + m.bridges {
         return 30;
     }
-    let root = m.root;
-    if runs_out(host.low, root.low) {
+    if runs_out(host.low, m.root.low) {
         return 31;
     }
-    if runs_out(host.high, root.high) {
+    if runs_out(host.high, m.root.high) {
         return 32;
     }
-    if runs_out(host.io, root.io) {
+    if runs_out(host.io, m.root.io) {
         return 33;
     }
     0

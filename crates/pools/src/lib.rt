@@ -5,7 +5,7 @@ ghost use Rattle.std.specs.Prelude.{◌≡◌};
 ghost use Rattle.pools.specs.Pools.{granule as granule_of, in_space};
 
 // Low memory, high memory (prefetchable, above 4 GiB) and I/O.
-#[derive(Clone, Copy)]
+#[derive(Clone, Copy, Debug, PartialEq, Eq)]
 pub enum Pool {
     Low,
     High,
@@ -13,7 +13,7 @@ pub enum Pool {
 }
 
 // The address spaces. Memory has two pools, low and high.
-#[derive(Clone, Copy)]
+#[derive(Clone, Copy, Debug, PartialEq, Eq)]
 pub enum Space {
     Memory,
     Io,
@@ -24,8 +24,7 @@ pub fn granule(q: Pool) -> u64
     ensures { result ≡ granule_of q }
 {
     match q {
-        Pool::Low => 1048576,
-        Pool::High => 1048576,
+        Pool::Low | Pool::High => 1048576,
         Pool::Io => 4096,
     }
 }
@@ -34,15 +33,7 @@ pub fn in_space(space: Space, q: Pool) -> bool
     ensures { result ≡ in_space space q }
 {
     match space {
-        Space::Memory => match q {
-            Pool::Low => true,
-            Pool::High => true,
-            Pool::Io => false,
-        },
-        Space::Io => match q {
-            Pool::Low => false,
-            Pool::High => false,
-            Pool::Io => true,
-        },
+        Space::Memory => q != Pool::Io,
+        Space::Io => q == Pool::Io,
     }
 }

@@ -20,15 +20,12 @@ pub fn place_of(part: &[u8], n: usize) -> u8
     let set = sheet_record::readbacks_of(part);
     let slots = sheet_record::slot_count(part);
     let mut left = n;
-    let mut i: usize = 0;
-    while i < slots {
-        let x = bar::slot_at(set, slots, i);
+    for (i, x) in bar::slots(set, slots) {
         let here = bars_in(x);
         if left < here {
             return i as u8;
         }
         left -= here;
-        i += bar::span(x);
     }
     window_place(part, left)
 }
@@ -37,12 +34,7 @@ pub fn place_of(part: &[u8], n: usize) -> u8
 fn bars_in(x: Slot) -> usize
     ensures { (result ≡ length (bar_place x 0)) × (result ≤ 1) }
 {
-    match x {
-        Slot::Unused => 0,
-        Slot::Bar(_, _, _) => 1,
-        Slot::Upper => 0,
-        Slot::Bad => 0,
-    }
+    usize::from(matches!(x, Slot::Bar(..)))
 }
 
 // The place of the open window at index n: low, high, I/O.
@@ -73,8 +65,5 @@ fn open_in(part: &[u8], q: Pool) -> usize
     ensures { (result ≡ cond (is_open q (window_of q part.now)) 1 0) × (result ≤ 1) }
 {
     let w = sheet_record::window_of(part, q);
-    if w.last(q) < w.start(q) {
-        return 0;
-    }
-    1
+    usize::from(w.start(q) <= w.last(q))
 }

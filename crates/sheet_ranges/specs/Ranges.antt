@@ -1,6 +1,6 @@
 -- The BARs and open windows of a function, and the open pools of a host, each with the pool where document 01 puts its kind. Assumes
 -- nothing.
-use Rattle.std.specs.Prelude.{Bool, cond, ◌&&◌, List, [], ◌∷◌, ◌++◌, ℕ, suc, drop, eqb, leb, ltb}
+use Rattle.std.specs.Prelude.{Bool, cond, ◌&&◌, List, [], ◌∷◌, ◌++◌, ℕ, suc, drop, eqb, ltb}
 use Rattle.pools.specs.declared.Pool as kinds
 use Rattle.pools.specs.declared.Pool.TheVariants.{Low, High, Io}
 use Rattle.pools.specs.declared.Space.{Space}

@@ -1,11 +1,11 @@
 -- A function's BARs and open windows are those of both address spaces together: in a space they are the ones of its pools. And the tests of
 -- two ranges as statements. Assumes nothing.
-use Rattle.std.specs.Prelude.{◌≡◌, refl, ◌↔◌, Bool, true, false, cond, ◌&&◌, List, [], ◌∷◌, ◌++◌, ℕ, ◌+◌, drop, eqb, leb, ltb}
-use Rattle.std.proofs.Common.{sym, ap, ap₂, ◌∙◌, inl, inr, append-nil, arith, eqb-true, eq-eqb, leb-true, le-leb, ltb-false, le-ltb}
-use Rattle.std.proofs.Math.Bool.{and-eq-true_iff, and-false}
-use Rattle.lists.specs.Lists.{All, Some, keep, any}
-use Rattle.lists.specs.ListLaws.{all_append, member_of_some, some_of_member}
-use Rattle.lists.specs.KeepLaws.{keep_append, keep_elim, keep_intro, any_of_some, some_of_any}
+use Rattle.std.specs.Prelude.{◌≡◌, refl, Bool, true, false, cond, ◌&&◌, List, [], ◌∷◌, ◌++◌, ℕ, drop, eqb, ltb}
+use Rattle.std.proofs.Common.{sym, ap, ap₂, ◌∙◌, inl, inr, append-nil, arith, eqb-true, eq-eqb, ltb-false, le-ltb}
+use Rattle.std.proofs.Math.Bool.{and-false}
+use Rattle.lists.specs.Lists.{All, keep}
+use Rattle.lists.specs.ListLaws.{all_append}
+use Rattle.lists.specs.KeepLaws.{keep_append}
 use Rattle.pools.specs.declared.Pool.{Pool}
 use Rattle.pools.specs.declared.Pool.TheVariants.{Low, High, Io}
 use Rattle.pools.specs.declared.Space.{Space}

@@ -55,12 +55,9 @@ pub fn pools_of(host: Host, room: &mut [u64]) -> usize
     requires { 18 ≤ length room.old }
     ensures { (ranges_in result room.new ≡ pools_in host) × (result ≤ 6) }
 {
-    let low = host.low;
-    let high = host.high;
-    let io = host.io;
-    let n = put_open(room, 0, Pool::Low, low.base, low.last);
-    let m = put_open(room, n, Pool::High, high.base, high.last);
-    put_open(room, m, Pool::Io, io.base, io.last)
+    let n = put_open(room, 0, Pool::Low, host.low.base, host.low.last);
+    let m = put_open(room, n, Pool::High, host.high.base, host.high.last);
+    put_open(room, m, Pool::Io, host.io.base, host.io.last)
 }
 
 // The range at index i.
@@ -142,7 +139,6 @@ fn put_bar(room: &mut [u64], n: usize, x: Slot, value: u64) -> usize
     ensures { (ranges_in result room.new ≡ ranges_in n room.old ++ bar_at x value) × (result ≤ n + 1) }
 {
     match x {
-        Slot::Unused => n,
         Slot::Bar(q, _, size) => {
             let first = bar::base_of(x, value);
             let own = Item {
@@ -152,8 +148,7 @@ fn put_bar(room: &mut [u64], n: usize, x: Slot, value: u64) -> usize
             };
             put(room, n, own)
         }
-        Slot::Upper => n,
-        Slot::Bad => n,
+        Slot::Unused | Slot::Upper | Slot::Bad => n,
     }
 }
 
@@ -166,12 +161,8 @@ fn put_bars(part: &[u8], room: &mut [u64]) -> usize
     let values = sheet_record::values_of(part);
     let slots = sheet_record::slot_count(part);
     let mut n: usize = 0;
-    let mut i: usize = 0;
-    while i < slots {
-        let x = bar::slot_at(set, slots, i);
-        let value = bar::value_here(x, values, slots, i);
-        n = put_bar(room, n, x, value);
-        i += bar::span(x);
+    for (i, x) in bar::slots(set, slots) {
+        n = put_bar(room, n, x, bar::value_here(x, values, slots, i));
     }
     n
 }

@@ -45,10 +45,8 @@ fn put_plan(out: &mut [u8], at: usize, sheet: &[u8]) -> usize
 {
     let count = sheet::count(sheet);
     let mut next = put_count(out, at, count);
-    let mut k = 0;
-    while k < count {
+    for k in 0..count {
         next = put_record(out, next, sheet::part(sheet, k));
-        k += 1;
     }
     next
 }
@@ -133,8 +131,7 @@ fn put_bars(out: &mut [u8], at: usize, name: &[u8], values: &[u32]) -> usize
 fn put_pair(out: &mut [u8], at: usize, width: usize, first: u32, second: u32) -> usize
     ensures { Put out.old at (words width (first ∷ second ∷ [])) out.new result }
 {
-    let pair = [first, second];
-    put_words(out, at, width, &pair)
+    put_words(out, at, width, &[first, second])
 }
 
 // Each number after a space, in its last `width` hexadecimal digits.
@@ -142,10 +139,8 @@ fn put_words(out: &mut [u8], at: usize, width: usize, numbers: &[u32]) -> usize
     ensures { Put out.old at (words width numbers.now) out.new result }
 {
     let mut next = text::place(out, at);
-    let mut i = 0;
-    while i < numbers.len() {
-        next = put_word(out, next, width, numbers[i]);
-        i += 1;
+    for number in numbers {
+        next = put_word(out, next, width, *number);
     }
     next
 }

@@ -18,36 +18,20 @@ pub struct Window {
 }
 
 impl Window {
-    // "A closed window has one spelling for each kind". Zeros would open 1 MiB at 0.
-    pub const CLOSED_LOW: Window = Window {
-        base: 0xfff0,
-        limit: 0x0000,
-        upper_base: 0,
-        upper_limit: 0,
-    };
-
-    pub const CLOSED_HIGH: Window = Window {
-        base: 0xfff1,
-        limit: 0x0001,
-        upper_base: 0,
-        upper_limit: 0,
-    };
-
-    pub const CLOSED_IO: Window = Window {
-        base: 0xf0,
-        limit: 0x00,
-        upper_base: 0,
-        upper_limit: 0,
-    };
-
-    // The closed window of a pool.
+    // The closed window of a pool: "A closed window has one spelling for each kind". Zeros would open 1 MiB at 0.
     pub fn closed(q: Pool) -> Self
         ensures { result ≡ closed_of q }
     {
-        match q {
-            Pool::Low => Self::CLOSED_LOW,
-            Pool::High => Self::CLOSED_HIGH,
-            Pool::Io => Self::CLOSED_IO,
+        let (base, limit) = match q {
+            Pool::Low => (0xfff0, 0x0000),
+            Pool::High => (0xfff1, 0x0001),
+            Pool::Io => (0xf0, 0x00),
+        };
+        Self {
+            base,
+            limit,
+            upper_base: 0,
+            upper_limit: 0,
         }
     }
 
@@ -55,7 +39,7 @@ impl Window {
     pub fn opened(q: Pool, start: u64, stop: u64) -> Self
         ensures { result ≡ opened_of q start stop }
     {
-        let last = before(stop);
+        let last = stop.saturating_sub(1);
         Self {
             base: register(q, start),
             limit: register(q, last),
@@ -88,7 +72,7 @@ impl Window {
         ensures { result ≡ is_nibbled q self }
     {
         let expected = nibble(q);
-        (wide16(self.base) % 16 == expected) & (wide16(self.limit) % 16 == expected)
+        (u64::from(self.base) % 16 == expected) & (u64::from(self.limit) % 16 == expected)
     }
 }
 
@@ -99,8 +83,7 @@ fn fields(q: Pool) -> u64
     ensures { (result ≡ fields_of q) × (0 < result) × (result ≤ 4096) }
 {
     match q {
-        Pool::Low => 4096,
-        Pool::High => 4096,
+        Pool::Low | Pool::High => 4096,
         Pool::Io => 16,
     }
 }
@@ -109,9 +92,8 @@ fn nibble(q: Pool) -> u64
     ensures { (result ≡ nibble_of q) × (result < 16) }
 {
     match q {
-        Pool::Low => 0,
         Pool::High => 1,
-        Pool::Io => 0,
+        Pool::Low | Pool::Io => 0,
     }
 }
 
@@ -131,36 +113,16 @@ fn upper(q: Pool, a: u64) -> u32
     ensures { result ≡ upper_of q a }
 {
     match q {
-        Pool::Low => 0,
         Pool::High => (a / 4294967296) as u32,
-        Pool::Io => 0,
+        Pool::Low | Pool::Io => 0,
     }
 }
 
-// One less, and 0 for 0.
-fn before(stop: u64) -> u64
-    ensures { result ≡ stop - 1 }
-{
-    if stop == 0 { 0 } else { stop - 1 }
-}
-
 // ---- from registers to an address
-
-fn wide16(x: u16) -> u64
-    ensures { (result ≡ x) × (result < 65536) }
-{
-    x as u64
-}
-
-fn wide32(x: u32) -> u64
-    ensures { (result ≡ x) × (result < 4294967296) }
-{
-    x as u64
-}
 
 // The first address of the register's granule.
 fn address(q: Pool, upper: u32, register: u16) -> u64
     ensures { (result ≡ address_of q upper register) × (result + 1048576 ≤ 18446744073709551616) }
 {
-    wide32(upper) * 4294967296 + wide16(register) / 16 * pools::granule(q)
+    u64::from(upper) * 4294967296 + u64::from(register) / 16 * pools::granule(q)
 }

@@ -2,7 +2,7 @@
 -- Measure: the places left of six. Assumes nothing.
 use mathlib.Core.Path.{◌≡◌, refl, sym, ap, ◌∙◌}
 use mathlib.Core.Bool.{not}
-use Prim.Native.Nat.{ℕ, ◌+◌, ◌-◌}
+use Prim.Native.Nat.{ℕ, ◌+◌}
 use native.Mathlib.Omega.{arith}
 use borrow.Author.Rules.{rules}
 use lib.ListN.{length, take, drop}
@@ -13,57 +13,25 @@ use Rattle.bar.specs.BarLaws.{slot_of_pair, slot_of_single, slot_of_none, pair_s
 use Rattle.bar.proofs.is_lawful.Goals as goal
 
 -- src/lib.rt:236:5
-pub loop-i-init : goal.loop-i-init
-loop-i-init c = refl
-
--- src/lib.rt:237:17
-pub bounds-set-i : goal.bounds-set-i
-bounds-set-i c = omega arith
-
--- src/lib.rt:239:13
-pub overflow_add-i : goal.overflow_add-i
-overflow_add-i c = omega arith
-
--- src/lib.rt:236:5
-pub loop-i-smaller-then-r-eq0 : goal.loop-i-smaller-then-r-eq0
-loop-i-smaller-then-r-eq0 c = omega arith
-
--- src/lib.rt:236:5
 pub loop-i-preserved-then-r-eq0 : goal.loop-i-preserved-then-r-eq0
 loop-i-preserved-then-r-eq0 c = let six : length c.args.set ≡ 6 = search rules in
     let m = length_first c.args.set c.args.n six in
     any_bad_step (take c.args.n c.args.set) c.loop-i.i Unused (omega arith)
-    (slot_of_none c.args.set c.args.n _ c.loop-i.i six c.count-m.ensures c.loop-i-test.true c.if-r-eq0.true) refl ∙ c.loop-i.invariant
-
--- src/lib.rt:243:40
-pub overflow_add-i-then-is_paired : goal.overflow_add-i-then-is_paired
-overflow_add-i-then-is_paired c = omega (arith, c.is_paired.ensures.1 c.if-is_paired.true)
-
--- src/lib.rt:243:36
-pub bounds-set-i-then-is_paired : goal.bounds-set-i-then-is_paired
-bounds-set-i-then-is_paired c = omega (arith, c.is_paired.ensures.1 c.if-is_paired.true)
+    (slot_of_none c.args.set c.args.n _ c.loop-i.i six c.min-m.ensures c.loop-i-test.true c.if-r-eq0.true) refl ∙ c.loop-i.invariant
 
 -- src/lib.rt:244:17
 pub returns-then-is_bad : goal.returns-then-is_bad
 returns-then-is_bad c = let six : length c.args.set ≡ 6 = search rules in
     let m = length_first c.args.set c.args.n six in
-    let e = slot_of_pair c.args.set c.args.n _ c.loop-i.i _ _ _ _ six c.count-m.ensures c.loop-i-test.true refl refl c.is_paired.ensures.0 (c.is_paired.ensures.1 c.if-is_paired.true) c.if-is_paired.true
+    let e = slot_of_pair c.args.set c.args.n _ c.loop-i.i _ _ _ _ six c.min-m.ensures c.loop-i-test.true refl refl c.is_paired.ensures.0 (c.is_paired.ensures.1 c.if-is_paired.true) c.if-is_paired.true
     c.wide_slot.ensures in
     ap not (sym (any_bad_of_bad (take c.args.n c.args.set) c.loop-i.i _ (omega arith) e (sym c.is_bad.ensures ∙ c.if-is_bad.true)) ∙ c.loop-i.invariant)
-
--- src/lib.rt:246:13
-pub overflow_add-i-then-is_paired-2 : goal.overflow_add-i-then-is_paired-2
-overflow_add-i-then-is_paired-2 c = omega (arith, c.is_paired.ensures.1 c.if-is_paired.true)
-
--- src/lib.rt:236:5
-pub loop-i-smaller-then-is_paired : goal.loop-i-smaller-then-is_paired
-loop-i-smaller-then-is_paired c = omega arith
 
 -- src/lib.rt:236:5
 pub loop-i-preserved-then-is_paired : goal.loop-i-preserved-then-is_paired
 loop-i-preserved-then-is_paired c = let six : length c.args.set ≡ 6 = search rules in
     let m = length_first c.args.set c.args.n six in
-    let e = slot_of_pair c.args.set c.args.n _ c.loop-i.i _ _ _ _ six c.count-m.ensures c.loop-i-test.true refl refl c.is_paired.ensures.0 (c.is_paired.ensures.1 c.if-is_paired.true) c.if-is_paired.true c.wide_slot.ensures in
+    let e = slot_of_pair c.args.set c.args.n _ c.loop-i.i _ _ _ _ six c.min-m.ensures c.loop-i-test.true refl refl c.is_paired.ensures.0 (c.is_paired.ensures.1 c.if-is_paired.true) c.if-is_paired.true c.wide_slot.ensures in
     let good = sym c.is_bad.ensures ∙ c.if-is_bad.false in
     ap (λ (k : ℕ). any_bad (slots (drop (c.loop-i.i + k) (take c.args.n c.args.set)))) (sym (pair_span _ _ _ c.wide_slot.ensures good))
     ∙ any_bad_step (take c.args.n c.args.set) c.loop-i.i _ (omega arith) e good ∙ c.loop-i.invariant
@@ -72,23 +40,15 @@ loop-i-preserved-then-is_paired c = let six : length c.args.set ≡ 6 = search r
 pub returns-then-is_bad-2 : goal.returns-then-is_bad-2
 returns-then-is_bad-2 c = let six : length c.args.set ≡ 6 = search rules in
     let m = length_first c.args.set c.args.n six in
-    let e = slot_of_single c.args.set c.args.n _ c.loop-i.i _ _ _ six c.count-m.ensures c.loop-i-test.true refl c.is_paired.ensures.0
+    let e = slot_of_single c.args.set c.args.n _ c.loop-i.i _ _ _ six c.min-m.ensures c.loop-i-test.true refl c.is_paired.ensures.0
     c.if-is_paired.false c.narrow_slot.ensures in
     ap not (sym (any_bad_of_bad (take c.args.n c.args.set) c.loop-i.i _ (omega arith) e (sym c.is_bad-then-is_memory.ensures ∙ c.if-is_bad-2.true)) ∙ c.loop-i.invariant)
-
--- src/lib.rt:253:13
-pub overflow_add-i-then-is_memory : goal.overflow_add-i-then-is_memory
-overflow_add-i-then-is_memory c = omega arith
-
--- src/lib.rt:236:5
-pub loop-i-smaller-then-is_memory : goal.loop-i-smaller-then-is_memory
-loop-i-smaller-then-is_memory c = omega arith
 
 -- src/lib.rt:236:5
 pub loop-i-preserved-then-is_memory : goal.loop-i-preserved-then-is_memory
 loop-i-preserved-then-is_memory c = let six : length c.args.set ≡ 6 = search rules in
     let m = length_first c.args.set c.args.n six in
-    let e = slot_of_single c.args.set c.args.n _ c.loop-i.i _ _ _ six c.count-m.ensures c.loop-i-test.true refl c.is_paired.ensures.0
+    let e = slot_of_single c.args.set c.args.n _ c.loop-i.i _ _ _ six c.min-m.ensures c.loop-i-test.true refl c.is_paired.ensures.0
     c.if-is_paired.false c.narrow_slot.ensures in
     ap (λ (k : ℕ). any_bad (slots (drop (c.loop-i.i + k) (take c.args.n c.args.set)))) (sym (single_span _ _ c.narrow_slot.ensures))
     ∙ any_bad_step (take c.args.n c.args.set) c.loop-i.i _ (omega arith) e (sym c.is_bad-then-is_memory.ensures ∙ c.if-is_bad-2.false) ∙ c.loop-i.invariant
@@ -101,19 +61,11 @@ returns-then-is_bad-3 c = let six : length c.args.set ≡ 6 = search rules in
     (sym (any_bad_of_bad (take c.args.n c.args.set) c.loop-i.i _ (omega arith) c.slot_in.ensures (sym c.is_bad-in-loop-i.ensures ∙ c.if-is_bad-3.true))
     ∙ c.loop-i.invariant)
 
--- src/lib.rt:259:9
-pub overflow_add-i-in-loop-i : goal.overflow_add-i-in-loop-i
-overflow_add-i-in-loop-i c = omega arith
-
--- src/lib.rt:236:5
-pub loop-i-smaller : goal.loop-i-smaller
-loop-i-smaller c = omega arith
-
 -- src/lib.rt:236:5
 pub loop-i-preserved : goal.loop-i-preserved
 loop-i-preserved c = let six : length c.args.set ≡ 6 = search rules in
     let m = length_first c.args.set c.args.n six in
-    let one = here_span c.args.set c.args.n _ c.loop-i.i _ _ _ six c.count-m.ensures c.loop-i-test.true refl c.is_paired.ensures.0
+    let one = here_span c.args.set c.args.n _ c.loop-i.i _ _ _ six c.min-m.ensures c.loop-i-test.true refl c.is_paired.ensures.0
     c.if-is_paired.false c.slot_in.ensures in
     ap (λ (k : ℕ). any_bad (slots (drop (c.loop-i.i + k) (take c.args.n c.args.set)))) (sym one)
     ∙ any_bad_step (take c.args.n c.args.set) c.loop-i.i _ (omega arith) c.slot_in.ensures (sym c.is_bad-in-loop-i.ensures ∙ c.if-is_bad-3.false) ∙ c.loop-i.invariant

@@ -9,7 +9,7 @@ pub returns-then-m-i : goal.returns-then-m-i
 returns-then-m-i c = sym (slot_at_none c.args.set.now c.args.n c.args.i c.requires (omega arith))
 
 pub returns : goal.returns
-returns c = let m = c.count-m.ensures ∙ sym (length_first c.args.set.now c.args.n c.requires) in
+returns c = let m = c.min-m.ensures ∙ sym (length_first c.args.set.now c.args.n c.requires) in
     c.slot_of.ensures ∙ sym
     (slot_here_at (take c.args.n c.args.set.now) c.args.i _ _ _ m (omega arith) c.entry.ensures
     c.entry-2.ensures)

@@ -5,8 +5,5 @@ use native.Mathlib.Omega.{arith}
 use Rattle.bar.specs.Bar.{type_bits}
 use Rattle.bar.proofs.without_type.Goals as goal
 
-pub overflow_sub-result : goal.overflow_sub-result
-overflow_sub-result c = omega (arith, div-add-mod' c.args.v (2 ^ type_bits c.args.pool))
-
 pub returns : goal.returns
 returns c = omega (arith, div-add-mod' c.args.v (2 ^ type_bits c.args.pool))

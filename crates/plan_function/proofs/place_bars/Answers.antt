@@ -3,7 +3,6 @@
 use borrow.Author.Rules.{rules}
 use mathlib.Core.Path.{◌≡◌, refl, sym, subst, ◌∙◌}
 use native.Mathlib.Omega.{arith}
-use Prim.Native.Nat.{◌-◌}
 use lib.ListN.{length}
 use Rattle.bar.specs.Bar.{SizedSlot}
 use Rattle.bar.specs.BarLaws.{sized_wide, sized_narrow, sized_here, slot_of_pair, slot_of_single, pair_span, single_span, here_span}
@@ -16,60 +15,19 @@ use Rattle.plan_function.proofs.place_bars.Goals as goal
 pub loop-i-init : goal.loop-i-init
 loop-i-init c = placing_start _ _ _ _ c.requires.1 (kept_kept _ (ends_of c.args.c) c.kept-at.ensures)
 
--- src/lib.rt:66:17
-pub bounds-set-i : goal.bounds-set-i
-bounds-set-i c = omega (arith, c.requires.0)
-
--- src/lib.rt:68:13
-pub overflow_add-i : goal.overflow_add-i
-overflow_add-i c = omega (arith, c.requires.0)
-
--- src/lib.rt:65:5
-pub loop-i-smaller-then-r-eq0 : goal.loop-i-smaller-then-r-eq0
-loop-i-smaller-then-r-eq0 c = omega arith
-
 -- src/lib.rt:65:5
 pub loop-i-preserved-then-r-eq0 : goal.loop-i-preserved-then-r-eq0
 loop-i-preserved-then-r-eq0 c = let six : length c.args.set ≡ 6 = search rules in
     placing_skip c.args.set c.args.n (ends_of c.kept-at.result) c.loop-i.values c.loop-i.at c.loop-i.i c.loop-i.invariant c.loop-i-test.true c.requires.0 six
     c.if-r-eq0.true
 
--- src/lib.rt:71:12
-pub is_paired-requires : goal.is_paired-requires
-is_paired-requires c = c.loop-i-test.true
-
--- src/lib.rt:72:43
-pub overflow_add-i-then-is_paired : goal.overflow_add-i-then-is_paired
-overflow_add-i-then-is_paired c = omega (arith, c.requires.0, c.is_paired.ensures.1 c.if-is_paired.true)
-
--- src/lib.rt:72:39
-pub bounds-set-i-then-is_paired : goal.bounds-set-i-then-is_paired
-bounds-set-i-then-is_paired c = omega (arith, c.requires.0, c.is_paired.ensures.1 c.if-is_paired.true)
-
 -- src/lib.rt:73:41
 pub bar_start-requires : goal.bar_start-requires
 bar_start-requires c = subst SizedSlot (sym c.wide_slot-x.ensures) (sized_wide _ _)
 
--- src/lib.rt:74:13
-pub put_registers-requires : goal.put_registers-requires
-put_registers-requires c = let six : length c.args.set ≡ 6 = search rules in
-    let e = slot_of_pair c.args.set c.args.n c.args.n c.loop-i.i _ _ _ _ six (omega (arith, c.requires.0)) c.loop-i-test.true refl refl c.is_paired.ensures.0
-    (c.is_paired.ensures.1 c.if-is_paired.true) c.if-is_paired.true c.wide_slot-x.ensures in
-    let below = span_le c.args.set c.args.n (ends_of c.kept-at.result) c.loop-i.values c.loop-i.at c.loop-i.i c.loop-i.invariant c.loop-i-test.true c.requires.0
-    six c.wide_slot-x.result e in
-    omega (arith, c.loop-i.invariant.six, c.requires.0, below)
-
 -- src/lib.rt:75:13
 pub after_bar-at-requires : goal.after_bar-at-requires
 after_bar-at-requires c = (subst SizedSlot (sym c.wide_slot-x.ensures) (sized_wide _ _), c.loop-i.invariant.kept)
-
--- src/lib.rt:76:13
-pub overflow_add-i-then-is_paired-2 : goal.overflow_add-i-then-is_paired-2
-overflow_add-i-then-is_paired-2 c = omega (arith, c.requires.0, c.is_paired.ensures.1 c.if-is_paired.true)
-
--- src/lib.rt:65:5
-pub loop-i-smaller-then-is_paired : goal.loop-i-smaller-then-is_paired
-loop-i-smaller-then-is_paired c = omega arith
 
 -- src/lib.rt:65:5
 pub loop-i-preserved-then-is_paired : goal.loop-i-preserved-then-is_paired
@@ -100,14 +58,6 @@ put_registers-requires-then-is_memory c = let six : length c.args.set ≡ 6 = se
 pub after_bar-at-requires-then-is_memory : goal.after_bar-at-requires-then-is_memory
 after_bar-at-requires-then-is_memory c = (subst SizedSlot (sym c.narrow_slot-x.ensures) (sized_narrow _), c.loop-i.invariant.kept)
 
--- src/lib.rt:84:13
-pub overflow_add-i-then-is_memory : goal.overflow_add-i-then-is_memory
-overflow_add-i-then-is_memory c = omega (arith, c.requires.0)
-
--- src/lib.rt:65:5
-pub loop-i-smaller-then-is_memory : goal.loop-i-smaller-then-is_memory
-loop-i-smaller-then-is_memory c = omega arith
-
 -- src/lib.rt:65:5
 pub loop-i-preserved-then-is_memory : goal.loop-i-preserved-then-is_memory
 loop-i-preserved-then-is_memory c = let six : length c.args.set ≡ 6 = search rules in
@@ -133,14 +83,6 @@ put_registers-requires-in-loop-i c = let six : length c.args.set ≡ 6 = search 
 -- src/lib.rt:90:9
 pub after_bar-at-requires-in-loop-i : goal.after_bar-at-requires-in-loop-i
 after_bar-at-requires-in-loop-i c = (subst SizedSlot (sym c.slot_at-x.ensures) (sized_here _), c.loop-i.invariant.kept)
-
--- src/lib.rt:91:9
-pub overflow_add-i-in-loop-i : goal.overflow_add-i-in-loop-i
-overflow_add-i-in-loop-i c = omega (arith, c.requires.0)
-
--- src/lib.rt:65:5
-pub loop-i-smaller : goal.loop-i-smaller
-loop-i-smaller c = omega arith
 
 -- src/lib.rt:65:5
 pub loop-i-preserved : goal.loop-i-preserved

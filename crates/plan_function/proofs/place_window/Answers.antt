@@ -5,9 +5,6 @@ use Rattle.plan_function.proofs.place_window.Goals as goal
 pub returns-then-inner-eq0 : goal.returns-then-inner-eq0
 returns-then-inner-eq0 c = cc (window_none c.args.q c.args.inner c.args.end c.args.below c.if-inner-eq0.true)
 
-pub start_at-start-requires : goal.start_at-start-requires
-start_at-start-requires c = rw c.window_align.ensures c.requires
-
 pub returns : goal.returns
 returns c = cc (window_some c.args.q c.args.inner c.args.end c.args.below c.window_align.result c.window_size.result c.start_at-start.result c.end_of-stop.result c.if-inner-eq0.false
     c.window_align.ensures c.window_size.ensures c.start_at-start.ensures.0 c.end_of-stop.ensures)

@@ -1,19 +1,8 @@
 -- `put_registers` meets its contract: one store, or two for a 64-bit BAR. Assumes nothing.
-use lib.ListN.{length-set}
 use mathlib.Core.Path.{sym, ◌∙◌}
 use native.Mathlib.Omega.{arith}
-use Rattle.plan_function.proofs.KeptLaws.{put_one, put_two, span_one, span_two}
+use Rattle.plan_function.proofs.KeptLaws.{put_one, put_two}
 use Rattle.plan_function.proofs.put_registers.Goals as goal
-
-pub bounds-values-i : goal.bounds-values-i
-bounds-values-i c = omega (arith, span_one c.args.x, c.requires)
-
-pub bounds-values-i-then-takes_next : goal.bounds-values-i-then-takes_next
-bounds-values-i-then-takes_next c = simp length-set (omega (
-  arith,
-  span_two c.args.x (sym c.takes_next.ensures ∙ c.if-takes_next.true),
-  c.requires,
-))
 
 pub returns-then-takes_next : goal.returns-then-takes_next
 returns-then-takes_next c = put_two _ _ c.args.x c.args.v (sym c.takes_next.ensures ∙ c.if-takes_next.true) (omega arith)

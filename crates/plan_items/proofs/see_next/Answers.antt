@@ -4,10 +4,6 @@ use native.Mathlib.Omega.{arith}
 use Rattle.plan_items.specs.LoopLaws.{told_next_lem, aligned_as_stored}
 use Rattle.plan_items.proofs.see_next.Goals as goal
 
-pub see_record-requires : goal.see_record-requires
-see_record-requires c = let aligned = aligned_as_stored _ _ _ _ _ c.requires c.inner_of.ensures in
-    (omega (arith, c.cursor_of-end.ensures, c.requires.cut), c.requires.readable, aligned)
-
 pub returns : goal.returns
 returns c = told_next_lem _ _ _ _ c.args.memo.now c.args.cursors.now (add-one c.args.i) c.cursor_of-end.ensures c.inner_of.ensures
     c.see_record.ensures

@@ -3,12 +3,6 @@ use Rattle.plan_items.specs.WalkLaws.{record_bridge, record_leaf}
 use mathlib.Core.Path.{sym, ◌∙◌}
 use Rattle.plan_items.proofs.see_record.Goals as goal
 
-pub see_bars-bars-requires : goal.see_bars-bars-requires
-see_bars-bars-requires c = (c.requires.0, c.slot_count.ensures.1, rw c.slot_count.ensures.0 c.requires.1)
-
-pub see_window-requires : goal.see_window-requires
-see_window-requires c = (c.see_bars-bars.ensures.1, c.requires.2 (sym c.is_bridge.ensures ∙ c.if-is_bridge.true))
-
 pub returns-then-is_bridge : goal.returns-then-is_bridge
 returns-then-is_bridge c = record_bridge c.args.w c.args.seen c.args.f c.args.k c.args.end c.args.inner c.slot_count.result c.see_bars-bars.result
     c.slot_count.ensures.0 c.see_bars-bars.ensures.0 c.see_window.result

@@ -5,24 +5,18 @@
 use mathlib.Core.Path.{sym, ap, ◌∙◌}
 use Prim.Native.Nat.{◌*◌}
 use native.Mathlib.Omega.{arith}
-use lib.ListN.{length}
 use lib.Seq.{sets}
 use Rattle.plan_sizing.specs.declared.Laid.{Laid}
 use Rattle.plan_sizing.specs.Memo.{numbers_of}
-use Rattle.plan_sizing.specs.BusLaws.{on_bus_start, on_bus_length, on_bus_end, child_within, child_standing, lt_next_of_turn}
+use Rattle.plan_sizing.specs.BusLaws.{on_bus_start, on_bus_length, on_bus_end, child_within, lt_next_of_turn}
 use Rattle.plan_sizing.specs.BusLaws.{on_bus_turn}
-use Rattle.plan_sizing.specs.BridgeLaws.{depth_left, own_bars_of_standing, inside_standing, inner_align_power, leaf_walked}
-use Rattle.plan_sizing.specs.BridgeLaws.{bus_whole, bridge_walked}
+use Rattle.plan_sizing.specs.BridgeLaws.{depth_left, inside_standing, inner_align_power, leaf_walked}
+use Rattle.plan_sizing.specs.BridgeLaws.{bridge_walked}
 use Rattle.bar.specs.Header.{is_bridge}
 use Rattle.plan_sizing.proofs.+bus_size_function_size.Goals as goal
 
 pub bus_size-loop-memo-init : goal.bus_size-loop-memo-init
 bus_size-loop-memo-init t c = on_bus_start c.requires
-
-pub bus_size-function_size-l-requires : goal.bus_size-function_size-l-requires
-bus_size-function_size-l-requires t c = let child = sym c.is_child.ensures ∙ c.loop-memo-test.true in
-    let here = child_within c.loop-memo.invariant child in
-    (omega (arith, c.loop-memo.invariant.from, here), (child_standing c.loop-memo.invariant child, here))
 
 pub bus_size-loop-memo-smaller : goal.bus_size-loop-memo-smaller
 bus_size-loop-memo-smaller t c = let child = sym c.is_child.ensures ∙ c.loop-memo-test.true in
@@ -37,12 +31,6 @@ bus_size-shape_of-memo t c = on_bus_length c.loop-memo.invariant
 pub bus_size-returns : goal.bus_size-returns
 bus_size-returns t c = on_bus_end c.loop-memo.invariant (sym c.is_child.ensures ∙ c.loop-memo-test.false)
 
-pub function_size-own_bars-own-requires : goal.function_size-own_bars-own-requires
-function_size-own_bars-own-requires t c = own_bars_of_standing c.requires.0 c.requires.1
-
-pub function_size-header_at-requires : goal.function_size-header_at-requires
-function_size-header_at-requires t c = omega (arith, c.requires.1, c.requires.0.board.heads)
-
 pub function_size-overflow_add-i : goal.function_size-overflow_add-i
 function_size-overflow_add-i t c = omega (arith, c.requires.1)
 
@@ -56,15 +44,6 @@ pub function_size-bus_size-bus-requires : goal.function_size-bus_size-bus-requir
 function_size-bus_size-bus-requires t c = let left = depth_left c.requires.0 c.requires.1 in
     (omega (arith, c.requires.1, left, ap (λ (x : Laid). x.next) c.laid_from-inside.ensures), inside_standing c.requires.0 c.requires.1 c.laid_from-inside.ensures)
 
-pub function_size-spare_at-requires : goal.function_size-spare_at-requires
-function_size-spare_at-requires t c = omega (arith, c.requires.1, c.requires.0.board.heads)
-
-pub function_size-with_spare-inner-requires : goal.function_size-with_spare-inner-requires
-function_size-with_spare-inner-requires t c = (bus_whole c.requires.0 c.requires.1 c.laid_from-inside.ensures c.bus_size-bus.ensures, c.spare_at.ensures.1)
-
-pub function_size-store-requires : goal.function_size-store-requires
-function_size-store-requires t c = omega (arith, c.requires.0.room, c.requires.1, c.bus_size-bus.auto.memo)
-
 pub function_size-with_windows-requires : goal.function_size-with_windows-requires
 function_size-with_windows-requires t c = inner_align_power c.requires.0 c.requires.1 c.laid_from-inside.ensures c.bus_size-bus.ensures c.spare_at.ensures.0
     c.with_spare-inner.ensures
@@ -74,9 +53,6 @@ function_size-returns-then-is_bridge t c = bridge_walked c.requires.0 c.requires
     c.with_spare-inner.ensures
     (ap is_bridge (sym c.header_at.ensures) ∙ sym c.is_bridge.ensures ∙ c.if-is_bridge.true) c.own_bars-own.ensures
     c.store.ensures c.with_windows.ensures
-
-pub function_size-store-requires-2 : goal.function_size-store-requires-2
-function_size-store-requires-2 t c = omega (arith, c.requires.0.room, c.requires.1)
 
 pub function_size-returns : goal.function_size-returns
 function_size-returns t c = let none = ap (λ (x : Laid). sets c.args.memo.now (7 * c.args.l.next) (numbers_of x))

@@ -2,7 +2,7 @@
 -- to. The measure is the places left. Assumes nothing.
 use borrow.Author.Rules.{rules}
 use mathlib.Core.Path.{◌≡◌, refl, sym, subst, ◌∙◌}
-use Prim.Native.Nat.{◌-◌, ◌<◌}
+use Prim.Native.Nat.{◌<◌}
 use native.Mathlib.Omega.{arith}
 use lib.ListN.{length, take, length-take}
 use Rattle.bar.specs.declared.Slot.TheVariants.{Unused}
@@ -12,22 +12,6 @@ use Rattle.bar.specs.BarLaws.{slot_of_pair, slot_of_single, slot_of_none, pair_s
 use Rattle.plan_sizing.specs.Cut.{says, add_slot}
 use Rattle.plan_sizing.specs.CutLaws.{not_bad_of_lawful, whole_of_cut, bars_turn, bars_done}
 use Rattle.plan_sizing.proofs.with_bars.Goals as goal
-
--- src/lib.rt:178:5
-pub loop-i-init : goal.loop-i-init
-loop-i-init c = (c.requires.0, (c.requires.1.1, refl))
-
--- src/lib.rt:179:17
-pub bounds-set-i : goal.bounds-set-i
-bounds-set-i c = omega (arith, c.requires.1.0)
-
--- src/lib.rt:181:13
-pub overflow_add-i : goal.overflow_add-i
-overflow_add-i c = omega (arith, c.requires.1.0)
-
--- src/lib.rt:178:5
-pub loop-i-smaller-then-r-eq0 : goal.loop-i-smaller-then-r-eq0
-loop-i-smaller-then-r-eq0 c = omega arith
 
 -- src/lib.rt:178:5
 pub loop-i-preserved-then-r-eq0 : goal.loop-i-preserved-then-r-eq0
@@ -40,29 +24,9 @@ loop-i-preserved-then-r-eq0 c = let s = take c.args.n c.args.set in
       (any_bad_step s c.loop-i.i Unused h e refl ∙ c.loop-i.invariant.1.0, bars_turn s c.loop-i.i Unused _ _ h e refl (sym c.loop-i.invariant.0) ∙ c.loop-i.invariant.1.1),
     )
 
--- src/lib.rt:184:12
-pub is_paired-requires : goal.is_paired-requires
-is_paired-requires c = c.loop-i-test.true
-
--- src/lib.rt:185:58
-pub overflow_add-i-then-is_paired : goal.overflow_add-i-then-is_paired
-overflow_add-i-then-is_paired c = omega (arith, c.requires.1.0, c.is_paired.ensures.1 c.if-is_paired.true)
-
--- src/lib.rt:185:54
-pub bounds-set-i-then-is_paired : goal.bounds-set-i-then-is_paired
-bounds-set-i-then-is_paired c = omega (arith, c.requires.1.0, c.is_paired.ensures.1 c.if-is_paired.true)
-
 -- src/lib.rt:185:13
 pub with_slot-done-requires : goal.with_slot-done-requires
 with_slot-done-requires c = (c.loop-i.invariant.0, subst SizedSlot (sym c.wide_slot.ensures) (sized_wide _ _))
-
--- src/lib.rt:186:13
-pub overflow_add-i-then-is_paired-2 : goal.overflow_add-i-then-is_paired-2
-overflow_add-i-then-is_paired-2 c = omega (arith, c.requires.1.0, c.is_paired.ensures.1 c.if-is_paired.true)
-
--- src/lib.rt:178:5
-pub loop-i-smaller-then-is_paired : goal.loop-i-smaller-then-is_paired
-loop-i-smaller-then-is_paired c = omega arith
 
 -- src/lib.rt:178:5
 pub loop-i-preserved-then-is_paired : goal.loop-i-preserved-then-is_paired
@@ -84,14 +48,6 @@ loop-i-preserved-then-is_paired c = let s = take c.args.n c.args.set in
 -- src/lib.rt:189:9
 pub with_slot-done-requires-in-loop-i : goal.with_slot-done-requires-in-loop-i
 with_slot-done-requires-in-loop-i c = (c.loop-i.invariant.0, subst SizedSlot (sym c.narrow_slot.ensures) (sized_narrow _))
-
--- src/lib.rt:190:9
-pub overflow_add-i-in-loop-i : goal.overflow_add-i-in-loop-i
-overflow_add-i-in-loop-i c = omega (arith, c.requires.1.0)
-
--- src/lib.rt:178:5
-pub loop-i-smaller : goal.loop-i-smaller
-loop-i-smaller c = omega arith
 
 -- src/lib.rt:178:5
 pub loop-i-preserved : goal.loop-i-preserved

@@ -7,9 +7,6 @@ use Rattle.plan_sizing.proofs.with_window.Goals as goal
 pub returns-then-inner-eq0 : goal.returns-then-inner-eq0
 returns-then-inner-eq0 c = rw (eq-eqb c.args.inner.align 0 c.if-inner-eq0.true, c.cap.ensures.0)
 
-pub grow-requires : goal.grow-requires
-grow-requires c = rw c.window_align.ensures c.requires
-
 pub returns : goal.returns
 returns c = c.grow.ensures ∙ rw (c.window_size-size.ensures, c.window_align.ensures)
     (cut_window c.args.q c.args.e c.args.inner c.if-inner-eq0.false)

@@ -1,6 +1,5 @@
 -- `range_place::window_place` meets its contract: low, high, I/O, those that are open. Assumes nothing.
 use mathlib.Core.Path.{sym, ◌∙◌}
-use native.Mathlib.Omega.{arith}
 use Rattle.range_place.specs.PlaceLaws.{windows_none, window_low, window_high, window_io, window_past}
 use Rattle.range_place.proofs.window_place.Goals as goal
 
@@ -11,15 +10,9 @@ pub returns-then-n-low : goal.returns-then-n-low
 returns-then-n-low c = window_low c.args.part.now _ (sym c.is_bridge.ensures ∙ c.if-not-is_bridge.false) _
     c.open_in-low.ensures.0 c.if-n-low.true
 
-pub overflow_add-memory : goal.overflow_add-memory
-overflow_add-memory c = omega (arith, c.open_in.ensures.1, c.open_in-low.ensures.1)
-
 pub returns-then-n-memory : goal.returns-then-n-memory
 returns-then-n-memory c = window_high c.args.part.now _ (sym c.is_bridge.ensures ∙ c.if-not-is_bridge.false) _
     c.open_in-low.ensures.0 c.if-n-low.false _ c.open_in.ensures.0 c.if-n-memory.true
-
-pub overflow_add-memory-2 : goal.overflow_add-memory-2
-overflow_add-memory-2 c = omega (arith, c.open_in-2.ensures.1, c.open_in.ensures.1, c.open_in-low.ensures.1)
 
 pub returns-then-n-memory-2 : goal.returns-then-n-memory-2
 returns-then-n-memory-2 c = window_io c.args.part.now _ (sym c.is_bridge.ensures ∙ c.if-not-is_bridge.false) _

@@ -5,11 +5,6 @@ use Rattle.sheet_ranges.specs.ItemsLaws.{ranges_bridge, ranges_end}
 use Rattle.sheet_ranges.specs.BarsLaws.{slots_le_six, slots_of_bridge}
 use Rattle.sheet_ranges.proofs.ranges_of.Goals as goal
 
-pub put_windows-requires : goal.put_windows-requires
-put_windows-requires c = let bridge = sym c.is_bridge.ensures ∙ c.if-is_bridge.true in
-    let two = slots_of_bridge c.args.part.now bridge in
-    (c.requires.0, bridge, omega (arith, two, c.put_bars-n.ensures.1, c.put_bars-n.auto, c.requires.2))
-
 pub returns-then-is_bridge : goal.returns-then-is_bridge
 returns-then-is_bridge c = let bridge = sym c.is_bridge.ensures ∙ c.if-is_bridge.true in
     let two = slots_of_bridge c.args.part.now bridge in (

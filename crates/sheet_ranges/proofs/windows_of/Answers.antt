@@ -8,9 +8,6 @@ use Rattle.sheet_record.specs.Entry.{entry_of}
 use Rattle.sheet_ranges.specs.Ranges.{windows_in}
 use Rattle.sheet_ranges.proofs.windows_of.Goals as goal
 
-pub put_windows-requires : goal.put_windows-requires
-put_windows-requires c = (c.requires.0, sym c.is_bridge.ensures ∙ c.if-is_bridge.true, omega (arith, c.requires.1))
-
 pub returns-then-is_bridge : goal.returns-then-is_bridge
 returns-then-is_bridge c = (
   c.put_windows.ensures.0 ∙ ap (λ (rs : List Range). rs ++ windows_in (entry_of c.args.part.now)) (ranges_nil _),

@@ -1,5 +1,5 @@
--- `sheet_text::put_plan` meets its contract. Invariant: after the count, the lines of the records that were passed are put. Measure: the
--- records that are left. Assumes nothing.
+-- `sheet_text::put_plan` meets its contract. Invariant: after the count, the lines of the records that were passed are put. Assumes
+-- nothing.
 use Prim.Native.Nat.{ℕ, ◌<◌, ◌-◌}
 use native.Mathlib.Omega.{arith}
 use mathlib.Core.Path.{◌≡◌, ap, subst, ◌∙◌}
@@ -25,7 +25,7 @@ count-count-requires c = c.requires
 
 pub loop-k-init : goal.loop-k-init
 unfolding flat_map
-loop-k-init c = (omega arith, put_nothing c.put_count-next.ensures)
+loop-k-init c = put_nothing c.put_count-next.ensures
 
 pub part-requires : goal.part-requires
 part-requires c = record_fits _ c.requires _ (here (goal.at.part-requires c).In-loop-k)
@@ -33,24 +33,15 @@ part-requires c = record_fits _ c.requires _ (here (goal.at.part-requires c).In-
 pub put_record-next-requires : goal.put_record-next-requires
 put_record-next-requires c = ap length c.part.ensures ∙ length_part _ _ (record_fits _ c.requires _ (here (goal.at.put_record-next-requires c).In-loop-k))
 
-pub overflow_add-k : goal.overflow_add-k
-overflow_add-k c = omega arith
-
-pub loop-k-smaller : goal.loop-k-smaller
-loop-k-smaller c = omega arith
-
 pub loop-k-preserved : goal.loop-k-preserved
-loop-k-preserved c = (
-  omega arith,
-  rw (lines_index _ _ c.requires (here (goal.at.loop-k-preserved c).In-loop-k), ← c.part.ensures)
-      (put_append c.loop-k.invariant.1 c.put_record-next.ensures),
-)
+loop-k-preserved c = rw (lines_index _ _ c.requires (here (goal.at.loop-k-preserved c).In-loop-k), ← c.part.ensures)
+    (put_append c.loop-k.invariant c.put_record-next.ensures)
 
 pub shape_of-out : goal.shape_of-out
-shape_of-out c = put_length c.loop-k.invariant.1 ∙ put_length c.put_count-next.ensures
+shape_of-out c = put_length c.loop-k.invariant ∙ put_length c.put_count-next.ensures
 
 pub returns : goal.returns
 unfolding plan_text
 returns c = let es = entries_of c.args.sheet.now in
     let all : take c.loop-k.k es ≡ es = take_all c.loop-k.k es (omega (arith, c.count-count.ensures, c.loop-k-test.false)) in
-    rw (← c.count-count.ensures) (put_append c.put_count-next.ensures (rw all at c.loop-k.invariant.1))
+    rw (← c.count-count.ensures) (put_append c.put_count-next.ensures (rw all at c.loop-k.invariant))

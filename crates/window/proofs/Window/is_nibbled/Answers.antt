@@ -4,4 +4,4 @@ use Rattle.window.proofs.Window.is_nibbled.Goals as goal
 
 pub returns : goal.returns
 unfolding is_nibbled
-returns c = rw (c.nibble-expected.ensures.0, c.wide16.ensures.0, c.wide16-2.ensures.0)
+returns c = rw (c.nibble-expected.ensures.0, c.from.ensures, c.from-2.ensures)
