@@ -20,7 +20,7 @@ const REGISTERS: usize = 2 + places::REGISTERS;
 
 const COMMAND: usize = places::COMMAND - places::REGISTERS;
 
-// The checks of each record by itself: 24, 27, 25 and 29.
+// The checks of each record by itself: 24, 27, 25 and 29. An enum and no closure for each: the theorems above name the checks by it.
 #[derive(Clone, Copy)]
 pub enum Rule {
     HeaderType,
@@ -157,7 +157,7 @@ fn is_framed(sheet: &[u8]) -> bool
 // ---- passes over a framed sheet's records
 
 // The checks from 24 on, each over all records before the next.
-#[tactic(auto, unfolding(crate::specs::Sheet::from24, crate::specs::Sheet::from27, crate::specs::Sheet::from28, crate::specs::Sheet::from25, crate::specs::Sheet::from29))]
+#[tactic(auto, using(crate::proofs::CheckLaws::from24_in_order))]
 fn check_records(sheet: &[u8]) -> u8
     requires { Framed 1 sheet.now }
     ensures { result ≡ from24 (entries_of sheet.now) }
