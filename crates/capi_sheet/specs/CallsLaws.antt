@@ -1,11 +1,9 @@
 -- An ID of any size and a command word, in the words of the code. Assumes nothing.
-use Rattle.std.specs.Prelude.{ℕ, ◌+◌, ◌-◌, ◌<◌, ◌≤◌, ◌≡◌, refl, Bool, true, false, cond, List, drop, eqb}
+use Rattle.std.specs.Prelude.{ℕ, ◌+◌, ◌-◌, ◌<◌, ◌≤◌, ◌≡◌, refl, Bool, true, false, cond, Option, Some, None, List, drop, eqb}
 use Rattle.std.proofs.Common.{arith, lt-ltb, le-ltb, eqb-true}
 use Rattle.endian.specs.Endian.{Bytes}
 use Rattle.endian.specs.EndianLaws.{be_lt}
 use Rattle.endian.specs.BytesLaws.{bytes_take, bytes_drop}
-use Rattle.sheet.specs.declared.Found.{Found}
-use Rattle.sheet.specs.declared.Found.TheVariants.{At, Nothing}
 use Rattle.sheet.specs.declared.Lookup.TheVariants.{Refused as NotFound}
 use Rattle.sheet.specs.Sheet.{Framed, entries_of, find_from, sheet_number}
 use Rattle.sheet.proofs.SheetLaws.{checked_of_zero}
@@ -21,9 +19,9 @@ pub lookup_wide : (s : List ℕ) (id : ℕ) → Bytes s → word < id → NotFou
 unfolding lookup_of
 lookup_wide s id bytes wide = go (eqb (sheet_number s) 0) refl
   where
-    found : Framed 1 s → (x : Found) → find_from id 1 (entries_of s) ≡ x → NotFound 40 ≡ placed x
-    found f Nothing e = refl
-    found f (At at) e =
+    found : Framed 1 s → (x : Option ℕ) → find_from id 1 (entries_of s) ≡ x → NotFound 40 ≡ placed x
+    found f None e = refl
+    found f (Some at) e =
         let part = bytes_take (at + 92 - (at + 2)) (drop (at + 2) s) (bytes_drop (at + 2) s bytes) in
         absurd (omega (arith, (found_at s 1 id at f e).id_is, be_lt 2 (part_from s at) 0 part))
 

@@ -59,13 +59,10 @@ fn next_live(sheet: &[u8], space: Space, bus: u8, from: usize) -> usize
     ensures { NextLive space sheet.now bus from result }
 {
     let records = sheet::count(sheet);
-    let mut k = from;
-    while k < records {
-        let part = sheet::part(sheet, k);
-        if is_live(part, space, bus) {
+    for k in from..records {
+        if is_live(sheet::part(sheet, k), space, bus) {
             return k;
         }
-        k += 1;
     }
     records
 }
@@ -92,11 +89,7 @@ fn is_live(part: &[u8], space: Space, bus: u8) -> bool
     requires { length part.now ≡ record_size }
     ensures { result ≡ is_live space bus part.now }
 {
-    if sheet_record::bus_of(part) == bus {
-        sheet_record::is_enabled(part, space)
-    } else {
-        false
-    }
+    sheet_record::bus_of(part) == bus && sheet_record::is_enabled(part, space)
 }
 
 // The tally with the claim that a bridge's window of this pool makes, if it does.

@@ -32,30 +32,24 @@ fn owner_of(sheet: &[u8], id: u16) -> Tally
     requires { Checked sheet.now }
     ensures { tally_of result ≡ first_of (keep (has_id (id / 256) (id % 256)) (nodes_of sheet.now)) }
 {
-    let records = sheet::count(sheet);
-    let mut k: usize = 0;
-    while k < records {
-        let part = sheet::part(sheet, k);
-        k += 1;
-        if sheet_record::id_of(part) == id {
-            return Tally::One(Claim::Bar(k as u16));
+    for k in 0..sheet::count(sheet) {
+        if sheet_record::id_of(sheet::part(sheet, k)) == id {
+            return Tally::One(Claim::Bar(k as u16 + 1));
         }
     }
     Tally::Nothing
 }
 
 // A bridge on this bus whose range holds the target's.
+#[tactic(auto, unfolding(sheet_record::specs::Entry::entry_of))]
 fn leads_toward(part: &[u8], target: u8, bus: u8) -> bool
     requires { length part.now ≡ record_size }
     ensures { result ≡ leads_toward target bus (node_of 0 (entry_of part.now)) }
 {
-    if sheet_record::bus_of(part) != bus {
-        return false;
-    }
-    if !sheet_record::is_bridge(part) {
-        return false;
-    }
-    (sheet_record::secondary_of(part) <= target) & (target <= sheet_record::subordinate_of(part))
+    sheet_record::bus_of(part) == bus
+        && sheet_record::is_bridge(part)
+        && (sheet_record::secondary_of(part) <= target)
+            & (target <= sheet_record::subordinate_of(part))
 }
 
 // The bridges on this bus that lead toward the target's. The second ends the search.
@@ -63,14 +57,11 @@ fn bridges_toward(sheet: &[u8], target: u8, bus: u8) -> Tally
     requires { Checked sheet.now }
     ensures { tally_of result ≡ join none (map bridge_claim (keep (leads_toward target bus) (nodes_of sheet.now))) }
 {
-    let records = sheet::count(sheet);
     let mut tally = Tally::Nothing;
-    let mut k: usize = 0;
-    while k < records {
+    for k in 0..sheet::count(sheet) {
         let part = sheet::part(sheet, k);
-        k += 1;
         if leads_toward(part, target, bus) {
-            tally = tally.with_claim(Claim::Window(k as u16, sheet_record::secondary_of(part)));
+            tally = tally.with_claim(Claim::Window(k as u16 + 1, sheet_record::secondary_of(part)));
             if tally.is_several() {
                 break;
             }

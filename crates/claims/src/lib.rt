@@ -47,23 +47,19 @@ pub fn tally_on(sheet: &[u8], aim: Aim, bus: u8) -> Tally
 
 impl Tally {
     // With one claim more. The second makes it several, and no other changes that.
+    #[tactic(auto, unfolding(walk::specs::Tally::join))]
     fn with_claim(self, claim: Claim) -> Tally
         ensures { tally_of result ≡ join (tally_of self) (claim_of claim ∷ []) }
     {
         match self {
             Tally::Nothing => Tally::One(claim),
-            Tally::One(_) => Tally::Several,
-            Tally::Several => Tally::Several,
+            Tally::One(_) | Tally::Several => Tally::Several,
         }
     }
 
     fn is_several(self) -> bool
         ensures { result ≡ is_several self }
     {
-        match self {
-            Tally::Nothing => false,
-            Tally::One(_) => false,
-            Tally::Several => true,
-        }
+        matches!(self, Tally::Several)
     }
 }

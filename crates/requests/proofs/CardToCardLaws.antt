@@ -1,6 +1,6 @@
 -- Document 02, E11, is proved: from what a request from a card comes to on sound registers, what is answered on bytes, over a planned sheet
 -- and over one with one owner for every address, which every accepted one is. Assumes nothing.
-use Rattle.std.specs.Prelude.{◌≡◌, refl, ◌⊎◌, ◌↔◌, Bool, true, ℕ, ◌+◌, ◌≤◌, ◌<◌, length, take}
+use Rattle.std.specs.Prelude.{◌≡◌, refl, ◌⊎◌, ◌↔◌, Bool, true, Some, None, ℕ, ◌+◌, ◌≤◌, ◌<◌, length, take}
 use Rattle.std.proofs.Common.{sym, subst, ◌∙◌, inl, inr, suc-ne-zero, arith}
 use Rattle.std.proofs.Math.Path.{ap}
 use mathlib.Core.List.Memᴰ
@@ -52,7 +52,6 @@ use Rattle.claims.specs.Claims.{tally_for}
 use Rattle.route.specs.Route.{root}
 use Rattle.route_cards.specs.declared.Arrival.{Arrival}
 use Rattle.route_cards.specs.declared.Sending.TheVariants.{Delivered, Host, Refused}
-use Rattle.route_cards.specs.declared.start.Request.TheVariants.{At, Other}
 use Rattle.route_cards.specs.Sending.{number_of as sending_number, request_of, answer, sending_of}
 use Rattle.route_cards.specs.Search.{function_at, IsType0}
 use Rattle.route_cards.specs.RecordLaws.{function_mem, type_0_no_bridge}
@@ -66,7 +65,7 @@ use Rattle.requests.specs.CardToCard.{CardCrosses, CardToCard}
 
 -- ## What is asked for
 
-request_of_lem : (p : Packet) (sp : Space) (address : ℕ) → IsCardRequest p sp address → request_of p ≡ At sp address
+request_of_lem : (p : Packet) (sp : Space) (address : ℕ) → IsCardRequest p sp address → request_of p ≡ Some (sp, address)
 request_of_lem (Memory k h e a) sp address (in_memory, starts) = rw (in_memory, starts)
 request_of_lem (Io k h e a) sp address (in_io, starts) = rw (in_io, starts)
 request_of_lem (Config k h e t) sp address is = absurd is
@@ -74,7 +73,7 @@ request_of_lem (Completion k h o) sp address is = absurd is
 request_of_lem (Message k h routing code tail) sp address is = absurd is
 
 -- a request, or none
-asked : (p : Packet) → ((sp : Space) × (address : ℕ) × IsCardRequest p sp address) ⊎ (request_of p ≡ Other)
+asked : (p : Packet) → ((sp : Space) × (address : ℕ) × IsCardRequest p sp address) ⊎ (request_of p ≡ None)
 asked (Memory k h e a) = inl (_, _, (refl, refl))
 asked (Io k h e a) = inl (_, _, (refl, refl))
 asked (Config k h e t) = inr refl
@@ -85,7 +84,7 @@ others_45 : (k : ℕ) (header t : List ℕ) (p : Packet) → read_of header ≡ 
     → sending_of k header t ≡ Refused 45
 others_45 k header t p read passes never = go (asked p)
   where
-    go : ((sp : Space) × (address : ℕ) × IsCardRequest p sp address) ⊎ (request_of p ≡ Other) → sending_of k header t ≡ Refused 45
+    go : ((sp : Space) × (address : ℕ) × IsCardRequest p sp address) ⊎ (request_of p ≡ None) → sending_of k header t ≡ Refused 45
     go (inr other) = other_45 k header t p read passes other
     go (inl (sp, address, is)) = no_start_45 k header t p read passes (λ type_0. never (type_0, (sp, address, is)))
 

@@ -1,6 +1,6 @@
 -- Document 02, E13, is proved: no check and no register looks at a command word, so both sheets have the same registers; and by these only
 -- the bits of one function differ. Assumes nothing.
-use Rattle.std.specs.Prelude.{◌≡◌, ◌⊎◌, Bool, true, false, cond, ℕ, suc, ◌-◌, ◌/◌, ◌%◌, eqb, length}
+use Rattle.std.specs.Prelude.{◌≡◌, ◌⊎◌, Bool, true, false, cond, Option, Some, None, ℕ, suc, ◌-◌, ◌/◌, ◌%◌, eqb, length}
 use Rattle.std.proofs.Math.Path.{refl, ap, ap₂}
 use Rattle.std.proofs.Common.{sym, subst, ◌∙◌, inl, inr, suc-ne-zero, arith}
 use mathlib.Core.List.{List, [], ◌∷◌, ◌++◌, flatten}
@@ -41,8 +41,6 @@ use Rattle.route_answer.specs.declared.Routing.TheVariants.{Refused}
 use Rattle.route_answer.specs.Routing.{wrong_type, answer, headed_over, route_over}
 use Rattle.route.specs.Route.{walked, root, route_packet, from_sheet, from_reading, route_of}
 use Rattle.route.proofs.RouteLaws.{packet_over}
-use Rattle.route_cards.specs.declared.start.Request.{Request}
-use Rattle.route_cards.specs.declared.start.Request.TheVariants.{At, Other}
 use Rattle.route_cards.specs.Sending.{request_of, sending_of}
 use Rattle.route_cards.specs.Sending as sending
 use Rattle.route_cards.specs.Search.{function_at, IsType0}
@@ -105,7 +103,7 @@ one_address (Message k h Broadcast code tail) sp sp' a a' is is' = absurd is
 one_address (Message k h Local code tail) sp sp' a a' is is' = absurd is
 one_address (Message k h Gathered code tail) sp sp' a a' is is' = absurd is
 
-card_request : (p : Packet) (sp : Space) (address : ℕ) → request_of p ≡ At sp address → IsCardRequest p sp address
+card_request : (p : Packet) (sp : Space) (address : ℕ) → request_of p ≡ Some (sp, address) → IsCardRequest p sp address
 card_request (Memory k h e a) sp address q = (cc, cc)
 card_request (Io k h e a) sp address q = (cc, cc)
 card_request (Config k h e t) sp address q = suc-ne-zero 0 (cc)
@@ -346,10 +344,10 @@ module _ (k : ℕ) (s t : List ℕ) (d : DifferAt k s t) where
   unfolding sending_of sending.from_sheet sending.send_packet
   cards_agree j header clear = go (read_of header) refl
     where
-      by_request : (p : Packet) → read_of header ≡ Read p → (r : Request) → request_of p ≡ r
+      by_request : (p : Packet) → read_of header ≡ Read p → (r : Option (Space × ℕ)) → request_of p ≡ r
           → sending.on_request j p t r ≡ sending.on_request j p s r
-      by_request p e Other q = refl
-      by_request p e (At sp address) q =
+      by_request p e None q = refl
+      by_request p e (Some (sp, address)) q =
           sent_agree p sp address j (clear p sp address e (card_request p sp address q))
 
       go : (r : Reading) → read_of header ≡ r → sending.from_reading j r t ≡ sending.from_reading j r s

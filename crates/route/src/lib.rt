@@ -16,6 +16,7 @@ use route_answer::{Next, Routing};
 use tlp::Reading;
 
 // A header over a sheet: the header's number before the sheet is read, then the sheet's. What is left is a packet over a sheet that passes.
+#[tactic(auto, unfolding(crate::specs::Route::route_of, crate::specs::Route::from_sheet))]
 pub fn route(header: &[u8], sheet: &[u8]) -> Routing
     ensures { result ≡ route_of header.now sheet.now }
 {

@@ -34,10 +34,8 @@ impl Routing {
         ensures { result ≡ number_of self }
     {
         match self {
-            Routing::Delivered(_) => 0,
-            Routing::Broadcast(_, _) => 0,
-            Routing::Port(_) => 0,
             Routing::Refused(n) => n,
+            _ => 0,
         }
     }
 }
@@ -72,8 +70,8 @@ pub fn deliver(p: Packet, owner: u16, bridges: u8) -> Routing
     ensures { result ≡ Delivered (arrives p owner bridges) }
 {
     Routing::Delivered(Delivery {
-        owner: owner,
-        bridges: bridges,
+        owner,
+        bridges,
         packet: route_arrival::arrived(p),
     })
 }
@@ -84,17 +82,12 @@ pub fn listed(routing: Routing, list: &mut [u64]) -> Routing
     ensures value { result ≡ on_room routing (length list.old) }
     ensures list_after { list.new ≡ listed_after result list.old }
 {
-    match routing {
-        Routing::Delivered(d) => Routing::Delivered(d),
-        Routing::Broadcast(functions, p) => {
-            let size = functions as usize;
-            if list.len() < size {
-                return Routing::Refused(11);
-            }
-            route_list::put_list(list, 0, size);
-            Routing::Broadcast(functions, p)
+    if let Routing::Broadcast(functions, _) = routing {
+        let size = functions as usize;
+        if list.len() < size {
+            return Routing::Refused(11);
         }
-        Routing::Port(p) => Routing::Port(p),
-        Routing::Refused(n) => Routing::Refused(n),
+        route_list::put_list(list, 0, size);
     }
+    routing
 }

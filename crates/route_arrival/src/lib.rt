@@ -37,11 +37,8 @@ pub fn type_wrong(p: Packet, root: u8) -> bool
     ensures { result ≡ type_wrong root p }
 {
     match p {
-        Packet::Memory(_, _, _, _) => false,
-        Packet::Io(_, _, _, _) => false,
-        Packet::Config(k, _, _, t) => kind_wrong(k, t.id / 256 == root as u16),
-        Packet::Completion(_, _, _) => false,
-        Packet::Message(_, _, _, _, _) => false,
+        Packet::Config(k, _, _, t) => kind_wrong(k, t.id / 256 == u16::from(root)),
+        _ => false,
     }
 }
 
@@ -50,11 +47,8 @@ pub fn arrived(p: Packet) -> Packet
     ensures { result ≡ arrived_of p }
 {
     match p {
-        Packet::Memory(k, h, e, a) => Packet::Memory(k, h, e, a),
-        Packet::Io(k, h, e, a) => Packet::Io(k, h, e, a),
         Packet::Config(k, h, e, t) => Packet::Config(last_kind(k), h, e, t),
-        Packet::Completion(k, h, o) => Packet::Completion(k, h, o),
-        Packet::Message(k, h, routing, code, tail) => Packet::Message(k, h, routing, code, tail),
+        _ => p,
     }
 }
 
@@ -64,10 +58,8 @@ fn kind_wrong(kind: ConfigKind, rooted: bool) -> bool
     ensures { result ≡ kind_wrong kind rooted }
 {
     match kind {
-        ConfigKind::CfgRd0 => !rooted,
-        ConfigKind::CfgWr0 => !rooted,
-        ConfigKind::CfgRd1 => rooted,
-        ConfigKind::CfgWr1 => rooted,
+        ConfigKind::CfgRd0 | ConfigKind::CfgWr0 => !rooted,
+        ConfigKind::CfgRd1 | ConfigKind::CfgWr1 => rooted,
     }
 }
 
@@ -75,10 +67,8 @@ fn last_kind(kind: ConfigKind) -> ConfigKind
     ensures { result ≡ last_kind kind }
 {
     match kind {
-        ConfigKind::CfgRd0 => ConfigKind::CfgRd0,
-        ConfigKind::CfgWr0 => ConfigKind::CfgWr0,
-        ConfigKind::CfgRd1 => ConfigKind::CfgRd0,
-        ConfigKind::CfgWr1 => ConfigKind::CfgWr0,
+        ConfigKind::CfgRd0 | ConfigKind::CfgRd1 => ConfigKind::CfgRd0,
+        ConfigKind::CfgWr0 | ConfigKind::CfgWr1 => ConfigKind::CfgWr0,
     }
 }
 
@@ -88,12 +78,11 @@ fn message_heading(routing: MessageRouting, tail: u64) -> Heading
     ensures { result ≡ message_heading routing tail }
 {
     match routing {
-        MessageRouting::ToRoot => Heading::Up,
+        MessageRouting::ToRoot | MessageRouting::Gathered => Heading::Up,
         MessageRouting::ByAddress => Heading::Aimed(Aim::Address(Space::Memory, tail)),
         MessageRouting::ById => Heading::Aimed(Aim::Id(id_in(tail))),
         MessageRouting::Broadcast => Heading::Every,
         MessageRouting::Local => Heading::Port,
-        MessageRouting::Gathered => Heading::Up,
     }
 }
 

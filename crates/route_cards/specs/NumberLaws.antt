@@ -1,5 +1,5 @@
 -- A request from a card that is refused has a number from 1 to 99. Assumes nothing.
-use Rattle.std.specs.Prelude.{refl, List, ℕ}
+use Rattle.std.specs.Prelude.{refl, Option, Some, None, List, ℕ}
 use Rattle.refusals.specs.Refusals.{IsRefusal}
 use Rattle.refusals.specs.RefusalsLaws.{refusal, unless_zero}
 use Rattle.packet.specs.declared.Packet.{Packet}
@@ -14,8 +14,6 @@ use Rattle.sheet.specs.Sheet.{sheet_number}
 use Rattle.sheet.proofs.NumberLaws.{sheet_number_lem}
 use Rattle.sheet.specs.Spaces.{registers_of, enabled_of, master_of}
 use Rattle.route.specs.Route.{root}
-use Rattle.route_cards.specs.declared.start.Request.{Request}
-use Rattle.route_cards.specs.declared.start.Request.TheVariants.{At, Other}
 use Rattle.route_cards.specs.declared.Sending.{Sending}
 use Rattle.route_cards.specs.declared.Sending.TheVariants.{Delivered, Host, Refused}
 use Rattle.route_cards.specs.Sending.{request_of, answer, send_request, on_request, send_packet, from_sheet, from_reading}
@@ -41,9 +39,9 @@ numbered_packet number p s = by_request (request_of p)
         numbered_answer p (send_from (enabled_of space s) (master_of s) (registers_of space s) address (root s) f)
         (numbered_send (enabled_of space s) (master_of s) (registers_of space s) address (root s) f)
 
-    by_request : (r : Request) → Numbered (on_request number p s r)
-    by_request (At space address) = by_start space address (start_at (registers_of space s) number)
-    by_request Other = refusal 45 refl
+    by_request : (r : Option (Space × ℕ)) → Numbered (on_request number p s r)
+    by_request (Some (space, address)) = by_start space address (start_at (registers_of space s) number)
+    by_request None = refusal 45 refl
 
 pub numbered_sending : (number : ℕ) (header s : List ℕ) → Numbered (sending_of number header s)
 unfolding sending_of from_sheet

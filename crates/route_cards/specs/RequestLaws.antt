@@ -1,6 +1,6 @@
 -- What becomes of a header over a sheet, check by check: the header's number, the sheet's, 45, and then the climb from the record's
 -- function. Assumes nothing.
-use Rattle.std.specs.Prelude.{◌≡◌, refl, ◌⊎◌, Bool, true, false, List, ℕ, ◌-◌, eqb, leb, length}
+use Rattle.std.specs.Prelude.{◌≡◌, refl, ◌⊎◌, Bool, true, false, Option, Some, None, List, ℕ, eqb, leb, length}
 use Rattle.std.proofs.Common.{sym, ap, ◌∙◌, inl, inr, arith}
 use borrow.Author.Tests.{eq-eqb, ne_eqb, eqb-true, eqb-false, leb-true, leb-false}
 use Rattle.packet.specs.declared.Packet.{Packet}
@@ -13,8 +13,6 @@ use Rattle.sheet.specs.Sheet.{entries_of, sheet_number}
 use Rattle.sheet.specs.Spaces.{registers_of, enabled_of, master_of}
 use Rattle.sheet.proofs.SheetLaws.{Checked, checked_of_zero}
 use Rattle.route.specs.Route.{root}
-use Rattle.route_cards.specs.declared.start.Request.{Request}
-use Rattle.route_cards.specs.declared.start.Request.TheVariants.{At, Other}
 use Rattle.route_cards.specs.declared.Sending.TheVariants.{Refused}
 use Rattle.route_cards.specs.Sending.{request_of, answer, no_start, send_request, on_request, send_packet, from_sheet, sending_of}
 use Rattle.route_cards.specs.Search.{part_of, function_at, IsRecord, IsType0}
@@ -53,15 +51,15 @@ module _ (k : ℕ) (header s : List ℕ) where
       unfolding sending_of from_sheet send_packet
       packet_next = rw (read, eq-eqb (sheet_number s) 0 passes)
 
-      pub other_45 : request_of p ≡ Other → sending_of k header s ≡ Refused no_start
+      pub other_45 : request_of p ≡ None → sending_of k header s ≡ Refused no_start
       other_45 e = packet_next ∙ ap (on_request k p s) e
 
       pub no_start_45 : ¬ IsType0 s k → sending_of k header s ≡ Refused no_start
       no_start_45 h = packet_next ∙ by_request (request_of p)
         where
-          by_request : (r : Request) → on_request k p s r ≡ Refused no_start
-          by_request Other = refl
-          by_request (At space address) = go (type_0_or_nowhere s (checked_of_zero s passes) k)
+          by_request : (r : Option (Space × ℕ)) → on_request k p s r ≡ Refused no_start
+          by_request None = refl
+          by_request (Some (space, address)) = go (type_0_or_nowhere s (checked_of_zero s passes) k)
             where
               go : IsType0 s k ⊎ ((space : Space) → start_at (registers_of space s) k ≡ nowhere)
                   → send_request p s space address (start_at (registers_of space s) k) ≡ Refused no_start
@@ -69,7 +67,7 @@ module _ (k : ℕ) (header s : List ℕ) where
               go (inr none_there) = ap (send_request p s space address) (none_there space)
 
       -- from the function on
-      pub request_sent : (space : Space) (address : ℕ) → request_of p ≡ At space address → IsType0 s k
+      pub request_sent : (space : Space) (address : ℕ) → request_of p ≡ Some (space, address) → IsType0 s k
           → sending_of k header s
           ≡ answer p (send_from (enabled_of space s) (master_of s) (registers_of space s) address (root s) (function_at space s k))
       request_sent space address e type_0 =

@@ -12,8 +12,8 @@ use Rattle.sheet.specs.Sheet.{entries_of, part_at}
 use Rattle.sheet.specs.Spaces.{registers_of}
 use Rattle.route_cards.specs.declared.Climbed.{Climbed}
 use Rattle.route_cards.specs.declared.Climbed.TheVariants.{Arrives, Leaves, Stops}
-use Rattle.route_cards.specs.declared.above.Up.{Up}
-use Rattle.route_cards.specs.declared.above.Up.TheVariants.{Host, Across, Halts}
+use Rattle.route_cards.specs.declared.Up.{Up}
+use Rattle.route_cards.specs.declared.Up.TheVariants.{Host, Across, Halts}
 
 -- ## Records
 

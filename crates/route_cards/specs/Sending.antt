@@ -1,6 +1,6 @@
 -- Document 02, E11, "Card to card", in its order: the header's number before the sheet is read, the sheet's number, 45 for any other record
 -- than a type 0 function of the sheet and any other packet than a memory or I/O request, and then the climb. Assumes nothing.
-use Rattle.std.specs.Prelude.{ℕ, cond, List, eqb}
+use Rattle.std.specs.Prelude.{ℕ, cond, Option, Some, None, List, eqb}
 use Rattle.packet.specs.declared.Packet.{Packet}
 use Rattle.packet.specs.declared.Packet.TheVariants.{Memory, Io, Config, Completion, Message}
 use Rattle.tlp.specs.declared.Reading.{Reading}
@@ -14,8 +14,6 @@ use Rattle.sheet.specs.Spaces.{registers_of, enabled_of, master_of}
 use Rattle.claims.specs.declared.Aim.TheVariants.{Address}
 use Rattle.claims.specs.Claims.{tally_for}
 use Rattle.route.specs.Route.{root}
-use Rattle.route_cards.specs.declared.start.Request.{Request}
-use Rattle.route_cards.specs.declared.start.Request.TheVariants.{At, Other}
 use Rattle.route_cards.specs.declared.Sending.{Sending}
 use Rattle.route_cards.specs.declared.Sending.TheVariants.{Delivered, Host, Refused}
 
@@ -31,12 +29,12 @@ no_start = 45
 -- ## Who may start what
 
 -- memory and I/O requests, in their space from their start address on; a message is none
-abbrev pub request_of : Packet → Request
-request_of (Memory k h e a) = At InMemory a
-request_of (Io k h e a) = At InPorts a
-request_of (Config k h e t) = Other
-request_of (Completion k h o) = Other
-request_of (Message k h routing code tail) = Other
+abbrev pub request_of : Packet → Option (Space × ℕ)
+request_of (Memory k h e a) = Some (InMemory, a)
+request_of (Io k h e a) = Some (InPorts, a)
+request_of (Config k h e t) = None
+request_of (Completion k h o) = None
+request_of (Message k h routing code tail) = None
 
 -- ## A request over a sheet that passes its checks
 
@@ -55,9 +53,9 @@ abbrev pub climbed : Space → ℕ → List ℕ → ℕ → ℕ → ℕ → Sent
 climbed space address s top bus crossed =
     climb_from (tally_for (Address space address) s) (up_from (master_of s) (registers_of space s) address top) bus crossed
 
-abbrev pub on_request : ℕ → Packet → List ℕ → Request → Sending
-on_request number p s (At space address) = send_request p s space address (start_at (registers_of space s) number)
-on_request number p s Other = Refused no_start
+abbrev pub on_request : ℕ → Packet → List ℕ → Option (Space × ℕ) → Sending
+on_request number p s (Some (space, address)) = send_request p s space address (start_at (registers_of space s) number)
+on_request number p s None = Refused no_start
 
 unfoldable pub send_packet : ℕ → Packet → List ℕ → Sending
 send_packet number p s = on_request number p s (request_of p)

@@ -1,5 +1,5 @@
 -- The climb, the request from a type 0 function and the checks before it, one step each in the words of the code. Assumes nothing.
-use Rattle.std.specs.Prelude.{◌≡◌, refl, Bool, true, false, List, ℕ, ◌+◌, ◌<◌}
+use Rattle.std.specs.Prelude.{◌≡◌, refl, Bool, true, false, Option, Some, None, List, ℕ, ◌+◌, ◌<◌}
 use Rattle.std.proofs.Math.Path.{sym, ap}
 use Rattle.std.proofs.Common.{◌∙◌}
 use borrow.Author.Tests.{eq-eqb, ne_eqb}
@@ -19,6 +19,7 @@ use Rattle.sheet_record.specs.Spaces.{bars_of, command_bit, master_bit}
 use Rattle.sheet.specs.Sheet.{entries_of, sheet_number}
 use Rattle.sheet.specs.Spaces.{registers_of, enabled_of, master_of}
 use Rattle.sheet.proofs.SheetLaws.{Checked, zero_of_checked, passes_of_zero, numbered_functions}
+use Rattle.claims.specs.declared.Aim.{Aim}
 use Rattle.claims.specs.declared.Aim.TheVariants.{Address}
 use Rattle.claims.specs.declared.Claim.{Claim}
 use Rattle.claims.specs.declared.Claim.TheVariants.{Bar, Window}
@@ -28,10 +29,8 @@ use Rattle.claims.specs.Claims.{tally_of, tally_for}
 use Rattle.route.specs.declared.Walked.{Walked}
 use Rattle.route.specs.declared.Walked.TheVariants.{Delivered as WalkedTo, Refused as WalkRefused}
 use Rattle.route.specs.Route.{outcome_of, walked, root}
-use Rattle.route_cards.specs.declared.start.Request.{Request}
-use Rattle.route_cards.specs.declared.start.Request.TheVariants.{At, Other}
-use Rattle.route_cards.specs.declared.above.Up.{Up}
-use Rattle.route_cards.specs.declared.above.Up.TheVariants.{Host as ToHost, Across, Halts}
+use Rattle.route_cards.specs.declared.Up.{Up}
+use Rattle.route_cards.specs.declared.Up.TheVariants.{Host as ToHost, Across, Halts}
 use Rattle.route_cards.specs.declared.Climbed.{Climbed}
 use Rattle.route_cards.specs.declared.Climbed.TheVariants.{Arrives, Leaves, Stops}
 use Rattle.route_cards.specs.declared.Sending.{Sending}
@@ -43,18 +42,17 @@ use Rattle.route_cards.specs.RecordLaws.{function_mem, start_of_type_0, type_0_n
 
 -- ## Down: document 01's walk, with the bridges crossed before it added
 
-module _ (space : Space) (address : ℕ) (s : List ℕ) (bus crossed : ℕ) (w : Walked)
-    (e : outcome_of w ≡ walked (Address space address) s bus 0) where
-  shifted : (x : Walked) → w ≡ x → outcome_sent (further crossed (outcome_of x)) ≡ outcome_sent (walked (Address space address) s bus crossed)
+module _ (aim : Aim) (s : List ℕ) (bus crossed : ℕ) (w : Walked) (e : outcome_of w ≡ walked aim s bus 0) where
+  shifted : (x : Walked) → w ≡ x → outcome_sent (further crossed (outcome_of x)) ≡ outcome_sent (walked aim s bus crossed)
   shifted x q =
       ap (λ (o : Outcome). outcome_sent (further crossed o)) (ap outcome_of (sym q) ∙ e)
-      ∙ ap outcome_sent (sym (walk_shift (tally_for (Address space address) s) bus crossed))
+      ∙ ap outcome_sent (sym (walk_shift (tally_for aim s) bus crossed))
 
   pub down_delivered : (number bridges : ℕ) → w ≡ WalkedTo number bridges
-      → arrives number (crossed + bridges) ≡ outcome_sent (walked (Address space address) s bus crossed)
+      → arrives number (crossed + bridges) ≡ outcome_sent (walked aim s bus crossed)
   down_delivered number bridges q = shifted (WalkedTo number bridges) q
 
-  pub down_refused : (n : ℕ) → w ≡ WalkRefused n → stops n ≡ outcome_sent (walked (Address space address) s bus crossed)
+  pub down_refused : (n : ℕ) → w ≡ WalkRefused n → stops n ≡ outcome_sent (walked aim s bus crossed)
   down_refused n q = shifted (WalkRefused n) q
 
 -- ## The climb
@@ -164,23 +162,23 @@ module _ (packet : Packet) (s : List ℕ) (c : Checked s) (number : ℕ) (type_0
 
 -- ## A packet over a sheet that passes its checks
 
-module _ (packet : Packet) (s : List ℕ) (c : Checked s) (number : ℕ) (r : Request) (e : r ≡ request_of packet) where
-  request_as : (x : Request) → r ≡ x → on_request number packet s x ≡ send_packet number packet s
+module _ (packet : Packet) (s : List ℕ) (c : Checked s) (number : ℕ) (r : Option (Space × ℕ)) (e : r ≡ request_of packet) where
+  request_as : (x : Option (Space × ℕ)) → r ≡ x → on_request number packet s x ≡ send_packet number packet s
   unfolding send_packet
   request_as x q = ap (on_request number packet s) (sym q ∙ e)
 
-  pub no_request : r ≡ Other → Refused 45 ≡ send_packet number packet s
-  no_request q = request_as Other q
+  pub no_request : r ≡ None → Refused 45 ≡ send_packet number packet s
+  no_request q = request_as None q
 
   -- b tells whether the record is a type 0 function
-  module _ (space : Space) (address : ℕ) (q : r ≡ At space address) (b : Bool) (told : Type0Told s number b) where
+  module _ (space : Space) (address : ℕ) (q : r ≡ Some (space, address)) (b : Bool) (told : Type0Told s number b) where
     pub no_start : b ≡ false → Refused 45 ≡ send_packet number packet s
-    no_start n = ap (send_request packet s space address) (sym (told.no n space)) ∙ request_as (At space address) q
+    no_start n = ap (send_request packet s space address) (sym (told.no n space)) ∙ request_as (Some (space, address)) q
 
     pub from_type_0 : b ≡ true → (x : Sending) → x ≡ send_request packet s space address (start_answer space s number)
         → x ≡ send_packet number packet s
     from_type_0 y x f =
-        f ∙ ap (send_request packet s space address) (sym (start_of_type_0 s c space number (told.yes y))) ∙ request_as (At space address) q
+        f ∙ ap (send_request packet s space address) (sym (start_of_type_0 s c space number (told.yes y))) ∙ request_as (Some (space, address)) q
 
 -- ## A header over a sheet
 

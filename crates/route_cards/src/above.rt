@@ -5,17 +5,9 @@ ghost use Rattle.sheet.proofs.SheetLaws.{Checked};
 ghost use Rattle.sheet.specs.Spaces.{registers_of, master_of};
 ghost use Rattle.route_cards.specs.Search.{function_at, IsBridgeAt, up_of};
 
-use super::holds;
+use super::{Up, holds};
 use pools::Space;
 use sheet_above::Parent;
-
-// Where a bus with no claim leads: to the host, through the bridge with this number to its own bus, or refused by number.
-#[derive(Clone, Copy)]
-pub enum Up {
-    Host,
-    Across(u16, u8),
-    Halts(u8),
-}
 
 // The host from the root bus, else through the one bridge that leads here: none is 40, two are 41.
 pub fn way_up(sheet: &[u8], space: Space, address: u64, root: u8, bus: u8) -> Up

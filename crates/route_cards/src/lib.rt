@@ -10,17 +10,14 @@ ghost use Rattle.std.specs.Prelude.{◌≡◌, ◌+◌, ◌≤◌};
 ghost use Rattle.walk.specs.Climb.{sent_of as outcome_sent};
 ghost use Rattle.sheet.specs.Sheet.{sheet_number};
 ghost use Rattle.sheet.proofs.SheetLaws.{Checked};
-ghost use Rattle.claims.specs.declared.Aim.TheVariants.{Address};
 ghost use Rattle.route.specs.Route.{walked};
 ghost use Rattle.route_cards.specs.Sending.{number_of, sending_of, send_packet, send_request, climbed};
 ghost use Rattle.route_cards.specs.Search.{sent_of, IsType0, start_answer};
 
-use above::Up;
 use claims::{Aim, Claim, Tally};
 use packet::Packet;
 use pools::Space;
 use route::Walked;
-use start::Request;
 use tlp::Reading;
 
 // The record that gets a request, by its number, the bridges crossed up and down, and the request as it arrives.
@@ -45,8 +42,7 @@ impl Sending {
         ensures { result ≡ number_of self }
     {
         match self {
-            Sending::Delivered(_) => 0,
-            Sending::Host(_, _) => 0,
+            Sending::Delivered(_) | Sending::Host(_, _) => 0,
             Sending::Refused(n) => n,
         }
     }
@@ -75,13 +71,13 @@ pub fn send_packet(number: u16, p: Packet, sheet: &[u8]) -> Sending
     ensures { result ≡ send_packet number p sheet.now }
 {
     match start::request_of(p) {
-        Request::At(space, address) => {
+        Some((space, address)) => {
             if !start::is_type_0(sheet, number) {
                 return Sending::Refused(45);
             }
             send_request(number, p, sheet, space, address)
         }
-        Request::Other => Sending::Refused(45),
+        None => Sending::Refused(45),
     }
 }
 
@@ -89,10 +85,18 @@ pub fn send_packet(number: u16, p: Packet, sheet: &[u8]) -> Sending
 
 // Where a climb ends: at a record after so many bridges, at the host after so many, or refused by number.
 #[derive(Clone, Copy)]
-enum Climbed {
+pub enum Climbed {
     Arrives(u16, u16),
     Leaves(u16),
     Stops(u8),
+}
+
+// Where a bus with no claim leads: to the host, through the bridge with this number to its own bus, or refused by number.
+#[derive(Clone, Copy)]
+pub enum Up {
+    Host,
+    Across(u16, u8),
+    Halts(u8),
 }
 
 // A request from a type 0 function: 44 without its bus master, 40 for its own BAR, and then from its bus on.
@@ -110,8 +114,8 @@ fn send_request(number: u16, p: Packet, sheet: &[u8], space: Space, address: u64
     let root = route::root_of(sheet);
     match climb(sheet, space, address, root, sheet_record::bus_of(part), 0) {
         Climbed::Arrives(owner, bridges) => Sending::Delivered(Arrival {
-            owner: owner,
-            bridges: bridges,
+            owner,
+            bridges,
             packet: p,
         }),
         Climbed::Leaves(bridges) => Sending::Host(bridges, p),
@@ -124,7 +128,8 @@ fn climb(sheet: &[u8], space: Space, address: u64, root: u8, bus: u8, crossed: u
     requires { Checked sheet.now × (crossed + bus ≤ 255) }
     ensures { sent_of result ≡ climbed space address sheet.now root bus crossed }
 {
-    match claims::tally_on(sheet, Aim::Address(space, address), bus) {
+    let aim = Aim::Address(space, address);
+    match claims::tally_on(sheet, aim, bus) {
         Tally::Nothing => match above::way_up(sheet, space, address, root, bus) {
             Up::Host => Climbed::Leaves(crossed),
             Up::Across(_, own) => climb(sheet, space, address, root, own, crossed + 1),
@@ -132,19 +137,22 @@ fn climb(sheet: &[u8], space: Space, address: u64, root: u8, bus: u8, crossed: u
         },
         Tally::One(claim) => match claim {
             Claim::Bar(number) => Climbed::Arrives(number, crossed),
-            Claim::Window(_, secondary) => descend(sheet, space, address, secondary, crossed + 1),
+            Claim::Window(_, secondary) => descend(sheet, aim, secondary, crossed + 1),
         },
         Tally::Several => Climbed::Stops(41),
     }
 }
 
 // Down from a window's claim: document 01's walk from the secondary bus, and the bridges crossed before it added.
-fn descend(sheet: &[u8], space: Space, address: u64, bus: u8, crossed: u16) -> Climbed
+pub fn descend(sheet: &[u8], aim: Aim, bus: u8, crossed: u16) -> Climbed
     requires { Checked sheet.now × (crossed ≤ 256) }
-    ensures { sent_of result ≡ outcome_sent (walked (Address space address) sheet.now bus crossed) }
+    ensures { sent_of result ≡ outcome_sent (walked aim sheet.now bus crossed) }
 {
-    match route::walk(sheet, Aim::Address(space, address), bus, 0) {
-        Walked::Delivered(number, bridges) => Climbed::Arrives(number, crossed + bridges as u16),
+    match route::walk(sheet, aim, bus, 0) {
+        Walked::Delivered(number, bridges) => Climbed::Arrives(
+            number,
+            crossed + u16::from(bridges),
+        ),
         Walked::Refused(n) => Climbed::Stops(n),
     }
 }

@@ -7,22 +7,14 @@ ghost use Rattle.route_cards.specs.Search.{Type0Told};
 use packet::Packet;
 use pools::Space;
 
-// A memory or I/O request, in its space from its start address on, or anything else.
-#[derive(Clone, Copy)]
-pub enum Request {
-    At(Space, u64),
-    Other,
-}
-
-pub fn request_of(p: Packet) -> Request
+// A memory or I/O request, in its space from its start address on.
+pub fn request_of(p: Packet) -> Option<(Space, u64)>
     ensures { result ≡ request_of p }
 {
     match p {
-        Packet::Memory(_, _, _, a) => Request::At(Space::Memory, a),
-        Packet::Io(_, _, _, a) => Request::At(Space::Io, a),
-        Packet::Config(_, _, _, _) => Request::Other,
-        Packet::Completion(_, _, _) => Request::Other,
-        Packet::Message(_, _, _, _, _) => Request::Other,
+        Packet::Memory(_, _, _, a) => Some((Space::Memory, a)),
+        Packet::Io(_, _, _, a) => Some((Space::Io, a)),
+        _ => None,
     }
 }
 

@@ -10,9 +10,7 @@ pub fn put_list(list: &mut [u64], at: usize, count: usize)
     requires { at + count ≤ length list.old }
     ensures { list.new ≡ sets list.old at (counted 1 count) }
 {
-    let mut i: usize = 0;
-    while i < count {
+    for i in 0..count {
         list[at + i] = i as u64 + 1;
-        i += 1;
     }
 }

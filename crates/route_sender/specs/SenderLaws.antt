@@ -23,7 +23,6 @@ use Rattle.claims.specs.declared.Tally.TheVariants.{Nothing, One, Several}
 use Rattle.claims.specs.Claims.{tally_of, tally_for}
 use Rattle.route_sender.specs.declared.Sender.{Sender}
 use Rattle.route_sender.specs.declared.Sender.TheVariants.{Host, Function}
-use Rattle.route_sender.specs.declared.SentBy.{SentBy}
 use Rattle.route_sender.specs.declared.SentBy.TheVariants.{Told, Refused}
 use Rattle.route_sender.specs.Sender.{named_by, starts_at_host, first_named, named_in, sender_of, from_sheet, from_reading, sent_by_of}
 

@@ -4,7 +4,7 @@
 
 ghost use Rattle.std.specs.Prelude.{◌≡◌};
 ghost use Rattle.sheet.specs.Sheet.{sheet_number};
-ghost use Rattle.route_sender.specs.Sender.{named_by, is_broadcast, starts_at_host, named_in, sender_of, sent_by_of, number_of};
+ghost use Rattle.route_sender.specs.Sender.{named_by, starts_at_host, named_in, sender_of, sent_by_of, number_of};
 
 use claims::{Aim, Claim, Tally};
 use packet::Packet;
@@ -57,11 +57,11 @@ pub fn named_by(p: Packet) -> u16
     ensures { result ≡ named_by p }
 {
     match p {
-        Packet::Memory(_, h, _, _) => h.requester,
-        Packet::Io(_, h, _, _) => h.requester,
-        Packet::Config(_, h, _, _) => h.requester,
+        Packet::Memory(_, h, _, _)
+        | Packet::Io(_, h, _, _)
+        | Packet::Config(_, h, _, _)
+        | Packet::Message(_, h, _, _, _) => h.requester,
         Packet::Completion(_, _, o) => o.completer,
-        Packet::Message(_, h, _, _, _) => h.requester,
     }
 }
 
@@ -81,26 +81,10 @@ pub fn sender_of(host_id: u16, p: Packet, sheet: &[u8]) -> Sender
 fn starts_at_host(p: Packet) -> bool
     ensures { result ≡ starts_at_host p }
 {
-    match p {
-        Packet::Memory(_, _, _, _) => false,
-        Packet::Io(_, _, _, _) => false,
-        Packet::Config(_, _, _, _) => true,
-        Packet::Completion(_, _, _) => false,
-        Packet::Message(_, _, routing, _, _) => is_broadcast(routing),
-    }
-}
-
-fn is_broadcast(routing: MessageRouting) -> bool
-    ensures { result ≡ is_broadcast routing }
-{
-    match routing {
-        MessageRouting::ToRoot => false,
-        MessageRouting::ByAddress => false,
-        MessageRouting::ById => false,
-        MessageRouting::Broadcast => true,
-        MessageRouting::Local => false,
-        MessageRouting::Gathered => false,
-    }
+    matches!(
+        p,
+        Packet::Config(_, _, _, _) | Packet::Message(_, _, MessageRouting::Broadcast, _, _)
+    )
 }
 
 // On an ID's own bus only the function with that ID claims it.
@@ -109,11 +93,10 @@ fn named_in(sheet: &[u8], id: u16) -> Sender
     ensures { result ≡ named_in sheet.now id }
 {
     match claims::tally_on(sheet, Aim::Id(id), (id / 256) as u8) {
-        Tally::Nothing => Sender::Host,
         Tally::One(claim) => match claim {
             Claim::Bar(number) => Sender::Function(number),
             Claim::Window(_, _) => Sender::Host,
         },
-        Tally::Several => Sender::Host,
+        Tally::Nothing | Tally::Several => Sender::Host,
     }
 }

@@ -4,7 +4,7 @@ use Rattle.std.specs.Prelude.{Bool, List, ℕ, ◌+◌, ◌/◌}
 use Rattle.walk.specs.Registers.{Node}
 use Rattle.walk.specs.Tally.{Tally}
 use Rattle.walk.specs.Climb as climb
-use Rattle.walk.specs.Climb.{Sent, arrives, leaves, stops, climb_from}
+use Rattle.walk.specs.Climb.{Sent, climb_from}
 use Rattle.climb_ids.specs.ById.{up_unless, buses_hold, never, nothing}
 use Rattle.climb_ids.proofs.ByIdLaws as ids
 use Rattle.sheet_record.specs.Entry.{entry_of}
@@ -13,12 +13,10 @@ use Rattle.sheet.specs.Sheet.{part_at}
 use Rattle.sheet.specs.Spaces.{nodes_of}
 use Rattle.claims.specs.declared.Aim.TheVariants.{Id}
 use Rattle.claims.specs.Claims.{tally_for}
+-- where a search ends, as for card to card
+pub use Rattle.route_cards.specs.Search.{up_of, sent_of}
 use Rattle.route_sent.specs.declared.climb.Going.{Going}
 use Rattle.route_sent.specs.declared.climb.Going.TheVariants.{ById, OnlyUp}
-use Rattle.route_sent.specs.declared.climb.Climbed.{Climbed}
-use Rattle.route_sent.specs.declared.climb.Climbed.TheVariants.{Arrives, Leaves, Stops}
-use Rattle.route_sent.specs.declared.climb.Up.{Up}
-use Rattle.route_sent.specs.declared.climb.Up.TheVariants.{Host, Across, Halts}
 
 -- ## How it goes
 
@@ -46,15 +44,3 @@ node_in s k = node_of (k + 1) (entry_of (part_at s k))
 -- the function with this record number is in the sheet and has this ID
 abbrev pub IsSender : List ℕ → ℕ → ℕ → Type 0
 IsSender s number own = ids.Sender (nodes_of s) number own
-
--- ## Where a search ends
-
-abbrev pub up_of : Up → climb.Up
-up_of Host = climb.to_host
-up_of (Across number own) = climb.across number own
-up_of (Halts n) = climb.halts n
-
-abbrev pub sent_of : Climbed → Sent
-sent_of (Arrives number count) = arrives number count
-sent_of (Leaves count) = leaves count
-sent_of (Stops n) = stops n

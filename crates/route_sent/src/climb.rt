@@ -12,7 +12,7 @@ ghost use Rattle.claims.specs.Claims.{tally_of};
 ghost use Rattle.route_sent.specs.Going.{tally_going, stays_going, up_going, climbed, node_in, up_of, sent_of};
 
 use claims::{Aim, Claim, Tally};
-use route::Walked;
+use route_cards::{Climbed, Up};
 use sheet_above::Parent;
 
 // How a packet goes: looked for by an ID, or only up.
@@ -20,22 +20,6 @@ use sheet_above::Parent;
 pub enum Going {
     ById(u16),
     OnlyUp,
-}
-
-// Where a climb ends: at a record after so many bridges, at the host after so many, or refused by number.
-#[derive(Clone, Copy)]
-pub enum Climbed {
-    Arrives(u16, u16),
-    Leaves(u16),
-    Stops(u8),
-}
-
-// Where a bus with no claim leads: to the host, through the bridge with this number to its own bus, or refused by number.
-#[derive(Clone, Copy)]
-enum Up {
-    Host,
-    Across(u16, u8),
-    Halts(u8),
 }
 
 // From a bus on, with so many bridges crossed. A bridge's own bus has a smaller number than its secondary, so the climb ends.
@@ -76,13 +60,7 @@ fn descend(sheet: &[u8], going: Going, bus: u8, crossed: u16) -> Climbed
     ensures { sent_of result ≡ outcome_sent (walk_from (tally_going going sheet.now) bus crossed) }
 {
     match going {
-        Going::ById(id) => match route::walk(sheet, Aim::Id(id), bus, 0) {
-            Walked::Delivered(number, bridges) => Climbed::Arrives(
-                number,
-                crossed + bridges as u16,
-            ),
-            Walked::Refused(n) => Climbed::Stops(n),
-        },
+        Going::ById(id) => route_cards::descend(sheet, Aim::Id(id), bus, crossed),
         Going::OnlyUp => Climbed::Stops(40),
     }
 }

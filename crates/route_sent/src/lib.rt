@@ -14,11 +14,11 @@ ghost use Rattle.route_sent.specs.BothEnds.{on_room, listed_after};
 ghost use Rattle.route_sent.specs.Going.{IsSender, sent_of};
 
 use claims::Aim;
-use climb::{Climbed, Going};
+use climb::Going;
 use packet::Packet;
 use route_answer::Routing;
 use route_arrival::Heading;
-use route_cards::{Arrival, Sending};
+use route_cards::{Arrival, Climbed, Sending};
 use route_sender::Sender;
 use tlp::Reading;
 
@@ -47,9 +47,7 @@ impl Fate {
         ensures { result ≡ fate_number self }
     {
         match self {
-            Fate::Delivered(_) => 0,
-            Fate::Host(_, _) => 0,
-            Fate::Port(_) => 0,
+            Fate::Delivered(_) | Fate::Host(_, _) | Fate::Port(_) => 0,
             Fate::Refused(n) => n,
         }
     }
@@ -185,8 +183,8 @@ fn arrived(p: Packet, end: Climbed) -> Fate
 {
     match end {
         Climbed::Arrives(owner, bridges) => Fate::Delivered(Arrival {
-            owner: owner,
-            bridges: bridges,
+            owner,
+            bridges,
             packet: p,
         }),
         Climbed::Leaves(bridges) => Fate::Host(bridges, p),

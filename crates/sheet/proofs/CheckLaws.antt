@@ -1,17 +1,17 @@
 -- One turn of each pass over a framed sheet, in the words of the code: the record at the cursor is the part that the code takes. Assumes
 -- nothing.
-use Rattle.std.specs.Prelude.{◌≡◌, refl, Bool, true, false, ◌&&◌, List, [], ◌∷◌, ℕ, ◌+◌, ◌-◌, ◌≤◌, length, take, drop, ltb}
-use Rattle.std.proofs.Common.{sym, ◌∙◌, arith, length-drop, length-take-le, eq-eqb, ne_eqb, ltb-true, ltb-false}
+use Rattle.std.specs.Prelude.{◌≡◌, refl, Bool, true, false, cond, ◌&&◌, List, [], ◌∷◌, ℕ, ◌+◌, ◌-◌, ◌≤◌, length, take, drop, ltb}
+use Rattle.std.proofs.Common.{sym, arith, length-drop, length-take-le, ltb-true, ltb-false}
 use Rattle.std.proofs.Math.Path.{ap}
 use Rattle.std.proofs.Math.Bool.{not, and-true}
 use Rattle.std.proofs.lemmas.List.{length-map}
-use Rattle.sheet.specs.declared.Found.TheVariants.{At, Nothing}
-use Rattle.sheet.specs.declared.Rule.{Rule}
+use Rattle.sheet.specs.declared.Rule.TheVariants.{HeaderType, Buses, ReadBacks, Nibbles}
 use Rattle.endian.specs.Endian.{be, le}
 use Rattle.bar.specs.Values.{values_lawful}
 use Rattle.sheet_record.specs.Places.{values_at, readbacks_at, record_size, stride}
-use Rattle.sheet_record.specs.Entry.{Entry, dwords, id_of, header_of, is_bridge, slot_count, entry_of}
-use Rattle.sheet.specs.Sheet.{Framed, parts_in, entries_from, breaks, any_breaks, find_from, all_zero, read_backs_wrong, sheet_length}
+use Rattle.sheet_record.specs.Entry.{Entry, dwords, header_of, is_bridge, slot_count, entry_of}
+use Rattle.sheet.specs.Sheet.{any_breaks, id_twice, from24, from25, from27, from28, from29}
+use Rattle.sheet.specs.Sheet.{Framed, parts_in, entries_from, all_zero, read_backs_wrong, sheet_length}
 use Rattle.sheet.proofs.FrameLaws.{FramedAt, framed_at, parts_past, length_framed}
 
 -- the record's part, by its two ends
@@ -22,43 +22,14 @@ module _ (s : List ℕ) (at : ℕ) (a : FramedAt s at) where
   part_size : at + stride - (at + 2) ≡ record_size
   part_size = omega arith
 
-  pub part_sized : length (part_from s at) ≡ record_size
-  part_sized = rw part_size (length-take-le record_size (drop (at + 2) s) (omega (arith, a.fits, length-drop (at + 2) s)))
-
   pub entries_on : entries_from s at ≡ entry_of (part_from s at) ∷ entries_from s (at + stride)
   unfolding entries_from
   entries_on = rw (part_size, a.parts)
-
-  pub breaks_hit : (rule : Rule) → breaks rule (entry_of (part_from s at)) ≡ true → any_breaks rule (entries_from s at) ≡ true
-  unfolding any_breaks
-  breaks_hit rule e = ap (any_breaks rule) entries_on ∙ rw e
-
-  pub breaks_miss : (rule : Rule) → breaks rule (entry_of (part_from s at)) ≡ false
-      → any_breaks rule (entries_from s at) ≡ any_breaks rule (entries_from s (at + stride))
-  unfolding any_breaks
-  breaks_miss rule e = ap (any_breaks rule) entries_on ∙ rw e
-
-  pub find_hit : (id : ℕ) → id_of (part_from s at) ≡ id → find_from id at (entries_from s at) ≡ At at
-  unfolding find_from entry_of
-  find_hit id e = ap (find_from id at) entries_on ∙ rw (eq-eqb (id_of (part_from s at)) id e)
-
-  pub find_miss : (id : ℕ) → (id_of (part_from s at) ≡ id → ⊥) → find_from id at (entries_from s at)
-      ≡ find_from id (at + stride) (entries_from s (at + stride))
-  unfolding find_from entry_of
-  find_miss id e = ap (find_from id at) entries_on ∙ rw (ne_eqb (id_of (part_from s at)) id e)
 
 module _ (s : List ℕ) (at : ℕ) (h : length s ≤ at) where
   pub entries_past : entries_from s at ≡ []
   unfolding entries_from
   entries_past = rw (parts_past s at h)
-
-  pub breaks_past : (rule : Rule) → any_breaks rule (entries_from s at) ≡ false
-  unfolding any_breaks
-  breaks_past rule = ap (any_breaks rule) entries_past
-
-  pub find_past : (id : ℕ) → find_from id at (entries_from s at) ≡ Nothing
-  unfolding find_from
-  find_past id = ap (find_from id at) entries_past
 
 -- ## The records from a place on, by cases
 
@@ -109,3 +80,12 @@ module _ (p rs vs : List ℕ) (n : ℕ) (lawful : Bool) (r : rs ≡ dwords (be 4
   unfolding entry_of dwords read_backs_wrong all_zero
   read_backs_of_end b = rw (l, c, r, v, b)
       (ap not (sym (and-true (values_lawful (take 6 (dwords (be 4) 6 p readbacks_at)) (take 6 (dwords (le 4) 6 p values_at))))))
+
+-- ## The checks from 24 on, in their order
+
+pub from24_in_order : (es : List Entry) → from24 es
+    ≡ cond (any_breaks HeaderType es) 24
+    (cond (any_breaks Buses es) 27
+    (cond (id_twice es) 28 (cond (any_breaks ReadBacks es) 25 (cond (any_breaks Nibbles es) 29 0))))
+unfolding from24 from27 from28 from25 from29
+from24_in_order es = refl

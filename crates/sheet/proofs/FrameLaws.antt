@@ -1,9 +1,9 @@
 -- A sheet that passes the 20s is its version byte and records of 92 bytes: what a pass with a cursor finds, where record k starts, and what
 -- its part is. Assumes nothing.
-use Rattle.std.specs.Prelude.{◌≡◌, refl, Bool, true, false, ◌&&◌, List, [], ◌∷◌, ℕ, zero, suc, ◌+◌, ◌-◌, ◌*◌, ◌≤◌, ◌<◌, length, get_or, take, drop, eqb, leb, ltb}
+use Rattle.std.specs.Prelude.{◌≡◌, refl, Bool, true, false, ◌&&◌, List, [], ◌∷◌, ℕ, zero, suc, ◌+◌, ◌-◌, ◌*◌, ◌/◌, ◌%◌, ◌≤◌, ◌<◌, length, get_or, take, drop, eqb, leb, ltb}
 use Rattle.std.proofs.Common.{sym, ap, ◌∙◌, length-drop, ltb-true, ltb-false, leb-true, leb-false, eqb-true, eq-eqb, ne_eqb}
 use Rattle.std.proofs.Math.Bool.{and-false, and-eq-true_iff}
-use Rattle.std.proofs.lemmas.Bool.{false≢true}
+use Rattle.std.proofs.lemmas.Bool.{false≢true, eqb-false}
 use native.Mathlib.Omega.{arith}
 use Rattle.endian.specs.Endian.{be}
 use Rattle.records.specs.declared.Next.{Next}
@@ -37,6 +37,17 @@ module _ (s : List ℕ) (at : ℕ) where
       ≡ is_framed (drop (at + stride) s)
   unfolding is_framed
   framed_on n h e k = let q : at + 2 + n ≡ at + stride = omega arith in framed_record n h e ∙ rw (eq-eqb n record_size k, q)
+
+  -- the record's length, as the code reads it
+  pub framed_wrong : at + 2 ≤ length s → (be 2 s at ≡ record_size → ⊥) → is_framed (drop at s) ≡ false
+  framed_wrong h k = go (leb (be 2 s at) (length s - (at + 2))) refl
+    where
+      go : (b : Bool) → leb (be 2 s at) (length s - (at + 2)) ≡ b → is_framed (drop at s) ≡ false
+      go true q = framed_other (be 2 s at) (omega (arith, h)) (next_record s at h (leb-true _ _ q)) k
+      go false q = framed_broken (next_broken s at h (leb-false _ _ q))
+
+  pub framed_right : at + stride ≤ length s → be 2 s at ≡ record_size → is_framed (drop at s) ≡ is_framed (drop (at + stride) s)
+  framed_right h k = framed_on (be 2 s at) (omega (arith, h)) (next_record s at (omega (arith, h)) (omega (arith, h, k))) k
 
 -- ## A record of a framed sheet
 
@@ -115,6 +126,22 @@ part_from_lem s at (suc k) f h =
 
 pub length_framed : (s : List ℕ) → Framed 1 s → length s ≡ sheet_length (length (parts_in s))
 length_framed s f = count_from_lem s 1 (parts_in s) refl f.sized f.inside
+
+-- lengths that are all right end at the end just where no bytes are left over
+pub framed_whole : (s : List ℕ) → 1 ≤ length s → is_framed (drop (record_at ((length s - 1) / stride)) s) ≡ is_framed (drop 1 s)
+    → eqb ((length s - 1) % stride) 0 ≡ is_framed (drop 1 s)
+framed_whole s h e = go (eqb ((length s - 1) % stride) 0) refl
+  where
+    ragged : ((length s - 1) % stride ≡ 0 → ⊥) → (b : Bool) → is_framed (drop 1 s) ≡ b → false ≡ b
+    ragged n true q = absurd (n (omega (arith, count_from_lem s 1 (parts_in s) refl q h)))
+    ragged n false q = refl
+
+    go : (b : Bool) → eqb ((length s - 1) % stride) 0 ≡ b → b ≡ is_framed (drop 1 s)
+    go true q =
+        sym (framed_end s (record_at ((length s - 1) / stride))
+        (next_end s (record_at ((length s - 1) / stride)) (omega (arith, eqb-true ((length s - 1) % stride) 0 q))))
+        ∙ e
+    go false q = ragged (eqb-false ((length s - 1) % stride) 0 q) (is_framed (drop 1 s)) refl
 
 pub part_index : (s : List ℕ) (k : ℕ) → Framed 1 s → k < length (parts_in s) → get_or (parts_in s) k [] ≡ part_at s k
 part_index s k f h = let n : stride * k + 1 + 2 ≡ record_at k + 2 = omega arith in part_from_lem s 1 k f.sized h ∙ rw n

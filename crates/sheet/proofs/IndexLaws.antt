@@ -1,6 +1,6 @@
 -- A framed sheet by record index, from 0: what a search that counts records goes by. Assumes nothing.
-use Rattle.std.specs.Prelude.{◌≡◌, List, [], ◌∷◌, map, ℕ, zero, suc, pred, ◌+◌, ◌-◌, ◌/◌, ◌≤◌, ◌<◌, length, get_or, drop}
-use Rattle.std.proofs.Common.{sym, ◌∙◌, add-one, arith, length-take-le, length-drop}
+use Rattle.std.specs.Prelude.{◌≡◌, true, false, Some, None, List, [], ◌∷◌, map, ℕ, zero, suc, pred, ◌+◌, ◌-◌, ◌/◌, ◌≤◌, ◌<◌, length, get_or, drop}
+use Rattle.std.proofs.Common.{sym, ◌∙◌, add-one, arith, length-take-le, length-drop, eq-eqb, ne_eqb}
 use Rattle.std.proofs.Math.Path.{ap}
 use Rattle.std.proofs.lemmas.List.{length-map}
 use Rattle.std.proofs.Math.ListN.{get_or-map}
@@ -11,8 +11,10 @@ use Rattle.walk.specs.Registers.{enabled_in}
 use Rattle.sheet_record.specs.Spaces.{function_of, command_bit, space_bit, enables}
 use Rattle.sheet_record.specs.SpacesLaws.{no_bit_of_zero}
 use Rattle.sheet_record.specs.Places.{command_at, record_size, stride}
-use Rattle.sheet_record.specs.Entry.{command_of, entry_of}
+use Rattle.sheet_record.specs.Entry.{command_of, id_of, entry_of}
+use Rattle.sheet.specs.declared.Rule.{Rule}
 use Rattle.sheet.specs.Sheet.{Framed, entries_from, entries_of, commands_of, parts_in, part_at, sheet_length, record_at, command_place}
+use Rattle.sheet.specs.Sheet.{breaks, any_breaks, find_from}
 use Rattle.sheet.specs.Spaces.{functions_from, bit_of, enabled_of}
 use Rattle.sheet.proofs.FrameLaws.{framed_at, part_index}
 use Rattle.sheet.proofs.CheckLaws.{part_from, entries_on, entries_past, count_entries}
@@ -108,3 +110,43 @@ module _ (s : List ℕ) (f : Framed 1 s) where
   pub enabled_index : (space : Space) (k : ℕ) → k < length (entries_of s) → enabled_of space s (k + 1)
       ≡ enables space (command_of (part_at s k))
   enabled_index space k h = bit_index (space_bit space) k h
+
+-- ## One turn of each pass that counts records: the part that the code takes, and what is left after it
+
+module _ (s : List ℕ) (f : Framed 1 s) where
+  pub part_sized : (k : ℕ) → k < length (entries_of s) → length (part_at s k) ≡ record_size
+  part_sized k h = length_part s k (record_fits s f k h)
+
+  pub entries_end : (k : ℕ) → length (entries_of s) ≤ k → entries_from s (record_at k) ≡ []
+  entries_end k h = entries_past s (record_at k) (omega (arith, count_entries s f))
+
+  module _ (rule : Rule) (k : ℕ) where
+    pub breaks_hit : k < length (entries_of s) → breaks rule (entry_of (part_at s k)) ≡ true → any_breaks rule (entries_from s (record_at k)) ≡ true
+    unfolding any_breaks
+    breaks_hit h e = ap (any_breaks rule) (entries_index s f k h) ∙ rw e
+
+    pub breaks_miss : k < length (entries_of s) → breaks rule (entry_of (part_at s k)) ≡ false
+        → any_breaks rule (entries_from s (record_at k)) ≡ any_breaks rule (entries_from s (record_at (k + 1)))
+    unfolding any_breaks
+    breaks_miss h e = ap (any_breaks rule) (entries_index s f k h) ∙ rw e
+
+    pub breaks_past : length (entries_of s) ≤ k → any_breaks rule (entries_from s (record_at k)) ≡ false
+    unfolding any_breaks
+    breaks_past h = ap (any_breaks rule) (entries_end k h)
+
+  module _ (id k : ℕ) where
+    pub find_hit : k < length (entries_of s) → id_of (part_at s k) ≡ id → find_from id (record_at k) (entries_from s (record_at k))
+        ≡ Some (record_at k)
+    unfolding find_from entry_of
+    find_hit h e = ap (find_from id (record_at k)) (entries_index s f k h) ∙ rw (eq-eqb (id_of (part_at s k)) id e)
+
+    pub find_miss : k < length (entries_of s) → (id_of (part_at s k) ≡ id → ⊥)
+        → find_from id (record_at k) (entries_from s (record_at k)) ≡ find_from id (record_at (k + 1)) (entries_from s (record_at (k + 1)))
+    unfolding find_from entry_of
+    find_miss h e =
+        let n : record_at k + stride ≡ record_at (k + 1) = omega arith in
+        ap (find_from id (record_at k)) (entries_index s f k h) ∙ rw (ne_eqb (id_of (part_at s k)) id e, n)
+
+    pub find_past : length (entries_of s) ≤ k → find_from id (record_at k) (entries_from s (record_at k)) ≡ None
+    unfolding find_from
+    find_past h = ap (find_from id (record_at k)) (entries_end k h)

@@ -1,9 +1,7 @@
 -- Where a lookup finds a function: at a record's registers, inside the sheet, with the ID that was asked for. Assumes nothing.
-use Rattle.std.specs.Prelude.{◌≡◌, refl, Bool, true, false, cond, List, [], ◌∷◌, ℕ, suc, ◌+◌, ◌-◌, ◌*◌, ◌≤◌, length, take, drop, eqb}
+use Rattle.std.specs.Prelude.{◌≡◌, refl, Bool, true, false, cond, Option, Some, None, List, [], ◌∷◌, ℕ, suc, ◌+◌, ◌-◌, ◌*◌, ◌≤◌, length, take, drop, eqb}
 use Rattle.std.proofs.Common.{sym, ap, ◌∙◌, arith}
 use borrow.Author.Tests.{eqb-true, eq-eqb, ne_eqb}
-use Rattle.sheet.specs.declared.Found.{Found}
-use Rattle.sheet.specs.declared.Found.TheVariants.{At, Nothing}
 use Rattle.sheet.specs.declared.Lookup.TheVariants.{Registers, Refused}
 use Rattle.sheet_record.specs.Places.{registers_at, registers_size, stride}
 use Rattle.sheet_record.specs.Entry.{Entry, entry_of, id_of}
@@ -23,15 +21,15 @@ pub id_of_entry : (p : List ℕ) → id_of p ≡ (entry_of p).id
 unfolding entry_of
 id_of_entry p = refl
 
-found_from : (s : List ℕ) (id a at : ℕ) (es : List Entry) → entries_from s at ≡ es → Framed at s → find_from id at es ≡ At a
+found_from : (s : List ℕ) (id a at : ℕ) (es : List Entry) → entries_from s at ≡ es → Framed at s → find_from id at es ≡ Some a
     → FoundAt s at id a
 unfolding find_from
 found_from s id a at [] e f q = absurd (let z : ◌≡◌ {A = ℕ} 0 1 = cc in omega arith)
 found_from s id a at (x ∷ es) e f q =
     let r = first_at s at x es f e in here r (eqb x.id id) refl q (λ q. found_from s id a (at + stride) es r.tail r.rest q)
   where
-    here : FirstAt s at x es → (b : Bool) → eqb x.id id ≡ b → cond b (At at) (find_from id (at + stride) es) ≡ At a
-        → (find_from id (at + stride) es ≡ At a → FoundAt s (at + stride) id a) → FoundAt s at id a
+    here : FirstAt s at x es → (b : Bool) → eqb x.id id ≡ b → cond b (Some at) (find_from id (at + stride) es) ≡ Some a
+        → (find_from id (at + stride) es ≡ Some a → FoundAt s (at + stride) id a) → FoundAt s at id a
     here r true t q on =
         let same : at ≡ a = cc in
         record {
@@ -45,7 +43,7 @@ found_from s id a at (x ∷ es) e f q =
         let later = on q in
         record { index = suc later.index; place = omega (arith, later.place); fits = later.fits; id_is = later.id_is }
 
-pub found_at : (s : List ℕ) (from id a : ℕ) → Framed from s → find_from id from (entries_from s from) ≡ At a → FoundAt s from id a
+pub found_at : (s : List ℕ) (from id a : ℕ) → Framed from s → find_from id from (entries_from s from) ≡ Some a → FoundAt s from id a
 found_at s from id a f q = found_from s id a from (entries_from s from) refl f q
 
 -- ## Of a lookup
@@ -60,11 +58,11 @@ pub looked_up : (s : List ℕ) (id a : ℕ) → lookup_of s id ≡ Registers a �
 unfolding lookup_of
 looked_up s id a q = go (eqb (sheet_number s) 0) refl q
   where
-    found : Checked s → (x : Found) → find_from id 1 (entries_of s) ≡ x → placed x ≡ Registers a → LookedUp s id a
-    found c (At at) e q =
+    found : Checked s → (x : Option ℕ) → find_from id 1 (entries_of s) ≡ x → placed x ≡ Registers a → LookedUp s id a
+    found c (Some at) e q =
         let same : at + (2 + registers_at) ≡ a = cc in
         record { checked = c; record_at_lem = at; place = sym same; found = found_at s 1 id at c.framed e }
-    found c Nothing e q = absurd (let z : ◌≡◌ {A = ℕ} 0 1 = cc in omega arith)
+    found c None e q = absurd (let z : ◌≡◌ {A = ℕ} 0 1 = cc in omega arith)
 
     go : (b : Bool) → eqb (sheet_number s) 0 ≡ b → cond b (placed (find_from id 1 (entries_of s))) (Refused (sheet_number s)) ≡ Registers a
         → LookedUp s id a
@@ -85,6 +83,6 @@ module _ (s : List ℕ) (id n : ℕ) where
   unfolding lookup_of
   lookup_bad e z = rw (← e, ne_eqb n 0 z)
 
-  pub lookup_good : n ≡ sheet_number s → n ≡ 0 → (x : Found) → x ≡ find_from id 1 (entries_of s) → placed x ≡ lookup_of s id
+  pub lookup_good : n ≡ sheet_number s → n ≡ 0 → (x : Option ℕ) → x ≡ find_from id 1 (entries_of s) → placed x ≡ lookup_of s id
   unfolding lookup_of
   lookup_good e z x f = rw (← e, eq-eqb n 0 z, f)

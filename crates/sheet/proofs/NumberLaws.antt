@@ -1,13 +1,11 @@
 -- The number of a sheet's first check that fails, and of a lookup that finds nothing: 1 to 99. Assumes nothing.
-use Rattle.std.specs.Prelude.{refl, List, [], ◌∷◌, ℕ, zero, suc, length, get_or, drop, eqb, ltb}
+use Rattle.std.specs.Prelude.{refl, Option, Some, None, List, [], ◌∷◌, ℕ, zero, suc, length, get_or, drop, eqb, ltb}
 use Rattle.std.proofs.Common.{arith}
 use Rattle.refusals.specs.Refusals.{IsRefusal, IsNumber}
 use Rattle.refusals.specs.RefusalsLaws.{refusal, either, unless_zero}
 use Rattle.records.specs.Limits.{most_functions}
 use Rattle.sheet_record.specs.Entry.{Entry}
 use Rattle.sheet.specs.declared.Rule.TheVariants.{HeaderType, Buses, ReadBacks, Nibbles}
-use Rattle.sheet.specs.declared.Found.{Found}
-use Rattle.sheet.specs.declared.Found.TheVariants.{At, Nothing}
 use Rattle.sheet.specs.declared.Lookup.{Lookup}
 use Rattle.sheet.specs.declared.Lookup.TheVariants.{Registers, Refused as NotFound}
 use Rattle.sheet.specs.declared.RecordId.{RecordId}
@@ -48,9 +46,9 @@ numbered_lookup s id =
     let found = find_from id 1 (entries_of s) in
     unless_zero NumberedLookup (sheet_number s) (placed found) (NotFound (sheet_number s)) (sheet_number_lem s) (go found) (λ h. h)
   where
-    go : (x : Found) → NumberedLookup (placed x)
-    go (At at) = tt
-    go Nothing = refusal 40 refl
+    go : (x : Option ℕ) → NumberedLookup (placed x)
+    go (Some at) = tt
+    go None = refusal 40 refl
 
 -- ## The ID of a record
 

@@ -5,13 +5,11 @@ use Rattle.std.proofs.Common.{ap₂, ◌∙◌, eq-eqb, ne_eqb, eqb-true}
 use Rattle.std.proofs.Math.Bool.{or_assoc, or_comm, or-false, or-true}
 use Rattle.std.proofs.lemmas.Bool.{false≢true, eqb-false}
 use mathlib.Core.List.{List, [], ◌∷◌, ◌++◌, append_assoc, append-nil}
-use Rattle.sheet_record.specs.Places.{stride}
 use Rattle.sheet_record.specs.Entry.{Entry, id_of, entry_of}
 use Rattle.sheet_marks.specs.Marks.{is_marked, marked}
 use Rattle.sheet_marks.specs.MarksLaws.{is_marked_marked, is_marked_zeros}
-use Rattle.sheet.specs.Sheet.{entries_from, entries_of, has_id, id_twice}
-use Rattle.sheet.proofs.FrameLaws.{FramedAt}
-use Rattle.sheet.proofs.CheckLaws.{part_from, entries_on, entries_past}
+use Rattle.sheet.specs.Sheet.{Framed, part_at, record_at, entries_from, entries_of, has_id, id_twice}
+use Rattle.sheet.proofs.IndexLaws.{entries_index, entries_end}
 use Rattle.sheet.specs.ReadSoFar.{ExactlyMarked, ReadSoFar}
 
 -- ## Of records
@@ -76,9 +74,10 @@ pub read_start : (s : List ℕ) (n : ℕ) → ReadSoFar s 1 (replicate n 0)
 unfolding has_id id_twice
 read_start s n = record { read = []; in_order = refl; exactly = is_marked_zeros n; once = refl }
 
-module _ (s : List ℕ) (at : ℕ) (a : FramedAt s at) (ws : List ℕ) (r : ReadSoFar s at ws) (id : ℕ) (own : id ≡ id_of (part_from s at)) where
+module _ (s : List ℕ) (f : Framed 1 s) (k : ℕ) (h : k < length (entries_of s)) (ws : List ℕ) (r : ReadSoFar s (record_at k) ws) (id : ℕ)
+    (own : id ≡ id_of (part_at s k)) where
   here : Entry
-  here = entry_of (part_from s at)
+  here = entry_of (part_at s k)
 
   own_id : here.id ≡ id
   unfolding here entry_of
@@ -88,32 +87,33 @@ module _ (s : List ℕ) (at : ℕ) (a : FramedAt s at) (ws : List ℕ) (r : Read
   was_read : has_id here.id r.read ≡ is_marked ws id
   was_read = sym (r.exactly here.id) ∙ ap (is_marked ws) own_id
 
-  one_more : (r.read ++ (here ∷ [])) ++ entries_from s (at + stride) ≡ entries_of s
+  one_more : (r.read ++ (here ∷ [])) ++ entries_from s (record_at (k + 1)) ≡ entries_of s
   unfolding here
   one_more =
-      append_assoc r.read (entry_of (part_from s at) ∷ []) (entries_from s (at + stride))
-      ∙ ap (λ (es : List Entry). r.read ++ es) (sym (entries_on s at a))
+      append_assoc r.read (entry_of (part_at s k) ∷ []) (entries_from s (record_at (k + 1)))
+      ∙ ap (λ (es : List Entry). r.read ++ es) (sym (entries_index s f k h))
       ∙ r.in_order
 
   pub read_hit : is_marked ws id ≡ true → id_twice (entries_of s) ≡ true
   read_hit m =
       sym (ap id_twice one_more)
-      ∙ twice_append (r.read ++ (here ∷ [])) (entries_from s (at + stride))
+      ∙ twice_append (r.read ++ (here ∷ [])) (entries_from s (record_at (k + 1)))
       (twice_more r.read here ∙ ap (λ (b : Bool). b || id_twice r.read) (was_read ∙ m))
 
-  pub read_miss : (vs : List ℕ) → is_marked ws id ≡ false → id / 64 < length ws → vs ≡ marked ws id → ReadSoFar s (at + stride) vs
-  read_miss vs m h v =
+  pub read_miss : (vs : List ℕ) → is_marked ws id ≡ false → id / 64 < length ws → vs ≡ marked ws id → ReadSoFar s (record_at (k + 1)) vs
+  read_miss vs m l v =
       record {
         read = r.read ++ (here ∷ []);
         in_order = one_more;
-        exactly = exactly_more ws vs r.read here id own_id h v r.exactly;
+        exactly = exactly_more ws vs r.read here id own_id l v r.exactly;
         once = twice_more r.read here ∙ ap₂ ◌||◌ (was_read ∙ m) r.once;
       }
 
 -- at the end every record was read
-pub read_past : (s : List ℕ) (at : ℕ) → length s ≤ at → (ws : List ℕ) → ReadSoFar s at ws → id_twice (entries_of s) ≡ false
-read_past s at h ws r =
+pub read_past : (s : List ℕ) (f : Framed 1 s) (k : ℕ) → length (entries_of s) ≤ k → (ws : List ℕ) → ReadSoFar s (record_at k) ws
+    → id_twice (entries_of s) ≡ false
+read_past s f k h ws r =
     sym (ap id_twice r.in_order)
-    ∙ ap (λ (es : List Entry). id_twice (r.read ++ es)) (entries_past s at h)
+    ∙ ap (λ (es : List Entry). id_twice (r.read ++ es)) (entries_end s f k h)
     ∙ ap id_twice (append-nil r.read)
     ∙ r.once

@@ -16,7 +16,7 @@ use Rattle.walk.specs.Ids.{DistinctIds}
 use Rattle.sheet_record.specs.Spaces.{slots_of, node_of}
 use Rattle.sheet.specs.declared.Rule.TheVariants.{HeaderType, Buses, ReadBacks, Nibbles}
 use Rattle.sheet_record.specs.Places.{subordinate_at, stride}
-use Rattle.sheet_record.specs.Entry.{Entry, header_of, is_bridge, subordinate_of, entry_of, bus, devfn, bridges}
+use Rattle.sheet_record.specs.Entry.{Entry, header_of, is_bridge, subordinate_of, entry_of, bus, bridges}
 use Rattle.sheet.specs.Sheet.{is_framed, Framed, part_at, entries_from, entries_of, buses_wrong, breaks, any_breaks, has_id, id_twice, from20}
 use Rattle.sheet.specs.Sheet.{from21, from22, from24, from25, from27, from28, from29, sheet_number}
 use Rattle.sheet.proofs.CheckLaws.{part_from, first_at}

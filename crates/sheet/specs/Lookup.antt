@@ -1,11 +1,9 @@
 -- Document 01, "The sheet": "Asked for an ID, the caller gets that function's 64 register bytes themselves, inside the lent sheet, or 40 (a
 -- bad sheet: its number) and an empty part." And from a record's number to its ID; and the sheet after one function's command word is
 -- rewritten. Assumes nothing.
-use Rattle.std.specs.Prelude.{ℕ, zero, suc, ◌+◌, ◌-◌, cond, List, [], ◌∷◌, take, drop, eqb}
+use Rattle.std.specs.Prelude.{ℕ, zero, suc, ◌+◌, ◌-◌, cond, Option, Some, None, List, [], ◌∷◌, take, drop, eqb}
 use Rattle.std.proofs.lemmas.List.Edits.{sets}
 use Rattle.endian.specs.Endian.{le_bytes}
-use Rattle.sheet.specs.declared.Found.{Found}
-use Rattle.sheet.specs.declared.Found.TheVariants.{At, Nothing}
 use Rattle.sheet.specs.declared.Lookup.{Lookup}
 use Rattle.sheet.specs.declared.Lookup.TheVariants.{Registers, Refused}
 use Rattle.sheet.specs.declared.RecordId.{RecordId}
@@ -15,9 +13,9 @@ use Rattle.sheet_record.specs.Places.{registers_at, registers_size, command_at}
 use Rattle.sheet.specs.Sheet.{entries_of, find_from, sheet_number}
 
 -- the registers stand after the record's length and ID
-abbrev pub placed : Found → Lookup
-placed (At at) = Registers (at + (2 + registers_at))
-placed Nothing = Refused 40
+abbrev pub placed : Option ℕ → Lookup
+placed (Some at) = Registers (at + (2 + registers_at))
+placed None = Refused 40
 
 -- the sheet's number first, then 40
 unfoldable pub lookup_of : List ℕ → ℕ → Lookup

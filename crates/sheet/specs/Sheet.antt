@@ -1,13 +1,11 @@
 -- Document 01, "Numbers given back", of a sheet: 20 empty, 21, 20, 22, 24, 27, 28, 25, 29, each check over all records before the next.
 -- Assumes nothing.
-use Rattle.std.specs.Prelude.{ℕ, ◌+◌, ◌*◌, ◌%◌, ◌≤◌, ◌≡◌, Bool, true, false, cond, not, ◌&&◌, ◌||◌, List, [], ◌∷◌, map, length, get_or, take, drop, eqb, leb, ltb}
+use Rattle.std.specs.Prelude.{ℕ, ◌+◌, ◌*◌, ◌%◌, ◌≤◌, ◌≡◌, Bool, true, false, cond, not, ◌&&◌, ◌||◌, Option, Some, None, List, [], ◌∷◌, map, length, get_or, take, drop, eqb, leb, ltb}
 use Rattle.pools.specs.declared.Pool.TheVariants.{Low, High, Io}
 use Rattle.bar.specs.Values.{values_lawful}
 use Rattle.window.specs.Window.{is_nibbled}
 use Rattle.records.specs.Limits.{most_functions}
 use Rattle.records.specs.Records.{parts_of, parts_from}
-use Rattle.sheet.specs.declared.Found.{Found}
-use Rattle.sheet.specs.declared.Found.TheVariants.{At, Nothing}
 use Rattle.sheet.specs.declared.Rule.{Rule}
 use Rattle.sheet.specs.declared.Rule.TheVariants.{HeaderType, Buses, ReadBacks, Nibbles}
 use Rattle.sheet_record.specs.Places.{command_at, record_size, stride}
@@ -104,9 +102,9 @@ has_id id [] = false
 has_id id (e ∷ es) = eqb e.id id || has_id id es
 
 -- where the first record with the ID starts, of records from a place on
-unfoldable pub find_from : ℕ → ℕ → List Entry → Found
-find_from id at [] = Nothing
-find_from id at (e ∷ es) = let later = find_from id (at + stride) es in cond (eqb e.id id) (At at) later
+unfoldable pub find_from : ℕ → ℕ → List Entry → Option ℕ
+find_from id at [] = None
+find_from id at (e ∷ es) = let later = find_from id (at + stride) es in cond (eqb e.id id) (Some at) later
 
 unfoldable pub id_twice : List Entry → Bool
 id_twice [] = false

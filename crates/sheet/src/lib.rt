@@ -6,10 +6,9 @@ mod rules;
 
 ghost use Rattle.std.specs.Prelude.{◌≡◌, ◌+◌, ◌≤◌, length, drop};
 ghost use Rattle.sheet.specs.Lookup.{lookup_of, lookup_number, register_bytes, record_id, with_command};
-ghost use Rattle.sheet.specs.Sheet.{is_framed, Framed, sheet_length, part_at, entries_of, entries_from, any_breaks, find_from, id_twice};
+ghost use Rattle.sheet.specs.Sheet.{is_framed, Framed, sheet_length, part_at, entries_of, any_breaks, find_from, id_twice};
 ghost use Rattle.sheet.specs.Sheet.{from24, sheet_number};
 
-use records::Next;
 use sheet_record::places;
 use sheet_record::places::{SIZE, STRIDE};
 
@@ -21,20 +20,13 @@ const REGISTERS: usize = 2 + places::REGISTERS;
 
 const COMMAND: usize = places::COMMAND - places::REGISTERS;
 
-// The checks of each record by itself: 24, 27, 25 and 29.
+// The checks of each record by itself: 24, 27, 25 and 29. An enum and no closure for each: the theorems above name the checks by it.
 #[derive(Clone, Copy)]
 pub enum Rule {
     HeaderType,
     Buses,
     ReadBacks,
     Nibbles,
-}
-
-// Where the first record with an ID starts.
-#[derive(Clone, Copy)]
-pub enum Found {
-    At(usize),
-    Nothing,
 }
 
 // Where the 64 register bytes of the function with an ID start, or the number.
@@ -55,7 +47,7 @@ pub enum RecordId {
 pub fn check(sheet: &[u8]) -> u8
     ensures { result ≡ sheet_number sheet.now }
 {
-    if sheet.len() == 0 {
+    if sheet.is_empty() {
         return 20;
     }
     if sheet[0] != 1 {
@@ -78,13 +70,14 @@ pub fn find(sheet: &[u8], id: u16) -> Lookup
     if n != 0 {
         return Lookup::Refused(n);
     }
-    match find_from(sheet, 1, id) {
-        Found::At(at) => Lookup::Registers(at + REGISTERS),
-        Found::Nothing => Lookup::Refused(40),
+    match find_record(sheet, id) {
+        Some(at) => Lookup::Registers(at + REGISTERS),
+        None => Lookup::Refused(40),
     }
 }
 
 // The lookup's part: the function's 64 register bytes themselves, or an empty part.
+#[tactic(auto, using(crate::proofs::LookupLaws::registers_fit, crate::proofs::LookupLaws::registers_part))]
 pub fn registers(sheet: &[u8], id: u16) -> &[u8]
     ensures { result.now ≡ register_bytes (lookup_of sheet.now id) sheet.now }
 {
@@ -112,6 +105,7 @@ pub fn id_of(sheet: &[u8], number: usize) -> RecordId
 }
 
 // Rewrites the command word of the function with this ID, and no other byte. Refused, by the same numbers, it changes nothing.
+#[tactic(auto, using(crate::proofs::LookupLaws::registers_fit))]
 pub fn set_command(sheet: &mut [u8], id: u16, command: u16) -> u8
     ensures number { result ≡ lookup_number (lookup_of sheet.old id) }
     ensures content { sheet.new ≡ with_command (lookup_of sheet.old id) sheet.old command }
@@ -126,6 +120,7 @@ pub fn set_command(sheet: &mut [u8], id: u16, command: u16) -> u8
 }
 
 // How many functions a framed sheet has.
+#[tactic(auto, using(crate::proofs::IndexLaws::count_index))]
 pub fn count(sheet: &[u8]) -> usize
     requires { Framed 1 sheet.now }
     ensures { result ≡ length (entries_of sheet.now) }
@@ -150,28 +145,19 @@ fn is_framed(sheet: &[u8]) -> bool
     requires { 1 ≤ length sheet.now }
     ensures { result ≡ is_framed (drop 1 sheet.now) }
 {
-    let mut at: usize = 1;
-    loop {
-        match records::next_at(sheet, at) {
-            Next::End => {
-                return true;
-            }
-            Next::Broken => {
-                return false;
-            }
-            Next::Record(n) => {
-                if n != SIZE {
-                    return false;
-                }
-                at += STRIDE;
-            }
+    let bytes = sheet.len() - 1;
+    for k in 0..bytes / STRIDE {
+        if endian::read_be16(sheet, STRIDE * k + 1) != SIZE as u64 {
+            return false;
         }
     }
+    bytes % STRIDE == 0
 }
 
 // ---- passes over a framed sheet's records
 
 // The checks from 24 on, each over all records before the next.
+#[tactic(auto, using(crate::proofs::CheckLaws::from24_in_order))]
 fn check_records(sheet: &[u8]) -> u8
     requires { Framed 1 sheet.now }
     ensures { result ≡ from24 (entries_of sheet.now) }
@@ -199,14 +185,10 @@ fn any_breaks(rule: Rule, sheet: &[u8]) -> bool
     requires { Framed 1 sheet.now }
     ensures { result ≡ any_breaks rule (entries_of sheet.now) }
 {
-    let mut at: usize = 1;
-    while at < sheet.len() {
-        let start = at + 2;
-        let end = at + STRIDE;
-        if rules::breaks(rule, &sheet[start..end]) {
+    for k in 0..count(sheet) {
+        if rules::breaks(rule, part(sheet, k)) {
             return true;
         }
-        at = end;
     }
     false
 }
@@ -217,32 +199,24 @@ fn id_twice(sheet: &[u8]) -> bool
     ensures { result ≡ id_twice (entries_of sheet.now) }
 {
     let mut seen = [0u64; 1024];
-    let mut at: usize = 1;
-    while at < sheet.len() {
-        let start = at + 2;
-        let end = at + STRIDE;
-        let id = sheet_record::id_of(&sheet[start..end]);
+    for k in 0..count(sheet) {
+        let id = sheet_record::id_of(part(sheet, k));
         if sheet_marks::test_and_mark(&mut seen, id) {
             return true;
         }
-        at = end;
     }
     false
 }
 
-// The first record with this ID among those that start at `from` or later.
-fn find_from(sheet: &[u8], from: usize, id: u16) -> Found
-    requires { Framed from sheet.now }
-    ensures { result ≡ find_from id from (entries_from sheet.now from) }
+// Where the first record with this ID starts.
+fn find_record(sheet: &[u8], id: u16) -> Option<usize>
+    requires { Framed 1 sheet.now }
+    ensures { result ≡ find_from id 1 (entries_of sheet.now) }
 {
-    let mut at = from;
-    while at < sheet.len() {
-        let start = at + 2;
-        let end = at + STRIDE;
-        if sheet_record::id_of(&sheet[start..end]) == id {
-            return Found::At(at);
+    for k in 0..count(sheet) {
+        if sheet_record::id_of(part(sheet, k)) == id {
+            return Some(STRIDE * k + 1);
         }
-        at = end;
     }
-    Found::Nothing
+    None
 }

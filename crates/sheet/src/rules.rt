@@ -10,6 +10,7 @@ use pools::Pool;
 use sheet_record::{is_bridge, places, window_of};
 
 // The record breaks the rule.
+#[tactic(auto, unfolding(crate::specs::Sheet::breaks))]
 pub(crate) fn breaks(rule: Rule, part: &[u8]) -> bool
     requires { length part.now ≡ record_size }
     ensures { result ≡ breaks_of rule (entry_of part.now) }
@@ -22,6 +23,7 @@ pub(crate) fn breaks(rule: Rule, part: &[u8]) -> bool
     }
 }
 
+#[tactic(auto, unfolding(sheet_record::specs::Entry::entry_of))]
 fn type_wrong(part: &[u8]) -> bool
     requires { length part.now ≡ record_size }
     ensures { result ≡ type_wrong (entry_of part.now) }
@@ -29,6 +31,7 @@ fn type_wrong(part: &[u8]) -> bool
     1 < part[places::HEADER_TYPE] % 128
 }
 
+#[tactic(auto, unfolding(sheet_record::specs::Entry::entry_of))]
 fn buses_wrong(part: &[u8]) -> bool
     requires { length part.now ≡ record_size }
     ensures { result ≡ buses_wrong (entry_of part.now) }
@@ -40,7 +43,7 @@ fn buses_wrong(part: &[u8]) -> bool
     let secondary = part[places::SECONDARY];
     let subordinate = part[places::SUBORDINATE];
     let own = sheet_record::bus_of(part);
-    !((own == primary) & ((primary < secondary) & (secondary <= subordinate)))
+    !((own == primary) & (primary < secondary) & (secondary <= subordinate))
 }
 
 fn read_backs_wrong(part: &[u8]) -> bool
@@ -57,16 +60,18 @@ fn read_backs_wrong(part: &[u8]) -> bool
 }
 
 // The last four read-backs, which a bridge does not have.
+#[tactic(auto, unfolding(crate::specs::Sheet::all_zero, sheet_record::specs::Entry::dwords))]
 fn rest_zero(part: &[u8]) -> bool
     requires { length part.now ≡ record_size }
     ensures { result ≡ all_zero (dwords (be 4) 4 part.now (readbacks_at + 8)) }
 {
     (endian::read_be32(part, places::READBACK2) == 0)
-        & ((endian::read_be32(part, places::READBACK3) == 0)
-            & ((endian::read_be32(part, places::READBACK4) == 0)
-                & (endian::read_be32(part, places::READBACK5) == 0)))
+        & (endian::read_be32(part, places::READBACK3) == 0)
+        & (endian::read_be32(part, places::READBACK4) == 0)
+        & (endian::read_be32(part, places::READBACK5) == 0)
 }
 
+#[tactic(auto, unfolding(sheet_record::specs::Entry::entry_of))]
 fn nibbles_wrong(part: &[u8]) -> bool
     requires { length part.now ≡ record_size }
     ensures { result ≡ nibbles_wrong (entry_of part.now) }
@@ -77,5 +82,5 @@ fn nibbles_wrong(part: &[u8]) -> bool
     let low = window_of(part, Pool::Low);
     let high = window_of(part, Pool::High);
     let io = window_of(part, Pool::Io);
-    !(low.is_nibbled(Pool::Low) & (high.is_nibbled(Pool::High) & io.is_nibbled(Pool::Io)))
+    !(low.is_nibbled(Pool::Low) & high.is_nibbled(Pool::High) & io.is_nibbled(Pool::Io))
 }

@@ -122,6 +122,15 @@ module _ (s table : List ℕ) (root : ℕ) (c : BusTree s table root) where
           let is : parent_of root (entries_of s) at ≡ rule.under_several = told.same ∙ rw e in
           led (λ p. let z : ◌≡◌ {A = ℕ} 0 1 = cc (is, p) in omega arith) (λ b p. let z : ◌≡◌ {A = ℕ} 0 1 = cc (is, p) in omega arith)
 
+      pub up_end : ((k : ℕ) → q ≡ Bridge k → ⊥) → record { count = count; memory = memory; io = io } ≡ bridges_over s root bus
+      up_end none = go q refl
+        where
+          go : (p : Parent) → q ≡ p → record { count = count; memory = memory; io = io } ≡ bridges_over s root bus
+          go UnderHost e = up_host e
+          go (Bridge k) e = absurd (none k e)
+          go Nothing e = absurd (up_none e)
+          go Several e = absurd (up_several e)
+
       -- the bridge's record
       module _ (k : ℕ) (is_k : q ≡ Bridge k) where
         pub bridge_inside : k < length (entries_of s)

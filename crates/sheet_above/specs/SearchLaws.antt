@@ -1,6 +1,6 @@
 -- The search for the bridges that lead to one bus, in the words of the code: a record that does not is passed over, and what the records
 -- left say of the bus stays. Assumes nothing.
-use Rattle.std.specs.Prelude.{◌≡◌, refl, Bool, true, false, cond, ◌&&◌, List, ℕ, ◌+◌, ◌≤◌, ◌<◌, eqb, length}
+use Rattle.std.specs.Prelude.{◌≡◌, refl, Bool, true, false, cond, ◌&&◌, Option, Some, None, List, ℕ, ◌+◌, ◌≤◌, ◌<◌, eqb, length}
 use Rattle.std.proofs.Common.{sym, ap, ◌∙◌, arith, ne_eqb}
 use Rattle.sheet_record.specs.Entry.{entry_of, header_of, is_bridge, secondary_of}
 use Rattle.sheet.specs.Sheet.{Framed, entries_from, entries_of, part_at, record_at}
@@ -25,6 +25,11 @@ pub record NextLeader (s : List ℕ) (bus from r : ℕ) : Type 0 where
   pub within : r ≤ length (entries_of s)
   pub leads : r < length (entries_of s) → leads_to bus (entry_of (part_at s r)) ≡ true
   pub same : leader_left s bus r ≡ leader_left s bus from
+
+-- the same of an answer
+abbrev pub NextTold : List ℕ → ℕ → ℕ → Option ℕ → Type 0
+NextTold s bus from (Some k) = (k < length (entries_of s)) × NextLeader s bus from k
+NextTold s bus from None = NextLeader s bus from (length (entries_of s))
 
 -- two numbers of records are several
 joined_two : (n m k : ℕ) → joined (n + 1) (joined (m + 1) k) ≡ several

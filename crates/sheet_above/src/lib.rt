@@ -10,7 +10,7 @@ ghost use Rattle.sheet.specs.Sheet.{entries_of};
 ghost use Rattle.sheet.proofs.SheetLaws.{Checked};
 ghost use Rattle.sheet_above.specs.Parents.{leads_to, joined as joined_of, leader_of};
 ghost use Rattle.sheet_above.specs.Table.{IsParent, told_by, Leads, with_record, Tells};
-ghost use Rattle.sheet_above.specs.SearchLaws.{NextLeader};
+ghost use Rattle.sheet_above.specs.SearchLaws.{NextTold};
 ghost use Rattle.sheet_above.specs.Bridges.{BusTree, OnBus, bridges_over};
 
 use pools::Space;
@@ -65,12 +65,8 @@ pub fn leaders(sheet: &[u8], table: &mut [u16])
     requires { Checked sheet.now × (table.old ≡ replicate 256 0) }
     ensures { Leads (entries_of sheet.now) table.new }
 {
-    let records = sheet::count(sheet);
-    let mut k: usize = 0;
-    while k < records {
-        let part = sheet::part(sheet, k);
-        k += 1;
-        add_record(table, part, k as u16);
+    for k in 0..sheet::count(sheet) {
+        add_record(table, sheet::part(sheet, k), k as u16 + 1);
     }
 }
 
@@ -83,26 +79,14 @@ pub fn bridges_above(sheet: &[u8], table: &[u16], root: u8, bus: u8) -> Bridges
     let mut memory = true;
     let mut io = true;
     let mut at = bus;
-    loop {
-        match parent_in(table, root, at) {
-            Parent::Host => {
-                return Bridges { count, memory, io };
-            }
-            Parent::Bridge(k) => {
-                let part = sheet::part(sheet, k);
-                count += 1;
-                memory = memory & sheet_record::is_enabled(part, Space::Memory);
-                io = io & sheet_record::is_enabled(part, Space::Io);
-                at = sheet_record::bus_of(part);
-            }
-            Parent::Nothing => {
-                return Bridges { count, memory, io };
-            }
-            Parent::Several => {
-                return Bridges { count, memory, io };
-            }
-        }
+    while let Parent::Bridge(k) = parent_in(table, root, at) {
+        let part = sheet::part(sheet, k);
+        count += 1;
+        memory &= sheet_record::is_enabled(part, Space::Memory);
+        io &= sheet_record::is_enabled(part, Space::Io);
+        at = sheet_record::bus_of(part);
     }
+    Bridges { count, memory, io }
 }
 
 // ---- a bus's number
@@ -110,13 +94,11 @@ pub fn bridges_above(sheet: &[u8], table: &[u16], root: u8, bus: u8) -> Bridges
 fn told_by(number: u16) -> Parent
     ensures { result ≡ told_by number }
 {
-    if number == 0 {
-        return Parent::Nothing;
+    match number {
+        0 => Parent::Nothing,
+        SEVERAL => Parent::Several,
+        _ => Parent::Bridge(usize::from(number) - 1),
     }
-    if number == SEVERAL {
-        return Parent::Several;
-    }
-    Parent::Bridge(number as usize - 1)
 }
 
 // With one bridge more.
@@ -124,10 +106,10 @@ fn joined(before: u16, number: u16) -> u16
     requires { 0 < number }
     ensures { result ≡ joined_of before number }
 {
-    if before == 0 {
-        return number;
+    match before {
+        0 => number,
+        _ => SEVERAL,
     }
-    SEVERAL
 }
 
 // ---- one record
@@ -160,31 +142,24 @@ fn leader_of(sheet: &[u8], bus: u8) -> u16
     requires { Checked sheet.now }
     ensures { result ≡ leader_of (entries_of sheet.now) bus }
 {
-    let records = sheet::count(sheet);
-    let first = next_leader(sheet, bus, 0);
-    if first == records {
+    let Some(first) = next_leader(sheet, bus, 0) else {
         return 0;
+    };
+    match next_leader(sheet, bus, first + 1) {
+        Some(_) => SEVERAL,
+        None => first as u16 + 1,
     }
-    let second = next_leader(sheet, bus, first + 1);
-    if second != records {
-        return SEVERAL;
-    }
-    (first + 1) as u16
 }
 
-// The next record from this one on that leads to the bus; where none does, as many as there are.
-fn next_leader(sheet: &[u8], bus: u8, from: usize) -> usize
+// The next record from this one on that leads to the bus.
+fn next_leader(sheet: &[u8], bus: u8, from: usize) -> Option<usize>
     requires { Checked sheet.now × (from ≤ length (entries_of sheet.now)) }
-    ensures { NextLeader sheet.now bus from result }
+    ensures { NextTold sheet.now bus from result }
 {
-    let records = sheet::count(sheet);
-    let mut k = from;
-    while k < records {
-        let part = sheet::part(sheet, k);
-        if leads_to(part, bus) {
-            return k;
+    for k in from..sheet::count(sheet) {
+        if leads_to(sheet::part(sheet, k), bus) {
+            return Some(k);
         }
-        k += 1;
     }
-    records
+    None
 }

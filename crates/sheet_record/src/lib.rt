@@ -22,6 +22,7 @@ pub fn id_of(part: &[u8]) -> u16
     endian::read_be16(part, places::ID) as u16
 }
 
+#[tactic(auto, unfolding(endian::specs::Endian::be))]
 pub fn bus_of(part: &[u8]) -> u8
     requires { length part.now ≡ record_size }
     ensures { result ≡ bus_of part.now }
@@ -97,6 +98,7 @@ pub fn subordinate_of(part: &[u8]) -> u8
 }
 
 // The registers of a bridge's window.
+#[tactic(auto, unfolding(crate::specs::Entry::window_of))]
 pub fn window_of(part: &[u8], q: Pool) -> Window
     requires { length part.now ≡ record_size }
     ensures { result ≡ window_of q part.now }
@@ -115,8 +117,8 @@ pub fn window_of(part: &[u8], q: Pool) -> Window
             upper_limit: endian::read_le32(part, places::UPPER_LIMIT) as u32,
         },
         Pool::Io => Window {
-            base: endian::wide(part[places::IO_BASE]) as u16,
-            limit: endian::wide(part[places::IO_LIMIT]) as u16,
+            base: u16::from(part[places::IO_BASE]),
+            limit: u16::from(part[places::IO_LIMIT]),
             upper_base: 0,
             upper_limit: 0,
         },
@@ -124,6 +126,7 @@ pub fn window_of(part: &[u8], q: Pool) -> Window
 }
 
 // The six BAR registers. A bridge's last four are other registers.
+#[tactic(auto, unfolding(crate::specs::Entry::dwords))]
 pub fn values_of(part: &[u8]) -> [u32; 6]
     requires { length part.now ≡ record_size }
     ensures { result ≡ dwords (le 4) 6 part.now values_at }
@@ -138,6 +141,7 @@ pub fn values_of(part: &[u8]) -> [u32; 6]
     ]
 }
 
+#[tactic(auto, unfolding(crate::specs::Entry::dwords))]
 pub fn readbacks_of(part: &[u8]) -> [u32; 6]
     requires { length part.now ≡ record_size }
     ensures { result ≡ dwords (be 4) 6 part.now readbacks_at }

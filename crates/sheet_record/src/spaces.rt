@@ -19,19 +19,9 @@ pub fn bit_of(space: Space) -> u16
 pub fn bar_holds(space: Space, x: Slot, value: u64, address: u64) -> bool
     ensures { result ≡ bar_holds space x value address }
 {
-    match x {
-        Slot::Unused => false,
-        Slot::Bar(q, _, size) => {
-            let base = bar::base_of(x, value);
-            if !pools::in_space(space, q) {
-                return false;
-            }
-            if address < base {
-                return false;
-            }
-            address - base < size
-        }
-        Slot::Upper => false,
-        Slot::Bad => false,
-    }
+    let Slot::Bar(q, _, size) = x else {
+        return false;
+    };
+    let base = bar::base_of(x, value);
+    pools::in_space(space, q) && base <= address && address - base < size
 }

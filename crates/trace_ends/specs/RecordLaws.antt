@@ -1,5 +1,5 @@
 -- Every record that an answer names is one of the sheet: the sender, and who gets a packet from a function. Assumes nothing.
-use Rattle.std.specs.Prelude.{◌≡◌, refl, Bool, true, false, not, ◌&&◌, ◌⊎◌, length, eqb}
+use Rattle.std.specs.Prelude.{◌≡◌, refl, Bool, true, false, not, ◌&&◌, ◌⊎◌, Option, Some, None, length, eqb}
 use Rattle.std.proofs.Common.{sym, ap, subst, ◌∙◌, inl, inr, suc-ne-zero, arith}
 use Rattle.std.proofs.Math.Bool.{cond}
 use mathlib.Core.List.Memᴰ
@@ -30,8 +30,6 @@ use Rattle.sheet.specs.Spaces.{nodes_from, nodes_of, registers_of, enabled_of, m
 use Rattle.claims.specs.declared.Aim.TheVariants.{Address, Id}
 use Rattle.claims.specs.RecordLaws.{claim_in_sheet}
 use Rattle.route.specs.Route.{root}
-use Rattle.route_cards.specs.declared.start.Request.{Request}
-use Rattle.route_cards.specs.declared.start.Request.TheVariants.{At, Other}
 use Rattle.route_cards.specs.declared.Sending.{Sending}
 use Rattle.route_cards.specs.declared.Sending.TheVariants.{Delivered as CardDelivered, Host as CardHost, Refused as CardRefused}
 use Rattle.route_cards.specs.Sending as cards
@@ -199,6 +197,6 @@ module _ (s : List ℕ) where
       by_start space address (starts f) =
           answer_in p (send_from (enabled_of space s) (master_of s) (registers_of space s) address (root s) f) (card_arrives space address f)
 
-      by_request : (r : Request) → SendingIn (on_request number p s r)
-      by_request (At space address) = by_start space address (start_at (registers_of space s) number)
-      by_request Other = tt
+      by_request : (r : Option (Space × ℕ)) → SendingIn (on_request number p s r)
+      by_request (Some (space, address)) = by_start space address (start_at (registers_of space s) number)
+      by_request None = tt

@@ -1,6 +1,5 @@
 -- `route::walk` calls itself on the secondary bus. Measure: 255 minus the bus number, which falls since bus numbers rise at each bridge.
 -- Each arm is one case of the walk's step. Assumes nothing.
-use Prim.Native.Nat.{◌-◌}
 use native.Mathlib.Omega.{arith}
 use Rattle.route.proofs.RouteLaws.{walk_nothing, walk_several, walk_bar, walk_window, bus_rises}
 use Rattle.route.proofs.+walk.Goals as goal

@@ -8,15 +8,15 @@ is_type_0-requires c = checked_of_zero _ c.requires
 
 pub returns-then-not-is_type_0 : goal.returns-then-not-is_type_0
 returns-then-not-is_type_0 c = no_start c.args.p _ (checked_of_zero _ c.requires) _ c.request_of.result c.request_of.ensures _ _
-    c.in-At.is _ c.is_type_0.ensures (c.if-not-is_type_0.true)
+    c.in-Some.is _ c.is_type_0.ensures (c.if-not-is_type_0.true)
 
 pub send_request-requires : goal.send_request-requires
 send_request-requires c = (checked_of_zero _ c.requires, c.is_type_0.ensures.yes (c.if-not-is_type_0.false))
 
 pub returns-else-not-is_type_0 : goal.returns-else-not-is_type_0
 returns-else-not-is_type_0 c = from_type_0 c.args.p _ (checked_of_zero _ c.requires) _ c.request_of.result c.request_of.ensures _ _
-    c.in-At.is _ c.is_type_0.ensures (c.if-not-is_type_0.false) _ c.send_request.ensures
+    c.in-Some.is _ c.is_type_0.ensures (c.if-not-is_type_0.false) _ c.send_request.ensures
 
-pub returns-in-Other : goal.returns-in-Other
-returns-in-Other c = no_request c.args.p _ (checked_of_zero _ c.requires) _ c.request_of.result c.request_of.ensures
-    c.in-Other.is
+pub returns-in-None : goal.returns-in-None
+returns-in-None c = no_request c.args.p _ (checked_of_zero _ c.requires) _ c.request_of.result c.request_of.ensures
+    c.in-None.is

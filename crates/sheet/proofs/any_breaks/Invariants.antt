@@ -1,16 +1,8 @@
--- `sheet::any_breaks` meets its contract. Invariant: a record starts at the cursor or it is the end, and whether a record from there on
--- breaks the rule is whether one of the sheet does. Measure: the bytes that are left. Assumes nothing.
-use Prim.Native.Nat.{◌≤◌, ◌-◌}
-use mathlib.Core.Bool.{true}
-use mathlib.Core.Path.{◌≡◌}
-use lib.ListN.{length, drop}
-use Rattle.sheet.specs.Sheet.{is_framed, entries_from, any_breaks}
+-- `sheet::any_breaks` meets its contract. Invariant: whether a record from record k on breaks the rule is whether one of the sheet does.
+-- Assumes nothing.
+use Rattle.std.proofs.Common.{◌≡◌}
+use Rattle.sheet.specs.Sheet.{entries_from, any_breaks, record_at}
 use Rattle.sheet.proofs.any_breaks.Given as goal
 
-abbrev pub invariant-loop-at : goal.invariant-loop-at
-invariant-loop-at l =
-    (l.at ≤ length l.sheet) × (is_framed (drop l.at l.sheet) ≡ true)
-    × (any_breaks l.rule (entries_from l.sheet l.at) ≡ any_breaks l.rule (entries_from l.sheet 1))
-
-abbrev pub decreases-loop-at : goal.decreases-loop-at
-decreases-loop-at l = length l.sheet - l.at
+abbrev pub invariant-loop-k : goal.invariant-loop-k
+invariant-loop-k l = any_breaks l.rule (entries_from l.sheet (record_at l.k)) ≡ any_breaks l.rule (entries_from l.sheet 1)

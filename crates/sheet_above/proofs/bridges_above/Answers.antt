@@ -6,7 +6,7 @@ use lib.ListN.{length}
 use Rattle.sheet.specs.Sheet.{entries_of}
 use Rattle.sheet.proofs.IndexLaws.{record_fits}
 use Rattle.sheet_above.specs.Table.{IsParent}
-use Rattle.sheet_above.specs.BridgesLaws.{part_sized, up_start, up_host, up_none, up_several, bridge_inside, up_few}
+use Rattle.sheet_above.specs.BridgesLaws.{part_sized, up_start, up_end, bridge_inside, up_few}
 use Rattle.sheet_above.specs.BridgesLaws.{up_less, up_bridge}
 use Rattle.sheet_above.proofs.bridges_above.Goals as goal
 use Rattle.sheet_above.proofs.bridges_above.Goals.{After-parent_in, In-Bridge}
@@ -29,10 +29,6 @@ loop-k-init c = up_start _ _ _ c.requires.0 _ c.requires.1
 
 pub parent_in-requires : goal.parent_in-requires
 parent_in-requires c = c.requires.0.leads.size
-
-pub returns-in-Host : goal.returns-in-Host
-returns-in-Host c = up_host _ _ _ c.requires.0 _ _ _ _ _ c.loop-k.invariant _ (told (goal.at.returns-in-Host c).After-parent_in)
-    c.in-Host.is
 
 pub part-part-requires : goal.part-part-requires
 part-part-requires c = record_fits _ c.requires.0.checked.framed _ (inside (goal.at.part-part-requires c).In-Bridge)
@@ -63,12 +59,5 @@ loop-k-preserved c = up_bridge _ _ _ c.requires.0 _ _ _ _ _ c.loop-k.invariant _
     c.in-Bridge.is _ c.part-part.ensures _ c.bus_of-at.ensures _ _ c.is_enabled-memory.ensures
     c.is_enabled-io.ensures
 
-pub returns-in-Nothing : goal.returns-in-Nothing
-returns-in-Nothing c = absurd
-    (up_none _ _ _ c.requires.0 _ _ _ _ _ c.loop-k.invariant _ (told (goal.at.returns-in-Nothing c).After-parent_in)
-    c.in-Nothing.is)
-
-pub returns-in-Several : goal.returns-in-Several
-returns-in-Several c = absurd
-    (up_several _ _ _ c.requires.0 _ _ _ _ _ c.loop-k.invariant _ (told (goal.at.returns-in-Several c).After-parent_in)
-    c.in-Several.is)
+pub returns : goal.returns
+returns c = up_end _ _ _ c.requires.0 _ _ _ _ _ c.loop-k.invariant _ (told (goal.at.returns c).After-parent_in) c.in_default.not-Bridge

@@ -1,7 +1,7 @@
 -- `sheet_above::leaders` meets its contract. Invariant: what the table says of a bus, joined with what the records that are left say, is
--- what all say. Measure: records left. Assumes nothing.
+-- what all say. Assumes nothing.
 use mathlib.Core.Path.{sym, ap, ◌∙◌}
-use Prim.Native.Nat.{◌-◌, ◌<◌}
+use Prim.Native.Nat.{◌<◌}
 use native.Mathlib.Omega.{arith}
 use lib.ListN.{length}
 use Rattle.sheet.specs.Sheet.{entries_of}
@@ -13,43 +13,31 @@ use Rattle.sheet_above.proofs.leaders.Goals.{In-loop-k}
 -- the record of this turn
 here : (c : In-loop-k)
     → c.loop-k.k < length (entries_of c.args.sheet.now)
-here c = omega (arith, c.loop-k-test.true, c.count-records.ensures)
+here c = omega (arith, c.loop-k-test.true, c.count-k-end.ensures)
 
-pub count-records-requires : goal.count-records-requires
-count-records-requires c = c.requires.0.framed
+pub count-k-end-requires : goal.count-k-end-requires
+count-k-end-requires c = c.requires.0.framed
 
 pub loop-k-init : goal.loop-k-init
-loop-k-init c = (omega arith, leads_start _ _ c.requires.1)
+loop-k-init c = leads_start _ _ c.requires.1
 
-pub part-part-requires : goal.part-part-requires
-part-part-requires c = record_fits _ c.requires.0.framed _ (here (goal.at.part-part-requires c).In-loop-k)
-
-pub overflow_add-k : goal.overflow_add-k
-overflow_add-k c = omega (arith, here (goal.at.overflow_add-k c).In-loop-k, c.requires.0.count)
-
-pub overflow_cast-k : goal.overflow_cast-k
-overflow_cast-k c = omega (arith, here (goal.at.overflow_cast-k c).In-loop-k, c.requires.0.count)
+pub part-requires : goal.part-requires
+part-requires c = record_fits _ c.requires.0.framed _ (here (goal.at.part-requires c).In-loop-k)
 
 pub add_record-requires : goal.add_record-requires
 add_record-requires c = (
-  c.loop-k.invariant.1.size,
-  ap length c.part-part.ensures ∙ length_part _ _ (record_fits _ c.requires.0.framed _ (here (goal.at.add_record-requires c).In-loop-k)),
+  c.loop-k.invariant.size,
+  ap length c.part.ensures ∙ length_part _ _ (record_fits _ c.requires.0.framed _ (here (goal.at.add_record-requires c).In-loop-k)),
   omega arith,
 )
-
-pub loop-k-smaller : goal.loop-k-smaller
-loop-k-smaller c = omega arith
 
 pub loop-k-preserved : goal.loop-k-preserved
-loop-k-preserved c = (
-  omega arith,
-  leads_more _ c.requires.0.framed _ _ c.count-records.ensures _ c.loop-k.invariant.1
-      c.loop-k-test.true _ c.part-part.ensures _ c.add_record.ensures,
-)
+loop-k-preserved c =
+    leads_more _ c.requires.0.framed _ _ c.count-k-end.ensures _ c.loop-k.invariant c.loop-k-test.true _ c.part.ensures _ c.add_record.ensures
 
 pub shape_of-table : goal.shape_of-table
-shape_of-table c = c.loop-k.invariant.1.size ∙ sym (leads_start c.args.sheet.now _ c.requires.1).size
+shape_of-table c = c.loop-k.invariant.size ∙ sym (leads_start c.args.sheet.now _ c.requires.1).size
 
 pub returns : goal.returns
-returns c = leads_end _ c.requires.0.framed _ _ c.count-records.ensures _ c.loop-k.invariant.1
+returns c = leads_end _ c.requires.0.framed _ _ c.count-k-end.ensures _ c.loop-k.invariant
     c.loop-k-test.false

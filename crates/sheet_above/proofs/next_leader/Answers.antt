@@ -1,7 +1,6 @@
--- `sheet_above::next_leader`: the loop. Invariant: what the records left say of the bus is what those from the first on say. Measure:
--- records left. Assumes nothing.
+-- `sheet_above::next_leader`: the loop. Invariant: what the records left say of the bus is what those from the first on say. Assumes nothing.
 use mathlib.Core.Path.{refl, ap, ◌∙◌}
-use Prim.Native.Nat.{◌-◌, ◌<◌}
+use Prim.Native.Nat.{◌<◌}
 use native.Mathlib.Omega.{arith}
 use lib.ListN.{length}
 use Rattle.sheet.specs.Sheet.{entries_of}
@@ -12,39 +11,34 @@ use Rattle.sheet_above.proofs.next_leader.Goals.{In-loop-k}
 
 -- the record of this turn: it is in the sheet, and its part is whole
 here : (c : In-loop-k) → c.loop-k.k < length (entries_of c.args.sheet.now)
-here c = omega (arith, c.loop-k-test.true, c.count-records.ensures)
+here c = omega (arith, c.loop-k-test.true, c.count-k-end.ensures)
 
-pub count-records-requires : goal.count-records-requires
-count-records-requires c = c.requires.0.framed
+pub count-k-end-requires : goal.count-k-end-requires
+count-k-end-requires c = c.requires.0.framed
 
 pub loop-k-init : goal.loop-k-init
-loop-k-init c = (omega (arith, c.count-records.ensures, c.requires.1), refl)
+loop-k-init c = refl
 
-pub part-part-requires : goal.part-part-requires
-part-part-requires c = record_fits _ c.requires.0.framed _ (here (goal.at.part-part-requires c).In-loop-k)
+pub part-requires : goal.part-requires
+part-requires c = record_fits _ c.requires.0.framed _ (here (goal.at.part-requires c).In-loop-k)
 
 pub leads_to-requires : goal.leads_to-requires
-leads_to-requires c = ap length c.part-part.ensures
+leads_to-requires c = ap length c.part.ensures
     ∙ length_part _ _ (record_fits _ c.requires.0.framed _ (here (goal.at.leads_to-requires c).In-loop-k))
 
 pub returns-then-leads_to : goal.returns-then-leads_to
-returns-then-leads_to c = leader_hit _ c.requires.0.framed _ c.count-records.ensures _ _ c.loop-k-test.true _
-    c.part-part.ensures _ c.leads_to.ensures _ c.if-leads_to.true c.loop-k.invariant.1
-
-pub overflow_add-k : goal.overflow_add-k
-overflow_add-k c = omega (arith, here (goal.at.overflow_add-k c).In-loop-k, c.requires.0.count)
-
-pub loop-k-smaller : goal.loop-k-smaller
-loop-k-smaller c = omega arith
-
-pub loop-k-preserved : goal.loop-k-preserved
-loop-k-preserved c = (
-  omega (arith, c.loop-k-test.true),
-  leader_miss _ c.requires.0.framed _ c.count-records.ensures _ _ c.loop-k-test.true _
-      c.part-part.ensures _ c.leads_to.ensures c.if-leads_to.false
-      ∙ c.loop-k.invariant.1,
+returns-then-leads_to c = (
+  here (goal.at.returns-then-leads_to c).In-loop-k,
+  leader_hit _ c.requires.0.framed _ c.count-k-end.ensures _ _ c.loop-k-test.true _
+      c.part.ensures _ c.leads_to.ensures _ c.if-leads_to.true c.loop-k.invariant,
 )
 
+pub loop-k-preserved : goal.loop-k-preserved
+loop-k-preserved c =
+    leader_miss _ c.requires.0.framed _ c.count-k-end.ensures _ _ c.loop-k-test.true _ c.part.ensures _ c.leads_to.ensures c.if-leads_to.false
+    ∙ c.loop-k.invariant
+
 pub returns : goal.returns
-returns c = leader_none _ c.requires.0.framed _ c.count-records.ensures _ _ c.loop-k.k c.loop-k-test.false
-    c.loop-k.invariant.0 c.loop-k.invariant.1
+returns c =
+    let e = leader_none _ c.requires.0.framed _ c.count-k-end.ensures _ _ c.loop-k.k c.loop-k-test.false (omega arith) c.loop-k.invariant in
+    rw c.count-k-end.ensures at e

@@ -7,4 +7,4 @@ use Rattle.sheet_marks.proofs.mark.Goals as goal
 
 pub returns : goal.returns
 unfolding marked
-returns c = rw (shift_one (c.args.id % 64) (mod-lt c.args.id (zero-lt-suc 63)))
+returns c = rw (c.from-word.ensures, shift_one (c.args.id % 64) (mod-lt c.args.id (zero-lt-suc 63)))

@@ -2,7 +2,6 @@
 -- Assumes nothing.
 use mathlib.Core.Path.{◌≡◌}
 use mathlib.Core.List.{map}
-use Prim.Native.Nat.{◌-◌}
 use Rattle.lists.specs.Lists.{keep}
 use Rattle.walk.specs.Tally.{none, join}
 use Rattle.walk.specs.Ids.{leads_toward, bridge_claim}
@@ -14,6 +13,3 @@ use Rattle.claims.proofs.ids.bridges_toward.Given as goal
 abbrev pub invariant-loop-k : goal.invariant-loop-k
 invariant-loop-k l =
     join (tally_of l.tally) (toward_from l.target l.bus l.sheet l.k) ≡ join none (map bridge_claim (keep (leads_toward l.target l.bus) (nodes_of l.sheet)))
-
-abbrev pub decreases-loop-k : goal.decreases-loop-k
-decreases-loop-k l = l.records - l.k

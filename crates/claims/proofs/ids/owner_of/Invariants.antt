@@ -1,7 +1,7 @@
 -- `claims::ids::owner_of`: the loop. Invariant: the first of the records that are left is the first of all. Measure: records left.
 -- Assumes nothing.
 use mathlib.Core.Path.{◌≡◌}
-use Prim.Native.Nat.{◌-◌, ◌/◌, ◌%◌}
+use Prim.Native.Nat.{◌/◌, ◌%◌}
 use Rattle.lists.specs.Lists.{keep}
 use Rattle.walk.specs.Ids.{has_id, first_of}
 use Rattle.sheet.specs.Spaces.{nodes_of}
@@ -10,6 +10,3 @@ use Rattle.claims.proofs.ids.owner_of.Given as goal
 
 abbrev pub invariant-loop-k : goal.invariant-loop-k
 invariant-loop-k l = owner_from l.id l.sheet l.k ≡ first_of (keep (has_id (l.id / 256) (l.id % 256)) (nodes_of l.sheet))
-
-abbrev pub decreases-loop-k : goal.decreases-loop-k
-decreases-loop-k l = l.records - l.k

@@ -1,7 +1,7 @@
 -- `route_cards::holds::bars_hold`: the loop over slots. Invariant: the slots from i on are lawful, and one of them holds the address
 -- exactly where one of all does. Measure: slots left. Assumes nothing.
 use mathlib.Core.Path.{◌∙◌}
-use Prim.Native.Nat.{◌-◌, ◌≤◌, ◌<◌}
+use Prim.Native.Nat.{◌≤◌, ◌<◌}
 use native.Mathlib.Omega.{arith}
 use lib.ListN.{take, length}
 use Rattle.claims.specs.HitsLaws.{lawful_next}

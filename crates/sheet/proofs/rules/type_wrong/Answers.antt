@@ -1,8 +1,0 @@
--- `sheet::rules::type_wrong` meets its contract: the header type is the byte that was read. Assumes nothing.
-use borrow.Author.Rules.{rules}
-use Rattle.sheet_record.specs.Entry.{entry_of}
-use Rattle.sheet.proofs.rules.type_wrong.Goals as goal
-
-pub returns : goal.returns
-unfolding entry_of
-returns c = search rules
