@@ -3,14 +3,13 @@ use Rattle.std.specs.Prelude.{cond, List, ℕ, drop}
 use Rattle.endian.specs.Endian.{be}
 use Rattle.sheet_record.specs.Places.{readbacks_at}
 use Rattle.sheet_record.specs.Entry.{Entry, dwords, header_of, slot_count, bridges}
-use Rattle.finding.specs.declared.Spot.{Spot}
-use Rattle.finding.specs.declared.Spot.TheVariants.{Right}
 use Rattle.audit_finding.specs.declared.Check as checks
 use Rattle.audit_finding.specs.declared.Check.{Check}
 use Rattle.audit_finding.specs.Where.{Mark, rest_marks, nibble_marks}
 use Rattle.audit_finding.specs.Spots.{spot_in}
 use Rattle.sheet_where.specs.declared.Own.{Own}
 use Rattle.sheet_where.specs.declared.Own.TheVariants.{HeaderType, Buses, Ids, ReadBacks, Nibbles}
+use Rattle.finding.specs.Places.{Spot, right}
 
 abbrev pub check_for : Own → Check
 check_for HeaderType = checks.TheVariants.HeaderType
@@ -25,4 +24,4 @@ rest_of p = let n = slot_count (header_of p) in rest_marks n (drop n (dwords (be
 
 -- only a bridge has windows
 abbrev pub nibble_spot : Entry → Spot
-nibble_spot e = cond (bridges e) (spot_in (nibble_marks e)) Right
+nibble_spot e = cond (bridges e) (spot_in (nibble_marks e)) right

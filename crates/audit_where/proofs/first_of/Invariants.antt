@@ -1,7 +1,6 @@
--- `audit_where::first_of`: the loop over the records. Invariant: the first that fails from record k on is the first of all. Measure: the
--- records left. Assumes nothing.
+-- `audit_where::first_of`: the loop over the records. Invariant: the first that fails from record k on is the first of all. Assumes
+-- nothing.
 use mathlib.Core.Path.{◌≡◌}
-use Prim.Native.Nat.{◌-◌}
 use Rattle.sheet.specs.Sheet.{entries_of}
 use Rattle.finding.specs.Places.{nobodies}
 use Rattle.finding.specs.First.{first}
@@ -15,6 +14,3 @@ abbrev pub invariant-loop-k : goal.invariant-loop-k
 invariant-loop-k l =
     first (fails (check_under l.check) l.host (entries_of l.sheet)) (named (check_under l.check) l.host (entries_of l.sheet)) nobodies (records_from l.sheet l.k)
     ≡ first_failing (check_under l.check) l.host (entries_of l.sheet)
-
-abbrev pub decreases-loop-k : goal.decreases-loop-k
-decreases-loop-k l = l.records - l.k

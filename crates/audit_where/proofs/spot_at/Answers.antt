@@ -1,9 +1,6 @@
 -- `audit_where::spot_at` meets its contract: check by check. Assumes nothing.
 use Rattle.audit_where.proofs.spot_at.Goals as goal
 
-pub overlap_spot-requires : goal.overlap_spot-requires
-overlap_spot-requires c = (c.requires.0, c.requires.2)
-
 pub returns-in-Tree : goal.returns-in-Tree
 returns-in-Tree c = rw c.in-Tree.is c.tree_spot.ensures
 

