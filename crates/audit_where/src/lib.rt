@@ -19,11 +19,10 @@ ghost use Rattle.audit_finding.specs.declared.Check.TheVariants.{Whole, Tree, Pl
 ghost use Rattle.audit_finding.specs.Finding.{check_of, first_failing, finding_of};
 ghost use Rattle.audit_finding.specs.Spots.{spot_at, record_of};
 ghost use Rattle.audit_met.specs.Met.{IsNumber};
-ghost use Rattle.audit_where.specs.Under.{check_under, HasParent, outside_in};
+ghost use Rattle.audit_where.specs.Under.{HasParent, outside_in};
 
 use audit_finding::Relation;
 use audit_rule::Nesting;
-use auditor::Check;
 use board_record::Host;
 use finding::{Finding, NOBODIES, NOBODY, Parties, Party, Wrong};
 use sheet_above::Parent;
@@ -68,56 +67,25 @@ fn own_parties(number: u8, sheet: &[u8]) -> Parties
     }
 }
 
-// By the checks of a sheet that passes its own.
+// By the checks of a sheet that passes its own, with the table of the bridges that lead to each bus.
 fn under_parties(number: u8, host: Host, sheet: &[u8]) -> Parties
     requires { (50 ≤ number) × Checked sheet.now }
     ensures { result ≡ first_failing (check_of number) host (entries_of sheet.now) }
 {
-    match number {
-        50 => first_failing(Check::Tree, host, sheet),
-        51 => first_failing(Check::Nested, host, sheet),
-        52 => first_failing(Check::Disjoint, host, sheet),
-        _ => NOBODIES,
-    }
-}
-
-// The first record that fails the check.
-fn first_failing(check: Check, host: Host, sheet: &[u8]) -> Parties
-    requires { Checked sheet.now }
-    ensures { result ≡ first_failing (check_under check) host (entries_of sheet.now) }
-{
     let mut table = [0u16; sheet_above::BUSES];
     sheet_above::leaders(sheet, &mut table);
-    first_of(check, host, sheet, &table)
+    parties_by(&table, number, host, sheet)
 }
 
-fn first_of(check: Check, host: Host, sheet: &[u8], table: &[u16]) -> Parties
-    requires { Checked sheet.now × Leads (entries_of sheet.now) table.now }
-    ensures { result ≡ first_failing (check_under check) host (entries_of sheet.now) }
+fn parties_by(table: &[u16], number: u8, host: Host, sheet: &[u8]) -> Parties
+    requires { (50 ≤ number) × Checked sheet.now × Leads (entries_of sheet.now) table.now }
+    ensures { result ≡ first_failing (check_of number) host (entries_of sheet.now) }
 {
-    for k in 0..sheet::count(sheet) {
-        if let Some(Wrong { place, other }) = spot_at(check, host, sheet, table, k) {
-            return Parties {
-                party: Party {
-                    number: k + 1,
-                    place,
-                },
-                other,
-            };
-        }
-    }
-    NOBODIES
-}
-
-// What the check says of record k, from 0.
-fn spot_at(check: Check, host: Host, sheet: &[u8], table: &[u16], k: usize) -> Option<Wrong>
-    requires { Checked sheet.now × Leads (entries_of sheet.now) table.now × (k < length (entries_of sheet.now)) }
-    ensures { result ≡ spot_at (check_under check) host (entries_of sheet.now) (record_of sheet.now k) }
-{
-    match check {
-        Check::Tree => tree_spot(host, sheet, table, k),
-        Check::Nested => place_spot(host, sheet, table, k),
-        Check::Disjoint => overlap_where::overlap_spot(sheet, k),
+    match number {
+        50 => sheet_where::first_wrong(sheet, |k| tree_spot(host, sheet, table, k)),
+        51 => sheet_where::first_wrong(sheet, |k| place_spot(host, sheet, table, k)),
+        52 => sheet_where::first_wrong(sheet, |k| overlap_where::overlap_spot(sheet, k)),
+        _ => NOBODIES,
     }
 }
 

@@ -2,7 +2,7 @@
 // starts, so what is looked for is the first record that fails a given one.
 #![tactic(auto)]
 
-ghost use Rattle.std.specs.Prelude.{◌≡◌, false, ◌+◌, ◌<◌, length};
+ghost use Rattle.std.specs.Prelude.{◌≡◌, false, ℕ, ◌+◌, ◌<◌, length};
 ghost use Rattle.bar.specs.Values.{is_value, is_bar_value};
 ghost use Rattle.bar.specs.Bar.{SizedSlot};
 ghost use Rattle.board_record.specs.declared.Host.{Host};
@@ -10,11 +10,12 @@ ghost use Rattle.sheet_record.specs.Places.{record_size};
 ghost use Rattle.sheet_record.specs.Entry.{entry_of};
 ghost use Rattle.sheet.specs.declared.Rule.TheVariants.{HeaderType, Buses};
 ghost use Rattle.sheet.specs.Sheet.{Framed, entries_of, breaks};
+ghost use Rattle.audit_finding.specs.declared.Check.{Check};
 ghost use Rattle.audit_finding.specs.declared.Check.TheVariants.{Ids};
 ghost use Rattle.audit_finding.specs.Where.{read_back_marks};
 ghost use Rattle.audit_finding.specs.Finding.{first_failing};
 ghost use Rattle.audit_finding.specs.Spots.{spot_at, spot_in, record_of};
-ghost use Rattle.sheet_where.specs.Own.{check_for, rest_of, nibble_spot};
+ghost use Rattle.sheet_where.specs.Own.{check_for, TellsOf, rest_of, nibble_spot};
 
 use audit_finding::Relation;
 use bar::Slot;
@@ -37,8 +38,17 @@ pub fn first_failing(own: Own, sheet: &[u8]) -> Parties
     requires { Framed 1 sheet.now }
     ensures { (h : Host) → result ≡ first_failing (check_for own) h (entries_of sheet.now) }
 {
+    first_wrong(sheet, |k| spot_at(own, sheet, k))
+}
+
+// The first record that is told to be wrong.
+pub fn first_wrong<F: Fn(usize) -> Option<Wrong>>(sheet: &[u8], told: F) -> Parties
+    requires framed { Framed 1 sheet.now }
+    requires can { (k : ℕ) → k < length (entries_of sheet.now) → F.pre told k }
+    ensures { (c : Check) (h : Host) → TellsOf c h sheet.now (F.post told) → result ≡ first_failing c h (entries_of sheet.now) }
+{
     for k in 0..sheet::count(sheet) {
-        if let Some(Wrong { place, other }) = spot_at(own, sheet, k) {
+        if let Some(Wrong { place, other }) = told(k) {
             return Parties {
                 party: Party {
                     number: k + 1,
