@@ -109,7 +109,8 @@ module _ (h : Host) (s : List ℕ) (k : ℕ) (p : List ℕ) (is : p ≡ part_at 
           unfolding spot_at fails place_in other_of
           tree_right z = rw (starts_is ∙ on, some, up_is ∙ fits, sym met ∙ z)
 
-          pub tree_shared : (number ≡ 0 → ⊥) → wrong_at bus_registers (record { number = number; place = bus_registers }) ≡ spot_at Tree h es r
+          pub tree_shared : (number ≡ 0 → ⊥) → wrong_at bus_registers (record { number = number; place = bus_registers })
+              ≡ spot_at Tree h es r
           unfolding spot_at fails place_in other_of
           tree_shared d = rw (starts_is ∙ on, some, up_is ∙ fits, ← met, ne_eqb number 0 d)
 
@@ -124,7 +125,8 @@ module _ (h : Host) (s : List ℕ) (k : ℕ) (p : List ℕ) (is : p ≡ part_at 
       ∙ first_agree (λ q. outside_all OfKind above q.range) (is_outside h es) (λ q. wrong_at q.place nobody) right (placed_of r)
       (all_imp _ _ (placed_of r) (owners_placed r) agree)
       ∙ spot_alone (is_outside h es) (λ q. q.place) (placed_of r)
-      ∙ ap (λ (t : Bool). cond t (wrong_at (first (is_outside h es) (λ q. q.place) 0 (placed_of r)) nobody) right) (sym (outside_placed h es r))
+      ∙ ap (λ (t : Bool). cond t (wrong_at (first (is_outside h es) (λ q. q.place) 0 (placed_of r)) nobody) right) (sym
+      (outside_placed h es r))
     where
       above_is : above ≡ ranges_above h (parent_in h es r.entry)
       above_is = e ∙ ap (λ (c : ℕ). ranges_above h (parent_of h.first_bus es c)) bus_is

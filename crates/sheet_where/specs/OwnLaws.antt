@@ -47,7 +47,8 @@ module _ (h : Host) (s : List ℕ) (k : ℕ) (p : List ℕ) (is : p ≡ part_at 
     unfolding spot_at fails place_in other_of
     id_right z = rw (sym met ∙ z)
 
-    pub id_wrong : (number ≡ 0 → ⊥) → wrong_at function_id (record { number = number; place = function_id }) ≡ spot_at Ids h es (record_of s k)
+    pub id_wrong : (number ≡ 0 → ⊥) → wrong_at function_id (record { number = number; place = function_id })
+        ≡ spot_at Ids h es (record_of s k)
     unfolding spot_at fails place_in other_of
     id_wrong d = rw (← met, ne_eqb number 0 d)
 
@@ -69,7 +70,8 @@ module _ (h : Host) (s : List ℕ) (k : ℕ) (p : List ℕ) (is : p ≡ part_at 
           ≡ cond (breaks rules.TheVariants.Nibbles (entry_of p)) (wrong_at (first_wrong (nibble_marks (entry_of p))) nobody) right
       go true is_bridge_lem =
           spot_alone is_wrong (λ m. m.place) (nibble_marks (entry_of p))
-          ∙ ap (λ (b : Bool). cond b (wrong_at (first_wrong (nibble_marks (entry_of p))) nobody) right) (nibbles_marked (entry_of p) is_bridge_lem)
+          ∙ ap (λ (b : Bool). cond b (wrong_at (first_wrong (nibble_marks (entry_of p))) nobody) right) (nibbles_marked
+          (entry_of p) is_bridge_lem)
       go false is_none = sym (ap (λ (b : Bool). cond b (wrong_at (first_wrong (nibble_marks (entry_of p))) nobody) right)
           (nibbles_none (entry_of p) is_none))
 
@@ -83,7 +85,8 @@ module _ (p : List ℕ) (bridge : is_bridge (header_of p) ≡ true) (low : Windo
     (ra : a ≡ is_nibbled Low low) where
   three : nibble_spot (entry_of p)
       ≡ cond (not (is_nibbled Low (window_of Low p))) (wrong_at 6 nobody)
-      (cond (not (is_nibbled High (window_of High p))) (wrong_at 7 nobody) (cond (not (is_nibbled Io (window_of Io p))) (wrong_at 8 nobody) right))
+      (cond (not (is_nibbled High (window_of High p))) (wrong_at 7 nobody) (cond (not (is_nibbled Io (window_of Io p)))
+      (wrong_at 8 nobody) right))
   unfolding entry_of first
   three = rw bridge
 

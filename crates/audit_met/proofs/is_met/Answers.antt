@@ -7,7 +7,8 @@ use Rattle.audit_met.specs.MetLaws.{met_self, met_other}
 use Rattle.audit_met.proofs.is_met.Goals as goal
 
 pub returns-else-j-k : goal.returns-else-j-k
-returns-else-j-k c = rw (eq-eqb c.args.j c.args.k c.if-j-k.false) (sym (met_self c.args.relation c.args.sheet.now c.args.k c.args.j c.if-j-k.false))
+returns-else-j-k c = rw (eq-eqb c.args.j c.args.k c.if-j-k.false) (sym
+    (met_self c.args.relation c.args.sheet.now c.args.k c.args.j c.if-j-k.false))
 
 pub part-requires : goal.part-requires
 part-requires c = record_fits _ c.requires.0 _ c.requires.1

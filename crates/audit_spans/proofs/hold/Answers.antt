@@ -14,6 +14,7 @@ returns-in-Some c = (
 pub returns : goal.returns
 returns c = (
   omega arith,
-  grown_put c.args.spans.now c.args.n c.args.key c.args.first c.args.last (omega (arith, c.if-n-eq-MOST.false, c.requires.0, c.requires.1)) _
+  grown_put c.args.spans.now c.args.n c.args.key c.args.first c.args.last (omega
+      (arith, c.if-n-eq-MOST.false, c.requires.0, c.requires.1)) _
       c.put-2.ensures,
 )

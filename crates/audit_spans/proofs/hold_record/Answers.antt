@@ -5,4 +5,5 @@ use Rattle.audit_spans.specs.Spans.{Spread}
 use Rattle.audit_spans.proofs.hold_record.Goals as goal
 
 pub returns : goal.returns
-returns c = IfSome_then c.hold_ranges.result c.hold_ranges.ensures (λ m h. (h.0, takes_own Spread _ _ _ c.bus_of.ensures c.ranges_of-count.ensures.0 _ _ h.1))
+returns c = IfSome_then c.hold_ranges.result c.hold_ranges.ensures (λ m h.
+    (h.0, takes_own Spread _ _ _ c.bus_of.ensures c.ranges_of-count.ensures.0 _ _ h.1))

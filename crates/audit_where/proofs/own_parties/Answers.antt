@@ -44,4 +44,5 @@ returns-in-29 c = let es = entries_of c.args.sheet.now in
     λ h. c.first_failing-in-29.ensures h ∙ ap (λ (x : Check). first_failing x h es) (sym (check_29 _ c.in-29.is))
 
 pub returns-in_default : goal.returns-in_default
-returns-in_default c = λ h. nobody_own _ h _ c.requires.0 (λ z. omega arith) (λ z. omega arith) (λ z. omega arith) (λ z. omega arith) (λ z. omega arith)
+returns-in_default c = λ h. nobody_own _ h _ c.requires.0 (λ z. omega arith) (λ z. omega arith) (λ z. omega arith)
+    (λ z. omega arith) (λ z. omega arith)

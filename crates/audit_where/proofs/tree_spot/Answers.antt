@@ -30,7 +30,8 @@ returns-then-way_up_wrong c = rw c.at-then-way_up_wrong.ensures (
     c.way_up_wrong.ensures c.if-way_up_wrong.true)
 
 pub returns-in_err-number : goal.returns-in_err-number
-returns-in_err-number c = rw c.from_residual.ensures (tree_right c.args.host c.args.sheet.now c.args.k _ c.part-part.ensures _ c.bus_of-bus.ensures _ refl c.if-k-bus.false _
+returns-in_err-number c = rw c.from_residual.ensures (tree_right c.args.host c.args.sheet.now c.args.k _ c.part-part.ensures
+    _ c.bus_of-bus.ensures _ refl c.if-k-bus.false _
     (c.has_parent.ensures _ c.requires.0 c.requires.1) (c.if-not-has_parent.false) _
     c.way_up_wrong.ensures c.if-way_up_wrong.false _ (sym c.in_err-number.ensures) refl)
 

@@ -21,7 +21,8 @@ returns-in-Some c = (
 )
 
 pub loop-j-preserved : goal.loop-j-preserved
-loop-j-preserved c = sym (least_miss c.args.sheet.now c.requires.0.framed _ _ c.count-j-end.ensures (placed_at (record_of c.args.sheet.now c.args.k)
+loop-j-preserved c = sym (least_miss c.args.sheet.now c.requires.0.framed _ _ c.count-j-end.ensures (placed_at
+    (record_of c.args.sheet.now c.args.k)
     c.args.place (range_of c.args.x)) c.loop-j-test.true _ c.met_at.ensures c.in_default.is)
     ∙ c.loop-j.invariant
 

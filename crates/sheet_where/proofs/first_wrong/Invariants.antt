@@ -16,4 +16,5 @@ abbrev pub invariant-loop-k : goal.invariant-loop-k
 invariant-loop-k g l =
     (c : Check) (h : Host)
     → TellsOf c h l.sheet (λ k x. g.F.Fn.post l.told (k, tt) x)
-    → first (fails c h (entries_of l.sheet)) (named c h (entries_of l.sheet)) nobodies (records_from l.sheet l.k) ≡ first_failing c h (entries_of l.sheet)
+    → first (fails c h (entries_of l.sheet)) (named c h (entries_of l.sheet)) nobodies (records_from l.sheet l.k)
+    ≡ first_failing c h (entries_of l.sheet)

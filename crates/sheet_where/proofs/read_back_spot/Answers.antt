@@ -39,7 +39,8 @@ overflow_cast-i c = omega (arith, few ((goal.at.overflow_cast-i c).After-slot_co
 
 pub returns-then-not-is_value : goal.returns-then-not-is_value
 returns-then-not-is_value c = rw c.at.ensures (
-    sym (slot_off (spot_in (rest_of c.args.part.now)) _ _ _ _ (six (goal.at.returns-then-not-is_value c).After-slot_count-slots) (few (goal.at.returns-then-not-is_value c).After-slot_count-slots) _ _ _ c.loop-i-test.true
+    sym (slot_off (spot_in (rest_of c.args.part.now)) _ _ _ _ (six (goal.at.returns-then-not-is_value c).After-slot_count-slots)
+    (few (goal.at.returns-then-not-is_value c).After-slot_count-slots) _ _ _ c.loop-i-test.true
     c.slot_at-x.ensures c.value_here.ensures c.is_value.ensures (c.if-not-is_value.true))
     ∙ c.loop-i.invariant)
 
