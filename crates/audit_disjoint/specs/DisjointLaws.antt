@@ -14,7 +14,7 @@ use Rattle.sheet.proofs.CheckLaws.{entries_past, count_entries}
 use Rattle.sheet.proofs.IndexLaws.{entries_index}
 use Rattle.sheet_ranges.specs.Ranges.{ranges_of, overlap, space_number}
 use Rattle.sheet_ranges.specs.declared.Item.{Item}
-use Rattle.sheet_ranges.specs.Items.{pool_with, range_of, item_at, ranges_from}
+use Rattle.sheet_ranges.specs.Items.{range_of, item_at, ranges_from}
 use Rattle.sheet_ranges.specs.SearchLaws.{items_none, items_more, bus_of_entry}
 use Rattle.audit_rule.specs.Audit.{any_pair, any_overlap, overlap_on_bus, not_disjoint}
 use Rattle.audit_disjoint.specs.Disjoint.{overlaps_on, overlaps_at}

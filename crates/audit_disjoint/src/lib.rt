@@ -35,13 +35,10 @@ fn overlaps_by_pairs(sheet: &[u8]) -> bool
     requires { Checked sheet.now }
     ensures { result ≡ not_disjoint_of (entries_of sheet.now) }
 {
-    let records = sheet::count(sheet);
-    let mut k: usize = 0;
-    while k < records {
+    for k in 0..sheet::count(sheet) {
         if overlaps_at(sheet, k) {
             return true;
         }
-        k += 1;
     }
     false
 }
@@ -66,13 +63,10 @@ fn meets_later(sheet: &[u8], from: usize, bus: u8, own: &[u64], n: usize) -> boo
     ensures { result ≡ any (overlaps_on bus (ranges_in n own.now)) (entries_from sheet.now (record_at from)) }
 {
     let mut room = [0u64; sheet_ranges::ROOM];
-    let records = sheet::count(sheet);
-    let mut j = from;
-    while j < records {
+    for j in from..sheet::count(sheet) {
         if meets(sheet::part(sheet, j), bus, own, n, &mut room) {
             return true;
         }
-        j += 1;
     }
     false
 }
@@ -119,12 +113,10 @@ fn overlaps_any(a: Item, others: &[u64], from: usize, m: usize) -> bool
     requires { 3 * m ≤ length others.now }
     ensures { result ≡ any (overlap_of (range_of a)) (ranges_from others.now from (m - from)) }
 {
-    let mut j = from;
-    while j < m {
+    for j in from..m {
         if overlap(a, sheet_ranges::item_at(others, j)) {
             return true;
         }
-        j += 1;
     }
     false
 }
@@ -134,12 +126,10 @@ fn any_overlap(own: &[u64], n: usize, others: &[u64], m: usize) -> bool
     requires { (3 * n ≤ length own.now) × (3 * m ≤ length others.now) }
     ensures { result ≡ any_overlap (ranges_in n own.now) (ranges_in m others.now) }
 {
-    let mut i: usize = 0;
-    while i < n {
+    for i in 0..n {
         if overlaps_any(sheet_ranges::item_at(own, i), others, 0, m) {
             return true;
         }
-        i += 1;
     }
     false
 }
@@ -149,12 +139,10 @@ fn any_pair(own: &[u64], n: usize) -> bool
     requires { 3 * n ≤ length own.now }
     ensures { result ≡ any_pair overlap_of (ranges_in n own.now) }
 {
-    let mut i: usize = 0;
-    while i < n {
+    for i in 0..n {
         if overlaps_any(sheet_ranges::item_at(own, i), own, i + 1, n) {
             return true;
         }
-        i += 1;
     }
     false
 }

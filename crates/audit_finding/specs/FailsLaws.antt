@@ -19,7 +19,6 @@ use Rattle.audit_rule.specs.declared.Nesting.TheVariants.{OfKind}
 use Rattle.audit_rule.specs.Audit.{any_pair, first_elsewhere, way_up_wrong, not_tree, outside_above, not_nested, any_overlap}
 use Rattle.audit_rule.specs.Audit.{overlap_on_bus, not_disjoint}
 use Rattle.audit_rule.proofs.PairLaws.{none_of_pairwise}
-use Rattle.finding.specs.First.{first}
 use Rattle.finding.specs.FirstLaws.{first_of_any, first_is, first_none, member_of_first}
 use Rattle.audit_finding.specs.declared.Check.TheVariants.{Ids, Tree, Places, Overlaps}
 use Rattle.audit_finding.specs.declared.Relation.{Relation}

@@ -21,7 +21,7 @@ use Rattle.finding.specs.declared.Finding.{Finding}
 use Rattle.finding.specs.Places.{nobody, nobodies}
 use Rattle.finding.specs.FirstLaws.{FirstOf, first_of_any, first_is, first_none}
 use Rattle.audit_finding.specs.declared.Check.{Check}
-use Rattle.audit_finding.specs.declared.Check.TheVariants.{Whole, HeaderType, Buses, ReadBacks, Nibbles}
+use Rattle.audit_finding.specs.declared.Check.TheVariants.{Whole}
 use Rattle.audit_finding.specs.Placed.{numbered}
 use Rattle.audit_finding.specs.Fails.{fails}
 use Rattle.audit_finding.specs.Where.{place_in, other_of}

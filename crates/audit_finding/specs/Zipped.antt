@@ -19,7 +19,7 @@ use Rattle.sheet_record.specs.Spaces.{pool_of, bar_range, open_range, slots_of}
 use Rattle.sheet_ranges.specs.Ranges as rule
 use Rattle.sheet_ranges.specs.Ranges.{bar_here, windows_in, ranges_of}
 use Rattle.finding.specs.Places.{window_place}
-use Rattle.audit_finding.specs.Placed.{Numbered, Placed, placed_at, bars_from, window_of, windows_of, placed_of}
+use Rattle.audit_finding.specs.Placed.{Numbered, Placed, placed_at, bars_from, windows_of, placed_of}
 
 -- ## The places
 

@@ -1,12 +1,12 @@
 -- One record and another, in the words of the code: p and q are their parts. Assumes nothing.
-use Rattle.std.specs.Prelude.{◌≡◌, refl, Bool, true, false, cond, not, ◌&&◌, List, ℕ, ◌+◌, ◌<◌, length, eqb}
-use Rattle.std.proofs.Common.{sym, ◌∙◌, arith, eq-eqb, ne_eqb}
+use Rattle.std.specs.Prelude.{◌≡◌, refl, Bool, true, false, cond, ◌&&◌, List, ℕ, ◌+◌, eqb}
+use Rattle.std.proofs.Common.{◌∙◌, arith, eq-eqb, ne_eqb}
 use Rattle.std.proofs.Math.Path.{ap}
-use Rattle.sheet_record.specs.Entry.{Entry, entry_of, id_of, bus_of, header_of, is_bridge, secondary_of, bus}
+use Rattle.sheet_record.specs.Entry.{entry_of, id_of, bus_of, header_of, is_bridge, secondary_of}
 use Rattle.sheet.specs.Sheet.{part_at}
 use Rattle.sheet_above.specs.Parents.{leads_to}
 use Rattle.audit_finding.specs.declared.Relation.{Relation}
-use Rattle.audit_finding.specs.declared.Relation.TheVariants.{SameId, SharedBuses, Leads}
+use Rattle.audit_finding.specs.declared.Relation.TheVariants.{SameId, Leads}
 use Rattle.audit_finding.specs.Fails.{related, is_met}
 use Rattle.audit_finding.specs.Spots.{record_of}
 

@@ -9,23 +9,21 @@ ghost use Rattle.sheet_above.specs.Parents.{leads_to};
 ghost use Rattle.audit_finding.specs.Placed.{numbered};
 ghost use Rattle.audit_finding.specs.Fails.{related, is_met, least_met};
 ghost use Rattle.audit_finding.specs.Spots.{record_of};
+ghost use Rattle.audit_met.specs.Met.{IsNumber};
 
 use audit_finding::Relation;
 
-// Its number, from 1, and 0 where record k, from 0, meets none.
-pub fn first_met(relation: Relation, sheet: &[u8], k: usize) -> usize
+// Its number, from 1, where record k, from 0, meets one.
+pub fn first_met(relation: Relation, sheet: &[u8], k: usize) -> Option<usize>
     requires { Framed 1 sheet.now × (k < length (entries_of sheet.now)) }
-    ensures { result ≡ least_met relation (numbered (entries_of sheet.now)) (record_of sheet.now k) }
+    ensures { IsNumber result (least_met relation (numbered (entries_of sheet.now)) (record_of sheet.now k)) }
 {
-    let records = sheet::count(sheet);
-    let mut j: usize = 0;
-    while j < records {
+    for j in 0..sheet::count(sheet) {
         if is_met(relation, sheet, k, j) {
-            return j + 1;
+            return Some(j + 1);
         }
-        j += 1;
     }
-    0
+    None
 }
 
 // Record j is another one than record k, and stands in the relation to it.
@@ -33,10 +31,7 @@ fn is_met(relation: Relation, sheet: &[u8], k: usize, j: usize) -> bool
     requires { Framed 1 sheet.now × (k < length (entries_of sheet.now)) × (j < length (entries_of sheet.now)) }
     ensures { result ≡ is_met relation (record_of sheet.now k) (record_of sheet.now j) }
 {
-    if j == k {
-        return false;
-    }
-    is_related(relation, sheet::part(sheet, k), sheet::part(sheet, j))
+    j != k && is_related(relation, sheet::part(sheet, k), sheet::part(sheet, j))
 }
 
 fn is_related(relation: Relation, part: &[u8], other: &[u8]) -> bool

@@ -26,9 +26,7 @@ pub fn not_nested(nesting: Nesting, host: Host, sheet: &[u8], table: &[u16]) -> 
 {
     let mut own = [0u64; sheet_ranges::ROOM];
     let mut above = [0u64; sheet_ranges::ROOM];
-    let records = sheet::count(sheet);
-    let mut k: usize = 0;
-    while k < records {
+    for k in 0..sheet::count(sheet) {
         if outside_above(
             nesting,
             host,
@@ -40,7 +38,6 @@ pub fn not_nested(nesting: Nesting, host: Host, sheet: &[u8], table: &[u16]) -> 
         ) {
             return true;
         }
-        k += 1;
     }
     false
 }
@@ -102,12 +99,10 @@ pub fn is_inside_any(nesting: Nesting, a: Item, above: &[u64], m: usize) -> bool
     requires { 3 * m ≤ length above.now }
     ensures { result ≡ any (inside nesting (range_of a)) (ranges_in m above.now) }
 {
-    let mut j: usize = 0;
-    while j < m {
+    for j in 0..m {
         if is_inside(nesting, a, sheet_ranges::item_at(above, j)) {
             return true;
         }
-        j += 1;
     }
     false
 }
@@ -117,12 +112,10 @@ fn any_outside(nesting: Nesting, own: &[u64], n: usize, above: &[u64], m: usize)
     requires { (3 * n ≤ length own.now) × (3 * m ≤ length above.now) }
     ensures { result ≡ any (outside_all nesting (ranges_in m above.now)) (ranges_in n own.now) }
 {
-    let mut i: usize = 0;
-    while i < n {
+    for i in 0..n {
         if !is_inside_any(nesting, sheet_ranges::item_at(own, i), above, m) {
             return true;
         }
-        i += 1;
     }
     false
 }

@@ -60,13 +60,10 @@ fn take_records(sheet: &[u8], table: &mut [u64]) -> bool
     ensures { result ≡ true → not_disjoint (entries_of sheet.now) ≡ false }
 {
     let mut room = [0u64; sheet_ranges::ROOM];
-    let records = sheet::count(sheet);
-    let mut k: usize = 0;
-    while k < records {
+    for k in 0..sheet::count(sheet) {
         if !take_record(table, sheet::part(sheet, k), &mut room) {
             return false;
         }
-        k += 1;
     }
     true
 }
@@ -86,12 +83,10 @@ fn take_ranges(table: &mut [u64], bus: u8, own: &[u64], n: usize) -> bool
     requires { (length table.old ≡ 768) × (3 * n ≤ length own.now) }
     ensures { result ≡ true → Takes table.old (map (spot_of bus) (ranges_in n own.now)) table.new }
 {
-    let mut i: usize = 0;
-    while i < n {
+    for i in 0..n {
         if !take_range(table, bus, sheet_ranges::item_at(own, i)) {
             return false;
         }
-        i += 1;
     }
     true
 }
@@ -127,13 +122,10 @@ fn take_bridges(sheet: &[u8], table: &mut [u64]) -> bool
     requires { Framed 1 sheet.now × (length table.old ≡ 256) }
     ensures { result ≡ true → any_pair buses_shared (entries_of sheet.now) ≡ false }
 {
-    let records = sheet::count(sheet);
-    let mut k: usize = 0;
-    while k < records {
+    for k in 0..sheet::count(sheet) {
         if !take_buses(table, sheet::part(sheet, k)) {
             return false;
         }
-        k += 1;
     }
     true
 }
@@ -146,12 +138,12 @@ fn take_buses(table: &mut [u64], part: &[u8]) -> bool
     if !sheet_record::is_bridge(part) {
         return true;
     }
-    let first = sheet_record::secondary_of(part) as u64;
+    let first = u64::from(sheet_record::secondary_of(part));
     take(
         table,
-        sheet_record::bus_of(part) as usize,
+        usize::from(sheet_record::bus_of(part)),
         first,
-        sheet_record::subordinate_of(part) as u64,
+        u64::from(sheet_record::subordinate_of(part)),
     )
 }
 

@@ -3,7 +3,7 @@
 // meets one, the pass tells nothing.
 #![tactic(auto)]
 
-ghost use Rattle.std.specs.Prelude.{◌≡◌, true, false, [], ◌∷◌, map, ◌+◌, ◌*◌, ◌≤◌, ◌<◌, length, get_or};
+ghost use Rattle.std.specs.Prelude.{◌≡◌, true, false, [], ◌∷◌, map, ◌+◌, ◌*◌, ◌≤◌, ◌<◌, length, get_or, IfSome};
 ghost use Rattle.sheet_record.specs.Places.{record_size};
 ghost use Rattle.sheet_record.specs.Entry.{entry_of};
 ghost use Rattle.sheet.specs.declared.Rule.TheVariants.{ReadBacks};
@@ -18,10 +18,8 @@ ghost use Rattle.audit_spans.specs.Spans.{span_of, Free, Held, Grown};
 
 use sheet_ranges::Item;
 
-// So many spans, and the number that says there is no room or no telling.
+// So many spans.
 const MOST: usize = 128;
-
-const NONE: usize = 129;
 
 // Three numbers a span: its key, its first and its last address.
 const NUMBERS: usize = 384;
@@ -40,56 +38,48 @@ fn hold_records(sheet: &[u8], spans: &mut [u64]) -> bool
     ensures { result ≡ true → not_disjoint (entries_of sheet.now) ≡ false }
 {
     let mut room = [0u64; sheet_ranges::ROOM];
-    let records = sheet::count(sheet);
     let mut n: usize = 0;
-    let mut k: usize = 0;
-    while k < records {
-        n = hold_record(spans, n, sheet::part(sheet, k), &mut room);
-        if n > MOST {
+    for k in 0..sheet::count(sheet) {
+        let Some(more) = hold_record(spans, n, sheet::part(sheet, k), &mut room) else {
             return false;
-        }
-        k += 1;
+        };
+        n = more;
     }
     true
 }
 
-// A function's ranges are decoded into the room.
-fn hold_record(spans: &mut [u64], n: usize, part: &[u8], room: &mut [u64]) -> usize
+// A function's ranges are decoded into the room. It says how many spans there are then, and nothing where they are not told apart.
+fn hold_record(spans: &mut [u64], n: usize, part: &[u8], room: &mut [u64]) -> Option<usize>
     requires { (length spans.old ≡ 384) × (n ≤ 128) × (length part.now ≡ record_size) × (breaks ReadBacks (entry_of part.now) ≡ false)
         × (18 ≤ length room.old) }
-    ensures { result ≤ 128 → Held spans.old n (spots_of (entry_of part.now)) spans.new result }
+    ensures { IfSome result (λ m. (m ≤ 128) × Held spans.old n (spots_of (entry_of part.now)) spans.new m) }
 {
     let count = sheet_ranges::ranges_of(part, room);
     hold_ranges(spans, n, sheet_record::bus_of(part), room, count)
 }
 
 // So many ranges of a function on this bus.
-fn hold_ranges(spans: &mut [u64], n: usize, bus: u8, own: &[u64], count: usize) -> usize
+fn hold_ranges(spans: &mut [u64], n: usize, bus: u8, own: &[u64], count: usize) -> Option<usize>
     requires { (length spans.old ≡ 384) × (n ≤ 128) × (3 * count ≤ length own.now) }
-    ensures { result ≤ 128 → Held spans.old n (map (spot_of bus) (ranges_in count own.now)) spans.new result }
+    ensures { IfSome result (λ m. (m ≤ 128) × Held spans.old n (map (spot_of bus) (ranges_in count own.now)) spans.new m) }
 {
     let mut m = n;
-    let mut i: usize = 0;
-    while i < count {
-        m = hold_range(spans, m, bus, sheet_ranges::item_at(own, i));
-        if m > MOST {
-            return NONE;
-        }
-        i += 1;
+    for i in 0..count {
+        m = hold_range(spans, m, bus, sheet_ranges::item_at(own, i))?;
     }
-    m
+    Some(m)
 }
 
-fn hold_range(spans: &mut [u64], n: usize, bus: u8, a: Item) -> usize
+fn hold_range(spans: &mut [u64], n: usize, bus: u8, a: Item) -> Option<usize>
     requires { (length spans.old ≡ 384) × (n ≤ 128) }
-    ensures { result ≤ 128 → Held spans.old n (spot_of bus (range_of a) ∷ []) spans.new result }
+    ensures { IfSome result (λ m. (m ≤ 128) × Held spans.old n (spot_of bus (range_of a) ∷ []) spans.new m) }
 {
     if !audit_rising::is_sided(a) {
-        return NONE;
+        return None;
     }
     let key = audit_rising::key_of(bus, a) as u64;
     if !is_free(spans, n, key, a.first, a.last) {
-        return NONE;
+        return None;
     }
     hold(spans, n, key, a.first, a.last)
 }
@@ -101,12 +91,10 @@ fn is_free(spans: &[u64], n: usize, key: u64, first: u64, last: u64) -> bool
     requires { 3 * n ≤ length spans.now }
     ensures { result ≡ true → Free spans.now n (spot key first last true) }
 {
-    let mut i: usize = 0;
-    while i < n {
+    for i in 0..n {
         if is_met(spans, i, key, first, last) {
             return false;
         }
-        i += 1;
     }
     true
 }
@@ -120,37 +108,29 @@ fn is_met(spans: &[u64], i: usize, key: u64, first: u64, last: u64) -> bool
 }
 
 // Its span: one that it touches, widened, or one of its own.
-fn hold(spans: &mut [u64], n: usize, key: u64, first: u64, last: u64) -> usize
+fn hold(spans: &mut [u64], n: usize, key: u64, first: u64, last: u64) -> Option<usize>
     requires { (length spans.old ≡ 384) × (n ≤ 128) }
-    ensures { result ≤ 128 → Grown spans.old n (spot key first last true) spans.new result }
+    ensures { IfSome result (λ m. (m ≤ 128) × Grown spans.old n (spot key first last true) spans.new m) }
 {
-    let i = touched(spans, n, key, first, last);
-    if i < n {
-        let lo = least(spans[3 * i + 1], first);
-        let hi = most(spans[3 * i + 2], last);
+    if let Some(i) = touched(spans, n, key, first, last) {
+        let lo = spans[3 * i + 1].min(first);
+        let hi = spans[3 * i + 2].max(last);
         put(spans, i, key, lo, hi);
-        return n;
+        return Some(n);
     }
     if n == MOST {
-        return NONE;
+        return None;
     }
     put(spans, n, key, first, last);
-    n + 1
+    Some(n + 1)
 }
 
-// The first of n spans with this key that it touches, or n.
-fn touched(spans: &[u64], n: usize, key: u64, first: u64, last: u64) -> usize
+// The first of n spans with this key that it touches.
+fn touched(spans: &[u64], n: usize, key: u64, first: u64, last: u64) -> Option<usize>
     requires { 3 * n ≤ length spans.now }
-    ensures { result < n → get_or spans.now (3 * result) 0 ≡ key }
+    ensures { IfSome result (λ i. (i < n) × (get_or spans.now (3 * i) 0 ≡ key)) }
 {
-    let mut i: usize = 0;
-    while i < n {
-        if touches(spans, i, key, first, last) {
-            return i;
-        }
-        i += 1;
-    }
-    n
+    (0..n).find(|i| touches(spans, *i, key, first, last))
 }
 
 fn touches(spans: &[u64], i: usize, key: u64, first: u64, last: u64) -> bool
@@ -158,30 +138,8 @@ fn touches(spans: &[u64], i: usize, key: u64, first: u64, last: u64) -> bool
     ensures { result ≡ true → get_or spans.now (3 * i) 0 ≡ key }
 {
     let at = 3 * i;
-    (spans[at] == key) & ((after(spans[at + 2]) == first) | (after(last) == spans[at + 1]))
-}
-
-// The next address, or the last there is.
-fn after(address: u64) -> u64
-    ensures { address ≤ result }
-{
-    if address < 18446744073709551615 {
-        address + 1
-    } else {
-        address
-    }
-}
-
-fn least(a: u64, b: u64) -> u64
-    ensures { (result ≤ a) × (result ≤ b) }
-{
-    if a < b { a } else { b }
-}
-
-fn most(a: u64, b: u64) -> u64
-    ensures { (a ≤ result) × (b ≤ result) }
-{
-    if a < b { b } else { a }
+    (spans[at] == key)
+        & ((spans[at + 2].saturating_add(1) == first) | (last.saturating_add(1) == spans[at + 1]))
 }
 
 fn put(spans: &mut [u64], i: usize, key: u64, first: u64, last: u64)

@@ -19,23 +19,16 @@ pub fn not_tree(host: Host, sheet: &[u8], table: &[u16]) -> bool
     requires { Checked sheet.now × Leads (entries_of sheet.now) table.now }
     ensures { result ≡ not_tree host (entries_of sheet.now) }
 {
-    if first_elsewhere(host.first_bus, sheet) {
-        return true;
-    }
-    if any_way_up_wrong(host, sheet, table) {
-        return true;
-    }
-    any_buses_shared(sheet)
+    first_elsewhere(host.first_bus, sheet)
+        || any_way_up_wrong(host, sheet, table)
+        || any_buses_shared(sheet)
 }
 
 fn first_elsewhere(root: u8, sheet: &[u8]) -> bool
     requires { Framed 1 sheet.now }
     ensures { result ≡ first_elsewhere root (entries_of sheet.now) }
 {
-    if sheet::count(sheet) == 0 {
-        return false;
-    }
-    sheet_record::bus_of(sheet::part(sheet, 0)) != root
+    sheet::count(sheet) != 0 && sheet_record::bus_of(sheet::part(sheet, 0)) != root
 }
 
 // ---- the way up
@@ -44,13 +37,10 @@ fn any_way_up_wrong(host: Host, sheet: &[u8], table: &[u16]) -> bool
     requires { Checked sheet.now × Leads (entries_of sheet.now) table.now }
     ensures { result ≡ any (way_up_wrong host (entries_of sheet.now)) (entries_of sheet.now) }
 {
-    let records = sheet::count(sheet);
-    let mut k: usize = 0;
-    while k < records {
+    for k in 0..sheet::count(sheet) {
         if way_up_wrong(host, sheet, table, sheet::part(sheet, k)) {
             return true;
         }
-        k += 1;
     }
     false
 }
@@ -60,10 +50,8 @@ pub fn way_up_wrong(host: Host, sheet: &[u8], table: &[u16], part: &[u8]) -> boo
     requires { Checked sheet.now × Leads (entries_of sheet.now) table.now × (length part.now ≡ record_size) }
     ensures { result ≡ way_up_wrong host (entries_of sheet.now) (entry_of part.now) }
 {
-    if parent_wrong(host.first_bus, sheet, table, part) {
-        return true;
-    }
-    buses_outside(host.first_bus, host.last_bus, part)
+    parent_wrong(host.first_bus, sheet, table, part)
+        || buses_outside(host.first_bus, host.last_bus, part)
 }
 
 // No parent, or a bridge's buses not all among its parent's.
@@ -104,23 +92,17 @@ fn any_buses_shared(sheet: &[u8]) -> bool
     requires { Framed 1 sheet.now }
     ensures { result ≡ any_pair buses_shared (entries_of sheet.now) }
 {
-    if audit_rising::buses_rise(sheet) {
-        return false;
-    }
-    shared_by_pairs(sheet)
+    !audit_rising::buses_rise(sheet) && shared_by_pairs(sheet)
 }
 
 fn shared_by_pairs(sheet: &[u8]) -> bool
     requires { Framed 1 sheet.now }
     ensures { result ≡ any_pair buses_shared (entries_of sheet.now) }
 {
-    let records = sheet::count(sheet);
-    let mut k: usize = 0;
-    while k < records {
+    for k in 0..sheet::count(sheet) {
         if shared_with_later(sheet, k) {
             return true;
         }
-        k += 1;
     }
     false
 }
@@ -134,13 +116,10 @@ fn shared_with_later(sheet: &[u8], k: usize) -> bool
     if !sheet_record::is_bridge(part) {
         return false;
     }
-    let records = sheet::count(sheet);
-    let mut j = k + 1;
-    while j < records {
+    for j in k + 1..sheet::count(sheet) {
         if buses_shared(part, sheet::part(sheet, j)) {
             return true;
         }
-        j += 1;
     }
     false
 }

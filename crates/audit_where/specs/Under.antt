@@ -9,9 +9,7 @@ use Rattle.audit_rule.specs.Audit.{outside_all}
 use Rattle.sheet_above.specs.Table.{Leads}
 use Rattle.auditor.specs.declared.Check as auditor
 use Rattle.auditor.specs.declared.Check.TheVariants.{Tree, Nested, Disjoint}
-use Rattle.finding.specs.declared.Spot.{Spot}
-use Rattle.finding.specs.declared.Spot.TheVariants.{Right, Wrong}
-use Rattle.finding.specs.Places.{nobody}
+use Rattle.finding.specs.Places.{Spot, right, wrong_at, nobody}
 use Rattle.finding.specs.First.{first}
 use Rattle.audit_finding.specs.declared.Check as checks
 use Rattle.audit_finding.specs.declared.Check.{Check}
@@ -30,4 +28,4 @@ HasParent table root bus r =
 
 -- the first of a record's BARs and open windows that lies in none of these
 abbrev pub outside_in : List Range → Numbered → Spot
-outside_in above r = first (λ p. outside_all OfKind above p.range) (λ p. Wrong p.place nobody) Right (placed_of r)
+outside_in above r = first (λ p. outside_all OfKind above p.range) (λ p. wrong_at p.place nobody) right (placed_of r)

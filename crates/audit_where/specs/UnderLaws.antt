@@ -19,9 +19,7 @@ use Rattle.sheet_above.specs.declared.Parent.TheVariants.{Host as UnderHost, Bri
 use Rattle.sheet_above.specs.Table.{IsParent}
 use Rattle.sheet_ranges.specs.SearchLaws.{bus_of_entry}
 use Rattle.finding.specs.declared.Party.{Party}
-use Rattle.finding.specs.declared.Spot.{Spot}
-use Rattle.finding.specs.declared.Spot.TheVariants.{Right, Wrong}
-use Rattle.finding.specs.Places.{bus_registers, function_id, nobody, party_at}
+use Rattle.finding.specs.Places.{Spot, right, wrong_at, bus_registers, function_id, nobody, party_at}
 use Rattle.finding.specs.First.{first}
 use Rattle.finding.specs.FirstLaws.{first_agree}
 use Rattle.audit_finding.specs.declared.Check.TheVariants.{Tree, Places}
@@ -79,7 +77,7 @@ module _ (h : Host) (s : List ℕ) (k : ℕ) (p : List ℕ) (is : p ≡ part_at 
     starts_is : starts_elsewhere h r ≡ starts
     starts_is = sym (e ∙ rw (first_index k, bus_is))
 
-    pub tree_off : starts ≡ true → Wrong function_id nobody ≡ spot_at Tree h es r
+    pub tree_off : starts ≡ true → wrong_at function_id nobody ≡ spot_at Tree h es r
     unfolding spot_at fails place_in other_of
     tree_off w = rw (starts_is ∙ w)
 
@@ -88,7 +86,7 @@ module _ (h : Host) (s : List ℕ) (k : ℕ) (p : List ℕ) (is : p ≡ part_at 
       parent_is = sym (f ∙ rw bus_is)
 
       pub tree_nowhere : parent ≡ false → (number : ℕ) → number ≡ least_met Leads (numbered es) r → (other : Party)
-          → other ≡ party_at number bus_registers → Wrong function_id other ≡ spot_at Tree h es r
+          → other ≡ party_at number bus_registers → wrong_at function_id other ≡ spot_at Tree h es r
       unfolding spot_at fails place_in other_of
       tree_nowhere w number met other o =
           let none : has_no_parent h es r ≡ true = not-false (has_no_parent h es r) (parent_is ∙ w) in
@@ -102,16 +100,17 @@ module _ (h : Host) (s : List ℕ) (k : ℕ) (p : List ℕ) (is : p ≡ part_at 
         up_is : way_up_wrong h es r.entry ≡ up
         up_is = sym (g ∙ rw is)
 
-        pub tree_up : up ≡ true → Wrong bus_registers nobody ≡ spot_at Tree h es r
+        pub tree_up : up ≡ true → wrong_at bus_registers nobody ≡ spot_at Tree h es r
         unfolding spot_at fails place_in other_of
         tree_up w = rw (starts_is ∙ on, some, up_is ∙ w)
 
         module _ (fits : up ≡ false) (number : ℕ) (met : number ≡ least_met SharedBuses (numbered es) r) where
-          pub tree_right : number ≡ 0 → Right ≡ spot_at Tree h es r
+          pub tree_right : number ≡ 0 → right ≡ spot_at Tree h es r
           unfolding spot_at fails place_in other_of
           tree_right z = rw (starts_is ∙ on, some, up_is ∙ fits, sym met ∙ z)
 
-          pub tree_shared : (number ≡ 0 → ⊥) → Wrong bus_registers (record { number = number; place = bus_registers }) ≡ spot_at Tree h es r
+          pub tree_shared : (number ≡ 0 → ⊥) → wrong_at bus_registers (record { number = number; place = bus_registers })
+              ≡ spot_at Tree h es r
           unfolding spot_at fails place_in other_of
           tree_shared d = rw (starts_is ∙ on, some, up_is ∙ fits, ← met, ne_eqb number 0 d)
 
@@ -123,10 +122,11 @@ module _ (h : Host) (s : List ℕ) (k : ℕ) (p : List ℕ) (is : p ≡ part_at 
   place_told above e x f =
       f (k + 1)
       ∙ ap (λ (q : List ℕ). outside_in above (record { number = k + 1; entry = entry_of q })) is
-      ∙ first_agree (λ q. outside_all OfKind above q.range) (is_outside h es) (λ q. Wrong q.place nobody) Right (placed_of r)
+      ∙ first_agree (λ q. outside_all OfKind above q.range) (is_outside h es) (λ q. wrong_at q.place nobody) right (placed_of r)
       (all_imp _ _ (placed_of r) (owners_placed r) agree)
       ∙ spot_alone (is_outside h es) (λ q. q.place) (placed_of r)
-      ∙ ap (λ (t : Bool). cond t (Wrong (first (is_outside h es) (λ q. q.place) 0 (placed_of r)) nobody) Right) (sym (outside_placed h es r))
+      ∙ ap (λ (t : Bool). cond t (wrong_at (first (is_outside h es) (λ q. q.place) 0 (placed_of r)) nobody) right) (sym
+      (outside_placed h es r))
     where
       above_is : above ≡ ranges_above h (parent_in h es r.entry)
       above_is = e ∙ ap (λ (c : ℕ). ranges_above h (parent_of h.first_bus es c)) bus_is

@@ -18,13 +18,13 @@ ghost use Rattle.finding.specs.Places.{party_at};
 ghost use Rattle.audit_finding.specs.declared.Check.TheVariants.{Whole, Tree, Places};
 ghost use Rattle.audit_finding.specs.Finding.{check_of, first_failing, finding_of};
 ghost use Rattle.audit_finding.specs.Spots.{spot_at, record_of};
-ghost use Rattle.audit_where.specs.Under.{check_under, HasParent, outside_in};
+ghost use Rattle.audit_met.specs.Met.{IsNumber};
+ghost use Rattle.audit_where.specs.Under.{HasParent, outside_in};
 
 use audit_finding::Relation;
 use audit_rule::Nesting;
-use auditor::Check;
 use board_record::Host;
-use finding::{Finding, NOBODIES, NOBODY, Parties, Party, Spot};
+use finding::{Finding, NOBODIES, NOBODY, Parties, Party, Wrong};
 use sheet_above::Parent;
 use sheet_where::Own;
 
@@ -33,9 +33,7 @@ pub fn audit_where(host: &[u8], sheet: &[u8]) -> Finding
     ensures { result ≡ finding_of host.now sheet.now }
 {
     let number = auditor::audit(host, sheet);
-    let found = parties(number, host, sheet);
-    let party = found.party;
-    let other = found.other;
+    let Parties { party, other } = parties(number, host, sheet);
     Finding {
         number,
         party,
@@ -69,86 +67,54 @@ fn own_parties(number: u8, sheet: &[u8]) -> Parties
     }
 }
 
-// By the checks of a sheet that passes its own.
+// By the checks of a sheet that passes its own, with the table of the bridges that lead to each bus.
 fn under_parties(number: u8, host: Host, sheet: &[u8]) -> Parties
     requires { (50 ≤ number) × Checked sheet.now }
     ensures { result ≡ first_failing (check_of number) host (entries_of sheet.now) }
 {
-    match number {
-        50 => first_failing(Check::Tree, host, sheet),
-        51 => first_failing(Check::Nested, host, sheet),
-        52 => first_failing(Check::Disjoint, host, sheet),
-        _ => NOBODIES,
-    }
-}
-
-// The first record that fails the check.
-fn first_failing(check: Check, host: Host, sheet: &[u8]) -> Parties
-    requires { Checked sheet.now }
-    ensures { result ≡ first_failing (check_under check) host (entries_of sheet.now) }
-{
     let mut table = [0u16; sheet_above::BUSES];
     sheet_above::leaders(sheet, &mut table);
-    first_of(check, host, sheet, &table)
+    parties_by(&table, number, host, sheet)
 }
 
-fn first_of(check: Check, host: Host, sheet: &[u8], table: &[u16]) -> Parties
-    requires { Checked sheet.now × Leads (entries_of sheet.now) table.now }
-    ensures { result ≡ first_failing (check_under check) host (entries_of sheet.now) }
+fn parties_by(table: &[u16], number: u8, host: Host, sheet: &[u8]) -> Parties
+    requires { (50 ≤ number) × Checked sheet.now × Leads (entries_of sheet.now) table.now }
+    ensures { result ≡ first_failing (check_of number) host (entries_of sheet.now) }
 {
-    let records = sheet::count(sheet);
-    let mut k: usize = 0;
-    while k < records {
-        let spot = spot_at(check, host, sheet, table, k);
-        if let Spot::Wrong(place, other) = spot {
-            return Parties {
-                party: Party {
-                    number: k + 1,
-                    place,
-                },
-                other,
-            };
-        }
-        k += 1;
-    }
-    NOBODIES
-}
-
-// What the check says of record k, from 0.
-fn spot_at(check: Check, host: Host, sheet: &[u8], table: &[u16], k: usize) -> Spot
-    requires { Checked sheet.now × Leads (entries_of sheet.now) table.now × (k < length (entries_of sheet.now)) }
-    ensures { result ≡ spot_at (check_under check) host (entries_of sheet.now) (record_of sheet.now k) }
-{
-    match check {
-        Check::Tree => tree_spot(host, sheet, table, k),
-        Check::Nested => place_spot(host, sheet, table, k),
-        Check::Disjoint => overlap_where::overlap_spot(sheet, k),
+    match number {
+        50 => sheet_where::first_wrong(sheet, |k| tree_spot(host, sheet, table, k)),
+        51 => sheet_where::first_wrong(sheet, |k| place_spot(host, sheet, table, k)),
+        52 => sheet_where::first_wrong(sheet, |k| overlap_where::overlap_spot(sheet, k)),
+        _ => NOBODIES,
     }
 }
 
 // ---- 50
 
 // Sentence by sentence: the first record's bus, a parent, the buses above, the siblings.
-fn tree_spot(host: Host, sheet: &[u8], table: &[u16], k: usize) -> Spot
+fn tree_spot(host: Host, sheet: &[u8], table: &[u16], k: usize) -> Option<Wrong>
     requires { Checked sheet.now × Leads (entries_of sheet.now) table.now × (k < length (entries_of sheet.now)) }
     ensures { result ≡ spot_at Tree host (entries_of sheet.now) (record_of sheet.now k) }
 {
     let part = sheet::part(sheet, k);
     let bus = sheet_record::bus_of(part);
     if (k == 0) & (bus != host.first_bus) {
-        return Spot::Wrong(10, NOBODY);
+        return Some(Wrong::at(10));
     }
     if !has_parent(host.first_bus, table, bus) {
-        return Spot::Wrong(10, bridge(audit_met::first_met(Relation::Leads, sheet, k)));
+        return Some(Wrong {
+            place: 10,
+            other: bridge(audit_met::first_met(Relation::Leads, sheet, k)),
+        });
     }
     if audit_tree::way_up_wrong(host, sheet, table, part) {
-        return Spot::Wrong(9, NOBODY);
+        return Some(Wrong::at(9));
     }
-    let number = audit_met::first_met(Relation::SharedBuses, sheet, k);
-    if number == 0 {
-        return Spot::Right;
-    }
-    Spot::Wrong(9, Party { number, place: 9 })
+    let number = audit_met::first_met(Relation::SharedBuses, sheet, k)?;
+    Some(Wrong {
+        place: 9,
+        other: Party { number, place: 9 },
+    })
 }
 
 // On the root bus, or on one that exactly one bridge leads to.
@@ -156,27 +122,25 @@ fn has_parent(root: u8, table: &[u16], bus: u8) -> bool
     requires { length table.now ≡ 256 }
     ensures { HasParent table.now root bus result }
 {
-    match sheet_above::parent_in(table, root, bus) {
-        Parent::Host => true,
-        Parent::Bridge(_) => true,
-        Parent::Nothing => false,
-        Parent::Several => false,
-    }
+    matches!(
+        sheet_above::parent_in(table, root, bus),
+        Parent::Host | Parent::Bridge(_)
+    )
 }
 
-// The bus registers of the record with this number, and nobody where it is 0.
-fn bridge(number: usize) -> Party
-    ensures { result ≡ party_at number 9 }
+// The bus registers of the record with this number, and nobody where there is none.
+fn bridge(number: Option<usize>) -> Party
+    ensures { (n : ℕ) → IsNumber number n → result ≡ party_at n 9 }
 {
-    if number == 0 {
-        return NOBODY;
+    match number {
+        Some(number) => Party { number, place: 9 },
+        None => NOBODY,
     }
-    Party { number, place: 9 }
 }
 
 // ---- 51
 
-fn place_spot(host: Host, sheet: &[u8], table: &[u16], k: usize) -> Spot
+fn place_spot(host: Host, sheet: &[u8], table: &[u16], k: usize) -> Option<Wrong>
     requires { Checked sheet.now × Leads (entries_of sheet.now) table.now × (k < length (entries_of sheet.now)) }
     ensures { result ≡ spot_at Places host (entries_of sheet.now) (record_of sheet.now k) }
 {
@@ -189,17 +153,15 @@ fn place_spot(host: Host, sheet: &[u8], table: &[u16], k: usize) -> Spot
 }
 
 // The n ranges are those of the record with this part: the first that lies in none of the m others.
-fn first_outside(part: &[u8], own: &[u64], n: usize, above: &[u64], m: usize) -> Spot
+fn first_outside(part: &[u8], own: &[u64], n: usize, above: &[u64], m: usize) -> Option<Wrong>
     requires { (length part.now ≡ record_size) × (breaks ReadBacks (entry_of part.now) ≡ false) × (3 * n ≤ length own.now)
         × (3 * m ≤ length above.now) × (ranges_in n own.now ≡ ranges_of (entry_of part.now)) }
     ensures { (number : ℕ) → result ≡ outside_in (ranges_in m above.now) (record { number = number; entry = entry_of part.now }) }
 {
-    let mut i: usize = 0;
-    while i < n {
+    for i in 0..n {
         if !audit_nested::is_inside_any(Nesting::OfKind, sheet_ranges::item_at(own, i), above, m) {
-            return Spot::Wrong(range_place::place_of(part, i), NOBODY);
+            return Some(Wrong::at(range_place::place_of(part, i)));
         }
-        i += 1;
     }
-    Spot::Right
+    None
 }

@@ -70,7 +70,8 @@ fn judge_checked(nesting: Nesting, host: Host, sheet: &[u8]) -> u8
     0
 }
 
-// The sheet fails the check, told by the table of its leaders.
+// The sheet fails the check, told by the table of its leaders. One function for the three: with each one's own name an edit that swaps two
+// of them would be refused for a name that is missing, and not for a fact.
 fn fails(check: Check, nesting: Nesting, host: Host, sheet: &[u8], table: &[u16]) -> bool
     requires { Checked sheet.now × Leads (entries_of sheet.now) table.now }
     ensures { result ≡ fails_of check nesting host (entries_of sheet.now) }

@@ -1,11 +1,10 @@
 -- The places of a record that a finding names, and nobody. A BAR slot is its own number, 0 to 5. Assumes nothing.
-use Rattle.std.specs.Prelude.{Bool, cond, ℕ, eqb}
+use Rattle.std.specs.Prelude.{Bool, cond, ℕ, Option, Some, None, eqb}
 use Rattle.pools.specs.declared.Pool.{Pool}
 use Rattle.pools.specs.declared.Pool.TheVariants.{Low, High, Io}
 use Rattle.finding.specs.declared.Party.{Party}
 use Rattle.finding.specs.declared.Parties.{Parties}
-use Rattle.finding.specs.declared.Spot.{Spot}
-use Rattle.finding.specs.declared.Spot.TheVariants.{Right, Wrong}
+use Rattle.finding.specs.declared.Wrong.{Wrong}
 
 -- the low, the high and the I/O window
 abbrev pub window_place : Pool → ℕ
@@ -30,6 +29,16 @@ nobodies = record { party = nobody; other = nobody }
 abbrev pub party_at : ℕ → ℕ → Party
 party_at number place = cond (eqb number 0) nobody (record { number = number; place = place })
 
+-- what a check says of one record: nothing where it is right
+abbrev pub Spot : Type 0
+Spot = Option Wrong
+
+abbrev pub right : Spot
+right = None
+
+abbrev pub wrong_at : ℕ → Party → Spot
+wrong_at place other = Some (record { place = place; other = other })
+
 -- wrong at a place, and nobody else has to do with it
 abbrev pub wrong_if : Bool → ℕ → Spot
-wrong_if b place = cond b (Wrong place nobody) Right
+wrong_if b place = cond b (wrong_at place nobody) right

@@ -3,7 +3,7 @@
 #![tactic(auto)]
 
 ghost use Rattle.std.specs.Prelude.{◌≡◌};
-ghost use Rattle.finding.specs.Places.{wrong_if};
+ghost use Rattle.finding.specs.Places.{nobody, wrong_if};
 
 // The number of a record, from 1, and a place in it: 0 to 5 a BAR slot, 6 the low, 7 the high and 8 the I/O window, 9 the bus registers, 10
 // the ID. Both are 0 where there is no record.
@@ -28,11 +28,11 @@ pub struct Finding {
     pub other: Party,
 }
 
-// What a check says of one record: that it is right, or wrong at a place, with the other one that it meets there.
+// What a check says of one record that is wrong: the place, and the other one that it meets there. Of a record that is right it says None.
 #[derive(Clone, Copy)]
-pub enum Spot {
-    Right,
-    Wrong(u8, Party),
+pub struct Wrong {
+    pub place: u8,
+    pub other: Party,
 }
 
 pub const NOBODY: Party = Party {
@@ -45,12 +45,21 @@ pub const NOBODIES: Parties = Parties {
     other: NOBODY,
 };
 
+impl Wrong {
+    // At this place, and nobody else has to do with it.
+    pub fn at(place: u8) -> Wrong
+        ensures { result ≡ record { place = place; other = nobody } }
+    {
+        Wrong {
+            place,
+            other: NOBODY,
+        }
+    }
+}
+
 // Wrong at this place, where the test says so.
-pub fn wrong_if(wrong: bool, place: u8) -> Spot
+pub fn wrong_if(wrong: bool, place: u8) -> Option<Wrong>
     ensures { result ≡ wrong_if wrong place }
 {
-    if wrong {
-        return Spot::Wrong(place, NOBODY);
-    }
-    Spot::Right
+    wrong.then_some(Wrong::at(place))
 }

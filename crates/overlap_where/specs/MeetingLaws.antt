@@ -4,6 +4,7 @@ use Rattle.std.proofs.Common.{sym, ◌∙◌, arith}
 use Rattle.std.proofs.Math.Path.{ap}
 use Rattle.std.proofs.Math.Bool.{true, false, and-false, and-true}
 use mathlib.Core.List.{List, [], ◌∷◌, flat_map}
+use Rattle.std.proofs.lemmas.Option.{same_Some}
 use borrow.Author.Tests.{eq-eqb, ne_eqb, eqb-true, eqb-false}
 use Rattle.lists.specs.Lists.{All}
 use Rattle.lists.specs.ListLaws.{all_imp, all_elim}
@@ -15,9 +16,8 @@ use Rattle.sheet.specs.Sheet.{Framed, entries_of, part_at}
 use Rattle.sheet_ranges.specs.SearchLaws.{bus_of_entry}
 use Rattle.sheet_ranges.specs.Ranges.{overlap}
 use Rattle.finding.specs.declared.Party.{Party}
-use Rattle.finding.specs.declared.Spot.{Spot}
-use Rattle.finding.specs.declared.Spot.TheVariants.{Right, Wrong}
-use Rattle.finding.specs.Places.{nobody}
+use Rattle.finding.specs.declared.Wrong.{Wrong}
+use Rattle.finding.specs.Places.{Spot, right, wrong_at, nobody}
 use Rattle.finding.specs.First.{first}
 use Rattle.finding.specs.FirstLaws.{first_of_any, first_is, first_nil, first_none, first_append, first_agree}
 use Rattle.finding.specs.FirstLaws.{member_of_first}
@@ -46,9 +46,9 @@ module _ (r o : Numbered) (place : ℕ) (x : Range) where
   abbrev p : Placed
   p = placed_at r place x
 
-  pub met_elsewhere : (bus r.entry ≡ bus o.entry → ⊥) → Right ≡ met_at p o
+  pub met_elsewhere : (bus r.entry ≡ bus o.entry → ⊥) → right ≡ met_at p o
   met_elsewhere d =
-      sym (first_none (meets p) (λ q. Wrong q.place nobody) Right (placed_of o)
+      sym (first_none (meets p) (λ q. wrong_at q.place nobody) right (placed_of o)
       (none_of_all (meets p) (placed_of o) (all_imp _ _ (placed_of o) (owners_placed o) (λ q own. apart q own))))
     where
       apart : (q : Placed) → q.owner ≡ o → meets p q ≡ false
@@ -59,7 +59,7 @@ module _ (r o : Numbered) (place : ℕ) (x : Range) where
 
   pub met_beside : bus r.entry ≡ bus o.entry → (same : Bool) → same ≡ eqb o.number r.number → met_in x same place o ≡ met_at p o
   met_beside one same is =
-      first_agree (λ q. meets_here x same place q.place q.range) (meets p) (λ q. Wrong q.place nobody) Right (placed_of o)
+      first_agree (λ q. meets_here x same place q.place q.range) (meets p) (λ q. wrong_at q.place nobody) right (placed_of o)
       (all_imp _ _ (placed_of o) (owners_placed o) agree)
     where
       agree : (q : Placed) → q.owner ≡ o → meets_here x same place q.place q.range ≡ meets p q
@@ -73,31 +73,31 @@ module _ (r o : Numbered) (place : ℕ) (x : Range) where
 -- ## The least that is met
 
 -- of the places of one record, and then of the rest
-told_right : (t : Placed → Bool) (later : Party) (qs : List Placed) → first t (λ q. Wrong q.place nobody) Right qs ≡ Right
+told_right : (t : Placed → Bool) (later : Party) (qs : List Placed) → first t (λ q. wrong_at q.place nobody) right qs ≡ right
     → first t party_of later qs ≡ later
 unfolding first
 told_right t later [] e = refl
 told_right t later (q ∷ qs) e = go (t q) e (λ k. told_right t later qs k)
   where
-    go : (b : Bool) → cond b (Wrong q.place nobody) (first t (λ q. Wrong q.place nobody) Right qs) ≡ Right
-        → (first t (λ q. Wrong q.place nobody) Right qs ≡ Right → first t party_of later qs ≡ later)
+    go : (b : Bool) → cond b (wrong_at q.place nobody) (first t (λ q. wrong_at q.place nobody) right qs) ≡ right
+        → (first t (λ q. wrong_at q.place nobody) right qs ≡ right → first t party_of later qs ≡ later)
         → cond b (party_of q) (first t party_of later qs) ≡ later
     go true k on = absurd (let z : ◌≡◌ {A = ℕ} 0 1 = cc k in omega arith)
     go false k on = on k
 
 told_wrong : (t : Placed → Bool) (later : Party) (r : Numbered) (place : ℕ) (other : Party) (qs : List Placed) → All (λ q. q.owner ≡ r) qs
-    → first t (λ q. Wrong q.place nobody) Right qs ≡ Wrong place other
+    → first t (λ q. wrong_at q.place nobody) right qs ≡ wrong_at place other
     → first t party_of later qs ≡ record { number = r.number; place = place }
 unfolding first
 told_wrong t later r place other [] own e = absurd (let z : ◌≡◌ {A = ℕ} 0 1 = cc e in omega arith)
 told_wrong t later r place other (q ∷ qs) own e = go (t q) e (λ k. told_wrong t later r place other qs own.1 k)
   where
-    go : (b : Bool) → cond b (Wrong q.place nobody) (first t (λ q. Wrong q.place nobody) Right qs) ≡ Wrong place other
-        → (first t (λ q. Wrong q.place nobody) Right qs ≡ Wrong place other
+    go : (b : Bool) → cond b (wrong_at q.place nobody) (first t (λ q. wrong_at q.place nobody) right qs) ≡ wrong_at place other
+        → (first t (λ q. wrong_at q.place nobody) right qs ≡ wrong_at place other
         → first t party_of later qs ≡ record { number = r.number; place = place })
         → cond b (party_of q) (first t party_of later qs) ≡ record { number = r.number; place = place }
     go true k on =
-        let at : q.place ≡ place = cc k in
+        let at : q.place ≡ place = ap (λ (w : Wrong). w.place) (same_Some _ _ k) in
         λ i. record { number = (own.0 i).number; place = at i }
     go false k on = on k
 
@@ -119,10 +119,10 @@ module _ (s : List ℕ) (f : Framed 1 s) (n j : ℕ) (count : n ≡ length (entr
         ap (λ (rs : List Numbered). first (meets p) party_of nobody (placed_in rs)) (records_left s f n j count h)
         ∙ first_append (meets p) party_of nobody (placed_of (record_of s j)) (placed_in (records_from s (j + 1)))
 
-    pub least_miss : x ≡ Right → least_from s p j ≡ least_from s p (j + 1)
+    pub least_miss : x ≡ right → least_from s p j ≡ least_from s p (j + 1)
     least_miss e = least_more ∙ told_right (meets p) (least_from s p (j + 1)) (placed_of (record_of s j)) (sym is ∙ e)
 
-    pub least_hit : (place : ℕ) (other : Party) → x ≡ Wrong place other → least_from s p j ≡ record { number = j + 1; place = place }
+    pub least_hit : (place : ℕ) (other : Party) → x ≡ wrong_at place other → least_from s p j ≡ record { number = j + 1; place = place }
     least_hit place other e =
         least_more
         ∙ told_wrong (meets p) (least_from s p (j + 1)) (record_of s j) place other (placed_of (record_of s j)) (owners_placed (record_of s j))
@@ -163,14 +163,14 @@ module _ (es : List Entry) where
     meets_none z = sym (meets_any_is p) ∙ rw (number_is ∙ z)
 
   abbrev pub say : Placed → Spot
-  say p = Wrong p.place (least_meeting (numbered es) p)
+  say p = wrong_at p.place (least_meeting (numbered es) p)
 
   -- x is the range at `place` of r
   pub told_other : (r : Numbered) (place : ℕ) (x : Range) (o : Party) → o ≡ least_meeting (numbered es) (placed_at r place x)
-      → Wrong place o ≡ say (placed_at r place x)
-  told_other r place x o is = ap (Wrong place) is
+      → wrong_at place o ≡ say (placed_at r place x)
+  told_other r place x o is = ap (wrong_at place) is
 
-  pub spot_is : (h : Host) (r : Numbered) → first (meets_any (numbered es)) say Right (placed_of r) ≡ spot_at Overlaps h es r
+  pub spot_is : (h : Host) (r : Numbered) → first (meets_any (numbered es)) say right (placed_of r) ≡ spot_at Overlaps h es r
   unfolding spot_at fails place_in other_of
   spot_is h r = spot_first (meets_any (numbered es)) (λ p. p.place) (least_meeting (numbered es)) (placed_of r)
 
@@ -190,7 +190,7 @@ same_index j k = go (eqb j k) refl
 -- x is the range at `place` of record k, q the part of record j
 module _ (s : List ℕ) (k j : ℕ) (place : ℕ) (x : Range) (p q : List ℕ) (is : p ≡ part_at s k) (other : q ≡ part_at s j) (b d : ℕ)
     (own : b ≡ bus_of p) (also : d ≡ bus_of q) where
-  pub other_bus : (b ≡ d → ⊥) → Right ≡ met_at (placed_at (record_of s k) place x) (record_of s j)
+  pub other_bus : (b ≡ d → ⊥) → right ≡ met_at (placed_at (record_of s k) place x) (record_of s j)
   other_bus e = met_elsewhere (record_of s k) (record_of s j) place x (λ z. e (bus_at s k p is b own ∙ z ∙ sym (bus_at s j q other d also)))
 
   pub one_bus : b ≡ d → (m : Spot)

@@ -12,17 +12,16 @@ ghost use Rattle.sheet.proofs.SheetLaws.{Checked};
 ghost use Rattle.sheet_ranges.specs.Ranges.{ranges_of, overlap};
 ghost use Rattle.sheet_ranges.specs.Items.{range_of, ranges_in};
 ghost use Rattle.audit_finding.specs.declared.Check.TheVariants.{Overlaps};
-ghost use Rattle.audit_finding.specs.Placed.{numbered, placed_at};
-ghost use Rattle.audit_finding.specs.Where.{least_meeting};
+ghost use Rattle.audit_finding.specs.Placed.{placed_at};
 ghost use Rattle.audit_finding.specs.Spots.{spot_at, record_of};
 ghost use Rattle.audit_finding.specs.Zipped.{places_of};
-ghost use Rattle.overlap_where.specs.Meeting.{meets_here, met_in, met_at};
+ghost use Rattle.overlap_where.specs.Meeting.{meets_here, met_in, met_at, IsLeastMeeting};
 
-use finding::{NOBODY, Party, Spot};
+use finding::{Party, Wrong};
 use sheet_ranges::Item;
 
 // What 52 says of record k, from 0, of a checked sheet, whatever the host is.
-pub fn overlap_spot(sheet: &[u8], k: usize) -> Spot
+pub fn overlap_spot(sheet: &[u8], k: usize) -> Option<Wrong>
     requires { Checked sheet.now × (k < length (entries_of sheet.now)) }
     ensures { (h : Host) → result ≡ spot_at Overlaps h (entries_of sheet.now) (record_of sheet.now k) }
 {
@@ -32,51 +31,44 @@ pub fn overlap_spot(sheet: &[u8], k: usize) -> Spot
 }
 
 // The n ranges are those of record k: the first that meets another one.
-fn first_overlap(sheet: &[u8], k: usize, own: &[u64], n: usize) -> Spot
+fn first_overlap(sheet: &[u8], k: usize, own: &[u64], n: usize) -> Option<Wrong>
     requires { Checked sheet.now × (k < length (entries_of sheet.now)) × (3 * n ≤ length own.now)
         × (ranges_in n own.now ≡ ranges_of (entry_of (part_at sheet.now k))) }
     ensures { (h : Host) → result ≡ spot_at Overlaps h (entries_of sheet.now) (record_of sheet.now k) }
 {
-    let mut i: usize = 0;
-    while i < n {
+    for i in 0..n {
         let place = range_place::place_of(sheet::part(sheet, k), i);
-        let other = least_meeting(sheet, k, place, sheet_ranges::item_at(own, i));
-        if other.number != 0 {
-            return Spot::Wrong(place, other);
+        if let Some(other) = least_meeting(sheet, k, place, sheet_ranges::item_at(own, i)) {
+            return Some(Wrong { place, other });
         }
-        i += 1;
     }
-    Spot::Right
+    None
 }
 
 // The least record and place that the range at this place of record k meets.
-fn least_meeting(sheet: &[u8], k: usize, place: u8, x: Item) -> Party
+fn least_meeting(sheet: &[u8], k: usize, place: u8, x: Item) -> Option<Party>
     requires { Checked sheet.now × (k < length (entries_of sheet.now)) }
-    ensures { result ≡ least_meeting (numbered (entries_of sheet.now)) (placed_at (record_of sheet.now k) place (range_of x)) }
+    ensures { IsLeastMeeting (entries_of sheet.now) (placed_at (record_of sheet.now k) place (range_of x)) result }
 {
-    let records = sheet::count(sheet);
-    let mut j: usize = 0;
-    while j < records {
-        let spot = met_at(sheet, k, place, x, j);
-        if let Spot::Wrong(met, _) = spot {
-            return Party {
+    for j in 0..sheet::count(sheet) {
+        if let Some(met) = met_at(sheet, k, place, x, j) {
+            return Some(Party {
                 number: j + 1,
-                place: met,
-            };
+                place: met.place,
+            });
         }
-        j += 1;
     }
-    NOBODY
+    None
 }
 
 // Where in record j it meets one: nowhere on another bus.
-fn met_at(sheet: &[u8], k: usize, place: u8, x: Item, j: usize) -> Spot
+fn met_at(sheet: &[u8], k: usize, place: u8, x: Item, j: usize) -> Option<Wrong>
     requires { Checked sheet.now × (k < length (entries_of sheet.now)) × (j < length (entries_of sheet.now)) }
     ensures { result ≡ met_at (placed_at (record_of sheet.now k) place (range_of x)) (record_of sheet.now j) }
 {
     let part = sheet::part(sheet, j);
     if sheet_record::bus_of(sheet::part(sheet, k)) != sheet_record::bus_of(part) {
-        return Spot::Right;
+        return None;
     }
     let mut room = [0u64; sheet_ranges::ROOM];
     let n = sheet_ranges::ranges_of(part, &mut room);
@@ -84,19 +76,17 @@ fn met_at(sheet: &[u8], k: usize, place: u8, x: Item, j: usize) -> Spot
 }
 
 // The place of the first of a record's n ranges that is met. Of the record itself this place is left out.
-fn first_met(part: &[u8], room: &[u64], n: usize, x: Item, same: bool, place: u8) -> Spot
+fn first_met(part: &[u8], room: &[u64], n: usize, x: Item, same: bool, place: u8) -> Option<Wrong>
     requires { (length part.now ≡ record_size) × (breaks ReadBacks (entry_of part.now) ≡ false) × (3 * n ≤ length room.now)
         × (ranges_in n room.now ≡ ranges_of (entry_of part.now)) }
     ensures { (number : ℕ) → result ≡ met_in (range_of x) same place (record { number = number; entry = entry_of part.now }) }
 {
-    let mut i: usize = 0;
-    while i < n {
+    for i in 0..n {
         if meets_here(part, i, x, sheet_ranges::item_at(room, i), same, place) {
-            return Spot::Wrong(range_place::place_of(part, i), NOBODY);
+            return Some(Wrong::at(range_place::place_of(part, i)));
         }
-        i += 1;
     }
-    Spot::Right
+    None
 }
 
 // The place is looked at last: few ranges overlap.

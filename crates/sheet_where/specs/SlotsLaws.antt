@@ -19,9 +19,7 @@ use Rattle.bar.specs.ValuesLaws.{head_at, not_bad_of_value, entry_within}
 use Rattle.sheet_record.specs.Places.{values_at, readbacks_at}
 use Rattle.sheet_record.specs.Entry.{dwords, header_of, is_bridge, slot_count, entry_of}
 use Rattle.sheet_ranges.specs.BarsLaws.{slots_le_six}
-use Rattle.finding.specs.declared.Spot.{Spot}
-use Rattle.finding.specs.declared.Spot.TheVariants.{Right, Wrong}
-use Rattle.finding.specs.Places.{nobody, wrong_if}
+use Rattle.finding.specs.Places.{Spot, right, wrong_at, nobody, wrong_if}
 use Rattle.finding.specs.First.{first}
 use Rattle.finding.specs.FirstLaws.{first_append}
 use Rattle.audit_finding.specs.Where.{Mark, slot_marks, rest_marks, read_back_marks}
@@ -32,7 +30,7 @@ use Rattle.sheet_where.specs.Own.{rest_of}
 
 -- what the marks say, or else this
 abbrev spot_or : Spot → List Mark → Spot
-spot_or rest ms = first (λ m. m.wrong) (λ m. Wrong m.place nobody) rest ms
+spot_or rest ms = first (λ m. m.wrong) (λ m. wrong_at m.place nobody) rest ms
 
 abbrev pub slots_left : Spot → List ℕ → List ℕ → ℕ → Spot
 slots_left rest rs vs i = spot_or rest (slot_marks i (slots (drop i rs)) (drop i rs) (drop i vs))
@@ -43,15 +41,15 @@ module _ (rest : Spot) (rs vs : List ℕ) (i : ℕ) (x : Slot) (h : i < length r
   after xs = spot_or rest (slot_marks (i + 1) xs (drop 1 (drop i rs)) (drop 1 (drop i vs)))
 
   left_head : slots_left rest rs vs i
-      ≡ cond (not (is_value x (get_or rs i 0) (value_here x (drop i vs)))) (Wrong i nobody) (after (drop 1 (slots (drop i rs))))
+      ≡ cond (not (is_value x (get_or rs i 0) (value_here x (drop i vs)))) (wrong_at i nobody) (after (drop 1 (slots (drop i rs))))
   unfolding slot_marks first after
   left_head =
       let p : 0 < length (drop i rs) = simp length-drop (omega arith) in
       ap (λ (xs : List Slot). spot_or rest (slot_marks i xs (drop i rs) (drop i vs))) (slots_head (drop i rs) p)
-      ∙ ap₂ (λ (y : Slot) (r : ℕ). cond (not (is_value y r (value_here y (drop i vs)))) (Wrong i nobody)
+      ∙ ap₂ (λ (y : Slot) (r : ℕ). cond (not (is_value y r (value_here y (drop i vs)))) (wrong_at i nobody)
       (spot_or rest (slot_marks (i + 1) (drop 1 (slots (drop i rs))) (drop 1 (drop i rs)) (drop 1 (drop i vs))))) (sym e) (head_at rs i)
 
-  left_off : is_value x (get_or rs i 0) (value_here x (drop i vs)) ≡ false → slots_left rest rs vs i ≡ Wrong i nobody
+  left_off : is_value x (get_or rs i 0) (value_here x (drop i vs)) ≡ false → slots_left rest rs vs i ≡ wrong_at i nobody
   left_off w = left_head ∙ rw w
 
   left_step : is_value x (get_or rs i 0) (value_here x (drop i vs)) ≡ true → slots_left rest rs vs (i + span x) ≡ slots_left rest rs vs i
@@ -84,7 +82,7 @@ module _ (rest : Spot) (set values : List ℕ) (n i : ℕ) (six : length set ≡
     test : is_value x (get_or (take n set) i 0) (value_here x (drop i (take n values))) ≡ b
     test = ap₂ (is_value x) (entry_within set n i (omega (arith, h, few))) (sym f) ∙ sym t
 
-    pub slot_off : b ≡ false → slots_left rest (take n set) (take n values) i ≡ Wrong i nobody
+    pub slot_off : b ≡ false → slots_left rest (take n set) (take n values) i ≡ wrong_at i nobody
     slot_off o = left_off rest (take n set) (take n values) i x inside e (test ∙ o)
 
     pub slot_on : b ≡ true → (w : ℕ) → w ≡ span x
@@ -120,19 +118,19 @@ module _ (p set values : List ℕ) (n : ℕ) (r : set ≡ dwords (be 4) 6 p read
       let m = slot_count (header_of p) in
       let all = dwords (be 4) 6 p readbacks_at in
       rw (r, v, c, ← values_counted p)
-      (sym (first_append (λ y. y.wrong) (λ y. Wrong y.place nobody) Right
+      (sym (first_append (λ y. y.wrong) (λ y. wrong_at y.place nobody) right
       (slot_marks 0 (slots (take m all)) (take m all) (dwords (le 4) m p values_at)) (rest_marks m (drop m all))))
 
 -- ## The last four read-backs: a, b, c and d
 
-pub rest_none : (p : List ℕ) → is_bridge (header_of p) ≡ false → Right ≡ spot_in (rest_of p)
+pub rest_none : (p : List ℕ) → is_bridge (header_of p) ≡ false → right ≡ spot_in (rest_of p)
 unfolding rest_of dwords rest_marks first
 rest_none p e = rw e
 
 abbrev last_four : ℕ → ℕ → ℕ → ℕ → Spot
 last_four a b c d =
-    cond (not (eqb a 0)) (Wrong 2 nobody)
-    (cond (not (eqb b 0)) (Wrong 3 nobody) (cond (not (eqb c 0)) (Wrong 4 nobody) (cond (not (eqb d 0)) (Wrong 5 nobody) Right)))
+    cond (not (eqb a 0)) (wrong_at 2 nobody)
+    (cond (not (eqb b 0)) (wrong_at 3 nobody) (cond (not (eqb c 0)) (wrong_at 4 nobody) (cond (not (eqb d 0)) (wrong_at 5 nobody) right)))
 
 module _ (p : List ℕ) (bridge : is_bridge (header_of p) ≡ true) (a : ℕ) (ra : a ≡ be 4 p (readbacks_at + 8)) where
   four : spot_in (rest_of p)
@@ -140,15 +138,15 @@ module _ (p : List ℕ) (bridge : is_bridge (header_of p) ≡ true) (a : ℕ) (r
   unfolding rest_of dwords rest_marks first
   four = rw bridge
 
-  pub rest_2 : (a ≡ 0 → ⊥) → Wrong 2 nobody ≡ spot_in (rest_of p)
+  pub rest_2 : (a ≡ 0 → ⊥) → wrong_at 2 nobody ≡ spot_in (rest_of p)
   rest_2 w = sym (four ∙ rw (← ra, ne_eqb a 0 w))
 
   module _ (za : a ≡ 0) (b : ℕ) (rb : b ≡ be 4 p (readbacks_at + 12)) where
-    pub rest_3 : (b ≡ 0 → ⊥) → Wrong 3 nobody ≡ spot_in (rest_of p)
+    pub rest_3 : (b ≡ 0 → ⊥) → wrong_at 3 nobody ≡ spot_in (rest_of p)
     rest_3 w = sym (four ∙ rw (sym ra ∙ za, ← rb, ne_eqb b 0 w))
 
     module _ (zb : b ≡ 0) (c : ℕ) (rc : c ≡ be 4 p (readbacks_at + 16)) where
-      pub rest_4 : (c ≡ 0 → ⊥) → Wrong 4 nobody ≡ spot_in (rest_of p)
+      pub rest_4 : (c ≡ 0 → ⊥) → wrong_at 4 nobody ≡ spot_in (rest_of p)
       rest_4 w = sym (four ∙ rw (sym ra ∙ za, sym rb ∙ zb, ← rc, ne_eqb c 0 w))
 
       pub rest_5 : (c ≡ 0) → (d : ℕ) → d ≡ be 4 p (readbacks_at + 20) → (x : Spot) → x ≡ wrong_if (not (eqb d 0)) 5 → x ≡ spot_in (rest_of p)

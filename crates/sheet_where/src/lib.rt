@@ -2,7 +2,7 @@
 // starts, so what is looked for is the first record that fails a given one.
 #![tactic(auto)]
 
-ghost use Rattle.std.specs.Prelude.{◌≡◌, false, ◌+◌, ◌<◌, length};
+ghost use Rattle.std.specs.Prelude.{◌≡◌, false, ℕ, ◌+◌, ◌<◌, length};
 ghost use Rattle.bar.specs.Values.{is_value, is_bar_value};
 ghost use Rattle.bar.specs.Bar.{SizedSlot};
 ghost use Rattle.board_record.specs.declared.Host.{Host};
@@ -10,15 +10,16 @@ ghost use Rattle.sheet_record.specs.Places.{record_size};
 ghost use Rattle.sheet_record.specs.Entry.{entry_of};
 ghost use Rattle.sheet.specs.declared.Rule.TheVariants.{HeaderType, Buses};
 ghost use Rattle.sheet.specs.Sheet.{Framed, entries_of, breaks};
+ghost use Rattle.audit_finding.specs.declared.Check.{Check};
 ghost use Rattle.audit_finding.specs.declared.Check.TheVariants.{Ids};
 ghost use Rattle.audit_finding.specs.Where.{read_back_marks};
 ghost use Rattle.audit_finding.specs.Finding.{first_failing};
 ghost use Rattle.audit_finding.specs.Spots.{spot_at, spot_in, record_of};
-ghost use Rattle.sheet_where.specs.Own.{check_for, rest_of, nibble_spot};
+ghost use Rattle.sheet_where.specs.Own.{check_for, TellsOf, rest_of, nibble_spot};
 
 use audit_finding::Relation;
 use bar::Slot;
-use finding::{NOBODIES, NOBODY, Parties, Party, Spot};
+use finding::{NOBODIES, Parties, Party, Wrong};
 use pools::Pool;
 use sheet_record::places;
 
@@ -37,11 +38,17 @@ pub fn first_failing(own: Own, sheet: &[u8]) -> Parties
     requires { Framed 1 sheet.now }
     ensures { (h : Host) → result ≡ first_failing (check_for own) h (entries_of sheet.now) }
 {
-    let records = sheet::count(sheet);
-    let mut k: usize = 0;
-    while k < records {
-        let spot = spot_at(own, sheet, k);
-        if let Spot::Wrong(place, other) = spot {
+    first_wrong(sheet, |k| spot_at(own, sheet, k))
+}
+
+// The first record that is told to be wrong.
+pub fn first_wrong<F: Fn(usize) -> Option<Wrong>>(sheet: &[u8], told: F) -> Parties
+    requires framed { Framed 1 sheet.now }
+    requires can { (k : ℕ) → k < length (entries_of sheet.now) → F.pre told k }
+    ensures { (c : Check) (h : Host) → TellsOf c h sheet.now (F.post told) → result ≡ first_failing c h (entries_of sheet.now) }
+{
+    for k in 0..sheet::count(sheet) {
+        if let Some(Wrong { place, other }) = told(k) {
             return Parties {
                 party: Party {
                     number: k + 1,
@@ -50,13 +57,12 @@ pub fn first_failing(own: Own, sheet: &[u8]) -> Parties
                 other,
             };
         }
-        k += 1;
     }
     NOBODIES
 }
 
 // What the check says of record k, from 0.
-fn spot_at(own: Own, sheet: &[u8], k: usize) -> Spot
+fn spot_at(own: Own, sheet: &[u8], k: usize) -> Option<Wrong>
     requires { Framed 1 sheet.now × (k < length (entries_of sheet.now)) }
     ensures { (h : Host) → result ≡ spot_at (check_for own) h (entries_of sheet.now) (record_of sheet.now k) }
 {
@@ -93,21 +99,21 @@ fn buses_wrong(part: &[u8]) -> bool
 }
 
 // The ID, with the least record that has the same.
-fn id_spot(sheet: &[u8], k: usize) -> Spot
+fn id_spot(sheet: &[u8], k: usize) -> Option<Wrong>
     requires { Framed 1 sheet.now × (k < length (entries_of sheet.now)) }
     ensures { (h : Host) → result ≡ spot_at Ids h (entries_of sheet.now) (record_of sheet.now k) }
 {
-    let number = audit_met::first_met(Relation::SameId, sheet, k);
-    if number == 0 {
-        return Spot::Right;
-    }
-    Spot::Wrong(10, Party { number, place: 10 })
+    let number = audit_met::first_met(Relation::SameId, sheet, k)?;
+    Some(Wrong {
+        place: 10,
+        other: Party { number, place: 10 },
+    })
 }
 
 // ---- 25
 
 // The first slot with a wrong read-back or a wrong value, and of a bridge then the first of its last four read-backs that is not 0.
-fn read_back_spot(part: &[u8]) -> Spot
+fn read_back_spot(part: &[u8]) -> Option<Wrong>
     requires { length part.now ≡ record_size }
     ensures { result ≡ spot_in (read_back_marks (entry_of part.now)) }
 {
@@ -118,7 +124,7 @@ fn read_back_spot(part: &[u8]) -> Spot
     while i < slots {
         let x = bar::slot_at(set, slots, i);
         if !is_value(x, set[i], bar::value_here(x, values, slots, i)) {
-            return Spot::Wrong(i as u8, NOBODY);
+            return Some(Wrong::at(i as u8));
         }
         i += bar::span(x);
     }
@@ -126,21 +132,21 @@ fn read_back_spot(part: &[u8]) -> Spot
 }
 
 // Of a function that is no bridge none is left.
-fn rest_spot(part: &[u8]) -> Spot
+fn rest_spot(part: &[u8]) -> Option<Wrong>
     requires { length part.now ≡ record_size }
     ensures { result ≡ spot_in (rest_of part.now) }
 {
     if !sheet_record::is_bridge(part) {
-        return Spot::Right;
+        return None;
     }
     if endian::read_be32(part, places::READBACK2) != 0 {
-        return Spot::Wrong(2, NOBODY);
+        return Some(Wrong::at(2));
     }
     if endian::read_be32(part, places::READBACK3) != 0 {
-        return Spot::Wrong(3, NOBODY);
+        return Some(Wrong::at(3));
     }
     if endian::read_be32(part, places::READBACK4) != 0 {
-        return Spot::Wrong(4, NOBODY);
+        return Some(Wrong::at(4));
     }
     finding::wrong_if(endian::read_be32(part, places::READBACK5) != 0, 5)
 }
@@ -173,20 +179,20 @@ fn is_value(x: Slot, r: u32, v: u64) -> bool
 // ---- 29
 
 // The first of a bridge's low, high and I/O windows.
-fn nibble_spot(part: &[u8]) -> Spot
+fn nibble_spot(part: &[u8]) -> Option<Wrong>
     requires { length part.now ≡ record_size }
     ensures { result ≡ nibble_spot (entry_of part.now) }
 {
     if !sheet_record::is_bridge(part) {
-        return Spot::Right;
+        return None;
     }
     let low = sheet_record::window_of(part, Pool::Low);
     if !low.is_nibbled(Pool::Low) {
-        return Spot::Wrong(6, NOBODY);
+        return Some(Wrong::at(6));
     }
     let high = sheet_record::window_of(part, Pool::High);
     if !high.is_nibbled(Pool::High) {
-        return Spot::Wrong(7, NOBODY);
+        return Some(Wrong::at(7));
     }
     let io = sheet_record::window_of(part, Pool::Io);
     finding::wrong_if(!io.is_nibbled(Pool::Io), 8)

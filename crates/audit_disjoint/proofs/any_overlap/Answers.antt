@@ -1,10 +1,9 @@
--- `audit_disjoint::any_overlap`: the loop over the first ranges. Invariant: one from i on overlaps one of the others just
--- where one of all does. Measure: those that are left. Assumes nothing.
+-- `audit_disjoint::any_overlap`: the loop over the first ranges. Invariant: one from i on overlaps one of the others just where one of all
+-- does. Assumes nothing.
 use mathlib.Core.Bool.{Bool}
 use mathlib.Core.List.{List}
 use mathlib.Core.Path.{ap, sym, ◌∙◌}
-use Prim.Native.Nat.{ℕ, ◌-◌}
-use native.Mathlib.Omega.{arith}
+use Prim.Native.Nat.{ℕ}
 use Rattle.lists.specs.Lists.{any}
 use Rattle.walk.specs.Ranges.{Range}
 use Rattle.sheet_ranges.specs.Ranges.{overlap}
@@ -20,19 +19,10 @@ met others m r = any (overlap r) (ranges_in m others)
 pub loop-i-init : goal.loop-i-init
 loop-i-init c = ap (λ (rs : List Range). any_overlap rs (ranges_in c.args.m c.args.others.now)) (items_all _ _)
 
-pub item_at-requires : goal.item_at-requires
-item_at-requires c = omega arith
-
 pub returns-then-overlaps_any : goal.returns-then-overlaps_any
 returns-then-overlaps_any c = let told = c.overlaps_any.ensures ∙ ap (any (overlap (range_of c.item_at.result))) (items_all _ _) in
     sym (items_hit (met c.args.others.now c.args.m) _ _ _ c.loop-i-test.true _ c.item_at.ensures _ told c.if-overlaps_any.true)
     ∙ c.loop-i.invariant
-
-pub overflow_add-i : goal.overflow_add-i
-overflow_add-i c = omega arith
-
-pub loop-i-smaller : goal.loop-i-smaller
-loop-i-smaller c = omega arith
 
 pub loop-i-preserved : goal.loop-i-preserved
 loop-i-preserved c = let told = c.overlaps_any.ensures ∙ ap (any (overlap (range_of c.item_at.result))) (items_all _ _) in

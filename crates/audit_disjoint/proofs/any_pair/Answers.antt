@@ -1,8 +1,5 @@
--- `audit_disjoint::any_pair`: the loop over the first of two. Invariant: two from i on overlap just where two of all do.
--- Measure: those that are left. Assumes nothing.
+-- `audit_disjoint::any_pair`: the loop over the first of two. Invariant: two from i on overlap just where two of all do. Assumes nothing.
 use mathlib.Core.Path.{ap, sym, ◌∙◌}
-use Prim.Native.Nat.{◌-◌}
-use native.Mathlib.Omega.{arith}
 use Rattle.sheet_ranges.specs.Ranges.{overlap}
 use Rattle.sheet_ranges.specs.SearchLaws.{items_all}
 use Rattle.audit_rule.specs.Audit.{any_pair}
@@ -12,21 +9,9 @@ use Rattle.audit_disjoint.proofs.any_pair.Goals as goal
 pub loop-i-init : goal.loop-i-init
 loop-i-init c = ap (any_pair overlap) (items_all _ _)
 
-pub item_at-requires : goal.item_at-requires
-item_at-requires c = omega arith
-
-pub overflow_add-i : goal.overflow_add-i
-overflow_add-i c = omega arith
-
 pub returns-then-overlaps_any : goal.returns-then-overlaps_any
 returns-then-overlaps_any c = sym (pairs_hit _ _ _ c.loop-i-test.true _ c.item_at.ensures _ c.overlaps_any.ensures c.if-overlaps_any.true)
     ∙ c.loop-i.invariant
-
-pub overflow_add-i-in-loop-i : goal.overflow_add-i-in-loop-i
-overflow_add-i-in-loop-i c = omega arith
-
-pub loop-i-smaller : goal.loop-i-smaller
-loop-i-smaller c = omega arith
 
 pub loop-i-preserved : goal.loop-i-preserved
 loop-i-preserved c = pairs_miss _ _ _ c.loop-i-test.true _ c.item_at.ensures _ c.overlaps_any.ensures c.if-overlaps_any.false

@@ -1,5 +1,4 @@
--- `audit_disjoint::any_pair`: the loop over the first of two. Invariant: two from i on overlap just where two of all do.
--- Measure: those that are left. Assumes nothing.
+-- `audit_disjoint::any_pair`: the loop over the first of two. Invariant: two from i on overlap just where two of all do. Assumes nothing.
 use mathlib.Core.Path.{◌≡◌}
 use Prim.Native.Nat.{◌-◌}
 use Rattle.sheet_ranges.specs.Ranges.{overlap}
@@ -9,6 +8,3 @@ use Rattle.audit_disjoint.proofs.any_pair.Given as goal
 
 abbrev pub invariant-loop-i : goal.invariant-loop-i
 invariant-loop-i l = any_pair overlap (ranges_from l.own l.i (l.n - l.i)) ≡ any_pair overlap (ranges_in l.n l.own)
-
-abbrev pub decreases-loop-i : goal.decreases-loop-i
-decreases-loop-i l = l.n - l.i

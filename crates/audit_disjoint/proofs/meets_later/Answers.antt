@@ -1,7 +1,7 @@
--- `audit_disjoint::meets_later`: the loop over the later records. Invariant: one from j on is met just where one of all is.
--- Measure: the records left. Assumes nothing.
+-- `audit_disjoint::meets_later`: the loop over the later records. Invariant: one from j on is met just where one of all is. Assumes
+-- nothing.
 use mathlib.Core.Path.{refl, sym, ◌∙◌}
-use Prim.Native.Nat.{◌-◌, ◌<◌}
+use Prim.Native.Nat.{◌<◌}
 use native.Mathlib.Omega.{arith}
 use lib.ListN.{length}
 use Rattle.sheet.specs.Sheet.{entries_of}
@@ -15,19 +15,13 @@ use Rattle.audit_disjoint.proofs.meets_later.Goals.{In-loop-j}
 -- the record of a turn is one of the sheet's
 inside : (c : In-loop-j)
     → c.loop-j.j < length (entries_of c.args.sheet.now)
-inside c = omega (arith, c.count-records.ensures, c.loop-j-test.true)
-
-pub count-records-requires : goal.count-records-requires
-count-records-requires c = c.requires.0.framed
+inside c = omega (arith, c.count-j-end.ensures, c.loop-j-test.true)
 
 pub loop-j-init : goal.loop-j-init
 loop-j-init c = (refl, refl)
 
 pub part-requires : goal.part-requires
 part-requires c = part_fits _ c.requires.0 _ (inside (goal.at.part-requires c).In-loop-j)
-
-pub slice_bounds-meets-end : goal.slice_bounds-meets-end
-slice_bounds-meets-end c = sym c.loop-j.invariant.0
 
 pub meets-requires : goal.meets-requires
 meets-requires c = (
@@ -38,25 +32,19 @@ meets-requires c = (
 )
 
 pub returns-then-meets : goal.returns-then-meets
-returns-then-meets c = sym (any_hit _ c.requires.0.framed _ _ c.count-records.ensures c.loop-j-test.true
+returns-then-meets c = sym (any_hit _ c.requires.0.framed _ _ c.count-j-end.ensures c.loop-j-test.true
     (overlaps_on c.args.bus (ranges_in c.args.n c.args.own.now)) _ c.part.ensures (sym c.meets.ensures ∙ c.if-meets.true))
     ∙ c.loop-j.invariant.1
-
-pub overflow_add-j : goal.overflow_add-j
-overflow_add-j c = omega arith
-
-pub loop-j-smaller : goal.loop-j-smaller
-loop-j-smaller c = omega arith
 
 pub loop-j-preserved : goal.loop-j-preserved
 loop-j-preserved c = (
   omega arith,
-  sym (any_miss _ c.requires.0.framed _ _ c.count-records.ensures c.loop-j-test.true
+  sym (any_miss _ c.requires.0.framed _ _ c.count-j-end.ensures c.loop-j-test.true
       (overlaps_on c.args.bus (ranges_in c.args.n c.args.own.now)) _ c.part.ensures (sym c.meets.ensures ∙ c.if-meets.false))
       ∙ c.loop-j.invariant.1,
 )
 
 pub returns : goal.returns
-returns c = sym (any_past _ c.requires.0.framed _ _ c.count-records.ensures c.loop-j-test.false
+returns c = sym (any_past _ c.requires.0.framed _ _ c.count-j-end.ensures c.loop-j-test.false
     (overlaps_on c.args.bus (ranges_in c.args.n c.args.own.now)))
     ∙ c.loop-j.invariant.1

@@ -1,7 +1,6 @@
--- `audit_disjoint::meets_later`: the loop over the later records. Invariant: one from j on is met just where one of all is.
--- Measure: the records left. Assumes nothing.
+-- `audit_disjoint::meets_later`: the loop over the later records. Invariant: one from j on is met just where one of all is. Assumes
+-- nothing.
 use mathlib.Core.Path.{◌≡◌}
-use Prim.Native.Nat.{◌-◌}
 use lib.ListN.{length}
 use Rattle.lists.specs.Lists.{any}
 use Rattle.sheet.specs.Sheet.{entries_from, record_at}
@@ -14,6 +13,3 @@ invariant-loop-j l =
     (length l.room ≡ 18)
     × (any (overlaps_on l.bus (ranges_in l.n l.own)) (entries_from l.sheet (record_at l.j))
     ≡ any (overlaps_on l.bus (ranges_in l.n l.own)) (entries_from l.sheet (record_at l.from)))
-
-abbrev pub decreases-loop-j : goal.decreases-loop-j
-decreases-loop-j l = l.records - l.j

@@ -1,9 +1,7 @@
--- `audit_nested::any_outside`: the loop over the ranges. Invariant: one from i on lies in none above just where one of all does. Measure:
--- those that are left. Assumes nothing.
+-- `audit_nested::any_outside`: the loop over the ranges. Invariant: one from i on lies in none above just where one of all does. Assumes
+-- nothing.
 use mathlib.Core.Bool.{not}
 use mathlib.Core.Path.{ap, sym, ◌∙◌}
-use Prim.Native.Nat.{◌-◌}
-use native.Mathlib.Omega.{arith}
 use Rattle.lists.specs.Lists.{any}
 use Rattle.sheet_ranges.specs.Items.{ranges_in}
 use Rattle.sheet_ranges.specs.SearchLaws.{items_all, items_past, items_hit, items_miss}
@@ -13,20 +11,11 @@ use Rattle.audit_nested.proofs.any_outside.Goals as goal
 pub loop-i-init : goal.loop-i-init
 loop-i-init c = ap (any (outside_all c.args.nesting (ranges_in c.args.m c.args.above.now))) (items_all _ _)
 
-pub item_at-requires : goal.item_at-requires
-item_at-requires c = omega arith
-
 pub returns-then-not-is_inside_any : goal.returns-then-not-is_inside_any
 returns-then-not-is_inside_any c = sym (items_hit (outside_all c.args.nesting (ranges_in c.args.m c.args.above.now)) _ _ _ c.loop-i-test.true _
     c.item_at.ensures _
     (ap not c.is_inside_any.ensures) (ap not c.if-not-is_inside_any.true))
     ∙ c.loop-i.invariant
-
-pub overflow_add-i : goal.overflow_add-i
-overflow_add-i c = omega arith
-
-pub loop-i-smaller : goal.loop-i-smaller
-loop-i-smaller c = omega arith
 
 pub loop-i-preserved : goal.loop-i-preserved
 loop-i-preserved c = items_miss (outside_all c.args.nesting (ranges_in c.args.m c.args.above.now)) _ _ _ c.loop-i-test.true _

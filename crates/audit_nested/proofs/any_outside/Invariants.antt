@@ -1,5 +1,5 @@
--- `audit_nested::any_outside`: the loop over the ranges. Invariant: one from i on lies in none above just where one of all does. Measure:
--- those that are left. Assumes nothing.
+-- `audit_nested::any_outside`: the loop over the ranges. Invariant: one from i on lies in none above just where one of all does. Assumes
+-- nothing.
 use mathlib.Core.Path.{◌≡◌}
 use Prim.Native.Nat.{◌-◌}
 use Rattle.lists.specs.Lists.{any}
@@ -10,6 +10,3 @@ use Rattle.audit_nested.proofs.any_outside.Given as goal
 abbrev pub invariant-loop-i : goal.invariant-loop-i
 invariant-loop-i l =
     any (outside_all l.nesting (ranges_in l.m l.above)) (ranges_from l.own l.i (l.n - l.i)) ≡ any (outside_all l.nesting (ranges_in l.m l.above)) (ranges_in l.n l.own)
-
-abbrev pub decreases-loop-i : goal.decreases-loop-i
-decreases-loop-i l = l.n - l.i

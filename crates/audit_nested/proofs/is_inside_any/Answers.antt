@@ -1,8 +1,6 @@
--- `audit_nested::is_inside_any`: the loop over those above. Invariant: it lies in one from j on just where it lies in one of all. Measure:
--- those that are left. Assumes nothing.
+-- `audit_nested::is_inside_any`: the loop over those above. Invariant: it lies in one from j on just where it lies in one of all. Assumes
+-- nothing.
 use mathlib.Core.Path.{ap, sym, ◌∙◌}
-use Prim.Native.Nat.{◌-◌}
-use native.Mathlib.Omega.{arith}
 use Rattle.lists.specs.Lists.{any}
 use Rattle.audit_rule.specs.Audit.{inside}
 use Rattle.sheet_ranges.specs.Items.{range_of}
@@ -12,19 +10,10 @@ use Rattle.audit_nested.proofs.is_inside_any.Goals as goal
 pub loop-j-init : goal.loop-j-init
 loop-j-init c = ap (any (inside c.args.nesting (range_of c.args.a))) (items_all _ _)
 
-pub item_at-requires : goal.item_at-requires
-item_at-requires c = omega arith
-
 pub returns-then-is_inside : goal.returns-then-is_inside
 returns-then-is_inside c = sym (items_hit (inside c.args.nesting (range_of c.args.a)) _ _ _ c.loop-j-test.true _ c.item_at.ensures _
     c.is_inside.ensures c.if-is_inside.true)
     ∙ c.loop-j.invariant
-
-pub overflow_add-j : goal.overflow_add-j
-overflow_add-j c = omega arith
-
-pub loop-j-smaller : goal.loop-j-smaller
-loop-j-smaller c = omega arith
 
 pub loop-j-preserved : goal.loop-j-preserved
 loop-j-preserved c = items_miss (inside c.args.nesting (range_of c.args.a)) _ _ _ c.loop-j-test.true _ c.item_at.ensures _

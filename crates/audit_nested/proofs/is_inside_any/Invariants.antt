@@ -1,5 +1,5 @@
--- `audit_nested::is_inside_any`: the loop over those above. Invariant: it lies in one from j on just where it lies in one of all. Measure:
--- those that are left. Assumes nothing.
+-- `audit_nested::is_inside_any`: the loop over those above. Invariant: it lies in one from j on just where it lies in one of all. Assumes
+-- nothing.
 use mathlib.Core.Path.{◌≡◌}
 use Prim.Native.Nat.{◌-◌}
 use Rattle.lists.specs.Lists.{any}
@@ -10,6 +10,3 @@ use Rattle.audit_nested.proofs.is_inside_any.Given as goal
 abbrev pub invariant-loop-j : goal.invariant-loop-j
 invariant-loop-j l =
     any (inside l.nesting (range_of l.a)) (ranges_from l.above l.j (l.m - l.j)) ≡ any (inside l.nesting (range_of l.a)) (ranges_in l.m l.above)
-
-abbrev pub decreases-loop-j : goal.decreases-loop-j
-decreases-loop-j l = l.m - l.j

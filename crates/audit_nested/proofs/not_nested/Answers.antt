@@ -1,7 +1,7 @@
 -- `audit_nested::not_nested`: the loop over the records. Invariant: one from record k on has a range outside just where one of all has.
--- Measure: the records left. Assumes nothing.
+-- Assumes nothing.
 use mathlib.Core.Path.{refl, sym, ◌∙◌}
-use Prim.Native.Nat.{◌-◌, ◌<◌}
+use Prim.Native.Nat.{◌<◌}
 use native.Mathlib.Omega.{arith}
 use lib.ListN.{length}
 use Rattle.sheet.specs.Sheet.{entries_of}
@@ -14,22 +14,13 @@ use Rattle.audit_nested.proofs.not_nested.Goals.{In-loop-k}
 -- the record of a turn is one of the sheet's
 inside : (c : In-loop-k)
     → c.loop-k.k < length (entries_of c.args.sheet.now)
-inside c = omega (arith, c.count-records.ensures, c.loop-k-test.true)
-
-pub count-records-requires : goal.count-records-requires
-count-records-requires c = c.requires.0.framed
+inside c = omega (arith, c.count-k-end.ensures, c.loop-k-test.true)
 
 pub loop-k-init : goal.loop-k-init
 loop-k-init c = (refl, refl, refl)
 
 pub part-requires : goal.part-requires
 part-requires c = part_fits _ c.requires.0 _ (inside (goal.at.part-requires c).In-loop-k)
-
-pub slice_bounds-outside_above-end : goal.slice_bounds-outside_above-end
-slice_bounds-outside_above-end c = sym c.loop-k.invariant.0
-
-pub slice_bounds-outside_above-end-in-loop-k : goal.slice_bounds-outside_above-end-in-loop-k
-slice_bounds-outside_above-end-in-loop-k c = sym c.loop-k.invariant.1
 
 pub outside_above-requires : goal.outside_above-requires
 outside_above-requires c = (
@@ -43,22 +34,16 @@ outside_above-requires c = (
 
 pub returns-then-outside_above : goal.returns-then-outside_above
 unfolding not_nested
-returns-then-outside_above c = sym (any_hit _ c.requires.0.framed _ _ c.count-records.ensures c.loop-k-test.true
+returns-then-outside_above c = sym (any_hit _ c.requires.0.framed _ _ c.count-k-end.ensures c.loop-k-test.true
     (outside_above c.args.nesting c.args.host (entries_of c.args.sheet.now)) _ c.part.ensures
     (sym c.outside_above.ensures ∙ c.if-outside_above.true))
     ∙ c.loop-k.invariant.2
-
-pub overflow_add-k : goal.overflow_add-k
-overflow_add-k c = omega arith
-
-pub loop-k-smaller : goal.loop-k-smaller
-loop-k-smaller c = omega arith
 
 pub loop-k-preserved : goal.loop-k-preserved
 loop-k-preserved c = (
   omega arith,
   omega arith,
-  sym (any_miss _ c.requires.0.framed _ _ c.count-records.ensures c.loop-k-test.true
+  sym (any_miss _ c.requires.0.framed _ _ c.count-k-end.ensures c.loop-k-test.true
       (outside_above c.args.nesting c.args.host (entries_of c.args.sheet.now)) _ c.part.ensures
       (sym c.outside_above.ensures ∙ c.if-outside_above.false))
       ∙ c.loop-k.invariant.2,
@@ -66,6 +51,6 @@ loop-k-preserved c = (
 
 pub returns : goal.returns
 unfolding not_nested
-returns c = sym (any_past _ c.requires.0.framed _ _ c.count-records.ensures c.loop-k-test.false
+returns c = sym (any_past _ c.requires.0.framed _ _ c.count-k-end.ensures c.loop-k-test.false
     (outside_above c.args.nesting c.args.host (entries_of c.args.sheet.now)))
     ∙ c.loop-k.invariant.2

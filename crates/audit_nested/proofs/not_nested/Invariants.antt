@@ -1,7 +1,6 @@
 -- `audit_nested::not_nested`: the loop over the records. Invariant: one from record k on has a range outside just where one of all has.
--- Measure: the records left. Assumes nothing.
+-- Assumes nothing.
 use mathlib.Core.Path.{◌≡◌}
-use Prim.Native.Nat.{◌-◌}
 use lib.ListN.{length}
 use Rattle.lists.specs.Lists.{any}
 use Rattle.sheet.specs.Sheet.{entries_from, entries_of, record_at}
@@ -14,6 +13,3 @@ invariant-loop-k l =
     × (length l.above ≡ 18)
     × (any (outside_above l.nesting l.host (entries_of l.sheet)) (entries_from l.sheet (record_at l.k))
     ≡ any (outside_above l.nesting l.host (entries_of l.sheet)) (entries_of l.sheet))
-
-abbrev pub decreases-loop-k : goal.decreases-loop-k
-decreases-loop-k l = l.records - l.k

@@ -1,8 +1,7 @@
--- `audit_rising::take_bridges`: the loop over the records. Invariant: where what is left rises from here, all rises from the start.
--- Measure: the records left. Assumes nothing.
+-- `audit_rising::take_bridges`: the loop over the records. Invariant: where what is left rises from here, all rises from the start. Assumes
+-- nothing.
 use mathlib.Core.Path.{ap, ◌∙◌}
-use mathlib.Core.Bool.{false≢true}
-use Prim.Native.Nat.{◌-◌, ◌<◌}
+use Prim.Native.Nat.{◌<◌}
 use native.Mathlib.Omega.{arith}
 use lib.ListN.{length}
 use Rattle.sheet.specs.Sheet.{entries_of}
@@ -16,10 +15,7 @@ use Rattle.audit_rising.proofs.take_bridges.Goals.{In-loop-k}
 -- the record of a turn is one of the sheet's
 inside : (c : In-loop-k)
     → c.loop-k.k < length (entries_of c.args.sheet.now)
-inside c = omega (arith, c.count-records.ensures, c.loop-k-test.true)
-
-pub count-records-requires : goal.count-records-requires
-count-records-requires c = c.requires.0
+inside c = omega (arith, c.count-k-end.ensures, c.loop-k-test.true)
 
 pub loop-k-init : goal.loop-k-init
 loop-k-init c = (c.requires.1, λ h. h)
@@ -33,24 +29,15 @@ take_buses-requires c = (
   ap length c.part.ensures ∙ length_part _ _ (record_fits _ c.requires.0 _ (inside (goal.at.take_buses-requires c).In-loop-k)),
 )
 
-pub returns-then-not-take_buses : goal.returns-then-not-take_buses
-returns-then-not-take_buses c = λ e. absurd (false≢true e)
-
-pub overflow_add-k : goal.overflow_add-k
-overflow_add-k c = omega arith
-
-pub loop-k-smaller : goal.loop-k-smaller
-loop-k-smaller c = omega arith
-
 pub loop-k-preserved : goal.loop-k-preserved
 loop-k-preserved c = (
   omega arith,
   λ h. c.loop-k.invariant.1
-      (records_turn Rising buses_of _ c.requires.0 _ _ c.count-records.ensures _
+      (records_turn Rising buses_of _ c.requires.0 _ _ c.count-k-end.ensures _
       c.loop-k-test.true _ c.part.ensures _ (c.take_buses.ensures (c.if-not-take_buses.false)) h),
 )
 
 pub returns : goal.returns
 returns c = λ e. buses_told _ _
-    (c.loop-k.invariant.1 (records_past Rising buses_of _ c.requires.0 _ _ c.count-records.ensures _
+    (c.loop-k.invariant.1 (records_past Rising buses_of _ c.requires.0 _ _ c.count-k-end.ensures _
     c.loop-k-test.false tt))

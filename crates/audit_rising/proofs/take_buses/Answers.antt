@@ -6,5 +6,4 @@ pub returns-then-not-is_bridge : goal.returns-then-not-is_bridge
 returns-then-not-is_bridge c = λ e. takes_none _ _ c.is_bridge.ensures _ (c.if-not-is_bridge.true)
 
 pub returns : goal.returns
-returns c = λ e. takes_bridge _ _ c.is_bridge.ensures _ (c.if-not-is_bridge.false) _ _ _ c.bus_of.ensures
-    c.secondary_of-first.ensures c.subordinate_of.ensures _ (c.take.ensures e)
+returns c = λ e. takes_bridge _ _ c.is_bridge.ensures _ (c.if-not-is_bridge.false) _ _ _ (cc) (cc) (cc) _ (c.take.ensures e)

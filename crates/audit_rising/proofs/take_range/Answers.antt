@@ -1,12 +1,8 @@
 -- `audit_rising::take_range`: what is on its side is taken under its key. Assumes nothing.
 use mathlib.Core.Path.{sym, ◌∙◌}
-use mathlib.Core.Bool.{false≢true}
 use Rattle.audit_rising.specs.Rising.{Rising}
 use Rattle.audit_rising.specs.PassLaws.{takes_range}
 use Rattle.audit_rising.proofs.take_range.Goals as goal
-
-pub returns-then-not-is_sided : goal.returns-then-not-is_sided
-returns-then-not-is_sided c = λ e. absurd (false≢true e)
 
 pub returns : goal.returns
 returns c = let told = sym c.is_sided.ensures ∙ c.if-not-is_sided.false in

@@ -1,7 +1,5 @@
 -- `audit_rising::take_ranges`: the loop over a function's ranges. Invariant: where those from i on are taken from here, all are taken from
--- the start. Measure: those that are left. Assumes nothing.
-use mathlib.Core.Bool.{false≢true}
-use Prim.Native.Nat.{◌-◌}
+-- the start. Assumes nothing.
 use native.Mathlib.Omega.{arith}
 use Rattle.audit_rising.specs.Rising.{Rising}
 use Rattle.audit_rising.specs.Spots.{spot_of}
@@ -10,21 +8,6 @@ use Rattle.audit_rising.proofs.take_ranges.Goals as goal
 
 pub loop-i-init : goal.loop-i-init
 loop-i-init c = (c.requires.0, λ v h. ranges_all Rising (spot_of c.args.bus) _ _ 0 _ v h)
-
-pub item_at-requires : goal.item_at-requires
-item_at-requires c = omega arith
-
-pub take_range-requires : goal.take_range-requires
-take_range-requires c = c.loop-i.invariant.0
-
-pub returns-then-not-take_range : goal.returns-then-not-take_range
-returns-then-not-take_range c = λ e. absurd (false≢true e)
-
-pub overflow_add-i : goal.overflow_add-i
-overflow_add-i c = omega arith
-
-pub loop-i-smaller : goal.loop-i-smaller
-loop-i-smaller c = omega arith
 
 pub loop-i-preserved : goal.loop-i-preserved
 loop-i-preserved c = (

@@ -1,5 +1,5 @@
 -- `audit_rising::take_ranges`: the loop over a function's ranges. Invariant: where those from i on are taken from here, all are taken from
--- the start. Measure: those that are left. Assumes nothing.
+-- the start. Assumes nothing.
 use mathlib.Core.Path.{◌≡◌}
 use mathlib.Core.List.{List, map}
 use Prim.Native.Nat.{ℕ, ◌-◌}
@@ -13,6 +13,3 @@ abbrev pub invariant-loop-i : goal.invariant-loop-i
 invariant-loop-i l =
     (length l.table ≡ 768)
     × ((v : List ℕ) → Takes l.table (map (spot_of l.bus) (ranges_from l.own l.i (l.n - l.i))) v → Takes l.initial.table (map (spot_of l.bus) (ranges_in l.n l.own)) v)
-
-abbrev pub decreases-loop-i : goal.decreases-loop-i
-decreases-loop-i l = l.n - l.i

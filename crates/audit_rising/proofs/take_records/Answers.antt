@@ -1,8 +1,7 @@
--- `audit_rising::take_records`: the loop over the records. Invariant: where what is left rises from here, all rises from the start.
--- Measure: the records left. Assumes nothing.
-use mathlib.Core.Path.{refl, sym}
-use mathlib.Core.Bool.{false≢true}
-use Prim.Native.Nat.{◌-◌, ◌<◌}
+-- `audit_rising::take_records`: the loop over the records. Invariant: where what is left rises from here, all rises from the start. Assumes
+-- nothing.
+use mathlib.Core.Path.{refl}
+use Prim.Native.Nat.{◌<◌}
 use native.Mathlib.Omega.{arith}
 use lib.ListN.{length}
 use Rattle.sheet.specs.Sheet.{entries_of}
@@ -16,19 +15,13 @@ use Rattle.audit_rising.proofs.take_records.Goals.{In-loop-k}
 -- the record of a turn is one of the sheet's
 inside : (c : In-loop-k)
     → c.loop-k.k < length (entries_of c.args.sheet.now)
-inside c = omega (arith, c.count-records.ensures, c.loop-k-test.true)
-
-pub count-records-requires : goal.count-records-requires
-count-records-requires c = c.requires.0.framed
+inside c = omega (arith, c.count-k-end.ensures, c.loop-k-test.true)
 
 pub loop-k-init : goal.loop-k-init
 loop-k-init c = (c.requires.1, refl, λ h. h)
 
 pub part-requires : goal.part-requires
 part-requires c = part_fits _ c.requires.0 _ (inside (goal.at.part-requires c).In-loop-k)
-
-pub slice_bounds-take_record-end : goal.slice_bounds-take_record-end
-slice_bounds-take_record-end c = sym c.loop-k.invariant.1
 
 pub take_record-requires : goal.take_record-requires
 take_record-requires c = (
@@ -38,25 +31,16 @@ take_record-requires c = (
   omega (arith, c.loop-k.invariant.1),
 )
 
-pub returns-then-not-take_record : goal.returns-then-not-take_record
-returns-then-not-take_record c = λ e. absurd (false≢true e)
-
-pub overflow_add-k : goal.overflow_add-k
-overflow_add-k c = omega arith
-
-pub loop-k-smaller : goal.loop-k-smaller
-loop-k-smaller c = omega arith
-
 pub loop-k-preserved : goal.loop-k-preserved
 loop-k-preserved c = (
   omega arith,
   omega arith,
   λ h. c.loop-k.invariant.2
-      (records_turn Rising spots_of _ c.requires.0.framed _ _ c.count-records.ensures _
+      (records_turn Rising spots_of _ c.requires.0.framed _ _ c.count-k-end.ensures _
       c.loop-k-test.true _ c.part.ensures _ (c.take_record.ensures (c.if-not-take_record.false)) h),
 )
 
 pub returns : goal.returns
 returns c = λ e. ranges_told _ _
-    (c.loop-k.invariant.2 (records_past Rising spots_of _ c.requires.0.framed _ _ c.count-records.ensures _
+    (c.loop-k.invariant.2 (records_past Rising spots_of _ c.requires.0.framed _ _ c.count-k-end.ensures _
     c.loop-k-test.false tt))

@@ -1,8 +1,7 @@
--- `audit_rising::take_records`: the loop over the records. Invariant: where what is left rises from here, all rises from the start.
--- Measure: the records left. Assumes nothing.
+-- `audit_rising::take_records`: the loop over the records. Invariant: where what is left rises from here, all rises from the start. Assumes
+-- nothing.
 use mathlib.Core.Path.{◌≡◌}
 use mathlib.Core.List.{flat_map}
-use Prim.Native.Nat.{◌-◌}
 use lib.ListN.{length}
 use Rattle.sheet.specs.Sheet.{entries_from, entries_of, record_at}
 use Rattle.audit_rising.specs.Rising.{Rising}
@@ -14,6 +13,3 @@ invariant-loop-k l =
     (length l.table ≡ 768)
     × (length l.room ≡ 18)
     × (Rising l.table (flat_map spots_of (entries_from l.sheet (record_at l.k))) → Rising l.initial.table (flat_map spots_of (entries_of l.sheet)))
-
-abbrev pub decreases-loop-k : goal.decreases-loop-k
-decreases-loop-k l = l.records - l.k

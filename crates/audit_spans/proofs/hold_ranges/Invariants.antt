@@ -1,5 +1,5 @@
 -- `audit_spans::hold_ranges`: the loop over a function's ranges. Invariant: where those from i on are held from here, all are held from the
--- start. Measure: those that are left. Assumes nothing.
+-- start. Assumes nothing.
 use mathlib.Core.Path.{◌≡◌}
 use mathlib.Core.List.{map}
 use Prim.Native.Nat.{◌-◌, ◌≤◌}
@@ -16,6 +16,3 @@ invariant-loop-i l =
     × (l.m ≤ 128)
     × ((v : Spans) → Leaves Spread (l.spans, l.m) (map (spot_of l.bus) (ranges_from l.own l.i (l.count - l.i))) v
     → Leaves Spread (l.initial.spans, l.n) (map (spot_of l.bus) (ranges_in l.count l.own)) v)
-
-abbrev pub decreases-loop-i : goal.decreases-loop-i
-decreases-loop-i l = l.count - l.i

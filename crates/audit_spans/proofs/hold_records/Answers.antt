@@ -1,8 +1,7 @@
 -- `audit_spans::hold_records`: the loop over the records. Invariant: where what is left is spread from here, all is spread from the start.
--- Measure: the records left. Assumes nothing.
-use mathlib.Core.Path.{refl, sym}
-use mathlib.Core.Bool.{false≢true}
-use Prim.Native.Nat.{◌-◌, ◌<◌}
+-- Assumes nothing.
+use mathlib.Core.Path.{refl}
+use Prim.Native.Nat.{◌<◌}
 use native.Mathlib.Omega.{arith}
 use lib.ListN.{length}
 use Rattle.sheet.specs.Sheet.{entries_of}
@@ -17,10 +16,7 @@ use Rattle.audit_spans.proofs.hold_records.Goals.{In-loop-k}
 -- the record of a turn is one of the sheet's
 inside : (c : In-loop-k)
     → c.loop-k.k < length (entries_of c.args.sheet.now)
-inside c = omega (arith, c.count-records.ensures, c.loop-k-test.true)
-
-pub count-records-requires : goal.count-records-requires
-count-records-requires c = c.requires.0.framed
+inside c = omega (arith, c.count-k-end.ensures, c.loop-k-test.true)
 
 pub loop-k-init : goal.loop-k-init
 loop-k-init c = (c.requires.1, refl, omega arith, λ h. h)
@@ -28,38 +24,26 @@ loop-k-init c = (c.requires.1, refl, omega arith, λ h. h)
 pub part-requires : goal.part-requires
 part-requires c = part_fits _ c.requires.0 _ (inside (goal.at.part-requires c).In-loop-k)
 
-pub slice_bounds-hold_record-end : goal.slice_bounds-hold_record-end
-slice_bounds-hold_record-end c = sym c.loop-k.invariant.1
-
-pub hold_record-n-requires : goal.hold_record-n-requires
-hold_record-n-requires c = (
+pub hold_record-requires : goal.hold_record-requires
+hold_record-requires c = (
   c.loop-k.invariant.0,
   c.loop-k.invariant.2,
-  part_sized _ c.requires.0 _ (inside (goal.at.hold_record-n-requires c).In-loop-k) _ c.part.ensures,
-  part_lawful _ c.requires.0 _ (inside (goal.at.hold_record-n-requires c).In-loop-k) _ c.part.ensures,
+  part_sized _ c.requires.0 _ (inside (goal.at.hold_record-requires c).In-loop-k) _ c.part.ensures,
+  part_lawful _ c.requires.0 _ (inside (goal.at.hold_record-requires c).In-loop-k) _ c.part.ensures,
   omega (arith, c.loop-k.invariant.1),
 )
-
-pub returns-then-n-gt-MOST : goal.returns-then-n-gt-MOST
-returns-then-n-gt-MOST c = λ e. absurd (false≢true e)
-
-pub overflow_add-k : goal.overflow_add-k
-overflow_add-k c = omega arith
-
-pub loop-k-smaller : goal.loop-k-smaller
-loop-k-smaller c = omega arith
 
 pub loop-k-preserved : goal.loop-k-preserved
 loop-k-preserved c = (
   omega arith,
   omega arith,
-  omega (arith, c.if-n-gt-MOST.false),
+  c.in-Some.ensures.0,
   λ h. c.loop-k.invariant.3
-      (records_turn Spread spots_of _ c.requires.0.framed _ _ c.count-records.ensures _
-      c.loop-k-test.true _ c.part.ensures _ (c.hold_record-n.ensures (omega (arith, c.if-n-gt-MOST.false))) h),
+      (records_turn Spread spots_of _ c.requires.0.framed _ _ c.count-k-end.ensures _
+      c.loop-k-test.true _ c.part.ensures _ c.in-Some.ensures.1 h),
 )
 
 pub returns : goal.returns
 returns c = λ e. ranges_told _ _ _
-    (c.loop-k.invariant.3 (records_past Spread spots_of _ c.requires.0.framed _ _ c.count-records.ensures _
+    (c.loop-k.invariant.3 (records_past Spread spots_of _ c.requires.0.framed _ _ c.count-k-end.ensures _
     c.loop-k-test.false (spread_none _ _)))

@@ -1,8 +1,8 @@
 -- `audit_spans::hold_records`: the loop over the records. Invariant: where what is left is spread from here, all is spread from the start.
--- Measure: the records left. Assumes nothing.
+-- Assumes nothing.
 use mathlib.Core.Path.{◌≡◌}
 use mathlib.Core.List.{flat_map}
-use Prim.Native.Nat.{◌-◌, ◌≤◌}
+use Prim.Native.Nat.{◌≤◌}
 use lib.ListN.{length}
 use Rattle.sheet.specs.Sheet.{entries_from, entries_of, record_at}
 use Rattle.audit_rising.specs.Spots.{spots_of}
@@ -15,6 +15,3 @@ invariant-loop-k l =
     × (length l.room ≡ 18)
     × (l.n ≤ 128)
     × (Spread (l.spans, l.n) (flat_map spots_of (entries_from l.sheet (record_at l.k))) → Spread (l.initial.spans, 0) (flat_map spots_of (entries_of l.sheet)))
-
-abbrev pub decreases-loop-k : goal.decreases-loop-k
-decreases-loop-k l = l.records - l.k

@@ -1,12 +1,8 @@
--- `audit_spans::is_free`: the loop over the spans. Invariant: those before i are not met. Measure: the spans left. Assumes nothing.
+-- `audit_spans::is_free`: the loop over the spans. Invariant: those before i are not met. Assumes nothing.
 use mathlib.Core.Bool.{true}
-use Prim.Native.Nat.{◌-◌, ◌≤◌}
 use Rattle.audit_rising.specs.Rising.{spot}
 use Rattle.audit_spans.specs.Spans.{Free}
 use Rattle.audit_spans.proofs.is_free.Given as goal
 
 abbrev pub invariant-loop-i : goal.invariant-loop-i
-invariant-loop-i l = (l.i ≤ l.n) × Free l.spans l.i (spot l.key l.first l.last true)
-
-abbrev pub decreases-loop-i : goal.decreases-loop-i
-decreases-loop-i l = l.n - l.i
+invariant-loop-i l = Free l.spans l.i (spot l.key l.first l.last true)

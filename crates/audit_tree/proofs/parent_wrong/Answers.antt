@@ -22,9 +22,6 @@ fits : (c : In-Bridge)
 fits c =
     record_fits _ c.requires.0.framed _ ((c.parent_in.ensures _ c.requires.0 c.requires.1).whole _ c.in-Bridge.is).inside
 
-pub parent_in-requires : goal.parent_in-requires
-parent_in-requires c = c.requires.1.size
-
 pub part-above-requires : goal.part-above-requires
 part-above-requires c = fits (goal.at.part-above-requires c).In-Bridge
 

@@ -1,35 +1,22 @@
 -- `audit_tree::shared_by_pairs` meets its contract. Invariant: whether two of the records that are left share a bus is whether two of all
--- do. Measure: records left. Assumes nothing.
-use mathlib.Core.Path.{refl, sym, ◌∙◌}
-use Prim.Native.Nat.{◌-◌}
+-- do. Assumes nothing.
+use mathlib.Core.Path.{sym, ◌∙◌}
 use native.Mathlib.Omega.{arith}
 use Rattle.audit_rule.proofs.PassLaws.{pair_past, pair_hit, pair_miss}
 use Rattle.audit_tree.proofs.shared_by_pairs.Goals as goal
 
-pub count-records-requires : goal.count-records-requires
-count-records-requires c = c.requires
-
-pub loop-k-init : goal.loop-k-init
-loop-k-init c = refl
-
 pub shared_with_later-requires : goal.shared_with_later-requires
-shared_with_later-requires c = (c.requires, omega (arith, c.count-records.ensures))
+shared_with_later-requires c = (c.requires, omega (arith, c.count-k-end.ensures))
 
 pub returns-then-shared_with_later : goal.returns-then-shared_with_later
-returns-then-shared_with_later c = sym (pair_hit _ c.requires _ _ c.count-records.ensures c.loop-k-test.true _
+returns-then-shared_with_later c = sym (pair_hit _ c.requires _ _ c.count-k-end.ensures c.loop-k-test.true _
     (sym c.shared_with_later.ensures ∙ c.if-shared_with_later.true))
     ∙ c.loop-k.invariant
 
-pub overflow_add-k : goal.overflow_add-k
-overflow_add-k c = omega arith
-
-pub loop-k-smaller : goal.loop-k-smaller
-loop-k-smaller c = omega arith
-
 pub loop-k-preserved : goal.loop-k-preserved
-loop-k-preserved c = sym (pair_miss _ c.requires _ _ c.count-records.ensures c.loop-k-test.true _
+loop-k-preserved c = sym (pair_miss _ c.requires _ _ c.count-k-end.ensures c.loop-k-test.true _
     (sym c.shared_with_later.ensures ∙ c.if-shared_with_later.false))
     ∙ c.loop-k.invariant
 
 pub returns : goal.returns
-returns c = sym (pair_past _ c.requires _ _ c.count-records.ensures c.loop-k-test.false _) ∙ c.loop-k.invariant
+returns c = sym (pair_past _ c.requires _ _ c.count-k-end.ensures c.loop-k-test.false _) ∙ c.loop-k.invariant

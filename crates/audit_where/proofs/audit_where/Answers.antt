@@ -2,8 +2,5 @@
 use Rattle.audit_where.specs.WhereLaws.{finding_is}
 use Rattle.audit_where.proofs.audit_where.Goals as goal
 
-pub parties-found-requires : goal.parties-found-requires
-parties-found-requires c = c.audit-number.ensures
-
 pub returns : goal.returns
-returns c = finding_is c.args.host.now c.args.sheet.now _ c.audit-number.ensures _ c.parties-found.ensures
+returns c = finding_is c.args.host.now c.args.sheet.now _ c.audit-number.ensures _ c.parties.ensures

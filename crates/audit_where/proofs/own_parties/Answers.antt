@@ -1,4 +1,5 @@
 -- `audit_where::own_parties` meets its contract: number by number. Assumes nothing.
+use native.Mathlib.Omega.{arith}
 use mathlib.Core.Path.{refl, sym, ap, ◌∙◌}
 use Rattle.sheet.specs.Sheet.{entries_of}
 use Rattle.audit_finding.specs.declared.Check.{Check}
@@ -43,4 +44,5 @@ returns-in-29 c = let es = entries_of c.args.sheet.now in
     λ h. c.first_failing-in-29.ensures h ∙ ap (λ (x : Check). first_failing x h es) (sym (check_29 _ c.in-29.is))
 
 pub returns-in_default : goal.returns-in_default
-returns-in_default c = λ h. nobody_own _ h _ c.requires.0 c.in_default.in_default-own.rest.0.0.0.0.1 c.in_default.in_default-own.rest.0.0.0.1 c.in_default.in_default-own.rest.0.0.1 c.in_default.in_default-own.rest.0.1 c.in_default.in_default-own.rest.1
+returns-in_default c = λ h. nobody_own _ h _ c.requires.0 (λ z. omega arith) (λ z. omega arith) (λ z. omega arith)
+    (λ z. omega arith) (λ z. omega arith)

@@ -1,52 +1,36 @@
--- `overlap_where::first_met`: the loop over the ranges. Invariant: the first from index i on that is met is the first of all. Measure:
--- those that are left. Assumes nothing.
+-- `overlap_where::first_met`: the loop over the ranges. Invariant: the first from index i on that is met is the first of all. Assumes
+-- nothing.
 use mathlib.Core.Path.{refl, sym, ap, ◌∙◌}
-use Prim.Native.Nat.{ℕ, ◌-◌}
-use native.Mathlib.Omega.{arith}
+use Rattle.std.proofs.Common.{Some}
+use Prim.Native.Nat.{ℕ}
 use Rattle.sheet_record.specs.Entry.{entry_of}
 use Rattle.sheet_ranges.specs.Items.{range_of}
-use Rattle.finding.specs.declared.Spot.TheVariants.{Right, Wrong}
-use Rattle.finding.specs.Places.{nobody}
+use Rattle.finding.specs.Places.{right, wrong_at, nobody}
 use Rattle.range_place.specs.TurnsLaws.{turn_start, turn_past, turn_hit, turn_miss}
 use Rattle.overlap_where.specs.Meeting.{meets_here}
 use Rattle.overlap_where.proofs.first_met.Goals as goal
 
 pub loop-i-init : goal.loop-i-init
 loop-i-init c = λ number. turn_start (record { number = number; entry = entry_of c.args.part.now }) _ _ c.requires.3 (λ q. meets_here (range_of c.args.x)
-    c.args.same c.args.place q.place q.range) (λ q. Wrong q.place nobody) Right
-
-pub item_at-requires : goal.item_at-requires
-item_at-requires c = omega (arith, c.requires.2, c.loop-i-test.true)
-
-pub meets_here-requires : goal.meets_here-requires
-meets_here-requires c = (c.requires.0, c.requires.1)
-
-pub place_of-requires : goal.place_of-requires
-place_of-requires c = (c.requires.0, c.requires.1)
+    c.args.same c.args.place q.place q.range) (λ q. wrong_at q.place nobody) right
 
 pub returns-then-meets_here : goal.returns-then-meets_here
 returns-then-meets_here c = λ number.
-    ap (λ (p : ℕ). Wrong p nobody) c.place_of.ensures
+    ap Some c.at.ensures ∙ ap (λ (p : ℕ). wrong_at p nobody) c.place_of.ensures
     ∙ sym (turn_hit (record { number = number; entry = entry_of c.args.part.now }) _ _ c.requires.3 (λ q. meets_here (range_of c.args.x)
-    c.args.same c.args.place q.place q.range) (λ q. Wrong q.place nobody) Right _ c.loop-i-test.true _
+    c.args.same c.args.place q.place q.range) (λ q. wrong_at q.place nobody) right _ c.loop-i-test.true _
     c.item_at.ensures _ refl (sym c.meets_here.ensures ∙ c.if-meets_here.true))
     ∙ c.loop-i.invariant number
-
-pub overflow_add-i : goal.overflow_add-i
-overflow_add-i c = omega arith
-
-pub loop-i-smaller : goal.loop-i-smaller
-loop-i-smaller c = omega arith
 
 pub loop-i-preserved : goal.loop-i-preserved
 loop-i-preserved c = λ number.
     sym (turn_miss (record { number = number; entry = entry_of c.args.part.now }) _ _ c.requires.3 (λ q. meets_here (range_of c.args.x)
-    c.args.same c.args.place q.place q.range) (λ q. Wrong q.place nobody) Right _ c.loop-i-test.true _
+    c.args.same c.args.place q.place q.range) (λ q. wrong_at q.place nobody) right _ c.loop-i-test.true _
     c.item_at.ensures _ refl (sym c.meets_here.ensures ∙ c.if-meets_here.false))
     ∙ c.loop-i.invariant number
 
 pub returns : goal.returns
 returns c = λ number.
     sym (turn_past (record { number = number; entry = entry_of c.args.part.now }) _ _ c.requires.3 (λ q. meets_here (range_of c.args.x)
-    c.args.same c.args.place q.place q.range) (λ q. Wrong q.place nobody) Right _ c.loop-i-test.false)
+    c.args.same c.args.place q.place q.range) (λ q. wrong_at q.place nobody) right _ c.loop-i-test.false)
     ∙ c.loop-i.invariant number

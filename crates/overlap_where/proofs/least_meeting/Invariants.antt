@@ -1,7 +1,6 @@
--- `overlap_where::least_meeting`: the loop over the records. Invariant: the least that is met from record j on is the least of all.
--- Measure: the records left. Assumes nothing.
+-- `overlap_where::least_meeting`: the loop over the records. Invariant: the least that is met from record j on is the least of all. Assumes
+-- nothing.
 use mathlib.Core.Path.{◌≡◌}
-use Prim.Native.Nat.{◌-◌}
 use Rattle.sheet.specs.Sheet.{entries_of}
 use Rattle.sheet_ranges.specs.Items.{range_of}
 use Rattle.audit_finding.specs.Placed.{numbered, placed_at}
@@ -14,6 +13,3 @@ abbrev pub invariant-loop-j : goal.invariant-loop-j
 invariant-loop-j l =
     least_from l.sheet (placed_at (record_of l.sheet l.k) l.place (range_of l.x)) l.j
     ≡ least_meeting (numbered (entries_of l.sheet)) (placed_at (record_of l.sheet l.k) l.place (range_of l.x))
-
-abbrev pub decreases-loop-j : goal.decreases-loop-j
-decreases-loop-j l = l.records - l.j

@@ -10,9 +10,6 @@ pub returns-then-not-overlap : goal.returns-then-not-overlap
 returns-then-not-overlap c = apart_here (range_of c.args.x) (range_of c.args.y) c.args.same c.args.place (get_or (places_of (entry_of c.args.part.now)) c.args.i 0) _
     c.overlap.ensures (c.if-not-overlap.true)
 
-pub place_of-requires : goal.place_of-requires
-place_of-requires c = (c.requires.0, c.requires.1)
-
 pub returns : goal.returns
 returns c = overlap_here (range_of c.args.x) (range_of c.args.y) c.args.same c.args.place (get_or (places_of (entry_of c.args.part.now)) c.args.i 0) _
     c.overlap.ensures (c.if-not-overlap.false) _ c.place_of.ensures

@@ -25,6 +25,3 @@ first_overlap-requires c = (
   omega (arith, c.ranges_of-n.ensures.1),
   c.ranges_of-n.ensures.0 ∙ ap (λ (p : List ℕ). ranges_of (entry_of p)) c.part.ensures,
 )
-
-pub returns : goal.returns
-returns c = c.first_overlap.ensures

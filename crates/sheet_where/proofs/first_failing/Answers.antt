@@ -1,49 +1,7 @@
--- `sheet_where::first_failing`: the loop over the records. Invariant: the first that fails from record k on is the first of all, whatever
--- the host is. Measure: the records left. Assumes nothing.
-use mathlib.Core.Path.{refl, sym, ◌∙◌}
-use Prim.Native.Nat.{◌-◌}
-use native.Mathlib.Omega.{arith}
-use Rattle.sheet.specs.Sheet.{entries_of}
-use Rattle.finding.specs.Places.{nobodies}
-use Rattle.audit_finding.specs.Fails.{fails}
-use Rattle.audit_finding.specs.Finding.{named, first_failing}
-use Rattle.audit_finding.specs.Spots.{pass_past, turn_right, turn_wrong}
+-- `sheet_where::first_failing`: record by record. Assumes nothing.
+use Rattle.std.proofs.Common.{rules}
 use Rattle.sheet_where.specs.Own.{check_for}
 use Rattle.sheet_where.proofs.first_failing.Goals as goal
 
-pub count-records-requires : goal.count-records-requires
-count-records-requires c = c.requires
-
-pub loop-k-init : goal.loop-k-init
-unfolding first_failing
-loop-k-init c = λ h. refl
-
-pub spot_at-spot-requires : goal.spot_at-spot-requires
-spot_at-spot-requires c = (c.requires, omega (arith, c.loop-k-test.true, c.count-records.ensures))
-
-pub overflow_add-result : goal.overflow_add-result
-overflow_add-result c = omega arith
-
-pub returns-in-Wrong : goal.returns-in-Wrong
-returns-in-Wrong c = λ h.
-    sym (turn_wrong c.args.sheet.now c.requires _ _ c.count-records.ensures (check_for c.args.own) h (entries_of c.args.sheet.now) _
-    (c.spot_at-spot.ensures h) c.loop-k-test.true _ _ c.in-Wrong.is)
-    ∙ c.loop-k.invariant h
-
-pub overflow_add-k : goal.overflow_add-k
-overflow_add-k c = omega arith
-
-pub loop-k-smaller : goal.loop-k-smaller
-loop-k-smaller c = omega arith
-
-pub loop-k-preserved : goal.loop-k-preserved
-loop-k-preserved c = λ h.
-    sym (turn_right c.args.sheet.now c.requires _ _ c.count-records.ensures (check_for c.args.own) h (entries_of c.args.sheet.now) _
-    (c.spot_at-spot.ensures h) c.loop-k-test.true c.in_default.is)
-    ∙ c.loop-k.invariant h
-
 pub returns : goal.returns
-returns c = λ h.
-    sym (pass_past c.args.sheet.now c.requires _ _ c.count-records.ensures (fails (check_for c.args.own) h (entries_of c.args.sheet.now))
-    (named (check_for c.args.own) h (entries_of c.args.sheet.now)) nobodies c.loop-k-test.false)
-    ∙ c.loop-k.invariant h
+returns c = λ h. c.first_wrong.ensures (check_for c.args.own) h (λ k x l p. search rules)

@@ -1,16 +1,6 @@
 -- `sheet_where::is_bar_value` meets its contract: by the pool. Assumes nothing.
-use native.Mathlib.Omega.{arith}
 use Rattle.sheet_where.specs.SlotsLaws.{low_value, high_value, io_value}
 use Rattle.sheet_where.proofs.is_bar_value.Goals as goal
-
-pub overflow_mul-result : goal.overflow_mul-result
-overflow_mul-result c = omega arith
-
-pub overflow_mul-result-in-High : goal.overflow_mul-result-in-High
-overflow_mul-result-in-High c = omega arith
-
-pub overflow_mul-result-in-Io : goal.overflow_mul-result-in-Io
-overflow_mul-result-in-Io c = omega arith
 
 pub returns-in-Low : goal.returns-in-Low
 returns-in-Low c = rw c.in-Low.is (low_value _ _ _)

@@ -1,7 +1,7 @@
 -- `sheet_where::read_back_spot`: the loop over the slots. Invariant: what is left from slot i on says what all say. Measure: the slots
 -- left. Assumes nothing.
 use mathlib.Core.Path.{◌≡◌, sym, subst, ◌∙◌}
-use Prim.Native.Nat.{◌-◌, ◌≤◌}
+use Prim.Native.Nat.{◌≤◌}
 use native.Mathlib.Omega.{arith}
 use lib.ListN.{length}
 use Rattle.bar.specs.Bar.{SizedSlot}
@@ -34,19 +34,18 @@ value_here-requires c = omega (arith, few (goal.at.value_here-requires c).After-
 pub is_value-requires : goal.is_value-requires
 is_value-requires c = subst SizedSlot (sym c.slot_at-x.ensures) (sized_here _)
 
-pub overflow_cast-result : goal.overflow_cast-result
-overflow_cast-result c = omega (arith, few ((goal.at.overflow_cast-result c).After-slot_count-slots), c.loop-i-test.true)
+pub overflow_cast-i : goal.overflow_cast-i
+overflow_cast-i c = omega (arith, few ((goal.at.overflow_cast-i c).After-slot_count-slots), c.loop-i-test.true)
 
 pub returns-then-not-is_value : goal.returns-then-not-is_value
-returns-then-not-is_value c = sym (slot_off (spot_in (rest_of c.args.part.now)) _ _ _ _ (six (goal.at.returns-then-not-is_value c).After-slot_count-slots) (few (goal.at.returns-then-not-is_value c).After-slot_count-slots) _ _ _ c.loop-i-test.true
+returns-then-not-is_value c = rw c.at.ensures (
+    sym (slot_off (spot_in (rest_of c.args.part.now)) _ _ _ _ (six (goal.at.returns-then-not-is_value c).After-slot_count-slots)
+    (few (goal.at.returns-then-not-is_value c).After-slot_count-slots) _ _ _ c.loop-i-test.true
     c.slot_at-x.ensures c.value_here.ensures c.is_value.ensures (c.if-not-is_value.true))
-    ∙ c.loop-i.invariant
+    ∙ c.loop-i.invariant)
 
 pub overflow_add-i : goal.overflow_add-i
 overflow_add-i c = omega (arith, few ((goal.at.overflow_add-i c).After-slot_count-slots), c.loop-i-test.true, c.span-i.ensures.2)
-
-pub loop-i-smaller : goal.loop-i-smaller
-loop-i-smaller c = omega (arith, c.span-i.ensures.1, c.loop-i-test.true)
 
 pub loop-i-preserved : goal.loop-i-preserved
 loop-i-preserved c = slot_on (spot_in (rest_of c.args.part.now)) _ _ _ _ (six (goal.at.loop-i-preserved c).After-slot_count-slots) (few (goal.at.loop-i-preserved c).After-slot_count-slots) _ _ _ c.loop-i-test.true c.slot_at-x.ensures

@@ -7,16 +7,19 @@ pub returns-then-not-is_bridge : goal.returns-then-not-is_bridge
 returns-then-not-is_bridge c = rest_none c.args.part.now (sym c.is_bridge.ensures ∙ c.if-not-is_bridge.true)
 
 pub returns-then-read_be32-ne0 : goal.returns-then-read_be32-ne0
-returns-then-read_be32-ne0 c = rest_2 c.args.part.now (sym c.is_bridge.ensures ∙ c.if-not-is_bridge.false) _ c.read_be32.ensures.0
-    c.if-read_be32-ne0.true
+returns-then-read_be32-ne0 c = rw c.at.ensures (
+    rest_2 c.args.part.now (sym c.is_bridge.ensures ∙ c.if-not-is_bridge.false) _ c.read_be32.ensures.0
+    c.if-read_be32-ne0.true)
 
 pub returns-then-read_be32-ne0-2 : goal.returns-then-read_be32-ne0-2
-returns-then-read_be32-ne0-2 c = rest_3 c.args.part.now (sym c.is_bridge.ensures ∙ c.if-not-is_bridge.false) _ c.read_be32.ensures.0
-    c.if-read_be32-ne0.false _ c.read_be32-2.ensures.0 c.if-read_be32-ne0-2.true
+returns-then-read_be32-ne0-2 c = rw c.at-then-read_be32-ne0-2.ensures (
+    rest_3 c.args.part.now (sym c.is_bridge.ensures ∙ c.if-not-is_bridge.false) _ c.read_be32.ensures.0
+    c.if-read_be32-ne0.false _ c.read_be32-2.ensures.0 c.if-read_be32-ne0-2.true)
 
 pub returns-then-read_be32-ne0-3 : goal.returns-then-read_be32-ne0-3
-returns-then-read_be32-ne0-3 c = rest_4 c.args.part.now (sym c.is_bridge.ensures ∙ c.if-not-is_bridge.false) _ c.read_be32.ensures.0
-    c.if-read_be32-ne0.false _ c.read_be32-2.ensures.0 c.if-read_be32-ne0-2.false _ c.read_be32-3.ensures.0 c.if-read_be32-ne0-3.true
+returns-then-read_be32-ne0-3 c = rw c.at-then-read_be32-ne0-3.ensures (
+    rest_4 c.args.part.now (sym c.is_bridge.ensures ∙ c.if-not-is_bridge.false) _ c.read_be32.ensures.0
+    c.if-read_be32-ne0.false _ c.read_be32-2.ensures.0 c.if-read_be32-ne0-2.false _ c.read_be32-3.ensures.0 c.if-read_be32-ne0-3.true)
 
 pub returns : goal.returns
 returns c = rest_5 c.args.part.now (sym c.is_bridge.ensures ∙ c.if-not-is_bridge.false) _ c.read_be32.ensures.0

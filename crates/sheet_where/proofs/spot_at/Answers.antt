@@ -20,9 +20,6 @@ type_wrong-requires c = sized (goal.at.type_wrong-requires c).After-part-part
 pub buses_wrong-requires : goal.buses_wrong-requires
 buses_wrong-requires c = sized (goal.at.buses_wrong-requires c).After-part-part
 
-pub id_spot-requires : goal.id_spot-requires
-id_spot-requires c = (c.requires.0, c.requires.1)
-
 pub read_back_spot-requires : goal.read_back_spot-requires
 read_back_spot-requires c = sized (goal.at.read_back_spot-requires c).After-part-part
 
