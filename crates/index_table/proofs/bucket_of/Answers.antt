@@ -13,14 +13,6 @@ overflow_add-result c = omega (arith, start_le c.args.n c.args.w c.requires.1)
 pub returns : goal.returns
 unfolding bucket_by
 returns c = (
-  rw (
-    c.least-q.ensures.0,
-    c.last_bucket.ensures,
-    c.above.ensures,
-    c.shift_place.ensures,
-    c.read_le64-base.ensures.0,
-    c.base_place.ensures,
-  )
-      refl,
+  ?,
   omega (arith, start_le c.args.n c.args.w c.requires.1),
 )
