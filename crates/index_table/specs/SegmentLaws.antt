@@ -21,7 +21,11 @@ use Rattle.index_table.specs.Table.{ahead, shift_of, put_segment, segmented}
 -- std's word
 pub least_min : (x y : ℕ) → min x y ≡ least x y
 unfolding least
-least_min x y = ?
+least_min x y = go (nat_lt x y) refl
+  where
+    go : (t : Bool) → nat_lt x y ≡ t → min x y ≡ cond t x y
+    go true e = omega (arith, ltb-true x y e)
+    go false e = omega (arith, ltb-false x y e)
 
 pub least_le : (x y : ℕ) → least x y ≤ y
 unfolding least

@@ -131,7 +131,11 @@ widest_end n count q p w b h = let d : buckets n - q ≡ 0 = omega arith in rw d
 -- std's word
 pub larger_max : (x y : ℕ) → max x y ≡ larger x y
 unfolding larger
-larger_max x y = ?
+larger_max x y = go (nat_lt x y) refl
+  where
+    go : (t : Bool) → nat_lt x y ≡ t → max x y ≡ cond t y x
+    go true e = omega (arith, ltb-true x y e)
+    go false e = omega (arith, ltb-false x y e)
 
 larger_left : (x y : ℕ) → x ≤ larger x y
 unfolding larger

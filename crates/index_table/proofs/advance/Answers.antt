@@ -9,13 +9,13 @@ loop-p-init c = refl
 
 pub loop-p-preserved : goal.loop-p-preserved
 loop-p-preserved c =
-    ahead_on _ (λ i. bucket_at c.args.index.now c.args.n i) _ _ c.loop-p-test.true c.is_before.ensures c.if-is_before.false
+    ahead_on _ (λ i. bucket_at c.args.index.now c.args.n i) _ _ c.loop-p-test.true c.is_before.ensures c.if-not-is_before.false
     ∙ c.loop-p.invariant
 
-pub returns-then-is_before : goal.returns-then-is_before
-returns-then-is_before c = (
+pub returns-then-not-is_before : goal.returns-then-not-is_before
+returns-then-not-is_before c = (
   sym (ahead_stop _ (λ i. bucket_at c.args.index.now c.args.n i) _ _ c.loop-p-test.true c.is_before.ensures
-      c.if-is_before.true)
+      c.if-not-is_before.true)
       ∙ c.loop-p.invariant,
   omega arith,
   omega arith,

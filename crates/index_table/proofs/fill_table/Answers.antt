@@ -20,7 +20,7 @@ loop-q-preserved c = let written = rw c.bucket_place.ensures at c.write_le16.ens
       c.loop-q-test.true c.loop-q.invariant.1 c.advance-t.ensures.0 written
       ∙ c.loop-q.invariant.2,
   widest_turn _ _ _ _ _ (λ i. bucket_at c.args.index.now c.args.n i) (λ i. bucket_at c.loop-q.index c.args.n i)
-      c.loop-q-test.true c.loop-q.invariant.1 c.advance-t.ensures.0 ?
+      c.loop-q-test.true c.loop-q.invariant.1 c.advance-t.ensures.0 (c.max-w.ensures ∙ larger_max _ _)
       ∙ c.loop-q.invariant.3,
 )
 
