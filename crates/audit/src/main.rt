@@ -4,7 +4,6 @@
 #![tactic(auto)]
 
 use audit_feed::{Feed, KEPT, LONGEST};
-use console::Piece;
 
 // Room for a piece of input.
 const PIECE: usize = 4096;
@@ -17,31 +16,19 @@ fn main(rt: HostRuntime) {
 
 // Takes the input in pieces to its end, and prints its audit.
 fn audit(rt: HostRuntime, piece: &mut [u8], kept: &mut [u8; KEPT]) {
-    let mut input = Feed::start();
-    let mut left = console::PIECES;
-    loop {
-        match console::read_piece(rt, left, piece) {
-            Piece::Bytes(count, fewer) => {
-                input = input.feed(text::front(piece, count), kept);
-                left = fewer;
-            }
-            Piece::End => {
-                print(rt, input, kept);
-                return;
-            }
-            Piece::Failed => {
-                return;
-            }
-        }
+    let read = console::fold_pieces(
+        rt,
+        piece,
+        Feed::start(),
+        |input, bytes| input.feed(bytes, kept),
+    );
+    if let Some(input) = read {
+        print(rt, input, kept);
     }
 }
 
 fn print(rt: HostRuntime, input: Feed, kept: &[u8; KEPT]) {
     let mut answer = [0u8; LONGEST];
     let n = input.print(kept, &mut answer);
-    print_front(rt, &answer, n);
-}
-
-fn print_front(rt: HostRuntime, answer: &[u8; LONGEST], count: usize) {
-    console::print(rt, text::front(answer, count));
+    console::print(rt, text::front(&answer, n));
 }

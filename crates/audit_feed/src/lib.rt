@@ -46,16 +46,15 @@ impl Feed {
         ensures { (result ≡ fed_of self piece.now)
             × (kept.new ≡ sets kept.old self.count piece.now) }
     {
-        let part = rest(piece, host_left(self.count));
+        let before = HOST_LENGTH.saturating_sub(self.count);
+        let (_, part) = piece.split_at(before.min(piece.len()));
         let count = text::put_text(kept, self.count, piece);
         let mut stage = self.stage;
         let mut misframed = self.misframed;
-        let mut i = 0;
-        while i < part.len() {
-            let event = frame::event_of(stage, part[i]);
+        for byte in part {
+            let event = frame::event_of(stage, *byte);
             misframed = hear(misframed, event);
             stage = frame::stage_after(event);
-            i += 1;
         }
         Feed {
             count,
@@ -123,7 +122,7 @@ fn hear(misframed: bool, event: Event) -> bool
         Event::Foreign => misframed,
         Event::Passed => misframed,
         Event::Half(_) => misframed,
-        Event::Begins(size) => misframed | !(size as usize == places::SIZE),
+        Event::Begins(size) => misframed | (size as usize != places::SIZE),
         Event::Byte(_, _) => misframed,
     }
 }
@@ -132,7 +131,8 @@ fn hear(misframed: bool, event: Event) -> bool
 fn audit(input: &[u8]) -> u8
     ensures { result ≡ input_number input.now }
 {
-    auditor::audit(text::front(input, HOST_LENGTH), rest(input, HOST_LENGTH))
+    let (host, sheet) = input.split_at(HOST_LENGTH.min(input.len()));
+    auditor::audit(host, sheet)
 }
 
 fn put_number(answer: &mut [u8], number: u8) -> usize
@@ -142,24 +142,4 @@ fn put_number(answer: &mut [u8], number: u8) -> usize
         return text::put_text(answer, 0, b"accepted\n");
     }
     text::put_refusal(answer, 0, number)
-}
-
-// The bytes of the host record that are to come after so many bytes.
-fn host_left(count: usize) -> usize
-    ensures { result ≡ host_length - count }
-{
-    if HOST_LENGTH < count {
-        return 0;
-    }
-    HOST_LENGTH - count
-}
-
-// The bytes after the first `count`, if there are any.
-fn rest(bytes: &[u8], count: usize) -> &[u8]
-    ensures { result.now ≡ drop count bytes.now }
-{
-    if count < bytes.len() {
-        return &bytes[count..];
-    }
-    &bytes[bytes.len()..]
 }

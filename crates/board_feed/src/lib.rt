@@ -72,12 +72,10 @@ impl Feed {
         let count = text::put_text(kept, self.count, piece);
         let mut stage = self.stage;
         let mut tally = self.tally;
-        let mut i = 0;
-        while i < piece.len() {
-            let event = frame::event_of(stage, shown(stage, piece[i]));
+        for byte in piece {
+            let event = frame::event_of(stage, shown(stage, *byte));
             tally = tally.hear(event);
             stage = frame::stage_after(event);
-            i += 1;
         }
         Feed {
             count,
@@ -191,7 +189,7 @@ fn misfits(records: usize, size: u32) -> bool
     ensures { result ≡ misfits_of records size }
 {
     if records == 0 {
-        return !(size == HOST_LENGTH);
+        return size != HOST_LENGTH;
     }
     size < SHORTEST_FUNCTION
 }

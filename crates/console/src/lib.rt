@@ -58,6 +58,29 @@ pub fn read_piece(rt: HostRuntime, left: u64, room: &mut [u8]) -> Piece
     }
 }
 
+// Standard input in pieces to its end, each taken by way of the room: what has become of the start then, unless the input cannot be read.
+pub fn fold_pieces<T: Copy, F: FnMut(T, &[u8]) -> T>(
+    rt: HostRuntime,
+    room: &mut [u8],
+    start: T,
+    mut take: F,
+) -> Option<T>
+    requires { F.IsAlwaysCallable take }
+{
+    let mut value = start;
+    let mut left = PIECES;
+    loop {
+        match read_piece(rt, left, room) {
+            Piece::Bytes(count, fewer) => {
+                value = take(value, &room[..count]);
+                left = fewer;
+            }
+            Piece::End => return Some(value),
+            Piece::Failed => return None,
+        }
+    }
+}
+
 impl Reader {
     pub fn start() -> Self {
         Reader {

@@ -1,5 +1,6 @@
 -- The BARs of a record, slot by slot, as slots of an index, in the words of the code; and the exponent by halving. Assumes nothing.
-use Rattle.std.specs.Prelude.{◌≡◌, Bool, ◌&&◌, ℕ, suc, ◌+◌, ◌-◌, ◌/◌, ◌≤◌, ◌<◌, length, take, drop, leb}
+use Rattle.std.specs.Prelude.{◌≡◌, Bool, ◌&&◌, ℕ, zero, suc, ◌+◌, ◌-◌, ◌*◌, ◌/◌, ◌^◌, ◌≤◌, ◌<◌, length, take, drop, leb}
+use Rattle.std.proofs.Math.Nat.{pow-suc, one-le-pow}
 use Rattle.std.proofs.Math.Path.{refl}
 use Rattle.std.proofs.Common.{sym, ap, ◌∙◌, le-leb, ltb-true}
 use Rattle.std.proofs.Math.Bool.{true, false, cond, and-eq-true_iff}
@@ -55,6 +56,22 @@ exponent_end size left e h l i =
     let z : exponent_over (64 - e) left ≡ 0 = rw d in
     omega (arith, i, z)
 
+-- the power of two at which a size stands, or below which it is the next
+pub exponent_is : (k size e : ℕ) → e < k → 2 ^ e ≤ size → size < 2 * 2 ^ e → e ≡ exponent_over k size
+unfolding exponent_over
+exponent_is zero size e h l u = absurd (omega arith)
+exponent_is (suc k) size zero h l u = let small : size ≤ 1 = omega arith in rw (le-leb size 1 small) refl
+exponent_is (suc k) size (suc e) h l u =
+    let p : 2 ^ suc e ≡ 2 * 2 ^ e = omega (arith, pow-suc 2 e) in
+    let some : 1 ≤ 2 ^ e = one-le-pow e 2 (omega arith) in
+    let more : 1 < size = omega arith in
+    let half : e ≡ exponent_over k (size / 2) = exponent_is k (size / 2) e (omega arith) (omega arith) (omega arith) in
+    rw (lt-leb size 1 more, ← half) refl
+
+pub exponent_none : 0 ≡ exponent_of 0
+unfolding exponent_of exponent_over
+exponent_none = refl
+
 -- ## One slot
 
 pub bar_slots_append : (g : Segment) (end : ℕ) (rs ts : List Range) → bar_slots g end (rs ++ ts) ≡ bar_slots g end rs ++ bar_slots g end ts
@@ -81,6 +98,14 @@ bar_here_lem space Bad vs = refl
 pub no_slots : (g : Segment) (end : ℕ) (rs : List Range) → rs ≡ [] → bar_slots g end rs ≡ []
 unfolding bar_slots
 no_slots g end rs e = rw e
+
+pub no_bar : (g : Segment) (end : ℕ) (x : bars.Slot) (v : ℕ)
+    → ((q : pools.Pool) (wide : Bool) (size : ℕ) → x ≡ Bar q wide size → ⊥) → bar_slots g end (bar_in g.space x v) ≡ []
+unfolding bar_slots
+no_bar g end Unused v h = refl
+no_bar g end (Bar q wide size) v h = absurd (h q wide size refl)
+no_bar g end Upper v h = refl
+no_bar g end Bad v h = refl
 
 -- x is a BAR, `start` its base
 module _ (g : Segment) (end : ℕ) (x : bars.Slot) (q : pools.Pool) (wide : Bool) (size v start : ℕ) (e : x ≡ Bar q wide size)

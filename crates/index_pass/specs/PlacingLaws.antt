@@ -1,6 +1,6 @@
 -- Slots put in piece by piece, by a loop: putting in what is left from here on gives what putting in all from the start gives. Assumes
 -- nothing.
-use Rattle.std.specs.Prelude.{◌≡◌, refl, ℕ, ◌+◌, ◌≤◌, ◌<◌}
+use Rattle.std.specs.Prelude.{◌≡◌, refl, ℕ, ◌+◌, ◌≤◌}
 use Rattle.std.proofs.Common.{sym, ◌∙◌, add-one, arith, length-append}
 use Rattle.std.proofs.Math.Path.{ap}
 use mathlib.Core.List.{List, [], ◌∷◌, ◌++◌}

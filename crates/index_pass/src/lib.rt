@@ -85,14 +85,11 @@ fn put_pass(
     ensures { (index.new ≡ placed count n (pass_slots pass root sheet.now) index.old)
         × (result ≡ count + length (pass_slots pass root sheet.now)) }
 {
-    let records = sheet::count(sheet);
     let mut at = count;
-    let mut k: usize = 0;
-    while k < records {
+    for k in 0..sheet::count(sheet) {
         let part = sheet::part(sheet, k);
-        k += 1;
         let bridges = sheet_above::bridges_above(sheet, table, root, sheet_record::bus_of(part));
-        at = put_record(index, n, at, pass, part, bridges, k);
+        at = put_record(index, n, at, pass, part, bridges, k + 1);
     }
     at
 }
@@ -179,19 +176,15 @@ fn put_bar(
     ensures { (index.new ≡ placed count n (bar_slots g end (bar_in g.space x value)) index.old)
         × (result ≡ count + length (bar_slots g end (bar_in g.space x value))) }
 {
-    match x {
-        Slot::Unused => count,
-        Slot::Bar(q, _, size) => {
-            let start = bar::base_of(x, value);
-            if !starts_in(g, q, start) {
-                return count;
-            }
-            index_slots::put_slot(index, n, count + 1, g.base + start, exponent_of(size) + end);
-            count + 1
-        }
-        Slot::Upper => count,
-        Slot::Bad => count,
+    let Slot::Bar(q, _, size) = x else {
+        return count;
+    };
+    let start = bar::base_of(x, value);
+    if !starts_in(g, q, start) {
+        return count;
     }
+    index_slots::put_slot(index, n, count + 1, g.base + start, exponent_of(size) + end);
+    count + 1
 }
 
 fn starts_in(g: Segment, q: Pool, start: u64) -> bool
@@ -201,18 +194,12 @@ fn starts_in(g: Segment, q: Pool, start: u64) -> bool
     pools::in_space(space, q) & ((g.first <= start) & (start < g.end))
 }
 
-// Of a power of two, by halving.
+// Of a power of two; none is 0.
 fn exponent_of(size: u64) -> u64
     ensures { (result ≡ exponent_of size) × (result ≤ 64) }
 {
-    let mut left = size;
-    let mut e: u64 = 0;
-    while e < 64 {
-        if left <= 1 {
-            return e;
-        }
-        left = left / 2;
-        e += 1;
+    if size == 0 {
+        return 0;
     }
-    e
+    u64::from(size.ilog2())
 }

@@ -50,9 +50,7 @@ fn write_copies(out: &mut [u8], at: usize, k: usize, v: u64)
     requires { at + 8 * k ≤ length out.old }
     ensures { out.new ≡ sets out.old at (copies k v) }
 {
-    let mut i: usize = 0;
-    while i < k {
+    for i in 0..k {
         endian::write_le64(out, at + 8 * i, v);
-        i += 1;
     }
 }

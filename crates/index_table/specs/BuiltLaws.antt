@@ -1,7 +1,7 @@
 -- An index that was built: its first bytes, its slots in order, and that the search finds for each key below 2^62 the last slot whose key
 -- is not above it. Assumes nothing.
 use Rattle.std.specs.Prelude.{◌≡◌, ℕ, suc, ◌+◌, ◌<◌, ◌≤◌, Bool, true, false, cond, ltb, leb, List, [], ◌∷◌, length, get_or, nat_le, nat_lt, slice_index_or, slice_set, refl}
-use Rattle.std.proofs.Common.{sym, ap₂, ◌∙◌, ltb-true, ltb-false, lt-ltb, leb-true, leb-false, le-leb}
+use Rattle.std.proofs.Common.{sym, ◌∙◌, ltb-true, ltb-false, lt-ltb, leb-true, leb-false, le-leb}
 use Rattle.std.proofs.Math.Path.{ap}
 use native.Mathlib.Omega.{arith}
 use Rattle.std.proofs.Math.ListN.{length-set}

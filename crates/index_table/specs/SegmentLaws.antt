@@ -1,6 +1,6 @@
 -- Segments and buckets: keys in order have theirs in order. The turns of the loops that choose a segment's slots and its shift; what
 -- stays where they write. Assumes nothing.
-use Rattle.std.specs.Prelude.{◌≡◌, ℕ, zero, suc, ◌+◌, ◌-◌, ◌*◌, ◌/◌, ◌^◌, ◌<◌, ◌≤◌, Bool, true, false, cond, List, [], ◌∷◌, length, get_or, set, nat_le, nat_lt, slice_index, slice_index_or, slice_set, refl}
+use Rattle.std.specs.Prelude.{min, ◌≡◌, ℕ, zero, suc, ◌+◌, ◌-◌, ◌*◌, ◌/◌, ◌^◌, ◌<◌, ◌≤◌, Bool, true, false, cond, List, [], ◌∷◌, length, get_or, set, nat_le, nat_lt, slice_index, slice_index_or, slice_set, refl}
 use Rattle.std.proofs.Common.{ap, ap₂, ◌∙◌, mul-suc, mul-le-mul_left, le-div_iff_mul-le, div-mul-le_self, le_of_lt, arith, length-set, ltb-true, ltb-false, le-leb}
 use Rattle.std.proofs.Math.Nat.{one-le-pow}
 use Rattle.std.proofs.lemmas.List.Edits.{sets}
@@ -17,6 +17,15 @@ use Rattle.index_table.specs.Table.{least, segment_at, base_at, shift_at, last_b
 use Rattle.index_table.specs.Table.{ahead, shift_of, put_segment, segmented}
 
 -- ---- the bucket of a key
+
+-- std's word
+pub least_min : (x y : ℕ) → min x y ≡ least x y
+unfolding least
+least_min x y = go (nat_lt x y) refl
+  where
+    go : (t : Bool) → nat_lt x y ≡ t → min x y ≡ cond t x y
+    go true e = omega (arith, ltb-true x y e)
+    go false e = omega (arith, ltb-false x y e)
 
 pub least_le : (x y : ℕ) → least x y ≤ y
 unfolding least

@@ -1,6 +1,6 @@
 -- The table as it is filled says of each bucket which slots stand before it, and with the width it leads to the keys that can decide.
 -- Assumes nothing.
-use Rattle.std.specs.Prelude.{◌≡◌, ℕ, zero, suc, ◌+◌, ◌-◌, ◌*◌, ◌<◌, ◌≤◌, Bool, true, false, cond, ltb, ◌⊎◌, List, [], ◌∷◌, length, nat_lt, slice_index, slice_index_or, refl}
+use Rattle.std.specs.Prelude.{max, ◌≡◌, ℕ, zero, suc, ◌+◌, ◌-◌, ◌*◌, ◌<◌, ◌≤◌, Bool, true, false, cond, ltb, ◌⊎◌, List, [], ◌∷◌, length, nat_lt, slice_index, slice_index_or, refl}
 use Rattle.std.proofs.Common.{sym, ap, ◌∙◌, inl, inr, add-zero, zero-add, suc-add, arith, length-append, ltb-true, ltb-false}
 use Rattle.std.proofs.Math.ListN.{get_or-eq_default}
 use Rattle.std.proofs.lemmas.List.Edits.{sets}
@@ -127,6 +127,15 @@ widest_turn {r} {v} n count q p w b c h k e f =
 pub widest_end : (n count q p w : ℕ) (b : ℕ → ℕ) → buckets n ≤ q → widest w p (table_from (buckets n - q) count b q p) ≡ w
 unfolding table_from widest
 widest_end n count q p w b h = let d : buckets n - q ≡ 0 = omega arith in rw d refl
+
+-- std's word
+pub larger_max : (x y : ℕ) → max x y ≡ larger x y
+unfolding larger
+larger_max x y = go (nat_lt x y) refl
+  where
+    go : (t : Bool) → nat_lt x y ≡ t → max x y ≡ cond t y x
+    go true e = omega (arith, ltb-true x y e)
+    go false e = omega (arith, ltb-false x y e)
 
 larger_left : (x y : ℕ) → x ≤ larger x y
 unfolding larger

@@ -6,7 +6,7 @@
 ghost use Rattle.std.specs.Prelude.{◌≡◌, ◌+◌, ◌-◌, ◌*◌, ◌<◌, ◌≤◌, length, if◌then◌else◌, nat_le, nat_lt};
 ghost use Rattle.index_layout.specs.Places.{index_size, most_slots, last_key, segment_buckets, buckets};
 ghost use Rattle.index_layout.specs.Keys.{no_key};
-ghost use Rattle.index_table.specs.Table.{segment_at, last_bucket, bucket_by, bucket_at, least as least_of, larger as larger_of};
+ghost use Rattle.index_table.specs.Table.{segment_at, last_bucket, bucket_by, bucket_at};
 ghost use Rattle.index_table.specs.Table.{ahead, shift_of, put_segment, segmented, tabled, width_of, headed, finished};
 ghost use Rattle.index_table.specs.Search.{cut, key_of, count_from, onward, last_in, found_at};
 
@@ -38,13 +38,11 @@ fn put_segments(index: &mut [u8], n: usize, count: usize)
     requires { (count ≤ most_slots n) × (index_size n ≤ length index.old) }
     ensures { index.new ≡ segmented 4 n count 0 0 index.old }
 {
-    let mut w: usize = 0;
     let mut from: usize = 0;
-    while w < index_layout::SEGMENTS {
+    for w in 0..index_layout::SEGMENTS {
         let to = segment_end(index, n, count, w, from);
         put_segment(index, n, w, from, to);
         from = to;
-        w += 1;
     }
 }
 
@@ -53,16 +51,12 @@ fn segment_end(index: &[u8], n: usize, count: usize, w: usize, from: usize) -> u
     requires { (count ≤ most_slots n) × (index_size n ≤ length index.now) × (w < 4) × (from ≤ count) }
     ensures { (result ≡ ahead (count - from) (λ i. segment_at index.now n i) (w + 1) from) × (result ≤ count) }
 {
-    let mut p = from;
-    while p < count {
-        let s = index_layout::segment_of(index_slots::key_at(index, n, p + 1));
-        if s < w + 1 {
-            p += 1;
-        } else {
+    for p in from..count {
+        if w < index_layout::segment_of(index_slots::key_at(index, n, p + 1)) {
             return p;
         }
     }
-    p
+    count
 }
 
 // The base and the shift of segment w, whose slots follow slot `from` up to slot `to`. They stay zeros where it has none.
@@ -75,7 +69,7 @@ fn put_segment(index: &mut [u8], n: usize, w: usize, from: usize, to: usize)
     }
     let base = index_slots::key_at(index, n, from + 1);
     let last = index_slots::key_at(index, n, to);
-    let shift = shift_of(above(last, base), last_bucket(n));
+    let shift = shift_of(last.saturating_sub(base), last_bucket(n));
     endian::write_le64(index, index_layout::base_place(w), base);
     index[index_layout::shift_place(w)] = shift;
 }
@@ -84,14 +78,12 @@ fn put_segment(index: &mut [u8], n: usize, w: usize, from: usize, to: usize)
 fn shift_of(d: u64, most: u64) -> u8
     ensures { result ≡ shift_of 63 d most 0 }
 {
-    let mut s: u8 = 0;
-    while s < 63 {
+    for s in 0..63 {
         if d >> s <= most {
             return s;
         }
-        s += 1;
     }
-    s
+    63
 }
 
 // The table; and the most slots that one bucket has.
@@ -99,15 +91,13 @@ fn fill_table(index: &mut [u8], n: usize, count: usize) -> usize
     requires { (count ≤ most_slots n) × (index_size n ≤ length index.old) }
     ensures { (index.new ≡ tabled n count index.old) × (result ≡ width_of n count index.old) }
 {
-    let mut q: usize = 0;
     let mut p: usize = 0;
     let mut w: usize = 0;
-    while q < index_layout::BUCKETS * n {
+    for q in 0..index_layout::BUCKETS * n {
         let t = advance(index, n, count, q, p);
         endian::write_le16(index, index_layout::bucket_place(q), t as u64);
-        w = larger(w, t - p);
+        w = w.max(t - p);
         p = t;
-        q += 1;
     }
     w
 }
@@ -117,15 +107,12 @@ fn advance(index: &[u8], n: usize, count: usize, q: usize, from: usize) -> usize
     requires { (count ≤ most_slots n) × (index_size n ≤ length index.now) × (from ≤ count) }
     ensures { (result ≡ ahead (count - from) (λ i. bucket_at index.now n i) q from) × (result ≤ count) × (from ≤ result) }
 {
-    let mut p = from;
-    while p < count {
-        if is_before(index, n, p + 1, q) {
-            p += 1;
-        } else {
+    for p in from..count {
+        if !is_before(index, n, p + 1, q) {
             return p;
         }
     }
-    p
+    count
 }
 
 // Does slot i stand in a bucket before q?
@@ -145,16 +132,10 @@ pub fn find(index: &[u8], n: usize, w: usize, key: u64) -> usize
     ensures { (result ≡ found_at index.now n w key) × (result ≤ most_slots n) }
 {
     let q = bucket_of(index, n, w, key);
-    let from = least(
-        endian::read_le16(index, index_layout::bucket_place(q)),
-        index_layout::SLOTS * n,
-    );
-    let width = least(
-        endian::read_le16(index, index_layout::WIDTH),
-        index_layout::SLOTS * n,
-    );
-    let p = last_in(index, n, key, from, width);
-    least(p as u64, index_layout::SLOTS * n)
+    let most = index_layout::SLOTS * n;
+    let from = endian::read_le16(index, index_layout::bucket_place(q)) as usize;
+    let width = endian::read_le16(index, index_layout::WIDTH) as usize;
+    last_in(index, n, key, from.min(most), width.min(most)).min(most)
 }
 
 // The bucket of a key of segment w. The last bucket of a segment stays empty.
@@ -164,8 +145,8 @@ fn bucket_of(index: &[u8], n: usize, w: usize, key: u64) -> usize
 {
     let base = endian::read_le64(index, index_layout::base_place(w));
     let shift = index[index_layout::shift_place(w)] % 64;
-    let q = least(above(key, base) >> shift, last_bucket(n) as usize);
-    index_layout::SEGMENT_BUCKETS * n * w + q
+    let q = (key.saturating_sub(base) >> shift).min(last_bucket(n));
+    index_layout::SEGMENT_BUCKETS * n * w + q as usize
 }
 
 // The last of the `width` positions behind `from` whose key is not above the address.
@@ -199,12 +180,10 @@ fn count(index: &[u8], n: usize, a: u64, from: usize, width: usize) -> usize
     requires { (index_size n ≤ length index.now) × (a < no_key) × (from + width ≤ last_key n) }
     ensures { result ≡ from + count_from width (λ i. key_of index.now n a i) a (from + 1) }
 {
-    let mut i: usize = 0;
     let mut c: usize = 0;
-    while i < width {
+    for i in 0..width {
         let k = index_slots::key_at(index, n, from + i + 1);
         c += reached(k, a);
-        i += 1;
     }
     from + c
 }
@@ -224,26 +203,5 @@ fn last_bucket(n: usize) -> u64
     requires { segment_buckets n < 18446744073709551616 }
     ensures { result ≡ last_bucket n }
 {
-    if n == 0 {
-        return 0;
-    }
-    (index_layout::SEGMENT_BUCKETS * n - 2) as u64
-}
-
-fn above(x: u64, y: u64) -> u64
-    ensures { result ≡ x - y }
-{
-    if x < y { 0 } else { x - y }
-}
-
-fn least(x: u64, y: usize) -> usize
-    ensures { (result ≡ least_of x y) × (result ≤ y) }
-{
-    if x < y as u64 { x as usize } else { y }
-}
-
-fn larger(x: usize, y: usize) -> usize
-    ensures { result ≡ larger_of x y }
-{
-    if x < y { y } else { x }
+    (index_layout::SEGMENT_BUCKETS * n).saturating_sub(2) as u64
 }

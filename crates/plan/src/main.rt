@@ -5,7 +5,6 @@
 #![tactic(auto)]
 
 use board_feed::{Feed, KEPT};
-use console::Piece;
 
 // Room for a piece of input.
 const PIECE: usize = 4096;
@@ -18,21 +17,13 @@ fn main(rt: HostRuntime) {
 
 // Takes the input in pieces to its end, and prints its plan.
 fn plan(rt: HostRuntime, piece: &mut [u8], kept: &mut [u8; KEPT]) {
-    let mut input = Feed::start();
-    let mut left = console::PIECES;
-    loop {
-        match console::read_piece(rt, left, piece) {
-            Piece::Bytes(count, fewer) => {
-                input = input.feed(text::front(piece, count), kept);
-                left = fewer;
-            }
-            Piece::End => {
-                stream_plan::print(rt, input, kept);
-                return;
-            }
-            Piece::Failed => {
-                return;
-            }
-        }
+    let read = console::fold_pieces(
+        rt,
+        piece,
+        Feed::start(),
+        |input, bytes| input.feed(bytes, kept),
+    );
+    if let Some(input) = read {
+        stream_plan::print(rt, input, kept);
     }
 }

@@ -4,7 +4,6 @@
 #![tactic(auto)]
 
 use board_feed::KEPT;
-use console::Piece;
 use script_feed::{FRONT, Input, LONGEST};
 
 // Room for a piece of input.
@@ -19,31 +18,19 @@ fn main(rt: HostRuntime) {
 
 // Takes the input in pieces to its end, and prints its script.
 fn script(rt: HostRuntime, piece: &mut [u8], front: &mut [u8; FRONT], kept: &mut [u8; KEPT]) {
-    let mut input = Input::start();
-    let mut left = console::PIECES;
-    loop {
-        match console::read_piece(rt, left, piece) {
-            Piece::Bytes(count, fewer) => {
-                input = input.feed(text::front(piece, count), front, kept);
-                left = fewer;
-            }
-            Piece::End => {
-                print(rt, input, front, kept);
-                return;
-            }
-            Piece::Failed => {
-                return;
-            }
-        }
+    let read = console::fold_pieces(
+        rt,
+        piece,
+        Input::start(),
+        |input, bytes| input.feed(bytes, front, kept),
+    );
+    if let Some(input) = read {
+        print(rt, input, front, kept);
     }
 }
 
 fn print(rt: HostRuntime, input: Input, front: &[u8; FRONT], kept: &[u8; KEPT]) {
     let mut answer = [0u8; LONGEST];
     let n = input.print(front, kept, &mut answer);
-    print_front(rt, &answer, n);
-}
-
-fn print_front(rt: HostRuntime, answer: &[u8; LONGEST], count: usize) {
-    console::print(rt, text::front(answer, count));
+    console::print(rt, text::front(&answer, n));
 }

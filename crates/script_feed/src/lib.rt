@@ -38,12 +38,13 @@ impl Input {
             × (front.new ≡ front_after self front.old piece.now)
             × (kept.new ≡ kept_after self kept.old piece.now) }
     {
-        let left = front_left(self.front);
+        let left = FRONT.saturating_sub(self.front);
+        let (early, late) = piece.split_at(left.min(piece.len()));
         let board = self.board;
-        let count = text::put_text(front, self.front, text::front(piece, left));
+        let count = text::put_text(front, self.front, early);
         Input {
             front: count,
-            board: board.feed(rest(piece, left), kept),
+            board: board.feed(late, kept),
         }
     }
 
@@ -70,24 +71,4 @@ impl Input {
             Scripting::Refused(n) => text::put_refusal(answer, 0, n),
         }
     }
-}
-
-// The bytes that are to come before the board, after so many.
-fn front_left(count: usize) -> usize
-    ensures { result ≡ front_size - count }
-{
-    if FRONT < count {
-        return 0;
-    }
-    FRONT - count
-}
-
-// The bytes after the first `count`, if there are any.
-fn rest(bytes: &[u8], count: usize) -> &[u8]
-    ensures { result.now ≡ drop count bytes.now }
-{
-    if count < bytes.len() {
-        return &bytes[count..];
-    }
-    &bytes[bytes.len()..]
 }

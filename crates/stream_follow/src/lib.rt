@@ -3,7 +3,7 @@
 // does.
 #![tactic(auto)]
 
-use stream_trace::{Filling, SheetRead};
+use stream_trace::Stop;
 use trace_engine::Engine;
 
 // Where bytes are held: as in the annotator (`stream_trace`) the sheet, 8,192 bytes, 51, 16 and 16; 9 for a kind's name, the two bytes of
@@ -21,40 +21,20 @@ pub fn follow(
     piece: &mut [u8; PIECE],
     lines: &mut [u8; LINES],
 ) {
-    let mut id = [0u8; 2];
-    match stream_trace::fill(rt, console::PIECES, &mut id) {
-        Filling::Full(left) => {
-            let host_id = endian::read_be16(&id, 0) as u16;
-            follow_from(rt, left, host_id, sheet, piece, lines);
+    match read_input(rt, sheet) {
+        Ok((host_id, size, left)) => {
+            read_over(rt, left, host_id, text::front(sheet, size), piece, lines);
         }
-        Filling::Short => {
-            console::print(rt, b"refused 20\n");
-        }
-        Filling::Failed => {}
+        Err(stop) => stream_trace::print_stop(rt, stop, lines),
     }
 }
 
-// With the host's ID: a sheet, and the trace over it.
-fn follow_from(
-    rt: HostRuntime,
-    start: u64,
-    host_id: u16,
-    sheet: &mut [u8; sheet::FULL],
-    piece: &mut [u8; PIECE],
-    lines: &mut [u8; LINES],
-) {
-    match stream_trace::read_sheet(rt, start, sheet) {
-        SheetRead::Whole(size, left) => {
-            read_over(rt, left, host_id, text::front(sheet, size), piece, lines);
-        }
-        SheetRead::Long => {
-            console::print(rt, b"refused 22\n");
-        }
-        SheetRead::Short => {
-            console::print(rt, b"refused 20\n");
-        }
-        SheetRead::Failed => {}
-    }
+// The host's ID and a sheet: the ID, how long the sheet is, and the pieces that may still come.
+fn read_input(rt: HostRuntime, sheet: &mut [u8; sheet::FULL]) -> Result<(u16, usize, u64), Stop> {
+    let mut id = [0u8; 2];
+    let left = stream_trace::fill(rt, console::PIECES, &mut id)?;
+    let (size, fewer) = stream_trace::read_sheet(rt, left, sheet)?;
+    Ok((endian::read_be16(&id, 0) as u16, size, fewer))
 }
 
 // The trace over a sheet, which is checked once in all.

@@ -2,15 +2,13 @@
 -- such a sheet and every header its whole answer equals the router's": E4's lines over the sheet. "A sheet that E6 refuses gets E6's
 -- number", and nothing is labelled. Numbers come in E6's order: 20 and 26 of the host record, then the sheet's, which is read as E4 reads
 -- it. Assumes nothing.
-use Rattle.std.specs.Prelude.{ℕ, cond, List, length, take, drop, eqb, ltb}
+use Rattle.std.specs.Prelude.{ℕ, cond, List, Option, Some, None, length, take, drop, eqb, ltb}
 use Rattle.text.specs.Text.{refusal_text}
 use Rattle.endian.specs.Endian.{be}
 use Rattle.board_record.specs.Host.{host_length, host_of_part, host_wrong}
 use Rattle.audit_rule.specs.Audit.{audit_number}
 use Rattle.trace.specs.Annotated.{annotated}
 use Rattle.trace_line.specs.Line.{line_over}
-use Rattle.stream_trace.specs.declared.Opening.{Opening}
-use Rattle.stream_trace.specs.declared.Opening.TheVariants.{Sheet, Long}
 use Rattle.stream_trace.specs.Program.{opening_of}
 
 -- "A sheet that E6 refuses gets E6's number and no index."
@@ -24,9 +22,9 @@ module _ (host : List ℕ) where
       cond (ltb (length s) size) (refusal_text 20) (on_number (audit_number host (take size s)) (take size s) (drop size s))
 
   -- "a length above a full sheet's prints at once only `refused 22`"
-  abbrev pub from_opening : Opening → List ℕ → List ℕ
-  from_opening (Sheet size) s = over_sheet size s
-  from_opening Long s = refusal_text 22
+  abbrev pub from_opening : Option ℕ → List ℕ → List ℕ
+  from_opening (Some size) s = over_sheet size s
+  from_opening None s = refusal_text 22
 
   -- an input that ends inside the length is a sheet cut short
   unfoldable pub from_length : List ℕ → List ℕ

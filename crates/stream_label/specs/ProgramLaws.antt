@@ -1,7 +1,7 @@
 -- What the definition says of an input, told step by step as the program goes: a host record, the two bytes of a length, a sheet, then the
 -- lines of the trace's pieces by the sheet's index, wherever the cuts fall, and of its end. That the body prints these, each once and in
 -- order, is in no contract (as of the annotator), and tests/label compares. Assumes nothing.
-use Rattle.std.specs.Prelude.{◌≡◌, true, false}
+use Rattle.std.specs.Prelude.{◌≡◌, true, false, Option}
 use Rattle.std.proofs.Math.Path.{sym, ap}
 use Rattle.std.proofs.Common.{◌∙◌, arith}
 use mathlib.Core.List.{List, ◌∷◌, ◌++◌, flatten}
@@ -18,7 +18,6 @@ use Rattle.trace.specs.Trace.{fresh, end_line}
 use Rattle.trace.proofs.TraceLaws.{state_all, lines_all, pieces_told}
 use Rattle.trace_line.specs.declared.Finder.TheVariants.{Index}
 use Rattle.trace_line.specs.Finder.{line_by}
-use Rattle.stream_trace.specs.declared.Opening.{Opening}
 use Rattle.stream_trace.specs.Program.{opening_of}
 use Rattle.stream_trace.specs.ProgramLaws.{opening_long, opening_sheet, size_of}
 use Rattle.stream_label.specs.Program.{on_number, over_sheet, from_opening, from_length, from_host, program_of}
@@ -62,11 +61,11 @@ module _ (host : List ℕ) (size : length host ≡ host_length) where
 
       -- at once, whatever follows
       pub program_long : (s : List ℕ) → full_sheet < size_of a b → program_of (host ++ (a ∷ b ∷ s)) ≡ refusal_text 22
-      program_long s h = from_length_lem s ∙ ap (λ (o : Opening). from_opening host o s) (opening_long (size_of a b) h)
+      program_long s h = from_length_lem s ∙ ap (λ (o : Option ℕ). from_opening host o s) (opening_long (size_of a b) h)
 
       module _ (h : size_of a b ≤ full_sheet) where
         opened : (s : List ℕ) → program_of (host ++ (a ∷ b ∷ s)) ≡ over_sheet host (size_of a b) s
-        opened s = from_length_lem s ∙ ap (λ (o : Opening). from_opening host o s) (opening_sheet (size_of a b) h)
+        opened s = from_length_lem s ∙ ap (λ (o : Option ℕ). from_opening host o s) (opening_sheet (size_of a b) h)
 
         pub program_short : (s : List ℕ) → length s < size_of a b → program_of (host ++ (a ∷ b ∷ s)) ≡ refusal_text 20
         unfolding over_sheet

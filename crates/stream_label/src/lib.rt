@@ -3,11 +3,9 @@
 // specs/Program says what is printed. It stops where the annotator does.
 #![tactic(auto)]
 
-ghost use Rattle.std.specs.Prelude.{◌≡◌, length};
-ghost use Rattle.board_record.specs.Host.{host_length};
 ghost use Rattle.stream_label.specs.Indexed.{Indexed};
 
-use stream_trace::{Filling, SheetRead};
+use stream_trace::Stop;
 use trace_engine::Engine;
 use trace_line::Finder;
 
@@ -30,71 +28,33 @@ pub fn label(
     lines: &mut [u8; LINES],
 ) {
     let mut host = [0u8; board_record::HOST_LENGTH];
-    match stream_trace::fill(rt, console::PIECES, &mut host) {
-        Filling::Full(left) => {
-            label_under(rt, left, &host, sheet, index, piece, lines);
+    match index_input(rt, &mut host, sheet, index) {
+        Ok(left) => {
+            let engine = Engine::Owner(Finder::Index);
+            stream_trace::read_trace(rt, left, engine, index, piece, lines);
         }
-        Filling::Short => {
-            print_refused(rt, 20, lines);
-        }
-        Filling::Failed => {}
+        Err(stop) => stream_trace::print_stop(rt, stop, lines),
     }
 }
 
-// Under a host record, whose own check comes before anything of the sheet.
-fn label_under(
+// A host record and a sheet, and the sheet's index: the pieces that may still come. The host record's own check comes before anything of
+// the sheet.
+fn index_input(
     rt: HostRuntime,
-    start: u64,
-    host: &[u8],
+    host: &mut [u8; board_record::HOST_LENGTH],
     sheet: &mut [u8; sheet::FULL],
     index: &mut [u8; INDEX],
-    piece: &mut [u8; PIECE],
-    lines: &mut [u8; LINES],
-)
-    requires { length host.now ≡ host_length }
-{
+) -> Result<u64, Stop> {
+    let left = stream_trace::fill(rt, console::PIECES, host)?;
     if board_record::host_wrong(board_record::host_of(host)) {
-        print_refused(rt, 26, lines);
-        return;
+        return Err(Stop::Refused(26));
     }
-    match stream_trace::read_sheet(rt, start, sheet) {
-        SheetRead::Whole(size, left) => {
-            label_sheet(
-                rt,
-                left,
-                host,
-                text::front(sheet, size),
-                index,
-                piece,
-                lines,
-            );
-        }
-        SheetRead::Long => {
-            print_refused(rt, 22, lines);
-        }
-        SheetRead::Short => {
-            print_refused(rt, 20, lines);
-        }
-        SheetRead::Failed => {}
-    }
-}
-
-fn label_sheet(
-    rt: HostRuntime,
-    start: u64,
-    host: &[u8],
-    sheet: &[u8],
-    index: &mut [u8; INDEX],
-    piece: &mut [u8; PIECE],
-    lines: &mut [u8; LINES],
-) {
-    let number = index_sheet(host, sheet, index);
+    let (size, fewer) = stream_trace::read_sheet(rt, left, sheet)?;
+    let number = index_sheet(host, text::front(sheet, size), index);
     if number != 0 {
-        print_refused(rt, number, lines);
-        return;
+        return Err(Stop::Refused(number));
     }
-    let engine = Engine::Owner(Finder::Index);
-    stream_trace::read_trace(rt, start, engine, index, piece, lines);
+    Ok(fewer)
 }
 
 // The audit's number; where it is 0, the sheet's index. There is room for any, so no build gives 11.
@@ -102,10 +62,4 @@ fn index_sheet(host: &[u8], sheet: &[u8], index: &mut [u8; INDEX]) -> u8
     ensures { Indexed host.now sheet.now result index.new }
 {
     index_build::build(host, sheet, index)
-}
-
-// The one line of an input that is refused.
-fn print_refused(rt: HostRuntime, number: u8, lines: &mut [u8; LINES]) {
-    let size = text::put_refusal(lines, 0, number);
-    console::print(rt, text::front(lines, size));
 }

@@ -3,7 +3,7 @@
 // message goes to standard error.
 #![tactic(auto)]
 
-ghost use Rattle.std.specs.Prelude.{◌≡◌, true, ◌+◌, ◌≤◌, ◌<◌, length};
+ghost use Rattle.std.specs.Prelude.{◌≡◌, ◌+◌, ◌≤◌, ◌<◌, length, IfSome};
 ghost use Rattle.trace.specs.Trace.{state_of};
 ghost use Rattle.trace_engine.specs.Engine.{Ready, longest_line};
 ghost use Rattle.stream_trace.specs.Program.{opening_of};
@@ -23,36 +23,11 @@ pub const PIECE: usize = MOST_LINES * 14;
 
 pub const LINES: usize = MOST_LINES * trace_line::LONGEST;
 
-// What a length opens: a sheet of so many bytes, or one longer than a full sheet.
+// Why an input is not read to its end: it is refused with this number, or it cannot be read. One that ends too soon is refused with 20.
 #[derive(Clone, Copy)]
-pub enum Opening {
-    Sheet(usize),
-    Long,
-}
-
-// A room filled from standard input, with the pieces that may still come; or the input ends before; or it cannot be read.
-#[derive(Clone, Copy)]
-pub enum Filling {
-    Full(u64),
-    Short,
+pub enum Stop {
+    Refused(u8),
     Failed,
-}
-
-// A sheet read: how long it is, with the pieces that may still come; or its length is above a full sheet's; or the input ends before; or
-// it cannot be read.
-#[derive(Clone, Copy)]
-pub enum SheetRead {
-    Whole(usize, u64),
-    Long,
-    Short,
-    Failed,
-}
-
-// The state after a piece, and whether its lines were written.
-#[derive(Clone, Copy)]
-struct Labelled {
-    state: Trace,
-    written: bool,
 }
 
 pub fn annotate(
@@ -62,52 +37,43 @@ pub fn annotate(
     lines: &mut [u8; LINES],
 ) {
     match read_sheet(rt, console::PIECES, sheet) {
-        SheetRead::Whole(size, left) => {
-            read_over(rt, left, text::front(sheet, size), piece, lines);
-        }
-        SheetRead::Long => {
-            console::print(rt, b"refused 22\n");
-        }
-        SheetRead::Short => {
-            console::print(rt, b"refused 20\n");
-        }
-        SheetRead::Failed => {}
+        Ok((size, left)) => read_over(rt, left, text::front(sheet, size), piece, lines),
+        Err(stop) => print_stop(rt, stop, lines),
     }
 }
 
-// A length, and a sheet of so many bytes.
-pub fn read_sheet(rt: HostRuntime, start: u64, sheet: &mut [u8; sheet::FULL]) -> SheetRead {
+// The one line of an input that is refused, by way of the lines' room.
+pub fn print_stop(rt: HostRuntime, stop: Stop, lines: &mut [u8]) {
+    if let Stop::Refused(number) = stop {
+        let size = text::put_refusal(lines, 0, number);
+        console::print(rt, text::front(lines, size));
+    }
+}
+
+// A length, and a sheet of so many bytes: how long it is, and the pieces that may still come. A length above a full sheet's is refused
+// with 22.
+pub fn read_sheet(
+    rt: HostRuntime,
+    start: u64,
+    sheet: &mut [u8; sheet::FULL],
+) -> Result<(usize, u64), Stop> {
     let mut length = [0u8; 2];
-    match fill(rt, start, &mut length) {
-        Filling::Full(left) => {
-            let size = endian::read_be16(&length, 0) as usize;
-            match opening_of(size) {
-                Opening::Sheet(n) => fill_sheet(rt, left, n, sheet),
-                Opening::Long => SheetRead::Long,
-            }
-        }
-        Filling::Short => SheetRead::Short,
-        Filling::Failed => SheetRead::Failed,
-    }
+    let left = fill(rt, start, &mut length)?;
+    let Some(size) = opening_of(endian::read_be16(&length, 0) as usize) else {
+        return Err(Stop::Refused(22));
+    };
+    let fewer = fill(rt, left, &mut sheet[..size])?;
+    Ok((size, fewer))
 }
 
-fn opening_of(size: usize) -> Opening
+// The sheet that a length opens: of so many bytes, unless it is longer than a full sheet.
+fn opening_of(size: usize) -> Option<usize>
     ensures { result ≡ opening_of size }
 {
     if sheet::FULL < size {
-        return Opening::Long;
+        return None;
     }
-    Opening::Sheet(size)
-}
-
-fn fill_sheet(rt: HostRuntime, start: u64, size: usize, sheet: &mut [u8]) -> SheetRead
-    requires { size ≤ length sheet.old }
-{
-    match fill(rt, start, &mut sheet[..size]) {
-        Filling::Full(left) => SheetRead::Whole(size, left),
-        Filling::Short => SheetRead::Short,
-        Filling::Failed => SheetRead::Failed,
-    }
+    Some(size)
 }
 
 // The trace over a sheet, which is checked once in all.
@@ -138,11 +104,11 @@ pub fn read_trace(
     loop {
         match console::read_piece(rt, left, piece) {
             Piece::Bytes(count, fewer) => {
-                let labelled = label(rt, t, engine, bytes, text::front(piece, count), lines);
-                if !labelled.written {
+                let Some(after) = label(rt, t, engine, bytes, text::front(piece, count), lines)
+                else {
                     return;
-                }
-                t = labelled.state;
+                };
+                t = after;
                 left = fewer;
             }
             Piece::End => {
@@ -161,7 +127,8 @@ fn finish(rt: HostRuntime, t: Trace, lines: &mut [u8]) {
     console::print(rt, text::front(lines, finished.written));
 }
 
-// A piece whose lines do not fit at once is taken in parts, each of no more bytes than lines fit.
+// The state after a piece, if its lines were written. A piece whose lines do not fit at once is taken in parts, each of no more bytes than
+// lines fit.
 fn label(
     rt: HostRuntime,
     t: Trace,
@@ -169,15 +136,16 @@ fn label(
     bytes: &[u8],
     piece: &[u8],
     lines: &mut [u8],
-) -> Labelled
+) -> Option<Trace>
     requires { Ready engine bytes.now × (longest_line ≤ length lines.old) }
-    ensures { result.written ≡ true → result.state ≡ state_of t piece.now }
+    ensures { IfSome result (λ s. s ≡ state_of t piece.now) }
 {
     let fed = trace_feed::feed_by(t, engine, bytes, piece, lines);
     if fed.number == 0 {
-        let state = fed.state;
-        let written = console::print(rt, text::front(lines, fed.written));
-        return Labelled { state, written };
+        if !console::print(rt, text::front(lines, fed.written)) {
+            return None;
+        }
+        return Some(fed.state);
     }
     label_parts(rt, t, engine, bytes, piece, lines)
 }
@@ -189,44 +157,24 @@ fn label_parts(
     bytes: &[u8],
     piece: &[u8],
     lines: &mut [u8],
-) -> Labelled
+) -> Option<Trace>
     requires { Ready engine bytes.now × (longest_line ≤ length lines.old) }
-    ensures { result.written ≡ true → result.state ≡ state_of start piece.now }
+    ensures { IfSome result (λ s. s ≡ state_of start piece.now) }
 {
     let most = trace_engine::most_lines(engine, lines.len());
     let mut t = start;
-    let mut i = 0;
-    while i < piece.len() {
-        let end = part_end(i, piece.len(), most);
-        let fed = trace_feed::feed_by(t, engine, bytes, &piece[i..end], lines);
+    for part in piece.chunks(most) {
+        let fed = trace_feed::feed_by(t, engine, bytes, part, lines);
         t = fed.state;
         if !console::print(rt, text::front(lines, fed.written)) {
-            return Labelled {
-                state: t,
-                written: false,
-            };
+            return None;
         }
-        i = end;
     }
-    Labelled {
-        state: t,
-        written: true,
-    }
+    Some(t)
 }
 
-// Where the part of so many bytes from a place on ends.
-fn part_end(from: usize, size: usize, most: usize) -> usize
-    requires { (from < size) × (0 < most) }
-    ensures { (from < result) × (result ≤ size) × (result ≤ from + most) }
-{
-    if size - from < most {
-        return size;
-    }
-    from + most
-}
-
-// Reads until the room is full.
-pub fn fill(rt: HostRuntime, start: u64, room: &mut [u8]) -> Filling {
+// Reads until the room is full: the pieces that may still come. A turn takes as many bytes as come, so it is no `for`.
+pub fn fill(rt: HostRuntime, start: u64, room: &mut [u8]) -> Result<u64, Stop> {
     let mut left = start;
     let mut at = 0;
     while at < room.len() {
@@ -236,12 +184,12 @@ pub fn fill(rt: HostRuntime, start: u64, room: &mut [u8]) -> Filling {
                 left = fewer;
             }
             Piece::End => {
-                return Filling::Short;
+                return Err(Stop::Refused(20));
             }
             Piece::Failed => {
-                return Filling::Failed;
+                return Err(Stop::Failed);
             }
         }
     }
-    Filling::Full(left)
+    Ok(left)
 }

@@ -125,8 +125,7 @@ pub fn settle(head: &mut [u8], kept: usize, emits: Emits) -> usize
         Emits::Nothing => kept,
         Emits::Refusal => kept,
         Emits::Line => {
-            let none = [0u8; FRONT];
-            text::put_text(head, 0, &none);
+            head.fill(0);
             0
         }
     }
@@ -145,7 +144,8 @@ pub fn next_in(stage: Stage, piece: &[u8], at: usize) -> Next
     }
 }
 
-// How many lines a piece gives: told by the frame alone, so before any of them is made.
+// How many lines a piece gives: told by the frame alone, so before any of them is made. A turn takes a whole record or a byte, so it is no
+// `for`.
 pub fn count_lines(start: Stage, piece: &[u8]) -> usize
     ensures { result ≡ line_count start piece.now }
 {

@@ -91,9 +91,8 @@ fn measured(t: Trace, engine: Engine, bytes: &[u8], piece: &[u8], room: usize) -
     let mut kept = t.kept;
     let mut head = trace::head_of(t);
     let mut total = 0;
-    let mut i = 0;
-    while i < piece.len() {
-        let event = frame::event_of(stage, piece[i]);
+    for byte in piece {
+        let event = frame::event_of(stage, *byte);
         let emits = trace::emitted(event);
         n = trace::number_after(n, emits);
         kept = trace::keep(&mut head, kept, event);
@@ -104,12 +103,11 @@ fn measured(t: Trace, engine: Engine, bytes: &[u8], piece: &[u8], room: usize) -
         total += size;
         kept = trace::settle(&mut head, kept, emits);
         stage = frame::stage_after(event);
-        i += 1;
     }
     true
 }
 
-// The piece's lines, which fit: a record that is whole in the piece at once, one that is cut byte by byte.
+// The piece's lines, which fit: a record that is whole in the piece at once, one that is cut byte by byte. So it is no `for`.
 fn put_lines(t: Trace, engine: Engine, bytes: &[u8], piece: &[u8], out: &mut [u8]) -> Fed
     requires { Ready engine bytes.now
         × (length (lines_of (line_of engine bytes.now) t piece.now) ≤ length out.old) }

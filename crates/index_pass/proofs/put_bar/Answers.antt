@@ -1,7 +1,7 @@
 -- `index_pass::put_bar`: a BAR that starts in the segment is one slot. Assumes nothing.
 use native.Mathlib.Omega.{arith}
 use Rattle.index_pass.specs.PlacingLaws.{none_placed, one_placed, one_room}
-use Rattle.index_pass.specs.BarsLaws.{no_slots, bar_outside, bar_inside, start_below}
+use Rattle.index_pass.specs.BarsLaws.{no_bar, bar_outside, bar_inside, start_below}
 use Rattle.index_pass.proofs.put_bar.Goals as goal
 
 pub returns-then-not-starts_in : goal.returns-then-not-starts_in
@@ -23,17 +23,11 @@ put_slot-requires c = (
   c.requires.3,
 )
 
-pub returns-in-Unused : goal.returns-in-Unused
-returns-in-Unused c = none_placed _ _ _ _ (no_slots _ _ _ (rw c.in-Unused.is))
-
-pub returns-else-not-starts_in : goal.returns-else-not-starts_in
-returns-else-not-starts_in c = one_placed _ _ _ _ _
+pub returns : goal.returns
+returns c = one_placed _ _ _ _ _
     (bar_inside c.args.g c.args.end _ c.in-Bar.q c.in-Bar.field-1 _ _ _ c.in-Bar.is
     c.base_of-start.ensures _ c.starts_in.ensures (c.if-not-starts_in.false) _ c.exponent_of.ensures.0)
     _ c.put_slot.ensures
 
-pub returns-in-Upper : goal.returns-in-Upper
-returns-in-Upper c = none_placed _ _ _ _ (no_slots _ _ _ (rw c.in-Upper.is))
-
-pub returns-in-Bad : goal.returns-in-Bad
-returns-in-Bad c = none_placed _ _ _ _ (no_slots _ _ _ (rw c.in-Bad.is))
+pub returns-in_default : goal.returns-in_default
+returns-in_default c = none_placed _ _ _ _ (no_bar _ _ _ _ c.in_default.not-Bar)

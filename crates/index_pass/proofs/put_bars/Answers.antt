@@ -1,7 +1,7 @@
 -- `index_pass::put_bars`: the loop over the slots. Invariant: inserting the BARs of the slots from i on gives what inserting all gives;
 -- no slot from i on is unlawful. Measure: the slots left. Assumes nothing.
 use mathlib.Core.Path.{refl}
-use Prim.Native.Nat.{◌+◌, ◌-◌, ◌≤◌, ◌<◌}
+use Prim.Native.Nat.{◌+◌, ◌≤◌, ◌<◌}
 use native.Mathlib.Omega.{arith}
 use lib.ListN.{length, take}
 use Rattle.bar.specs.Bar.{span}

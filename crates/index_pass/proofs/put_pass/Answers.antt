@@ -1,6 +1,6 @@
 -- `index_pass::put_pass`: the loop over the records. Invariant: inserting what the records from k on own gives what inserting all gives.
--- Measure: the records left. Assumes nothing.
-use Prim.Native.Nat.{◌+◌, ◌-◌, ◌<◌}
+-- Assumes nothing.
+use Prim.Native.Nat.{◌+◌, ◌<◌}
 use native.Mathlib.Omega.{arith}
 use lib.ListN.{length}
 use Rattle.sheet.specs.Sheet.{entries_of}
@@ -15,19 +15,16 @@ use Rattle.index_pass.proofs.put_pass.Goals.{In-loop-k}
 -- the record of this turn
 here : (c : In-loop-k)
     → c.loop-k.k < length (entries_of c.args.sheet.now)
-here c = omega (arith, c.loop-k-test.true, c.count-records.ensures)
+here c = omega (arith, c.loop-k-test.true, c.count-k-end.ensures)
 
-pub count-records-requires : goal.count-records-requires
-count-records-requires c = c.requires.0.checked.framed
+pub count-k-end-requires : goal.count-k-end-requires
+count-k-end-requires c = c.requires.0.checked.framed
 
 pub loop-k-init : goal.loop-k-init
 loop-k-init c = placing_start c.args.n _ c.args.count _ _ (pass_start c.args.pass c.args.root c.args.sheet.now)
 
 pub part-part-requires : goal.part-part-requires
 part-part-requires c = record_fits _ c.requires.0.checked.framed _ (here (goal.at.part-part-requires c).In-loop-k)
-
-pub overflow_add-k : goal.overflow_add-k
-overflow_add-k c = omega (arith, here (goal.at.overflow_add-k c).In-loop-k, c.requires.0.checked.count)
 
 pub bus_of-requires : goal.bus_of-requires
 bus_of-requires c = part_sized _ c.requires.0.checked.framed
@@ -51,18 +48,12 @@ put_record-at-requires c = (
   omega (arith, c.loop-k.invariant.same_length, c.requires.3),
 )
 
-pub loop-k-smaller : goal.loop-k-smaller
-loop-k-smaller c = omega arith
-
 pub loop-k-preserved : goal.loop-k-preserved
 loop-k-preserved c = placing_next _ _ _ _ _ _ _ c.loop-k.invariant _ _
     (pass_step _ c.requires.0.checked.framed _ (here (goal.at.loop-k-preserved c).In-loop-k) _ c.part-part.ensures _ _ c.bus_of.ensures _
     c.bridges_above-bridges.ensures c.args.pass)
     _ _ c.put_record-at.auto.index c.put_record-at.ensures.0 c.put_record-at.ensures.1
 
-pub shape_of-index : goal.shape_of-index
-shape_of-index c = c.loop-k.invariant.same_length
-
 pub returns : goal.returns
 returns c = placing_end _ _ _ _ _ _ _ c.loop-k.invariant
-    (pass_end _ c.requires.0.checked.framed c.args.pass _ _ (omega (arith, c.count-records.ensures, c.loop-k-test.false)))
+    (pass_end _ c.requires.0.checked.framed c.args.pass _ _ (omega (arith, c.count-k-end.ensures, c.loop-k-test.false)))

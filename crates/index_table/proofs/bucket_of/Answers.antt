@@ -1,7 +1,7 @@
 -- `index_table::bucket_of` meets its contract: the definition itself; a segment starts at a multiple of 8 n. Assumes nothing.
 use Rattle.std.proofs.Common.{refl, arith}
 use Rattle.index_table.specs.Table.{bucket_by}
-use Rattle.index_table.specs.SegmentLaws.{start_le}
+use Rattle.index_table.specs.SegmentLaws.{start_le, least_min}
 use Rattle.index_table.proofs.bucket_of.Goals as goal
 
 pub overflow_mul-result-2 : goal.overflow_mul-result-2
@@ -14,9 +14,10 @@ pub returns : goal.returns
 unfolding bucket_by
 returns c = (
   rw (
-    c.least-q.ensures.0,
+    c.min-q.ensures,
+    least_min,
     c.last_bucket.ensures,
-    c.above.ensures,
+    c.saturating_sub.ensures,
     c.shift_place.ensures,
     c.read_le64-base.ensures.0,
     c.base_place.ensures,

@@ -1,23 +1,8 @@
 -- `index_table::last_in` meets its contract. Invariant: from here on the same position is found. Measure: keys left. Assumes nothing.
-use Rattle.std.proofs.Common.{refl, ◌∙◌, arith}
+use Rattle.std.proofs.Common.{◌∙◌, arith}
 use Rattle.index_table.specs.Search.{key_of}
 use Rattle.index_table.specs.SearchLaws.{last_turn, last_end}
 use Rattle.index_table.proofs.last_in.Goals as goal
-
-pub loop-k-init : goal.loop-k-init
-loop-k-init c = (omega arith, refl)
-
-pub step-lo-requires : goal.step-lo-requires
-step-lo-requires c = (omega arith, omega arith, omega arith)
-
-pub overflow_mul-k : goal.overflow_mul-k
-overflow_mul-k c = omega arith
-
-pub overflow_sub-k : goal.overflow_sub-k
-overflow_sub-k c = omega arith
-
-pub loop-k-smaller : goal.loop-k-smaller
-loop-k-smaller c = omega arith
 
 pub loop-k-preserved : goal.loop-k-preserved
 loop-k-preserved c = (
@@ -25,9 +10,6 @@ loop-k-preserved c = (
   last_turn (λ i. key_of c.args.index.now c.args.n c.args.a i) _ _ _ c.loop-k-test.true c.step-lo.ensures.0
       ∙ c.loop-k.invariant.1,
 )
-
-pub count-requires : goal.count-requires
-count-requires c = (omega arith, omega arith, omega arith)
 
 pub returns : goal.returns
 returns c = last_end (λ i. key_of c.args.index.now c.args.n c.args.a i) _ _ _ c.loop-k-test.false c.count.ensures

@@ -1,10 +1,7 @@
--- `index_table::shift_of` meets its contract. Invariant: from here on the same shift is found. Measure: shifts left. Assumes nothing.
-use Rattle.std.proofs.Common.{◌≡◌, ◌-◌, ◌≤◌}
+-- `index_table::shift_of` meets its contract. Invariant: from here on the same shift is found. Assumes nothing.
+use Rattle.std.proofs.Common.{◌≡◌, ◌-◌}
 use Rattle.index_table.specs.Table.{shift_of}
 use Rattle.index_table.proofs.shift_of.Given as goal
 
 abbrev pub invariant-loop-s : goal.invariant-loop-s
-invariant-loop-s l = (l.s ≤ 63) × (shift_of (63 - l.s) l.d l.most l.s ≡ shift_of 63 l.d l.most 0)
-
-abbrev pub decreases-loop-s : goal.decreases-loop-s
-decreases-loop-s l = 63 - l.s
+invariant-loop-s l = shift_of (63 - l.s) l.d l.most l.s ≡ shift_of 63 l.d l.most 0

@@ -3,4 +3,4 @@ use Rattle.stream_trace.specs.PartsLaws.{taken_of_zero}
 use Rattle.stream_trace.proofs.label.Goals as goal
 
 pub returns-then-fed-eq0 : goal.returns-then-fed-eq0
-returns-then-fed-eq0 c = λ _. taken_of_zero _ _ _ _ _ c.feed_by-fed.ensures.0 c.if-fed-eq0.true
+returns-then-fed-eq0 c = taken_of_zero _ _ _ _ _ c.feed_by-fed.ensures.0 c.if-fed-eq0.true

@@ -3,5 +3,5 @@ use Rattle.std.proofs.Common.{arith, refl}
 use Rattle.stream_trace.specs.ProgramLaws.{opened_le}
 use Rattle.stream_trace.proofs.read_sheet.Goals as goal
 
-pub fill_sheet-requires : goal.fill_sheet-requires
-fill_sheet-requires c = omega (arith, opened_le _ _ _ c.in-Sheet.ensures refl)
+pub slice_bounds-fill-end-2 : goal.slice_bounds-fill-end-2
+slice_bounds-fill-end-2 c = omega (arith, opened_le _ _ _ c.in-Some.ensures refl)

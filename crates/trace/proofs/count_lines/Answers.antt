@@ -1,17 +1,11 @@
 -- `trace::count_lines` meets its contract. The invariant: from what was counted, the rest of the piece comes to what the whole piece
--- comes to; the measure is the bytes left. Assumes nothing.
+-- comes to. Assumes nothing.
 use Rattle.std.proofs.Common.{◌-◌, sym, refl, ◌∙◌, arith}
 use Rattle.records.specs.FrameLaws.{heard_at, heard_past}
 use Rattle.trace.specs.Trace.{line_count}
 use Rattle.trace.proofs.TraceLaws.{whole_fits}
 use Rattle.trace.proofs.FeedLaws.{count_le, count_whole}
 use Rattle.trace.proofs.count_lines.Goals as goal
-
-pub loop-i-init : goal.loop-i-init
-loop-i-init c = (omega arith, omega arith, refl)
-
-pub next_in-requires : goal.next_in-requires
-next_in-requires c = tt
 
 pub overflow_add-count : goal.overflow_add-count
 overflow_add-count c = omega (arith, c.loop-i.invariant.1)
@@ -32,26 +26,8 @@ loop-i-preserved-in-Record c = let is = sym c.next_in.ensures ∙ c.in-Record.is
   sym (count_whole c.loop-i.stage c.loop-i.count c.args.piece.now c.loop-i.i _ is) ∙ c.loop-i.invariant.2,
 )
 
-pub bounds-piece-i : goal.bounds-piece-i
-bounds-piece-i c = omega arith
-
-pub event_of-event-requires : goal.event_of-event-requires
-event_of-event-requires c = tt
-
-pub emitted-requires : goal.emitted-requires
-emitted-requires c = tt
-
 pub counted-count-requires : goal.counted-count-requires
 counted-count-requires c = omega (arith, c.loop-i.invariant.1)
-
-pub stage_after-stage-requires : goal.stage_after-stage-requires
-stage_after-stage-requires c = tt
-
-pub overflow_add-i-in-loop-i : goal.overflow_add-i-in-loop-i
-overflow_add-i-in-loop-i c = omega arith
-
-pub loop-i-smaller : goal.loop-i-smaller
-loop-i-smaller c = omega arith
 
 pub loop-i-preserved : goal.loop-i-preserved
 loop-i-preserved c = let le = count_le c.emitted.result c.loop-i.count in (

@@ -1,5 +1,5 @@
 -- `trace::count_lines` meets its contract. The invariant: from what was counted, the rest of the piece comes to what the whole piece
--- comes to; the measure is the bytes left. Assumes nothing.
+-- comes to. Assumes nothing.
 use Rattle.std.proofs.Common.{◌≡◌, ◌-◌, ◌≤◌, length, drop}
 use Rattle.records.specs.Frame.{heard_of}
 use Rattle.trace.specs.Trace.{count_by}

@@ -44,9 +44,6 @@ loop-i-preserved-in-Record c = let is = sym c.next_in.ensures ∙ c.in-Record.is
     (refl, putting_more _ _ _ _ c.loop-i.invariant.1 moved (whole_fits c.loop-i.stage c.args.piece.now c.loop-i.i _ is) c.put_line-at.ensures)
     -- a byte
 
-pub bounds-piece-i : goal.bounds-piece-i
-bounds-piece-i c = omega arith
-
 pub slice_bounds-keep-end : goal.slice_bounds-keep-end
 slice_bounds-keep-end c = sym c.loop-i.invariant.0
 

@@ -1,5 +1,5 @@
 -- `audit_feed::Feed::feed` meets its contract: what fits of the piece is kept. The invariant: from what was heard, the rest of the
--- sheet's part comes to what the whole part comes to; the measure is the bytes left. Assumes nothing.
+-- sheet's part comes to what the whole part comes to. Assumes nothing.
 use Prim.Native.Nat.{◌≤◌, ◌-◌}
 use mathlib.Core.Path.{◌≡◌}
 use lib.ListN.{length, drop}
@@ -7,11 +7,7 @@ use Rattle.records.specs.Frame.{stage_of, heard_of}
 use Rattle.audit_feed.specs.Feed.{heard_by}
 use Rattle.audit_feed.proofs.Feed.feed.Given as goal
 
-abbrev pub invariant-loop-i : goal.invariant-loop-i
-invariant-loop-i l =
-    (l.i ≤ length l.part)
-    × (stage_of l.stage (drop l.i l.part) ≡ stage_of l.initial.stage l.part)
-    × (heard_of heard_by l.stage l.misframed (drop l.i l.part) ≡ heard_of heard_by l.initial.stage l.initial.misframed l.part)
-
-abbrev pub decreases-loop-i : goal.decreases-loop-i
-decreases-loop-i l = length l.part - l.i
+abbrev pub invariant-loop-byte : goal.invariant-loop-byte
+invariant-loop-byte l =
+    (stage_of l.stage (drop l.byte-index l.part) ≡ stage_of l.initial.stage l.part)
+    × (heard_of heard_by l.stage l.misframed (drop l.byte-index l.part) ≡ heard_of heard_by l.initial.stage l.initial.misframed l.part)

@@ -4,13 +4,14 @@ use mathlib.Core.List.{List}
 use Prim.Native.Nat.{ℕ, ◌+◌, min}
 use lib.ListN.{length, take, drop}
 use lib.Seq.{sets}
+use Rattle.std.proofs.lemmas.List.{take_min, drop_min}
 use Rattle.board_feed.specs.Feed as board
 use Rattle.script_feed.specs.FeedLaws.{fed_is}
 use Rattle.script_feed.proofs.Input.feed.Goals as goal
 
 pub returns : goal.returns
-returns c = let early = c.front.ensures ∙ ap (λ (n : ℕ). take n c.args.piece.now) c.front_left-left.ensures in
-    let late = c.rest.ensures ∙ ap (λ (n : ℕ). drop n c.args.piece.now) c.front_left-left.ensures in (
+returns c = let early = rw (c.min.ensures, take_min, c.saturating_sub-left.ensures) at c.split_at.ensures.front in
+    let late = rw (c.min.ensures, drop_min, c.saturating_sub-left.ensures) at c.split_at.ensures.back in (
       fed_is c.args.self c.args.front.now c.args.piece.now _ _ c.put_text-arg-1.given.0.1
           (c.put_text-count.ensures.place ∙ ap (λ (t : List ℕ). min (c.args.self.front + length t) (length c.args.front.now)) early)
           (c.feed.ensures.0 ∙ ap (board.fed_of c.args.self.board) late),

@@ -1,9 +1,0 @@
--- `script::script` is safe and ends: the measure is the number of pieces that may still come. Assumes nothing.
-use Rattle.std.specs.Prelude.{⊤}
-use Rattle.script.proofs.script.Given as goal
-
-abbrev pub invariant-loop-count : goal.invariant-loop-count
-invariant-loop-count l = ⊤
-
-abbrev pub decreases-loop-count : goal.decreases-loop-count
-decreases-loop-count l = l.left
