@@ -1,14 +1,12 @@
 -- The laws of the table of pairs that the header's round trip stands on: reader and writer find the same carried rows, and what holds of
 -- each. One test of the rows, computed over the whole table, gives them all. Assumes nothing.
-use Rattle.std.specs.Prelude.{◌≡◌, refl, ◌⊎◌, List, [], ◌∷◌, Bool, true, false, cond, ◌&&◌, ◌||◌, ℕ, ◌+◌, ◌/◌, ◌%◌, ◌<◌, eqb, ltb}
+use Rattle.std.specs.Prelude.{◌≡◌, refl, ◌⊎◌, List, [], ◌∷◌, Bool, true, false, cond, ◌&&◌, ◌||◌, ℕ, ◌+◌, ◌/◌, ◌%◌, ◌<◌, eqb, ltb, Option, Some, None}
 use Rattle.std.proofs.Common.{ap, sym, ◌∙◌, inl, inr, arith, eqb-true, ltb-true}
 use Rattle.std.proofs.Math.Bool.{and-eq-true_iff}
 use Rattle.std.proofs.lemmas.Bool.{false≢true}
 use Rattle.pairs.specs.declared.Row.{Row}
 use Rattle.pairs.specs.declared.Kind.{Kind}
 use Rattle.pairs.specs.declared.Kind.TheVariants.{Memory, Io, Config, Completion, Message, FetchAdd, Swap, Cas}
-use Rattle.pairs.specs.declared.Looked.{Looked}
-use Rattle.pairs.specs.declared.Looked.TheVariants.{Found, Missing}
 use Rattle.pairs.specs.declared.Pair.{Pair}
 use Rattle.pairs.specs.declared.Pair.TheVariants.{Carried, NotCarried, Unknown}
 use Rattle.pairs.specs.Pairs.{table, kind_named, kind_number, is_pair, is_kind, first, find_pair, find_kind, answer_of, pair_of, row_of}
@@ -155,11 +153,11 @@ carried_of_right row carried right =
 
 -- ## The laws
 
-found_of_answer : (looked : Looked) {row : Row} → answer_of looked ≡ Carried row → (looked ≡ Found row) × (row.carried ≡ true)
-found_of_answer Missing h = let z : ◌≡◌ {A = ℕ} 0 1 = cc in absurd (omega arith)
-found_of_answer (Found r) {row} h = go r.carried refl h
+found_of_answer : (looked : Option Row) {row : Row} → answer_of looked ≡ Carried row → (looked ≡ Some row) × (row.carried ≡ true)
+found_of_answer None h = let z : ◌≡◌ {A = ℕ} 0 1 = cc in absurd (omega arith)
+found_of_answer (Some r) {row} h = go r.carried refl h
   where
-    go : (b : Bool) → r.carried ≡ b → cond b (Carried r) NotCarried ≡ Carried row → (Found r ≡ Found row) × (row.carried ≡ true)
+    go : (b : Bool) → r.carried ≡ b → cond b (Carried r) NotCarried ≡ Carried row → (Some r ≡ Some row) × (row.carried ≡ true)
     go true e h = (cc, cc)
     go false e h = let z : ◌≡◌ {A = ℕ} 0 1 = cc in absurd (omega arith)
 

@@ -1,6 +1,6 @@
 -- Document 01, "Header layout": the table of Fmt and Type pairs, and what it says of a byte 0 and of a kind and form.
 -- Assumes nothing.
-use Rattle.std.specs.Prelude.{List, [], ◌∷◌, Bool, true, false, cond, ◌&&◌, ℕ, ◌+◌, ◌*◌, ◌/◌, eqb}
+use Rattle.std.specs.Prelude.{List, [], ◌∷◌, Bool, true, false, cond, ◌&&◌, ℕ, ◌+◌, ◌*◌, ◌/◌, eqb, Option, Some, None}
 use Rattle.pairs.specs.declared.Row.{Row}
 use Rattle.pairs.specs.declared.Kind.{Kind}
 use Rattle.pairs.specs.declared.Kind.TheVariants.{Memory, Io, Config, Completion, Message, FetchAdd, Swap, Cas}
@@ -13,8 +13,6 @@ use Rattle.pairs.specs.declared.MessageRouting.{MessageRouting}
 use Rattle.pairs.specs.declared.MessageRouting.TheVariants.{ToRoot, ByAddress, ById, Broadcast, Local, Gathered}
 use Rattle.pairs.specs.declared.Name.{Name}
 use Rattle.pairs.specs.declared.Name.TheVariants as name
-use Rattle.pairs.specs.declared.Looked.{Looked}
-use Rattle.pairs.specs.declared.Looked.TheVariants.{Found, Missing}
 use Rattle.pairs.specs.declared.Pair.{Pair}
 use Rattle.pairs.specs.declared.Pair.TheVariants.{Carried, NotCarried, Unknown}
 
@@ -141,26 +139,26 @@ abbrev pub is_kind : Kind → ℕ → Row → Bool
 is_kind kind form row = eqb (kind_number (kind_named row.name)) (kind_number kind) && eqb row.form form
 
 -- the first row that passes a test
-unfoldable pub first : (Row → Bool) → List Row → Looked
-first p [] = Missing
-first p (row ∷ rows) = cond (p row) (Found row) (first p rows)
+unfoldable pub first : (Row → Bool) → List Row → Option Row
+first p [] = None
+first p (row ∷ rows) = cond (p row) (Some row) (first p rows)
 
-unfoldable pub find_pair : ℕ → Looked
+unfoldable pub find_pair : ℕ → Option Row
 find_pair byte = first (is_pair byte) table
 
-unfoldable pub find_kind : Kind → ℕ → Looked
+unfoldable pub find_kind : Kind → ℕ → Option Row
 find_kind kind form = first (is_kind kind form) table
 
 -- the same search as the code makes it, with one comparison for each row: `find_key_lem` of KindLaws says that it is the same
 abbrev pub is_key : ℕ → Row → Bool
 is_key wanted row = eqb (key_of (kind_number (kind_named row.name)) row.form) wanted
 
-unfoldable pub find_key : ℕ → Looked
+unfoldable pub find_key : ℕ → Option Row
 find_key wanted = first (is_key wanted) table
 
-abbrev pub answer_of : Looked → Pair
-answer_of (Found row) = cond row.carried (Carried row) NotCarried
-answer_of Missing = Unknown
+abbrev pub answer_of : Option Row → Pair
+answer_of (Some row) = cond row.carried (Carried row) NotCarried
+answer_of None = Unknown
 
 -- what byte 0 says. Fmt 100, a TLP prefix, is known but not carried whatever the Type.
 unfoldable pub pair_of : ℕ → Pair

@@ -2,7 +2,7 @@
 #![tactic(auto)]
 
 ghost use Rattle.std.specs.Prelude.{◌≡◌, ◌<◌};
-ghost use Rattle.pairs.specs.Pairs.{table, kind_named, routing_number, kind_number, key_of, is_pair, is_key, find_pair, find_key};
+ghost use Rattle.pairs.specs.Pairs.{table, kind_named, routing_number, kind_number, key_of, is_key, find_pair, find_key};
 ghost use Rattle.pairs.specs.Pairs.{answer_of, pair_of, row_of};
 
 #[derive(Clone, Copy)]
@@ -104,13 +104,6 @@ pub struct Row {
     pub name: Name,
     pub form: u8,
     pub carried: bool,
-}
-
-// What a search of the table finds.
-#[derive(Clone, Copy)]
-pub enum Looked {
-    Found(Row),
-    Missing,
 }
 
 // What the table says of a byte 0, or of a kind and form.
@@ -394,32 +387,15 @@ pub fn kind_named(name: Name) -> Kind
     }
 }
 
-// Enums are compared by number.
+// A kind's number, by which kinds are compared.
 pub fn kind_number(kind: Kind) -> u8
     ensures { result ≡ kind_number kind }
 {
     match kind {
-        Kind::Memory(k) => match k {
-            MemoryKind::MRd => 0,
-            MemoryKind::MRdLk => 1,
-            MemoryKind::MWr => 2,
-        },
-        Kind::Io(k) => match k {
-            IoKind::IORd => 3,
-            IoKind::IOWr => 4,
-        },
-        Kind::Config(k) => match k {
-            ConfigKind::CfgRd0 => 5,
-            ConfigKind::CfgWr0 => 6,
-            ConfigKind::CfgRd1 => 7,
-            ConfigKind::CfgWr1 => 8,
-        },
-        Kind::Completion(k) => match k {
-            CompletionKind::Cpl => 9,
-            CompletionKind::CplD => 10,
-            CompletionKind::CplLk => 11,
-            CompletionKind::CplDLk => 12,
-        },
+        Kind::Memory(k) => k as u8,
+        Kind::Io(k) => 3 + k as u8,
+        Kind::Config(k) => 5 + k as u8,
+        Kind::Completion(k) => 9 + k as u8,
         Kind::Message(k, routing) => match k {
             MessageKind::Msg => 13 + routing_number(routing),
             MessageKind::MsgD => 19 + routing_number(routing),
@@ -434,64 +410,45 @@ pub fn kind_number(kind: Kind) -> u8
 pub fn routing_number(routing: MessageRouting) -> u8
     ensures { (result ≡ routing_number routing) × (result < 6) }
 {
-    match routing {
-        MessageRouting::ToRoot => 0,
-        MessageRouting::ByAddress => 1,
-        MessageRouting::ById => 2,
-        MessageRouting::Broadcast => 3,
-        MessageRouting::Local => 4,
-        MessageRouting::Gathered => 5,
-    }
+    routing as u8
 }
 
-fn answer(looked: Looked) -> Pair
-    ensures { result ≡ answer_of looked }
+fn answer(found: Option<Row>) -> Pair
+    ensures { result ≡ answer_of found }
 {
-    match looked {
-        Looked::Found(row) => {
-            if row.carried {
-                return Pair::Carried(row);
-            }
-            Pair::NotCarried
-        }
-        Looked::Missing => Pair::Unknown,
+    let Some(row) = found else {
+        return Pair::Unknown;
+    };
+    if row.carried {
+        return Pair::Carried(row);
     }
+    Pair::NotCarried
 }
 
-fn find_pair(byte: u8) -> Looked
+fn find_pair(byte: u8) -> Option<Row>
     ensures { result ≡ find_pair byte }
 {
     let table = rows();
-    let mut i: usize = 0;
-    while i < ROWS {
+    for i in 0..ROWS {
         let row = table[i];
-        if is_pair(row, byte) {
-            return Looked::Found(row);
+        if row.byte == byte {
+            return Some(row);
         }
-        i += 1;
     }
-    Looked::Missing
+    None
 }
 
-fn find_key(wanted: u32) -> Looked
+fn find_key(wanted: u32) -> Option<Row>
     ensures { result ≡ find_key wanted }
 {
     let table = rows();
-    let mut i: usize = 0;
-    while i < ROWS {
+    for i in 0..ROWS {
         let row = table[i];
         if is_key(row, wanted) {
-            return Looked::Found(row);
+            return Some(row);
         }
-        i += 1;
     }
-    Looked::Missing
-}
-
-fn is_pair(row: Row, byte: u8) -> bool
-    ensures { result ≡ is_pair byte row }
-{
-    row.byte == byte
+    None
 }
 
 fn is_key(row: Row, wanted: u32) -> bool
@@ -505,41 +462,12 @@ fn is_key(row: Row, wanted: u32) -> bool
 fn key(number: u8, form: u8) -> u32
     ensures { result ≡ key_of number form }
 {
-    256 * (form as u32) + (number as u32)
+    256 * u32::from(form) + u32::from(number)
 }
 
 // The number of the kind that a name stands for, with no detour by the kind: a search asks for it row by row.
 fn name_number(name: Name) -> u8
     ensures { result ≡ kind_number (kind_named name) }
 {
-    match name {
-        Name::MRd => 0,
-        Name::MRdLk => 1,
-        Name::MWr => 2,
-        Name::IORd => 3,
-        Name::IOWr => 4,
-        Name::CfgRd0 => 5,
-        Name::CfgWr0 => 6,
-        Name::CfgRd1 => 7,
-        Name::CfgWr1 => 8,
-        Name::Cpl => 9,
-        Name::CplD => 10,
-        Name::CplLk => 11,
-        Name::CplDLk => 12,
-        Name::MsgToRoot => 13,
-        Name::MsgByAddress => 14,
-        Name::MsgById => 15,
-        Name::MsgBroadcast => 16,
-        Name::MsgLocal => 17,
-        Name::MsgGathered => 18,
-        Name::MsgDToRoot => 19,
-        Name::MsgDByAddress => 20,
-        Name::MsgDById => 21,
-        Name::MsgDBroadcast => 22,
-        Name::MsgDLocal => 23,
-        Name::MsgDGathered => 24,
-        Name::FetchAdd => 25,
-        Name::Swap => 26,
-        Name::Cas => 27,
-    }
+    name as u8
 }

