@@ -1,8 +1,8 @@
 -- What the bus part and the command part of a script write of a record: its bus numbers, its ID and its command word, wherever it is placed.
 -- Assumes nothing.
-use Rattle.std.specs.Prelude.{◌≡◌, Bool, ℕ, suc, ◌+◌, ◌*◌, ◌/◌, ◌%◌, ◌^◌, ◌≤◌, length}
+use Rattle.std.specs.Prelude.{◌≡◌, Bool, ℕ, suc, ◌+◌, ◌*◌, ◌/◌, ◌%◌, ◌≤◌, length}
 use Rattle.std.proofs.Math.Path.{refl}
-use Rattle.std.proofs.Common.{sym, ap, ◌∙◌, arith}
+use Rattle.std.proofs.Common.{◌∙◌}
 use Rattle.std.proofs.Math.Bool.{true, false, cond}
 use mathlib.Core.List.{List, [], ◌∷◌, ◌++◌}
 use Rattle.endian.specs.Endian.{be, be_bytes, le_bytes}
@@ -10,14 +10,13 @@ use Rattle.endian.specs.EndianLaws.{be_be_bytes}
 use Rattle.bar.specs.Header.{is_bridge as is_bridge_type}
 use Rattle.board_record.specs.declared.Function.{Function}
 use Rattle.board_record.specs.Function.{is_bridge}
-use Rattle.sheet_record.specs.Entry.{header_of, id_of}
-use Rattle.sheet_bytes.specs.declared.Registers.{Registers}
+use Rattle.sheet_record.specs.Entry.{id_of}
 use Rattle.sheet_bytes.specs.Layout.{Planned, planned_of, dword_bytes, bridge_bytes, body_bytes, common_bytes, config_bytes, part_bytes}
 use Rattle.sheet_bytes.proofs.ReadBack.{header_of_part_bytes}
 use Rattle.plan_sizing.specs.Memo.{laid_at}
 use Rattle.plan_pass.specs.Step.{number_in, bus_in, NumberFits, leaf_registers, bridge_registers, registers_of}
 use Rattle.script_writes.specs.declared.Boot.{Boot}
-use Rattle.script_writes.specs.Writes.{Write, three_bytes, two_bytes, write_of, bus_writes, command_writes}
+use Rattle.script_writes.specs.Writes.{Write, three_bytes, two_bytes, bus_writes, command_writes}
 
 -- ## Of a planned record
 

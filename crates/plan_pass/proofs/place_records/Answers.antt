@@ -1,7 +1,6 @@
 -- `plan_pass::place_records` meets its contract. The invariant is `Standing`: the records before the cursor are placed and written, and the
 -- cursors hold what is left for the rest. The measure is the bytes left. Assumes nothing.
 use mathlib.Core.Path.{sym, ◌∙◌}
-use Prim.Native.Nat.{◌-◌}
 use native.Mathlib.Numerals.{add-one}
 use native.Mathlib.Omega.{arith}
 use Rattle.records.specs.RecordsLaws.{fits_at}

@@ -1,6 +1,6 @@
 -- `plan_tables::count_buses` meets its contract. Assumes nothing.
 use mathlib.Core.Path.{refl, ◌∙◌}
-use Prim.Native.Nat.{◌-◌, ◌<◌}
+use Prim.Native.Nat.{◌<◌}
 use native.Mathlib.Omega.{arith}
 use lib.ListN.{length}
 use Rattle.plan_tables.specs.CountsLaws.{counting_start, counting_turn, counting_end}

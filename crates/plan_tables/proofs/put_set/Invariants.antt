@@ -1,7 +1,7 @@
 -- `plan_tables::put_set` meets its contract. The loop's invariant: storing what is left of the set stores all of it. Assumes nothing.
 use mathlib.Core.Path.{◌≡◌}
 use Prim.Native.Nat.{◌+◌}
-use lib.ListN.{length, drop}
+use lib.ListN.{drop}
 use lib.Seq.{sets}
 use Rattle.board_record.specs.Function.{function_of_part}
 use Rattle.plan_tables.proofs.put_set.Given as goal

@@ -1,6 +1,5 @@
 -- `scripter::pass_records` meets its contract. Assumes nothing.
 use mathlib.Core.Path.{sym, ◌∙◌}
-use Prim.Native.Nat.{◌-◌}
 use native.Mathlib.Omega.{arith}
 use native.Mathlib.Numerals.{add-one}
 use Rattle.scripter.specs.PassLaws.{pass_length, passed_turn}
