@@ -22,7 +22,6 @@ use Rattle.plan_rule.proofs.RefusalLaws.{out_of_pool_end}
 use Rattle.planner.specs.MeasureLaws.{past_base}
 use Rattle.finding.specs.declared.Party.{Party}
 use Rattle.finding.specs.Places.{nobody}
-use Rattle.finding.specs.First.{first}
 use Rattle.finding.specs.FirstLaws.{FirstOf, first_of_any, first_is}
 use Rattle.plan_needs.specs.Bases.{is_closed, layout_base, laid_host}
 use Rattle.plan_items.specs.declared.Loss.{Loss}

@@ -8,9 +8,6 @@ use Rattle.plan_where.proofs.in_pool.Goals as goal
 parties : Seen → Parties
 parties s = record { party = s.out; other = s.most.party }
 
-pub walk_items-seen-requires : goal.walk_items-seen-requires
-walk_items-seen-requires c = c.requires
-
 pub returns : goal.returns
 unfolding in_pool parties
 returns c = ap parties c.walk_items-seen.ensures

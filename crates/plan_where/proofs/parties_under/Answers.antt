@@ -1,35 +1,25 @@
 -- `plan_where::parties_under` meets its contract: by the number. Assumes nothing.
+use mathlib.Core.Logic.{◌≢◌}
 use native.Mathlib.Omega.{arith}
-use borrow.Author.Tests.{eq-eqb, ne_eqb}
+use borrow.Author.Tests.{ne_eqb}
 use Rattle.plan_where.specs.Finding.{parties_under}
 use Rattle.plan_where.proofs.parties_under.Goals as goal
 
-pub in_pool-requires : goal.in_pool-requires
-in_pool-requires c = c.requires (omega (arith, c.if-number-eq31.true))
-
-pub returns-then-number-eq31 : goal.returns-then-number-eq31
+pub returns-in-31 : goal.returns-in-31
 unfolding parties_under
-returns-then-number-eq31 c = rw (eq-eqb c.args.number 31 c.if-number-eq31.true) c.in_pool.ensures
+returns-in-31 c = rw c.in-31.is c.in_pool.ensures
 
-pub in_pool-requires-then-number-eq32 : goal.in_pool-requires-then-number-eq32
-in_pool-requires-then-number-eq32 c = c.requires (omega (arith, c.if-number-eq32.true))
-
-pub returns-then-number-eq32 : goal.returns-then-number-eq32
+pub returns-in-32 : goal.returns-in-32
 unfolding parties_under
-returns-then-number-eq32 c = rw (ne_eqb c.args.number 31 c.if-number-eq31.false, eq-eqb c.args.number 32 c.if-number-eq32.true) c.in_pool-then-number-eq32.ensures
+returns-in-32 c = rw c.in-32.is c.in_pool-in-32.ensures
 
-pub in_pool-requires-then-number-eq33 : goal.in_pool-requires-then-number-eq33
-in_pool-requires-then-number-eq33 c = c.requires (omega (arith, c.if-number-eq33.true))
-
-pub returns-then-number-eq33 : goal.returns-then-number-eq33
+pub returns-in-33 : goal.returns-in-33
 unfolding parties_under
-returns-then-number-eq33 c = rw (
-  ne_eqb c.args.number 31 c.if-number-eq31.false,
-  ne_eqb c.args.number 32 c.if-number-eq32.false,
-  eq-eqb c.args.number 33 c.if-number-eq33.true,
-)
-    c.in_pool-then-number-eq33.ensures
+returns-in-33 c = rw c.in-33.is c.in_pool-in-33.ensures
 
-pub returns : goal.returns
+pub returns-in_default : goal.returns-in_default
 unfolding parties_under
-returns c = rw (ne_eqb c.args.number 31 c.if-number-eq31.false, ne_eqb c.args.number 32 c.if-number-eq32.false, ne_eqb c.args.number 33 c.if-number-eq33.false)
+returns-in_default c = let low : c.args.number ≢ 31 = omega arith in
+    let high : c.args.number ≢ 32 = omega arith in
+    let io : c.args.number ≢ 33 = omega arith in
+    rw (ne_eqb c.args.number 31 low, ne_eqb c.args.number 32 high, ne_eqb c.args.number 33 io)

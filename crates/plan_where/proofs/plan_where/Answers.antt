@@ -7,9 +7,6 @@ use Rattle.finding.specs.declared.Party.{Party}
 use Rattle.plan_where.specs.Finding.{unlawful_finding, plan_finding_of}
 use Rattle.plan_where.proofs.plan_where.Goals as goal
 
-pub failing-requires : goal.failing-requires
-failing-requires c = c.check-number.ensures
-
 pub returns-then-number-ne0 : goal.returns-then-number-ne0
 unfolding plan_finding_of unlawful_finding
 returns-then-number-ne0 c = rw (ne_eqb (board_number c.args.board.now) 0 (λ e. c.if-number-ne0.true (c.check-number.ensures ∙ e)))

@@ -17,12 +17,6 @@ pub host_of-host-requires : goal.host_of-host-requires
 host_of-host-requires c = ap length c.part_at.ensures
     ∙ length_part c.args.board.now host_at host_length (accepted_of_zero c.args.board.now c.requires).host_record_lem
 
-pub measure-m-requires : goal.measure-m-requires
-measure-m-requires c = record { board_value = c.requires; most_functions_in_bounds = (omega arith, omega arith) }
-
-pub refusal-number-requires : goal.refusal-number-requires
-refusal-number-requires c = c.measure-m.ensures.few_buses
-
 pub parties_under-parties-requires : goal.parties_under-parties-requires
 parties_under-parties-requires c = call_walkable c.args.board.now (λ i. (c.type_inv.board i).fits) c.requires (host_read_is c.args.board.now c.requires c.part_at.ensures c.host_of-host.ensures)
     c.laid_host-laid.ensures c.measure-m.ensures c.refusal-number.ensures

@@ -1,12 +1,12 @@
 -- `sheet_text::put_plan` meets its contract. Invariant: after the count, the lines of the records that were passed are put. Assumes
 -- nothing.
-use Prim.Native.Nat.{ℕ, ◌<◌, ◌-◌}
+use Prim.Native.Nat.{ℕ, ◌<◌}
 use native.Mathlib.Omega.{arith}
 use mathlib.Core.Path.{◌≡◌, ap, subst, ◌∙◌}
 use mathlib.Core.List.{flat_map}
 use lib.ListN.{length, take}
 use lib.Seq.{take_all}
-use Rattle.text.specs.TextLaws.{put_append, put_length}
+use Rattle.text.specs.TextLaws.{put_append}
 use Rattle.sheet.specs.Sheet.{entries_of}
 use Rattle.sheet.proofs.IndexLaws.{record_fits, length_part}
 use Rattle.sheet_text.specs.Listing.{plan_text}
@@ -19,9 +19,6 @@ here : (c : In-loop-k) → c.loop-k.k < length
     (entries_of c.args.sheet.now)
 here c =
     subst (λ (n : ℕ). c.loop-k.k < n) c.count-count.ensures c.loop-k-test.true
-
-pub count-count-requires : goal.count-count-requires
-count-count-requires c = c.requires
 
 pub loop-k-init : goal.loop-k-init
 unfolding flat_map
@@ -36,9 +33,6 @@ put_record-next-requires c = ap length c.part.ensures ∙ length_part _ _ (recor
 pub loop-k-preserved : goal.loop-k-preserved
 loop-k-preserved c = rw (lines_index _ _ c.requires (here (goal.at.loop-k-preserved c).In-loop-k), ← c.part.ensures)
     (put_append c.loop-k.invariant c.put_record-next.ensures)
-
-pub shape_of-out : goal.shape_of-out
-shape_of-out c = put_length c.loop-k.invariant ∙ put_length c.put_count-next.ensures
 
 pub returns : goal.returns
 unfolding plan_text

@@ -4,15 +4,9 @@ use Rattle.text.specs.TextLaws.{put_append}
 use Rattle.sheet_text.proofs.ListingLaws.{line_of_bridge, line_of_end}
 use Rattle.sheet_text.proofs.put_record.Goals as goal
 
-pub put_bridge-requires : goal.put_bridge-requires
-put_bridge-requires c = record { part_len = c.requires; part_value = sym c.is_bridge.ensures ∙ c.if-is_bridge.true }
-
 pub returns-then-is_bridge : goal.returns-then-is_bridge
 returns-then-is_bridge c = rw (line_of_bridge _ (sym c.is_bridge.ensures ∙ c.if-is_bridge.true) _ c.id_of.ensures)
     (put_append c.put_hexadecimal-next.ensures c.put_bridge.ensures)
-
-pub put_end-requires : goal.put_end-requires
-put_end-requires c = record { part_len = c.requires; part_value = sym c.is_bridge.ensures ∙ c.if-is_bridge.false }
 
 pub returns : goal.returns
 returns c = rw (line_of_end _ (sym c.is_bridge.ensures ∙ c.if-is_bridge.false) _ c.id_of.ensures)
