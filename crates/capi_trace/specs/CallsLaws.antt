@@ -7,10 +7,9 @@ use Rattle.trace.specs.declared.Fed.{Fed}
 use Rattle.trace.specs.declared.Finished.{Finished}
 use Rattle.trace.specs.Trace.{lines_of, end_line}
 use Rattle.trace.specs.Feed.{taken_fed, refused_fed, fed_of, fed_put, ended_of, finished_of, finished_put}
-use Rattle.trace_numbers.specs.declared.Taken.{Taken}
 use Rattle.trace_numbers.specs.Numbers.{numbers_of}
-use Rattle.trace_numbers.specs.Parsing.{size, Accepted, trace_of, taken_as}
-use Rattle.trace_numbers.specs.NumbersLaws.{length_numbers_of, enough_of_accepted, accepted_of_zero, refused_of_number}
+use Rattle.trace_numbers.specs.Parsing.{size, Accepted, Refused, trace_of}
+use Rattle.trace_numbers.specs.NumbersLaws.{length_numbers_of, enough_of_accepted}
 use Rattle.capi_answers.specs.Answers.{gives, returned, filled}
 use Rattle.capi_answers.proofs.AnswersLaws.{Answered, answered_short, left_same}
 use Rattle.capi_trace.specs.Calls.{on_fed, piece_answer, state_left, lines_left, on_finished, end_answer, end_left}
@@ -35,25 +34,22 @@ fed_short line t piece written room z = go (leb (length (lines_of line t piece))
     go true = answered_short (length (lines_of line t piece) ∷ []) written (omega arith)
     go false = (refl, refl)
 
-module _ (line : ℕ → List ℕ → List ℕ) (state piece lines written : List ℕ) (u : Taken) (answered : u ≡ taken_as (trace_of state)) where
-  pub not_taken : ¬ (u.number ≡ 0) → TakenFor line state piece lines written u.number state lines written
-  not_taken other = rw (refused_of_number state u answered other) (refl, (left_same written state, (left_same written lines, refl)))
+module _ (line : ℕ → List ℕ → List ℕ) (state piece lines written : List ℕ) where
+  pub not_taken : (n : ℕ) → trace_of state ≡ Refused n → TakenFor line state piece lines written n state lines written
+  not_taken n refused = rw refused (refl, (left_same written state, (left_same written lines, refl)))
 
-  module _ (zero : u.number ≡ 0) where
-    abbrev is_state : trace_of state ≡ Accepted u.state
-    is_state = accepted_of_zero state u answered zero
-
+  module _ (t : Trace) (is_state : trace_of state ≡ Accepted t) where
     pub six_of_state : size ≤ length state
-    six_of_state = enough_of_accepted state u.state is_state
+    six_of_state = enough_of_accepted state t is_state
 
     pub no_slice : length written ≡ 0 → TakenFor line state piece lines written 11 state lines written
     no_slice z =
-        let short = fed_short line u.state piece written (length lines) z in
+        let short = fed_short line t piece written (length lines) z in
         rw (is_state, eq-eqb (length written) 0 z) (short.0, (refl, (refl, short.1)))
 
     -- the piece was fed
-    module _ (some : length written ≡ 0 → ⊥) (f : Fed) (e : f ≡ fed_of line u.state piece (length lines)) (lines' : List ℕ)
-        (put : lines' ≡ fed_put line u.state piece lines) where
+    module _ (some : length written ≡ 0 → ⊥) (f : Fed) (e : f ≡ fed_of line t piece (length lines)) (lines' : List ℕ)
+        (put : lines' ≡ fed_put line t piece lines) where
       pub not_fed : (f.number ≡ 0 → ⊥) → TakenFor line state piece lines written f.number state lines' written
       not_fed other = rw (is_state, ne_eqb (length written) 0 some, ← e, ne_eqb f.number 0 other) (refl, (refl, (put, refl)))
 
@@ -86,21 +82,18 @@ ended_short text written room z = go (leb (length text) room)
     go true = answered_short (length text ∷ []) written (omega arith)
     go false = (refl, refl)
 
-module _ (state lines written : List ℕ) (u : Taken) (answered : u ≡ taken_as (trace_of state)) where
-  pub end_not_taken : ¬ (u.number ≡ 0) → EndedFor state lines written u.number lines written
-  end_not_taken other = rw (refused_of_number state u answered other) (refl, (left_same written lines, refl))
+module _ (state lines written : List ℕ) where
+  pub end_not_taken : (n : ℕ) → trace_of state ≡ Refused n → EndedFor state lines written n lines written
+  end_not_taken n refused = rw refused (refl, (left_same written lines, refl))
 
-  module _ (zero : u.number ≡ 0) where
-    abbrev is_end_state : trace_of state ≡ Accepted u.state
-    is_end_state = accepted_of_zero state u answered zero
-
+  module _ (t : Trace) (is_end_state : trace_of state ≡ Accepted t) where
     pub end_no_slice : length written ≡ 0 → EndedFor state lines written 11 lines written
     end_no_slice z =
-        let short = ended_short (end_line u.state) written (length lines) z in
+        let short = ended_short (end_line t) written (length lines) z in
         rw (is_end_state, eq-eqb (length written) 0 z) (short.0, (refl, short.1))
 
-    module _ (some : length written ≡ 0 → ⊥) (f : Finished) (e : f ≡ finished_of u.state (length lines)) (lines' : List ℕ)
-        (put : lines' ≡ finished_put u.state lines) where
+    module _ (some : length written ≡ 0 → ⊥) (f : Finished) (e : f ≡ finished_of t (length lines)) (lines' : List ℕ)
+        (put : lines' ≡ finished_put t lines) where
       pub not_ended : (f.number ≡ 0 → ⊥) → EndedFor state lines written f.number lines' written
       not_ended other = rw (is_end_state, ne_eqb (length written) 0 some, ← e, ne_eqb f.number 0 other) (refl, (put, refl))
 

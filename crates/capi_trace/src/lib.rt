@@ -123,14 +123,14 @@ fn take(
         ≡ filled (piece_answer (line_of engine bytes.now) state.old piece.now (length lines.old))
         written.old }
 {
-    let taken = trace_numbers::state_of(state);
-    if taken.number != 0 {
-        return taken.number as u32;
-    }
+    let t = match trace_numbers::state_of(state) {
+        Ok(t) => t,
+        Err(number) => return u32::from(number),
+    };
+    // Not is_empty(), as at the end of a trace: a must-fail edit has to find this line alone.
     if written.len() == 0 {
         return 11;
     }
-    let t = taken.state;
     let fed = trace_feed::feed_by(t, engine, bytes, piece, lines);
     if fed.number != 0 {
         return fed.number as u32;
@@ -146,14 +146,13 @@ pub fn finish(state: &[u64], lines: &mut [u8], written: &mut [u64]) -> u32
     ensures lines_after { lines.new ≡ end_left state.now lines.old written.old }
     ensures written_after { written.new ≡ filled (end_answer state.now (length lines.old)) written.old }
 {
-    let taken = trace_numbers::state_of(state);
-    if taken.number != 0 {
-        return taken.number as u32;
-    }
-    if written.len() < 1 {
+    let t = match trace_numbers::state_of(state) {
+        Ok(t) => t,
+        Err(number) => return u32::from(number),
+    };
+    if written.is_empty() {
         return 11;
     }
-    let t = taken.state;
     let last = trace::finish(t, lines);
     if last.number != 0 {
         return last.number as u32;

@@ -1,5 +1,5 @@
 -- Six numbers, place by place, in the words of the code. Assumes nothing.
-use Rattle.std.specs.Prelude.{ℕ, zero, suc, ◌<◌, ◌≤◌, ◌≡◌, refl, Bool, true, false, cond, ◌||◌, List, length, get_or, replicate, ltb, leb, eqb}
+use Rattle.std.specs.Prelude.{ℕ, zero, suc, ◌<◌, ◌≤◌, ◌≡◌, refl, Bool, true, false, cond, ◌||◌, List, length, get_or, replicate, ltb, leb, eqb, Ok, Err}
 use Rattle.std.proofs.Common.{arith, sym, ap, subst, ◌∙◌, true≢false, lt-ltb, le-ltb, ltb-true, ltb-false, leb-true, eqb-true, ne_eqb}
 use Rattle.std.proofs.Math.Bool.{or-false}
 use Rattle.std.proofs.lemmas.List.Edits.{sets}
@@ -8,7 +8,6 @@ use Rattle.endian.specs.Endian.{be_bytes}
 use Rattle.endian.specs.SetsLaws.{sets_append}
 use Rattle.trace.specs.declared.Trace.{Trace}
 use Rattle.trace.specs.Annotated.{front_length}
-use Rattle.trace_numbers.specs.declared.Taken.{Taken}
 use Rattle.trace_numbers.specs.Numbers.{numbers_of}
 use Rattle.trace_numbers.specs.Parsing.{size, is_stage, is_state, state_at, head_at, Parsed, Accepted, Refused, trace_of, taken_as}
 
@@ -104,7 +103,7 @@ unfolding trace_of
 enough_of_accepted ns t e =
     ltb-false (length ns) size (passed (ltb (length ns) size) 11 (cond (is_state ns) (Accepted (state_at ns)) (Refused 10)) t e).0
 
--- ## What is answered, by its number
+-- ## What is answered
 
 -- no refusal has the number 0
 abbrev pub NumberedParsed : Parsed → Type 0
@@ -120,17 +119,17 @@ numbered_trace_of ns = go (ltb (length ns) size) (is_state ns)
     go false true = tt
     go false false = omega arith
 
-module _ (ns : List ℕ) (u : Taken) (answered : u ≡ taken_as (trace_of ns)) where
-  pub accepted_of_zero : u.number ≡ 0 → trace_of ns ≡ Accepted u.state
-  accepted_of_zero z = go (trace_of ns) (numbered_trace_of ns) answered
+module _ (ns : List ℕ) where
+  pub accepted_of_ok : (t : Trace) → Ok t ≡ taken_as (trace_of ns) → trace_of ns ≡ Accepted t
+  accepted_of_ok t answered = go (trace_of ns) answered
     where
-      go : (q : Parsed) → NumberedParsed q → u ≡ taken_as q → q ≡ Accepted u.state
-      go (Accepted t) h e = ap (λ (x : Taken). Accepted x.state) (sym e)
-      go (Refused n) h e = absurd (omega (arith, ap (λ (x : Taken). x.number) e))
+      go : (q : Parsed) → Ok t ≡ taken_as q → q ≡ Accepted t
+      go (Accepted u) e = cc
+      go (Refused n) e = cc
 
-  pub refused_of_number : ¬ (u.number ≡ 0) → trace_of ns ≡ Refused u.number
-  refused_of_number other = go (trace_of ns) answered
+  pub refused_of_err : (n : ℕ) → Err n ≡ taken_as (trace_of ns) → trace_of ns ≡ Refused n
+  refused_of_err n answered = go (trace_of ns) answered
     where
-      go : (q : Parsed) → u ≡ taken_as q → q ≡ Refused u.number
-      go (Accepted t) e = absurd (other (ap (λ (x : Taken). x.number) e))
-      go (Refused n) e = ap (λ (x : Taken). Refused x.number) (sym e)
+      go : (q : Parsed) → Err n ≡ taken_as q → q ≡ Refused n
+      go (Accepted t) e = cc
+      go (Refused m) e = cc

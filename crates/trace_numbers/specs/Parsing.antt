@@ -1,13 +1,12 @@
 -- What any numbers are taken for: fewer than six are 11, then a stage and value that none has, or more kept bytes than a front has, 10.
 -- Assumes nothing.
-use Rattle.std.specs.Prelude.{ℕ, Bool, cond, ◌&&◌, ◌||◌, List, [], ◌∷◌, ◌++◌, length, get_or, ltb, leb, eqb}
+use Rattle.std.specs.Prelude.{ℕ, Bool, cond, ◌&&◌, ◌||◌, List, [], ◌∷◌, ◌++◌, length, get_or, ltb, leb, eqb, Result, Ok, Err}
 use Rattle.endian.specs.Endian.{be_bytes}
 use Rattle.records.specs.declared.frame.Stage.{Stage}
 use Rattle.records.specs.declared.frame.Stage.TheVariants.{Start, Other, Between, Length, Inside}
 use Rattle.trace.specs.declared.Trace.{Trace}
 use Rattle.trace.specs.Annotated.{front_length}
-use Rattle.trace.specs.Trace.{tracing, fresh}
-use Rattle.trace_numbers.specs.declared.Taken.{Taken}
+use Rattle.trace.specs.Trace.{tracing}
 
 -- how many numbers a state has
 abbrev pub size : ℕ
@@ -46,7 +45,7 @@ is_state ns = is_stage (get_or ns 0 0) (get_or ns 1 0) && leb (get_or ns 3 0) fr
 unfoldable pub trace_of : List ℕ → Parsed
 trace_of ns = cond (ltb (length ns) size) (Refused 11) (cond (is_state ns) (Accepted (state_at ns)) (Refused 10))
 
--- with its number: 0 is accepted
-abbrev pub taken_as : Parsed → Taken
-taken_as (Accepted t) = record { number = 0; state = t }
-taken_as (Refused n) = record { number = n; state = fresh }
+-- as the code holds it
+abbrev pub taken_as : Parsed → Result Trace ℕ
+taken_as (Accepted t) = Ok t
+taken_as (Refused n) = Err n

@@ -5,17 +5,10 @@
 ghost use Rattle.std.specs.Prelude.{◌≡◌, true, ◌≤◌, length};
 ghost use Rattle.std.proofs.lemmas.List.Edits.{sets};
 ghost use Rattle.trace_numbers.specs.Numbers.{stage_number, stage_value, numbers_of};
-ghost use Rattle.trace_numbers.specs.Parsing.{is_stage, stage_at, head_at, is_state, state_at, Refused, trace_of, taken_as};
+ghost use Rattle.trace_numbers.specs.Parsing.{is_stage, stage_at, head_at, is_state, state_at, trace_of, taken_as};
 
 use records::frame::Stage;
 use trace::Trace;
-
-// 0 and the state that numbers are, or the number of the first check that they fail and a fresh state.
-#[derive(Clone, Copy)]
-pub struct Taken {
-    pub number: u8,
-    pub state: Trace,
-}
 
 // How many numbers a state has.
 pub const SIZE: usize = 6;
@@ -30,29 +23,18 @@ const KEPT: u64 = 16;
 
 // ---- numbers to a state
 
-// The state that the first six numbers are: 11 for fewer, 10 for numbers that are no state. Later numbers are not looked at.
-pub fn state_of(numbers: &[u64]) -> Taken
+// The state that the first six numbers are, or the number of the first check that they fail: 11 for fewer, 10 for numbers that are no
+// state. Later numbers are not looked at.
+pub fn state_of(numbers: &[u64]) -> Result<Trace, u8>
     ensures { result ≡ taken_as (trace_of numbers.now) }
 {
     if numbers.len() < SIZE {
-        return refused(11);
+        return Err(11);
     }
     if !is_state(numbers) {
-        return refused(10);
+        return Err(10);
     }
-    Taken {
-        number: 0,
-        state: state_at(numbers),
-    }
-}
-
-fn refused(number: u8) -> Taken
-    ensures { result ≡ taken_as (Refused number) }
-{
-    Taken {
-        number,
-        state: Trace::start(),
-    }
+    Ok(state_at(numbers))
 }
 
 fn is_state(numbers: &[u64]) -> bool

@@ -1,6 +1,6 @@
 -- `trace::count_lines` meets its contract. The invariant: from what was counted, the rest of the piece comes to what the whole piece
 -- comes to. Assumes nothing.
-use Rattle.std.proofs.Common.{◌-◌, sym, refl, ◌∙◌, arith}
+use Rattle.std.proofs.Common.{sym, ◌∙◌, arith}
 use Rattle.records.specs.FrameLaws.{heard_at, heard_past}
 use Rattle.trace.specs.Trace.{line_count}
 use Rattle.trace.proofs.TraceLaws.{whole_fits}

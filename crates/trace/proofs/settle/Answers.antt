@@ -1,5 +1,5 @@
 -- `trace::settle` meets its contract: only a line lets the kept bytes go. Assumes nothing.
-use Rattle.std.proofs.Common.{ℕ, refl, sym, ap, ◌∙◌, replicate}
+use Rattle.std.proofs.Common.{ℕ, refl, ap, ◌∙◌, replicate}
 use Rattle.trace.proofs.settle.Goals as goal
 
 pub returns-in-Line : goal.returns-in-Line

@@ -1,6 +1,5 @@
 -- `trace_feed::measured` meets its contract. The invariant: what was measured and the lines of the rest of the piece are as long as those
 -- of the whole piece. Assumes nothing.
-use Prim.Native.Nat.{◌-◌}
 use mathlib.Core.Path.{◌≡◌, refl, sym, ap, subst, ◌∙◌}
 use lib.ListN.{length}
 use native.Mathlib.Omega.{arith}

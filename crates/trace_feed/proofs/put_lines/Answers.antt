@@ -1,6 +1,6 @@
 -- `trace_feed::put_lines` meets its contract. The invariant: with the lines of the rest of the piece put from here on, the room holds
 -- those of the whole piece; the measure is the bytes left. Assumes nothing.
-use Prim.Native.Nat.{◌-◌, ◌≤◌}
+use Prim.Native.Nat.{◌≤◌}
 use mathlib.Core.Path.{refl, sym, ap, subst, ◌∙◌}
 use lib.ListN.{length}
 use native.Mathlib.Omega.{arith}

@@ -1,8 +1,7 @@
 -- `audit_feed::Feed::feed` meets its contract: what fits of the piece is kept. The invariant: from what was heard, the rest of the
 -- sheet's part comes to what the whole part comes to. Assumes nothing.
-use Prim.Native.Nat.{◌≤◌, ◌-◌}
 use mathlib.Core.Path.{◌≡◌}
-use lib.ListN.{length, drop}
+use lib.ListN.{drop}
 use Rattle.records.specs.Frame.{stage_of, heard_of}
 use Rattle.audit_feed.specs.Feed.{heard_by}
 use Rattle.audit_feed.proofs.Feed.feed.Given as goal

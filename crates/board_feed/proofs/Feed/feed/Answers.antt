@@ -1,8 +1,6 @@
 -- `board_feed::Feed::feed` meets its contract: what fits of the piece is kept. The invariant: from what was heard, the rest of the piece
 -- comes to what the whole piece comes to. Assumes nothing.
-use Prim.Native.Nat.{◌-◌}
 use mathlib.Core.Path.{refl, sym, ◌∙◌}
-use native.Mathlib.Omega.{arith}
 use Rattle.board_feed.specs.ShownLaws.{board_stage_at, board_stage_past, board_heard_at, board_heard_past}
 use Rattle.board_feed.specs.FeedLaws.{fed_is}
 use Rattle.board_feed.proofs.Feed.feed.Goals as goal

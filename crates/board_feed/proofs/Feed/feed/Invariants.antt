@@ -1,8 +1,7 @@
 -- `board_feed::Feed::feed` meets its contract: what fits of the piece is kept. The invariant: from what was heard, the rest of the piece
 -- comes to what the whole piece comes to. Assumes nothing.
-use Prim.Native.Nat.{◌≤◌, ◌-◌}
 use mathlib.Core.Path.{◌≡◌}
-use lib.ListN.{length, drop}
+use lib.ListN.{drop}
 use Rattle.board_feed.specs.Shown.{board_stage, board_heard}
 use Rattle.board_feed.proofs.Feed.feed.Given as goal
 
