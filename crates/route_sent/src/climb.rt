@@ -22,7 +22,9 @@ pub enum Going {
     OnlyUp,
 }
 
-// From a bus on, with so many bridges crossed. A bridge's own bus has a smaller number than its secondary, so the climb ends.
+// From a bus on, with so many bridges crossed. A bridge's own bus has a smaller number than its secondary, so the climb ends. Card to card
+// climbs by the same steps, but has other claims and other bridges let it past: one climb over both would take each step as a closure, and
+// its law with it, and be no plainer.
 pub fn climb(sheet: &[u8], going: Going, root: u8, bus: u8, crossed: u16) -> Climbed
     requires { Checked sheet.now × (crossed + bus ≤ 255) }
     ensures { sent_of result ≡ climbed going sheet.now root bus crossed }

@@ -18,7 +18,7 @@ use pools::Space;
 // An entry for each bus number.
 pub const BUSES: usize = 256;
 
-// The entry of a bus that more than one bridge leads to.
+// The entry of a bus that more than one bridge leads to. Entries are numbers and no enum: the caller lends the table, two bytes for a bus.
 pub const SEVERAL: u16 = 65535;
 
 // Who stands above a bus: the host, the bridge of a record, from 0, no bridge, or several.
