@@ -17,6 +17,7 @@ use Rattle.lists.specs.Lists.{◌∈◌, All}
 use Rattle.lists.specs.ListLaws.{some_of_member}
 use Rattle.records.specs.Records.{parts_of}
 use Rattle.pools.specs.declared.Space.{Space}
+use Rattle.pools.specs.declared.Space.TheVariants.{Memory as memory_space, Io as io_space}
 use Rattle.walk.specs.Registers.{Node, Registers, root_of}
 use Rattle.walk.proofs.RegistersLaws.{BarOf, WindowOf, item_elim}
 use Rattle.walk.specs.Tally.{Tally, tally_on}
@@ -104,8 +105,12 @@ one_address (Message k h Local code tail) sp sp' a a' is is' = absurd is
 one_address (Message k h Gathered code tail) sp sp' a a' is is' = absurd is
 
 card_request : (p : Packet) (sp : Space) (address : ℕ) → request_of p ≡ Some (sp, address) → IsCardRequest p sp address
-card_request (Memory k h e a) sp address q = (cc, cc)
-card_request (Io k h e a) sp address q = (cc, cc)
+card_request (Memory k h e a) sp address q =
+    let same : ◌≡◌ {A = Space × ℕ} (sp, address) (memory_space, a) = cc in
+    (ap (λ (x : Space × ℕ). x.0) same, ap (λ (x : Space × ℕ). x.1) same)
+card_request (Io k h e a) sp address q =
+    let same : ◌≡◌ {A = Space × ℕ} (sp, address) (io_space, a) = cc in
+    (ap (λ (x : Space × ℕ). x.0) same, ap (λ (x : Space × ℕ). x.1) same)
 card_request (Config k h e t) sp address q = suc-ne-zero 0 (cc)
 card_request (Completion k h o) sp address q = suc-ne-zero 0 (cc)
 card_request (Message k h routing code tail) sp address q = suc-ne-zero 0 (cc)
