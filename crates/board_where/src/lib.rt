@@ -69,14 +69,10 @@ fn bad_slot(part: &[u8]) -> u8
     let f = board_record::function_of(part);
     let set = f.readbacks;
     let slots = bar::slot_count(f.header);
-    // no `for`: a 64-bit BAR takes two slots
-    let mut i: usize = 0;
-    while i < slots {
-        let x = bar::slot_at(set, slots, i);
+    for (i, x) in bar::slots(set, slots) {
         if is_bad(x) {
             return i as u8;
         }
-        i += bar::span(x);
     }
     0
 }

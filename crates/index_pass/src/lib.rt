@@ -152,12 +152,9 @@ fn put_bars(index: &mut [u8], n: usize, count: usize, part: &[u8], g: Segment, e
     let values = sheet_record::values_of(part);
     let slots = sheet_record::slot_count(part);
     let mut at = count;
-    let mut i: usize = 0;
-    while i < slots {
-        let x = bar::slot_at(set, slots, i);
+    for (i, x) in bar::slots(set, slots) {
         let value = bar::value_here(x, values, slots, i);
         at = put_bar(index, n, at, x, value, g, end);
-        i += bar::span(x);
     }
     at
 }

@@ -16,11 +16,8 @@ pub fn bars_hold(part: &[u8], space: Space, address: u64) -> bool
     let set = sheet_record::readbacks_of(part);
     let values = sheet_record::values_of(part);
     let slots = sheet_record::slot_count(part);
-    let mut i: usize = 0;
-    while i < slots {
-        let slot = bar::slot_at(set, slots, i);
+    for (i, slot) in bar::slots(set, slots) {
         let value = bar::value_here(slot, values, slots, i);
-        i += bar::span(slot);
         if sheet_record::spaces::bar_holds(space, slot, value, address) {
             return true;
         }

@@ -120,13 +120,10 @@ fn read_back_spot(part: &[u8]) -> Option<Wrong>
     let set = sheet_record::readbacks_of(part);
     let values = sheet_record::values_of(part);
     let slots = sheet_record::slot_count(part);
-    let mut i: usize = 0;
-    while i < slots {
-        let x = bar::slot_at(set, slots, i);
+    for (i, x) in bar::slots(set, slots) {
         if !is_value(x, set[i], bar::value_here(x, values, slots, i)) {
             return Some(Wrong::at(i as u8));
         }
-        i += bar::span(x);
     }
     rest_spot(part)
 }

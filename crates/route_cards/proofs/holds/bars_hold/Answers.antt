@@ -1,24 +1,31 @@
--- `route_cards::holds::bars_hold`: the loop over slots. Invariant: the slots from i on are lawful, and one of them holds the address
--- exactly where one of all does. Measure: slots left. Assumes nothing.
-use mathlib.Core.Path.{◌∙◌}
-use Prim.Native.Nat.{◌≤◌, ◌<◌}
+-- `route_cards::holds::bars_hold`: the loop over slots. Invariant: the slots from where the walk stands on are lawful, and one of them
+-- holds the address exactly where one of all does. Assumes nothing.
+use mathlib.Core.List.{List}
+use mathlib.Core.Path.{refl, ◌∙◌}
+use Prim.Native.Nat.{ℕ, ◌≤◌, ◌<◌}
 use native.Mathlib.Omega.{arith}
 use lib.ListN.{take, length}
+use Rattle.endian.specs.Endian.{be}
+use Rattle.bar.specs.WalkLaws.{begun, turn, Turn, walked}
+use Rattle.sheet_record.specs.Places.{readbacks_at}
+use Rattle.sheet_record.specs.Entry.{dwords}
 use Rattle.claims.specs.HitsLaws.{lawful_next}
 use Rattle.claims.specs.TurnLaws.{slots_le, slots_inside, slots_past}
 use Rattle.route_cards.specs.HoldsLaws.{bars_lawful, bars_start, bar_found, bar_passed, bars_over}
 use Rattle.route_cards.proofs.holds.bars_hold.Goals as goal
-use Rattle.route_cards.proofs.holds.bars_hold.Goals.{After-slot_count-slots, In-loop-i}
+use Rattle.route_cards.proofs.holds.bars_hold.Goals.{In-Some}
 
--- the slots are six at most, and the slot of a turn is one of them
-few : (c : After-slot_count-slots) → c.slot_count-slots.result ≤ 6
-few c = slots_le _ _ c.slot_count-slots.result 0 c.readbacks_of-set.ensures c.slot_count-slots.ensures
+-- the set that the walk is over, by the record's bytes
+abbrev set_of : List ℕ → List ℕ
+set_of p = dwords (be 4) 6 p readbacks_at
 
-inside : (c : In-loop-i)
-    → c.loop-i.i < length (take c.slot_count-slots.result c.readbacks_of-set.result)
+at : (c : In-Some) → Turn (set_of c.args.part.now) c.slot_count-slots.result c.loop-i.i-iterator c.next.new.self c.in-Some.i c.in-Some.slot
+at c = turn c.loop-i.invariant.over c.in-Some.ensures.steps
+
+inside : (c : In-Some) → c.in-Some.i < length (take c.slot_count-slots.result (set_of c.args.part.now))
 inside c =
-    slots_inside _ _ c.slot_count-slots.result c.loop-i.i c.readbacks_of-set.ensures c.slot_count-slots.ensures
-    c.loop-i-test.true
+    let within : c.in-Some.i < c.slot_count-slots.result = omega (arith, (at c).inside) in
+    slots_inside (set_of c.args.part.now) _ _ _ refl c.slot_count-slots.ensures within
 
 pub readbacks_of-set-requires : goal.readbacks_of-set-requires
 readbacks_of-set-requires c = c.requires.0
@@ -30,36 +37,32 @@ pub slot_count-slots-requires : goal.slot_count-slots-requires
 slot_count-slots-requires c = c.requires.0
 
 pub loop-i-init : goal.loop-i-init
-loop-i-init c = (
-  bars_lawful _ _ _ _ c.readbacks_of-set.ensures c.values_of-values.ensures c.slot_count-slots.ensures c.requires.1,
-  bars_start _ _ _ _ c.readbacks_of-set.ensures c.values_of-values.ensures c.slot_count-slots.ensures c.args.space
-      c.args.address,
-)
-
-pub value_here-value-requires : goal.value_here-value-requires
-value_here-value-requires c = omega (arith, few (goal.at.value_here-value-requires c).After-slot_count-slots)
-
-pub overflow_add-i : goal.overflow_add-i
-overflow_add-i c = omega (arith, few (goal.at.overflow_add-i c).After-slot_count-slots)
+loop-i-init c = let b = begun c.slots-i-items.ensures c.into_iter-i-iterator.ensures.into_iter_gives in record {
+  over = rw c.readbacks_of-set.ensures at b.over;
+  lawful = rw b.next (bars_lawful _ _ _ _ refl c.values_of-values.ensures c.slot_count-slots.ensures c.requires.1);
+  rest = rw b.next (bars_start _ _ _ _ refl c.values_of-values.ensures c.slot_count-slots.ensures c.args.space c.args.address);
+}
 
 pub returns-then-bar_holds : goal.returns-then-bar_holds
-returns-then-bar_holds c = bar_found _ _ _ _ _ _ _ (inside (goal.at.returns-then-bar_holds c).In-loop-i) c.slot_at-slot.ensures c.span-i.ensures.0 c.loop-i.invariant.0 _
+returns-then-bar_holds c = let g = (goal.at.returns-then-bar_holds c).In-Some in
+    let w = at g in
+    bar_found _ _ _ _ _ _ _ (inside g) w.is refl (rw w.stood at c.loop-i.invariant.lawful) _
     c.value_here-value.ensures _ c.bar_holds.ensures c.if-bar_holds.true
-    ∙ c.loop-i.invariant.1
-
-pub loop-i-smaller : goal.loop-i-smaller
-loop-i-smaller c = omega (arith, c.span-i.ensures.1)
+    ∙ rw w.stood at c.loop-i.invariant.rest
 
 pub loop-i-preserved : goal.loop-i-preserved
-loop-i-preserved c = (
-  lawful_next _ _ _ _ (inside (goal.at.loop-i-preserved c).In-loop-i) c.slot_at-slot.ensures c.span-i.ensures.0 c.loop-i.invariant.0,
-  bar_passed _ _ _ _ _ _ _ (inside (goal.at.loop-i-preserved c).In-loop-i) c.slot_at-slot.ensures c.span-i.ensures.0 c.loop-i.invariant.0 _
-      c.value_here-value.ensures _ c.bar_holds.ensures c.if-bar_holds.false
-      ∙ c.loop-i.invariant.1,
-)
+loop-i-preserved c = let g = (goal.at.loop-i-preserved c).In-Some in
+    let w = at g in
+    let lawful = rw w.stood at c.loop-i.invariant.lawful in record {
+      over = w.over;
+      lawful = rw w.next (lawful_next _ _ _ _ (inside g) w.is refl lawful);
+      rest = rw w.next (bar_passed _ _ _ _ _ _ _ (inside g) w.is refl lawful _ c.value_here-value.ensures _ c.bar_holds.ensures
+          c.if-bar_holds.false)
+          ∙ rw w.stood at c.loop-i.invariant.rest;
+    }
 
 pub returns : goal.returns
-returns c = let last =
-    slots_past _ _ c.slot_count-slots.result c.loop-i.i c.readbacks_of-set.ensures c.slot_count-slots.ensures
-    c.loop-i-test.false in
-    bars_over _ _ _ _ _ last ∙ c.loop-i.invariant.1
+returns c = let few = slots_le (set_of c.args.part.now) _ _ 0 refl c.slot_count-slots.ensures in
+    let past : c.slot_count-slots.result ≤ c.loop-i.i-iterator.next = omega
+    (arith, few, walked c.loop-i.invariant.over c.in-None.ensures.steps) in
+    bars_over _ _ _ _ _ (slots_past (set_of c.args.part.now) _ _ _ refl c.slot_count-slots.ensures past) ∙ c.loop-i.invariant.rest
