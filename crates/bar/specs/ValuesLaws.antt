@@ -114,11 +114,18 @@ bar_value_elim pool size r v e =
     }
 
 -- the test in the words of the code: the mask of a power of two takes the remainder
-pub is_bar_value_masked : (pool : Pool) (size r v t u w : ℕ) (memory : Bool) → PowerOfTwo size
+pub is_bar_value_masked : (pool : Pool) (size r v t u w : ℕ) (io : Bool) → PowerOfTwo size
+    → t ≡ type_of pool v → u ≡ type_of pool r → w ≡ without_type pool v → io ≡ is_io pool
+    → (eqb t u && eqb (bit_and w (size - 1)) 0 && (not io || leb v 65535)) ≡ is_bar_value pool size r v
+unfolding is_bar_value
+is_bar_value_masked pool size r v t u w io p e f g h = rw (and_pred_power w size p, e, f, g, h)
+
+-- the test in the words of the code: the mask of a power of two takes the remainder
+pub is_bar_value_memory : (pool : Pool) (size r v t u w : ℕ) (memory : Bool) → PowerOfTwo size
     → t ≡ type_of pool v → u ≡ type_of pool r → w ≡ without_type pool v → memory ≡ not (is_io pool)
     → (eqb t u && eqb (bit_and w (size - 1)) 0 && (memory || leb v 65535)) ≡ is_bar_value pool size r v
 unfolding is_bar_value
-is_bar_value_masked pool size r v t u w memory p e f g h = rw (and_pred_power w size p, e, f, g, h)
+is_bar_value_memory pool size r v t u w memory p e f g h = rw (and_pred_power w size p, e, f, g, h)
 
 -- ## The loop over a set's slots
 

@@ -1,18 +1,21 @@
 -- The laws of open buses in arrays: finding a parent's level, and one turn of the pass over functions. Assumes nothing.
 use Rattle.std.proofs.Math.Path.{◌≡◌, refl, ap}
 use Rattle.std.proofs.Common.{sym, ap₂, ◌∙◌, add-one, length-set, get_or-set_same, get_or-set_other}
-use Rattle.std.specs.Prelude.{◌≢◌, Bool, cond, not, ◌||◌, None, Some, length, get_or, set, ltb}
+use Rattle.std.specs.Prelude.{◌≢◌, Bool, cond, not, ◌||◌, None, Some, length, get_or, take, drop, set, ltb}
 use Rattle.std.proofs.Math.Bool.{true, false}
-use mathlib.Core.List.{List, [], ◌∷◌}
+use mathlib.Core.List.{List, [], ◌∷◌, map}
 use Prim.Native.Nat.{ℕ, zero, suc, ◌+◌, ◌/◌, ◌%◌, ◌≤◌, ◌<◌}
 use native.Mathlib.Omega.{arith}
 use Rattle.std.proofs.Math.Dec.{eqb}
 use borrow.Author.Tests.{eq-eqb, ne_eqb, ltb-false}
 use Rattle.arith.specs.BoolLaws.{false_of_or}
+use Rattle.records.specs.declared.Next.TheVariants.{Record}
+use Rattle.records.specs.Records.{next_of, parts_from}
+use Rattle.records.specs.RecordsLaws.{pass_record}
 use Rattle.records.specs.Limits.{most_above}
 use Rattle.board_record.specs.declared.Function.{Function}
-use Rattle.board_record.specs.Function.{is_bridge}
-use Rattle.board_order.specs.Stack.{fresh, close_to, unplaced_at, entered, enter, shared_after, first_unplaced}
+use Rattle.board_record.specs.Function.{is_bridge, function_of_part}
+use Rattle.board_order.specs.Stack.{Level, fresh, close_to, unplaced_at, entered, enter, shared_after, first_unplaced}
 use Rattle.board_order.specs.Levels.{level_at, deepest, found_in, open_after}
 
 -- ---- finding
@@ -166,3 +169,13 @@ open_after_le i f = go (is_bridge f)
     go : (t : Bool) → cond t (i + 2) (i + 1) ≤ i + 2
     go true = omega arith
     go false = omega arith
+
+-- ---- one turn of the pass: the function at the cursor, then those from the next cursor on
+
+pub order_turn : (s : List ℕ) (at n : ℕ) (f : Function) → next_of (drop at s) ≡ Record n → f ≡ function_of_part (take n (drop (at + 2) s))
+    → (number : ℕ) (ls : List Level)
+    → first_unplaced number ls (map function_of_part (parts_from s at))
+    ≡ first_unplaced number ls (f ∷ map function_of_part (parts_from s (at + 2 + n)))
+order_turn s at n f e h number ls =
+    pass_record (λ (ps : List (List ℕ)). first_unplaced number ls (map function_of_part ps)) s at n e
+    ∙ ap (λ (g : Function). first_unplaced number ls (g ∷ map function_of_part (parts_from s (at + 2 + n)))) (sym h)

@@ -140,10 +140,19 @@ module _ (b : List ℕ) (n : ℕ) (is : n ≡ board_number b) where
   named_24 e r f =
       f ∙ ap (first_breaking (Header (get_or b 0 0))) (sym (framed_at (omega arith)).parts) ∙ sym (failing_24 b (sym is ∙ e))
 
-  pub named_23 : n ≡ 23 → (first : Option ℕ) → first ≡ some_number (first_misplaced 0 [] (map function_of_part (parts_from b functions_at)))
+  pub named_23 : n ≡ 23 → (k : ℕ) → k ≡ first_misplaced 0 [] (map function_of_part (parts_from b functions_at)) → party_of k function_id
+      ≡ failing_of b
+  unfolding functions_of
+  named_23 e k f =
+      ap (λ (j : ℕ). party_of j function_id)
+      (f ∙ ap (λ (ps : List (List ℕ)). first_misplaced 0 [] (map function_of_part ps)) (sym (framed_at (omega arith)).parts))
+      ∙ sym (failing_23 b (sym is ∙ e))
+
+  -- as an option
+  pub named_misplaced : n ≡ 23 → (first : Option ℕ) → first ≡ some_number (first_misplaced 0 [] (map function_of_part (parts_from b functions_at)))
       → party_of (unwrap_or first 0) function_id ≡ failing_of b
   unfolding functions_of
-  named_23 e first f =
+  named_misplaced e first f =
       ap (λ (j : ℕ). party_of j function_id)
       (ap (λ (r : Option ℕ). unwrap_or r 0) f ∙ number_back (first_misplaced 0 [] (map function_of_part (parts_from b functions_at)))
       ∙ ap (λ (ps : List (List ℕ)). first_misplaced 0 [] (map function_of_part ps)) (sym (framed_at (omega arith)).parts))

@@ -6,6 +6,9 @@ use Rattle.std.proofs.Common.{ap₂, ◌∙◌, add-one, drop_of_length-le}
 use Prim.Native.Nat.{ℕ, suc, ◌+◌, ◌≤◌, ◌<◌}
 use native.Mathlib.Omega.{arith}
 use Rattle.std.proofs.Math.ListN.{length, length-drop}
+use Rattle.records.specs.declared.Next.TheVariants.{End, Record, Broken}
+use Rattle.records.specs.Records.{next_of, parts_from}
+use Rattle.records.specs.RecordsLaws.{pass_record, pass_end, pass_broken}
 use Rattle.bar.specs.declared.Slot.{Slot}
 use Rattle.bar.specs.declared.Slot.TheVariants.{Upper}
 use Rattle.bar.specs.Bar.{slot_here, slots, is_bad, takes_next, span}
@@ -24,14 +27,43 @@ use Rattle.board_where.specs.Where.{first_from, party_of, place_in, bad_slot}
 abbrev pub breaking_after : Rule → ℕ → List (List ℕ) → Party
 breaking_after rule k ps = first_from (breaks rule) (λ j p. party_of j (place_in rule p)) nobody (suc k) ps
 
+-- the first of the parts that are left
 module _ (rule : Rule) (k : ℕ) (p : List ℕ) (ps : List (List ℕ)) where
-  pub breaking_hit : breaks rule p ≡ true → (place : ℕ) → place ≡ place_in rule p → breaking_after rule k (p ∷ ps) ≡ party_of (k + 1) place
+  pub breaking_first : breaks rule p ≡ true → (place : ℕ) → place ≡ place_in rule p → breaking_after rule k (p ∷ ps) ≡ party_of (k + 1) place
   unfolding first_from
-  breaking_hit h place f = rw h (ap₂ party_of (sym (add-one k)) (sym f))
+  breaking_first h place f = rw h (ap₂ party_of (sym (add-one k)) (sym f))
 
-  pub breaking_miss : breaks rule p ≡ false → breaking_after rule (k + 1) ps ≡ breaking_after rule k (p ∷ ps)
+  pub breaking_past_first : breaks rule p ≡ false → breaking_after rule (k + 1) ps ≡ breaking_after rule k (p ∷ ps)
   unfolding first_from
-  breaking_miss h = ap (λ (j : ℕ). breaking_after rule j ps) (add-one k) ∙ sym (rw h)
+  breaking_past_first h = ap (λ (j : ℕ). breaking_after rule j ps) (add-one k) ∙ sym (rw h)
+
+-- what stands at the cursor
+module _ (rule : Rule) (s : List ℕ) (at k : ℕ) where
+  pub breaking_end : next_of (drop at s) ≡ End → breaking_after rule k (parts_from s at) ≡ nobody
+  unfolding first_from
+  breaking_end e = pass_end (breaking_after rule k) s at e
+
+  pub breaking_broken : next_of (drop at s) ≡ Broken → breaking_after rule k (parts_from s at) ≡ nobody
+  unfolding first_from
+  breaking_broken e = pass_broken (breaking_after rule k) s at e
+
+  -- p is the part at the cursor
+  module _ (n : ℕ) (e : next_of (drop at s) ≡ Record n) (p : List ℕ) (is : p ≡ take n (drop (at + 2) s)) where
+    at_record : breaking_after rule k (parts_from s at) ≡ breaking_after rule k (p ∷ parts_from s (at + 2 + n))
+    at_record =
+        pass_record (breaking_after rule k) s at n e
+        ∙ ap (λ (q : List ℕ). breaking_after rule k (q ∷ parts_from s (at + 2 + n))) (sym is)
+
+    pub breaking_hit : breaks rule p ≡ true → (place : ℕ) → place ≡ place_in rule p → breaking_after rule k (parts_from s at)
+        ≡ party_of (k + 1) place
+    unfolding first_from
+    breaking_hit h place f = at_record ∙ rw h (ap₂ party_of (sym (add-one k)) (sym f))
+
+    pub breaking_miss : breaks rule p ≡ false → breaking_after rule (k + 1) (parts_from s (at + 2 + n))
+        ≡ breaking_after rule k (parts_from s at)
+    unfolding first_from
+    breaking_miss h =
+        ap (λ (j : ℕ). breaking_after rule j (parts_from s (at + 2 + n))) (add-one k) ∙ sym (at_record ∙ rw h)
 
 -- ## The slots of a set, from slot i on
 

@@ -10,10 +10,10 @@ use Rattle.endian.specs.Endian.{Bytes}
 use Rattle.pools.specs.declared.Pool.{Pool}
 use Rattle.pools.specs.declared.Pool.TheVariants.{Low, High, Io}
 use Rattle.pools.specs.Pools.{granule}
-use Rattle.records.specs.declared.Next.TheVariants.{Record}
+use Rattle.records.specs.declared.Next.TheVariants.{Record, Broken}
 use Rattle.records.specs.Limits.{most_functions}
 use Rattle.records.specs.Records.{next_of, parts_from}
-use Rattle.records.specs.RecordsLaws.{pass_record, none_left, none_here, none_later}
+use Rattle.records.specs.RecordsLaws.{pass_record, pass_broken, none_left, none_here, none_later}
 use Rattle.lists.specs.Lists.{keep}
 use Rattle.lists.specs.ListLaws.{all_drop, drop_suc}
 use Rattle.lists.specs.KeepLaws.{map_keep_append}
@@ -254,6 +254,9 @@ module _ {b : List ℕ} {w : Watched} {first : ℕ} {counts memo c₀ c : List �
 
   pub finished_end : ((n : ℕ) → next_of (drop at b) ≡ Record n → ⊥) → seen ≡ see_all w nothing_seen (told_on b w.pool)
   finished_end none = finished (sym s.rest ∙ ap (map function_of_part) (none_left b at none))
+
+  pub finished_broken : next_of (drop at b) ≡ Broken → seen ≡ see_all w nothing_seen (told_on b w.pool)
+  finished_broken e = finished (sym s.rest ∙ pass_broken (map function_of_part) b at e)
 
 -- ## The whole walk
 

@@ -13,7 +13,6 @@ use Rattle.lists.specs.Lists.{All, keep}
 use Rattle.lists.specs.ListLaws.{all_imp}
 use Rattle.plan_bars.specs.Bars.{bars_from}
 use Rattle.plan_rule.specs.Pools.{Pool, granule, same_pool}
-use Rattle.plan_rule.specs.Records as placing
 use Rattle.plan_rule.specs.Records.{Function}
 use Rattle.plan_rule.proofs.RecordLaws.{false_of_not}
 use Rattle.plan_rule.specs.Layout.{Piece, select, end_at, layout_end}

@@ -15,10 +15,10 @@ use Rattle.lists.specs.ListLaws.{drop_suc}
 use Rattle.pools.specs.declared.Pool.{Pool}
 use Rattle.pools.specs.declared.Pool.TheVariants.{Low, High, Io}
 use Rattle.window.specs.Window.{closed, opened}
-use Rattle.records.specs.declared.Next.TheVariants.{Record}
+use Rattle.records.specs.declared.Next.TheVariants.{Record, Broken}
 use Rattle.records.specs.Limits.{most_functions}
 use Rattle.records.specs.Records.{next_of, parts_from}
-use Rattle.records.specs.RecordsLaws.{pass_record, none_left, none_here, none_later}
+use Rattle.records.specs.RecordsLaws.{pass_record, pass_broken, none_left, none_here, none_later}
 use Rattle.plan_rule.specs.Records as placing
 use Rattle.plan_rule.specs.Layout.{Placed}
 use Rattle.plan_rule.specs.Placing.{placed}
@@ -214,8 +214,14 @@ module _ {b : List ℕ} {first : ℕ} {counts memo c₀ sheet₀ c sheet : List 
   pub plan_end : ((n : ℕ) → next_of (drop at b) ≡ Record n → ⊥) → take i (plan_on b) ≡ plan_on b
   plan_end none = plan_whole (sym s.rest ∙ ap (map function_of_part) (none_left b at none))
 
+  pub plan_broken : next_of (drop at b) ≡ Broken → take i (plan_on b) ≡ plan_on b
+  plan_broken e = plan_whole (sym s.rest ∙ pass_broken (map function_of_part) b at e)
+
   pub finished_end : ((n : ℕ) → next_of (drop at b) ≡ Record n → ⊥) → sheet ≡ sets sheet₀ 0 (sheet_bytes (plan_on b))
   finished_end none = finished (sym s.rest ∙ ap (map function_of_part) (none_left b at none))
+
+  pub finished_broken : next_of (drop at b) ≡ Broken → sheet ≡ sets sheet₀ 0 (sheet_bytes (plan_on b))
+  finished_broken e = finished (sym s.rest ∙ pass_broken (map function_of_part) b at e)
 
 -- ## The whole pass
 

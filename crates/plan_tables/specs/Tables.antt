@@ -2,7 +2,7 @@
 use Rattle.std.specs.Prelude.{◌≡◌, false, ℕ, ◌+◌, ◌*◌, ◌%◌, ◌≤◌, length, set}
 use mathlib.Core.List.{List, map, flat_map}
 use Rattle.std.proofs.lemmas.List.Edits.{sets}
-use Rattle.records.specs.Records.{any_part}
+use Rattle.records.specs.Records.{parts_from, any_part}
 use Rattle.records.specs.Limits.{most_functions}
 use Rattle.board_record.specs.declared.Function.{Function}
 use Rattle.board_record.specs.Function.{function_of_part, header_wrong}
@@ -41,7 +41,7 @@ pub record Filled (fs : List Function) (ps hs ss ps' hs' ss' : List ℕ) (n : �
   pub readbacks : ss' ≡ sets ss 0 (readbacks_of fs)
 
 -- the pass has these parts left, with i functions stored: storing those that are left fills the arrays
-pub record Filling (b ps hs ss : List ℕ) (left : List (List ℕ)) (i : ℕ) (ps' hs' ss' : List ℕ) : Type 0 where
+pub record FillingParts (b ps hs ss : List ℕ) (left : List (List ℕ)) (i : ℕ) (ps' hs' ss' : List ℕ) : Type 0 where
   pub lawful : any_part header_wrong left ≡ false
   pub few : i + length (map function_of_part left) ≤ most_functions
   pub room : Room most_functions ps' hs' ss'
@@ -49,3 +49,17 @@ pub record Filling (b ps hs ss : List ℕ) (left : List (List ℕ)) (i : ℕ) (p
   pub parents : sets ps' i (parents_of (map function_of_part left)) ≡ sets ps 0 (parents_of (functions_of b))
   pub heads : sets hs' i (heads_of (map function_of_part left)) ≡ sets hs 0 (heads_of (functions_of b))
   pub readbacks : sets ss' (6 * i) (readbacks_of (map function_of_part left)) ≡ sets ss 0 (readbacks_of (functions_of b))
+
+-- the functions that a pass with its cursor at a place has left
+abbrev pub functions_from : List ℕ → ℕ → List Function
+functions_from b at = map function_of_part (parts_from b at)
+
+-- the pass stands before the record at `at`, with i functions stored: storing those that are left fills the arrays
+pub record Filling (b ps hs ss : List ℕ) (at i : ℕ) (ps' hs' ss' : List ℕ) : Type 0 where
+  pub lawful : any_part header_wrong (parts_from b at) ≡ false
+  pub few : i + length (functions_from b at) ≤ most_functions
+  pub room : Room most_functions ps' hs' ss'
+  pub count : i + length (functions_from b at) ≡ length (functions_of b)
+  pub parents : sets ps' i (parents_of (functions_from b at)) ≡ sets ps 0 (parents_of (functions_of b))
+  pub heads : sets hs' i (heads_of (functions_from b at)) ≡ sets hs 0 (heads_of (functions_of b))
+  pub readbacks : sets ss' (6 * i) (readbacks_of (functions_from b at)) ≡ sets ss 0 (readbacks_of (functions_of b))

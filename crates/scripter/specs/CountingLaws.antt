@@ -3,7 +3,7 @@ use Rattle.std.specs.Prelude.{◌≡◌, Bool, true, false, cond, not, eqb, leng
 use Rattle.std.proofs.Math.Path.{refl, sym, ap, ap₂}
 use Rattle.std.proofs.Common.{◌∙◌, add-zero, add-one, drop-cons}
 use mathlib.Core.List.{List, [], ◌∷◌, ◌++◌, map}
-use Prim.Native.Nat.{ℕ, zero, suc, ◌+◌, ◌*◌, ◌≤◌, ◌<◌}
+use Prim.Native.Nat.{ℕ, zero, suc, ◌+◌, ◌-◌, ◌*◌, ◌≤◌, ◌<◌}
 use native.Mathlib.Omega.{arith}
 use Rattle.std.proofs.Math.ListN.{get_or, length-append}
 use Rattle.std.proofs.lemmas.List.{length-map}
@@ -11,8 +11,9 @@ use Rattle.std.proofs.lemmas.List.Sums.{sum_by-cons}
 use Rattle.endian.specs.Endian.{Bytes, be}
 use Rattle.lists.specs.Lists.{All}
 use Rattle.records.specs.Limits.{most_functions}
-use Rattle.records.specs.Records.{parts_from, any_part}
-use Rattle.records.specs.RecordsLaws.{none_first}
+use Rattle.records.specs.declared.Next.TheVariants.{End, Record, Broken}
+use Rattle.records.specs.Records.{next_of, parts_from, any_part}
+use Rattle.records.specs.RecordsLaws.{none_first, none_here, none_later, pass_record, pass_end, pass_broken}
 use Rattle.plan_rule.specs.Records as placing
 use Rattle.plan_rule.specs.Layout.{Placed}
 use Rattle.plan_rule.specs.Refusals.{refusal_of}
@@ -37,7 +38,7 @@ use Rattle.script_writes.specs.Writes.{register_writes, writes_in, pass_writes, 
 use Rattle.scripter.specs.Scripting.{board_writes}
 use Rattle.scripter.specs.Counting.{used_in, own_writes, write_count, count_in}
 
--- ## Bounds, and a turn of the loops
+-- ## Bounds, and a parts_turn of the loops
 
 pub used_le : (n : ℕ) (rs : List ℕ) (j : ℕ) → used_in n rs j ≤ n
 unfolding used_in
@@ -47,6 +48,17 @@ used_le (suc n) rs j = go (eqb (get_or rs j 0) 0) (used_le n rs (j + 1))
     go : (t : Bool) → used_in n rs (j + 1) ≤ n → cond t 0 1 + used_in n rs (j + 1) ≤ suc n
     go true h = omega arith
     go false h = omega arith
+
+pub used_more : (n : ℕ) (rs : List ℕ) (j : ℕ) → j < n → used_in (n - j) rs j
+    ≡ cond (eqb (get_or rs j 0) 0) 0 1 + used_in (n - (j + 1)) rs (j + 1)
+unfolding used_in
+used_more n rs j h =
+    let s : n - j ≡ suc (n - (j + 1)) = omega arith in
+    ap (λ (m : ℕ). used_in m rs j) s
+
+pub used_none : (n : ℕ) (rs : List ℕ) → used_in (n - n) rs n ≡ 0
+unfolding used_in
+used_none n rs = let z : n - n ≡ 0 = omega arith in ap (λ (m : ℕ). used_in m rs n) z
 
 used_from : (n : ℕ) (rs : List ℕ) (j : ℕ) → j + n ≤ length rs → count_by (λ x. not (eqb x 0)) (take n (drop j rs)) ≡ used_in n rs j
 unfolding used_in
@@ -193,13 +205,29 @@ count_of_end f n used n_is used_is t =
     ap (◌+ 1) (used_is ∙ ap (λ (m : ℕ). used_in m f.readbacks 0) n_is)
     ∙ ap (λ (x : Bool). used_in (slot_count f) f.readbacks 0 + cond x 7 1) (sym t)
 
+-- the records from a place on
+pub record Counted (b : List ℕ) (at count : ℕ) : Type 0 where
+  pub rest : count + count_in (map function_of_part (parts_from b at)) ≡ count_in (functions_of b)
+  pub headers : any_part header_wrong (parts_from b at) ≡ false
+
 -- the records that are left
-pub record Counted (b : List ℕ) (left : List (List ℕ)) (count : ℕ) : Type 0 where
+pub record CountedParts (b : List ℕ) (left : List (List ℕ)) (count : ℕ) : Type 0 where
   pub rest : count + count_in (map function_of_part left) ≡ count_in (functions_of b)
   pub headers : any_part header_wrong left ≡ false
 
-pub counted_start : (b : List ℕ) → board_number b ≡ 0 → Counted b (parts_from b functions_at) 0
+pub counted_start : (b : List ℕ) → board_number b ≡ 0 → Counted b functions_at 0
 counted_start b e =
+    let a = accepted_of_zero b e in
+    record {
+      rest =
+          let z : 0 + count_in (map function_of_part (parts_from b functions_at)) ≡ count_in (map function_of_part (parts_from b functions_at)) =
+          omega arith in
+          z ∙ ap count_in (sym a.functions_read);
+      headers = a.headers;
+    }
+
+pub counted_parts_start : (b : List ℕ) → board_number b ≡ 0 → CountedParts b (parts_from b functions_at) 0
+counted_parts_start b e =
     let a = accepted_of_zero b e in
     record {
       rest =
@@ -220,30 +248,60 @@ few b e =
       a.few,
     )
 
-module _ {b : List ℕ} {left : List (List ℕ)} {count : ℕ} (accepted : board_number b ≡ 0) (s : Counted b left count) where
+module _ {b : List ℕ} {left : List (List ℕ)} {count : ℕ} (accepted : board_number b ≡ 0) (s : CountedParts b left count) where
   module _ (part : List ℕ) (later : List (List ℕ)) (e : left ≡ part ∷ later) where
     headers : (header_wrong part ≡ false) × (any_part header_wrong later ≡ false)
     headers = none_first header_wrong part later (sym (ap (any_part header_wrong) e) ∙ s.headers)
 
-    pub counted_header : header_wrong part ≡ false
-    counted_header = headers.0
+    pub counted_parts_header : header_wrong part ≡ false
+    counted_parts_header = headers.0
 
     module _ {f : Function} {more : ℕ} (f_is : f ≡ function_of_part part) (m : more ≡ write_count f) where
-      turn : count + more + count_in (map function_of_part later) ≡ count_in (functions_of b)
+      parts_turn : count + more + count_in (map function_of_part later) ≡ count_in (functions_of b)
       unfolding count_in
-      turn =
+      parts_turn =
           let split = ap (λ ps. count_in (map function_of_part ps)) e in
           let here = m ∙ ap write_count f_is in
           omega (arith, s.rest, split, here)
 
-      pub counted_turn : Counted b later (count + more)
-      counted_turn = record { rest = turn; headers = headers.1 }
+      pub counted_parts_turn : CountedParts b later (count + more)
+      counted_parts_turn = record { rest = parts_turn; headers = headers.1 }
+
+      pub counted_parts_fits : count + more ≤ 13 * most_functions
+      counted_parts_fits = omega (arith, parts_turn, few b accepted)
+
+  pub counted_parts_end : left ≡ [] → (count ≡ count_in (functions_of b)) × (count ≤ 13 * most_functions)
+  unfolding count_in
+  counted_parts_end e =
+      let none : count_in (map function_of_part left) ≡ 0 = ap (λ ps. count_in (map function_of_part ps)) e in
+      (omega (arith, s.rest, none), omega (arith, s.rest, few b accepted))
+
+module _ {b : List ℕ} {at count : ℕ} (accepted : board_number b ≡ 0) (s : Counted b at count) where
+  module _ (n : ℕ) (e : next_of (drop at b) ≡ Record n) where
+    pub counted_header : header_wrong (take n (drop (at + 2) b)) ≡ false
+    counted_header = none_here header_wrong b at n e s.headers
+
+    module _ {f : Function} {more : ℕ} (f_is : f ≡ function_of_part (take n (drop (at + 2) b))) (m : more ≡ write_count f) where
+      turn : count + more + count_in (map function_of_part (parts_from b (at + 2 + n))) ≡ count_in (functions_of b)
+      unfolding count_in
+      turn =
+          let split = pass_record (λ ps. count_in (map function_of_part ps)) b at n e in
+          let here = m ∙ ap write_count f_is in
+          omega (arith, s.rest, split, here)
+
+      pub counted_turn : Counted b (at + 2 + n) (count + more)
+      counted_turn = record { rest = turn; headers = none_later header_wrong b at n e s.headers }
 
       pub counted_fits : count + more ≤ 13 * most_functions
       counted_fits = omega (arith, turn, few b accepted)
 
-  pub counted_end : left ≡ [] → (count ≡ count_in (functions_of b)) × (count ≤ 13 * most_functions)
+  finished : count_in (map function_of_part (parts_from b at)) ≡ 0 → (count ≡ count_in (functions_of b)) × (count ≤ 13 * most_functions)
+  finished z = (omega (arith, s.rest), omega (arith, s.rest, few b accepted))
+
+  pub counted_end : next_of (drop at b) ≡ End → (count ≡ count_in (functions_of b)) × (count ≤ 13 * most_functions)
   unfolding count_in
-  counted_end e =
-      let none : count_in (map function_of_part left) ≡ 0 = ap (λ ps. count_in (map function_of_part ps)) e in
-      (omega (arith, s.rest, none), omega (arith, s.rest, few b accepted))
+  counted_end e = finished (pass_end (λ ps. count_in (map function_of_part ps)) b at e)
+
+  pub counted_broken : next_of (drop at b) ≡ Broken → (count ≡ count_in (functions_of b)) × (count ≤ 13 * most_functions)
+  unfolding count_in
+  counted_broken e = finished (pass_broken (λ ps. count_in (map function_of_part ps)) b at e)

@@ -8,7 +8,7 @@ use Rattle.std.proofs.lemmas.List.{length-map}
 use Rattle.std.proofs.lemmas.List.Edits.{sets, sets-eq}
 use Rattle.std.proofs.Math.Seq.{length-sets}
 use Rattle.endian.specs.Endian.{be_bytes}
-use Rattle.records.specs.declared.Next.TheVariants.{Record}
+use Rattle.records.specs.declared.Next.TheVariants.{Record, Broken}
 use Rattle.records.specs.Limits.{most_functions}
 use Rattle.records.specs.Records.{next_of, parts_from}
 use Rattle.board_record.specs.declared.Host.{Host}
@@ -25,7 +25,7 @@ use Rattle.plan_pass.specs.Step.{ends_list, bars_in, windows_in, leaf_next, brid
 use Rattle.plan_function.specs.declared.Cursors.{Cursors}
 use Rattle.plan_pass.specs.Loop.{most_buses, plan_on, Ready, Standing, bases_for, Filled, Placing}
 use Rattle.plan_pass.specs.LoopLaws.{standing_start, standing_turn, header_right, inside, turn_placeable, turn_bridged, plan_turn, plan_end}
-use Rattle.plan_pass.specs.LoopLaws.{ready_of_placing}
+use Rattle.plan_pass.specs.LoopLaws.{plan_broken, ready_of_placing}
 use Rattle.script_writes.specs.declared.Pass.{Pass}
 use Rattle.script_writes.specs.declared.Pass.TheVariants.{Buses, Registers, Commands}
 use Rattle.script_writes.specs.declared.Boot.{Boot}
@@ -248,6 +248,9 @@ module _ {pass : Pass} {b : List ℕ} {boot : Boot} {counts memo c₀ room₀ c 
 
   pub passed_end : ((n : ℕ) → next_of (drop at b) ≡ Record n → ⊥) → Wrote boot room₀ from (pass_of pass b) room next
   passed_end none = whole (plan_end p.ready s.standing none)
+
+  pub passed_broken : next_of (drop at b) ≡ Broken → Wrote boot room₀ from (pass_of pass b) room next
+  passed_broken e = whole (plan_broken p.ready s.standing e)
 
 -- ## A record laid out in an array of its own
 

@@ -1,5 +1,5 @@
 -- Six numbers, place by place, in the words of the code. Assumes nothing.
-use Rattle.std.specs.Prelude.{ℕ, zero, suc, ◌<◌, ◌≤◌, ◌≡◌, refl, Bool, true, false, cond, ◌||◌, List, length, get_or, replicate, ltb, leb, eqb, Ok, Err}
+use Rattle.std.specs.Prelude.{ℕ, zero, suc, ◌<◌, ◌≤◌, ◌≡◌, refl, Bool, true, false, cond, ◌||◌, List, length, get_or, replicate, ltb, leb, eqb, Result, Ok, Err}
 use Rattle.std.proofs.Common.{arith, sym, ap, subst, ◌∙◌, true≢false, lt-ltb, le-ltb, ltb-true, ltb-false, leb-true, eqb-true, ne_eqb}
 use Rattle.std.proofs.Math.Bool.{or-false}
 use Rattle.std.proofs.lemmas.List.Edits.{sets}
@@ -9,7 +9,7 @@ use Rattle.endian.specs.SetsLaws.{sets_append}
 use Rattle.trace.specs.declared.Trace.{Trace}
 use Rattle.trace.specs.Annotated.{front_length}
 use Rattle.trace_numbers.specs.Numbers.{numbers_of}
-use Rattle.trace_numbers.specs.Parsing.{size, is_stage, is_state, state_at, head_at, Parsed, Accepted, Refused, trace_of, taken_as}
+use Rattle.trace_numbers.specs.Parsing.{size, is_stage, is_state, state_at, head_at, Parsed, Accepted, Refused, trace_of, taken_as, number_in, state_in}
 
 -- ## What the tests say
 
@@ -133,3 +133,18 @@ module _ (ns : List ℕ) where
       go : (q : Parsed) → Err n ≡ taken_as q → q ≡ Refused n
       go (Accepted t) e = cc
       go (Refused m) e = cc
+
+module _ (ns : List ℕ) (u : Result Trace ℕ) (answered : u ≡ taken_as (trace_of ns)) where
+  pub accepted_of_zero : number_in u ≡ 0 → trace_of ns ≡ Accepted (state_in u)
+  accepted_of_zero z = go (trace_of ns) (numbered_trace_of ns) answered
+    where
+      go : (q : Parsed) → NumberedParsed q → u ≡ taken_as q → q ≡ Accepted (state_in u)
+      go (Accepted t) h e = ap (λ (x : Result Trace ℕ). Accepted (state_in x)) (sym e)
+      go (Refused n) h e = absurd (omega (arith, h, z, ap number_in e))
+
+  pub refused_of_number : ¬ (number_in u ≡ 0) → trace_of ns ≡ Refused (number_in u)
+  refused_of_number other = go (trace_of ns) answered
+    where
+      go : (q : Parsed) → u ≡ taken_as q → q ≡ Refused (number_in u)
+      go (Accepted t) e = absurd (other (ap number_in e))
+      go (Refused n) e = ap (λ (x : Result Trace ℕ). Refused (number_in x)) (sym e)

@@ -6,7 +6,7 @@ use Rattle.records.specs.declared.frame.Stage.{Stage}
 use Rattle.records.specs.declared.frame.Stage.TheVariants.{Start, Other, Between, Length, Inside}
 use Rattle.trace.specs.declared.Trace.{Trace}
 use Rattle.trace.specs.Annotated.{front_length}
-use Rattle.trace.specs.Trace.{tracing}
+use Rattle.trace.specs.Trace.{tracing, fresh}
 
 -- how many numbers a state has
 abbrev pub size : ℕ
@@ -49,3 +49,12 @@ trace_of ns = cond (ltb (length ns) size) (Refused 11) (cond (is_state ns) (Acce
 abbrev pub taken_as : Parsed → Result Trace ℕ
 taken_as (Accepted t) = Ok t
 taken_as (Refused n) = Err n
+
+-- its number, 0 where there is a state, and that state, a fresh one where there is none
+abbrev pub number_in : Result Trace ℕ → ℕ
+number_in (Ok t) = 0
+number_in (Err n) = n
+
+abbrev pub state_in : Result Trace ℕ → Trace
+state_in (Ok t) = t
+state_in (Err n) = fresh

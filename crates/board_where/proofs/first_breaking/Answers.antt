@@ -7,7 +7,7 @@ use Rattle.records.specs.Iterating.{left_of, parts_left}
 use Rattle.board_record.specs.Host.{functions_at}
 use Rattle.board_record.specs.Rules.{too_early}
 use Rattle.board_where.specs.Where.{first_from, first_breaking}
-use Rattle.board_where.specs.PassLaws.{breaking_after, breaking_hit, breaking_miss}
+use Rattle.board_where.specs.PassLaws.{breaking_after, breaking_first, breaking_past_first}
 use Rattle.board_where.proofs.first_breaking.Goals as goal
 use Rattle.board_where.proofs.first_breaking.Goals.{After-into_iter-before-iterator, In-Some}
 
@@ -57,7 +57,7 @@ place_in-requires c = (in_time (goal.at.place_in-requires c).In-Some).0
 
 pub returns-then-breaks : goal.returns-then-breaks
 returns-then-breaks c =
-    sym (breaking_hit c.args.rule c.in-Some.before c.in-Some.part.now (parts_left (enumerate_source c.next.new.self))
+    sym (breaking_first c.args.rule c.in-Some.before c.in-Some.part.now (parts_left (enumerate_source c.next.new.self))
     (sym c.breaks.ensures ∙ c.if-breaks.true) _ c.place_in.ensures) ∙ turn (goal.at.returns-then-breaks c).In-Some
 
 pub loop-before-preserved : goal.loop-before-preserved
@@ -65,7 +65,7 @@ loop-before-preserved c =
     let next : enumerate_count c.next.new.self ≡ c.in-Some.before + 1 = c.in-Some.ensures.steps.2 ∙ ap (λ (k : ℕ). k + 1) (sym c.in-Some.ensures.steps.1) in (
       (in_time (goal.at.loop-before-preserved c).In-Some).1,
       ap (λ (k : ℕ). breaking_after c.args.rule k (parts_left (enumerate_source c.next.new.self))) next
-          ∙ breaking_miss c.args.rule c.in-Some.before c.in-Some.part.now (parts_left (enumerate_source c.next.new.self))
+          ∙ breaking_past_first c.args.rule c.in-Some.before c.in-Some.part.now (parts_left (enumerate_source c.next.new.self))
           (sym c.breaks.ensures ∙ c.if-breaks.false) ∙ turn (goal.at.loop-before-preserved c).In-Some,
     )
 

@@ -4,10 +4,10 @@ use borrow.Author.Rules.{rules}
 use mathlib.Core.Path.{◌≡◌, refl}
 use native.Mathlib.Omega.{arith}
 use Prim.Native.Nat.{◌<◌}
-use lib.ListN.{length, take, drop, length-take}
+use lib.ListN.{length, take, drop}
 use Rattle.bar.specs.BarLaws.{length_first, sized_here}
-use Rattle.bar.specs.WalkLaws.{begun, turn, walked}
-use Rattle.plan_items.specs.WalkLaws.{seeing_start, seeing_turn, seeing_end}
+use Rattle.bar.specs.WalkLaws.{turn, walked}
+use Rattle.plan_items.specs.WalkLaws.{seeing_turn, seeing_end}
 use Rattle.plan_items.proofs.see_bars.Goals as goal
 
 pub see_slot-done-requires : goal.see_slot-done-requires

@@ -1,7 +1,6 @@
 -- `plan_items::see_next` meets its contract. Assumes nothing.
 use native.Mathlib.Numerals.{add-one}
-use native.Mathlib.Omega.{arith}
-use Rattle.plan_items.specs.LoopLaws.{told_next_lem, aligned_as_stored}
+use Rattle.plan_items.specs.LoopLaws.{told_next_lem}
 use Rattle.plan_items.proofs.see_next.Goals as goal
 
 pub returns : goal.returns

@@ -1,7 +1,6 @@
 -- `plan_items::walk_records` meets its contract. The invariant is `Walked`: what is seen and what is still told come to the whole. The
 -- measure is the bytes left. Assumes nothing.
 use mathlib.Core.Path.{refl, sym, ap, ◌∙◌}
-use Prim.Native.Nat.{◌-◌}
 use native.Mathlib.Numerals.{add-one}
 use native.Mathlib.Omega.{arith}
 use Rattle.records.specs.RecordsLaws.{fits_at}

@@ -2,7 +2,7 @@
 use Rattle.std.proofs.Common.{ℕ, ◌≡◌, ◌≤◌, ◌/◌, ◌∙◌, length, ap, sym, arith}
 use Rattle.std.specs.Slice.Iter.{chunks_size}
 use Rattle.trace_engine.specs.Engine.{line_of, longest_of}
-use Rattle.stream_trace.specs.PartsLaws.{part_sound, part_state, parts_done}
+use Rattle.stream_trace.specs.PartsLaws.{bytes_sound, bytes_state, bytes_done}
 use Rattle.stream_trace.proofs.label_parts.Goals as goal
 
 pub loop-part-preserved : goal.loop-part-preserved
@@ -14,9 +14,9 @@ loop-part-preserved c =
     let few : length c.in-Some.part.now ≤ chunks_size top.part-iterator = omega (arith, cut.1.1) in
     record {
       size = cut.0 ∙ top.invariant.size;
-      sound = part_sound c.args.engine c.args.bytes.now top.t _ _ _ _ top.invariant.sound is few c.feed_by-fed.ensures.0;
-      state = part_state c.args.engine c.args.bytes.now top.t _ _ _ _ top.invariant.sound is few c.feed_by-fed.ensures.0 _ _ cut.1.0 ∙ top.invariant.state;
+      sound = bytes_sound c.args.engine c.args.bytes.now top.t _ _ _ _ top.invariant.sound is few c.feed_by-fed.ensures.0;
+      state = bytes_state c.args.engine c.args.bytes.now top.t _ _ _ _ top.invariant.sound is few c.feed_by-fed.ensures.0 _ _ cut.1.0 ∙ top.invariant.state;
     }
 
 pub returns : goal.returns
-returns c = parts_done (line_of c.args.engine c.args.bytes.now) _ _ _ _ c.loop-part.invariant.state c.in-None.ensures.steps.1.0
+returns c = bytes_done (line_of c.args.engine c.args.bytes.now) _ _ _ _ c.loop-part.invariant.state c.in-None.ensures.steps.1.0
