@@ -35,11 +35,11 @@ any_map test f (p ∷ ps) = ap (λ (t : Bool). test (f p) || t) (any_map test f 
 -- ---- 20
 
 module _ (s : List ℕ) where
-  misframed_end : next_of (drop 1 s) ≡ End → misframed (parts_of (drop 1 s)) ≡ true
+  pub misframed_end : next_of (drop 1 s) ≡ End → misframed (parts_of (drop 1 s)) ≡ true
   unfolding misframed
   misframed_end e = ap misframed (parts_end s 1 e)
 
-  misframed_broken : next_of (drop 1 s) ≡ Broken → misframed (parts_of (drop 1 s)) ≡ true
+  pub misframed_broken : next_of (drop 1 s) ≡ Broken → misframed (parts_of (drop 1 s)) ≡ true
   unfolding misframed
   misframed_broken e = ap misframed (parts_broken s 1 e)
 

@@ -4,4 +4,5 @@ pub mod Depth
 pub mod Examples
 pub mod NumberLaws
 pub mod PassLaws
+pub mod PlaceLaws
 pub mod ToPlacingLaws

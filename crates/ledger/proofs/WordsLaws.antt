@@ -72,6 +72,22 @@ in_use_drop i [] h = absurd (omega arith)
 in_use_drop zero (w ∷ ws) h = refl
 in_use_drop (suc i) (w ∷ ws) h = in_use_drop i ws (omega arith)
 
+in_use_past : (i : ℕ) (ws : List ℕ) → length ws ≤ i → in_use (drop i ws) ≡ 0
+unfolding in_use
+in_use_past zero [] h = refl
+in_use_past (suc i) [] h = refl
+in_use_past zero (w ∷ ws) h = absurd (omega arith)
+in_use_past (suc i) (w ∷ ws) h = in_use_past i ws (omega arith)
+
+-- in the words of the count, which has passed i places
+pub count_turn : (n i all used : ℕ) (ws : List ℕ) → i < length ws → n + in_use (drop i ws) ≡ all → used ≡ used_by (get_or ws i 0)
+    → n + used + in_use (drop (i + 1) ws) ≡ all
+count_turn n i all used ws h e same =
+    let one : i + 1 ≡ suc i = omega arith in rw one (omega (arith, in_use_drop i ws h, e, same))
+
+pub count_end : (n i all : ℕ) (ws : List ℕ) → length ws ≤ i → n + in_use (drop i ws) ≡ all → n ≡ all
+count_end n i all ws h e = omega (arith, in_use_past i ws h, e)
+
 -- the code counts them
 pub in_use_count : (ws : List ℕ) → in_use ws ≡ count_by (λ w. not (eqb (key_in w) 0)) ws
 unfolding in_use
