@@ -8,12 +8,12 @@ use Rattle.walk.specs.Walk.{Outcome, delivered, no_owner}
 use Rattle.claims.specs.declared.Aim.{Aim}
 use Rattle.route_arrival.specs.declared.Heading.{Heading}
 use Rattle.route_arrival.specs.declared.Heading.TheVariants.{Aimed, Up, Every, Port as ToPort}
-use Rattle.route_arrival.specs.Arrival.{heading_of, type_wrong}
+use Rattle.route_arrival.specs.Arrival.{heading_of, type_wrong, arrived}
 use Rattle.route_answer.specs.declared.Routing.{Routing}
-use Rattle.route_answer.specs.declared.Routing.TheVariants.{Refused}
+use Rattle.route_answer.specs.declared.Routing.TheVariants.{Delivered, Refused}
 use Rattle.route_answer.specs.declared.Next.{Next}
 use Rattle.route_answer.specs.declared.Next.TheVariants.{Aimed as LookedFor, Answered}
-use Rattle.route_answer.specs.Routing.{number_of, wrong_type, answer, headed_over, typed_over, route_over, answer_by, Goes}
+use Rattle.route_answer.specs.Routing.{number_of, wrong_type, arrives, answer, headed_over, typed_over, route_over, answer_by, Goes}
 
 -- ## The checks
 
@@ -52,6 +52,10 @@ module _ (p : Packet) (functions bus : ℕ) (o : Next) (goes : Goes p functions 
   -- r is the answer for what it is looked for by
   pub looked_for : (aim : Aim) → o ≡ LookedFor aim → (r : Routing) → r ≡ answer p (outcome aim) → r ≡ whole
   looked_for aim e r f = f ∙ left_as (LookedFor aim) e
+
+pub delivered_as : (p q : Packet) (owner bridges : ℕ) → q ≡ arrived p
+    → Delivered (record { owner = owner; bridges = bridges; packet = q }) ≡ Delivered (arrives p owner bridges)
+delivered_as p q owner bridges e = ap (λ (x : Packet). Delivered (record { owner = owner; bridges = bridges; packet = x })) e
 
 -- ## Two who route alike: as many functions, the same root bus if there are any, and the same outcomes
 

@@ -8,11 +8,12 @@ use Rattle.packet.specs.declared.Packet.{Packet}
 use Rattle.tlp.specs.declared.Reading.{Reading}
 use Rattle.tlp.specs.declared.Reading.TheVariants.{Accepted, Refused as NotRead}
 use Rattle.tlp.specs.Reading.{number_of as reading_number, read_of}
-use Rattle.walk.specs.Walk.{no_owner, contested, walk_from, walk_over}
+use Rattle.walk.specs.Tally as tallies
+use Rattle.walk.specs.Walk.{Outcome, no_owner, contested, walk_from, walk_over}
 use Rattle.walk.specs.Climb as climb
 use Rattle.walk.specs.Climb.{Sent, arrives, leaves, stops, settle_up, go_up}
 use Rattle.walk.specs.Climb.{sent_of as outcome_sent}
-use Rattle.walk.proofs.ClimbLaws.{Falling, climb_step}
+use Rattle.walk.proofs.ClimbLaws.{Falling, climb_step, further, walk_shift}
 use Rattle.climb_ids.specs.ById.{nothing, sent_to_other, sent_up, sent_by_id}
 use Rattle.climb_ids.proofs.ByIdLaws.{falling_unless, sent_climb, sent_own}
 use Rattle.sheet.specs.Sheet.{sheet_number}
@@ -25,9 +26,10 @@ use Rattle.claims.specs.declared.Tally.TheVariants.{Nothing, One, Several}
 use Rattle.claims.specs.Claims.{tally_of}
 use Rattle.route_arrival.specs.declared.Heading.{Heading}
 use Rattle.route_arrival.specs.Arrival.{heading_of}
+use Rattle.route.specs.declared.Walked.{Walked}
 use Rattle.route_answer.specs.declared.Routing.{Routing}
 use Rattle.route_answer.specs.Listed as routing
-use Rattle.route.specs.Route.{root, route_packet}
+use Rattle.route.specs.Route.{outcome_of, root, route_packet}
 use Rattle.route_sent.specs.declared.climb.Going.{Going}
 use Rattle.route_sent.specs.declared.climb.Going.TheVariants.{ById, OnlyUp}
 use Rattle.route_cards.specs.declared.Up.{Up}
@@ -45,6 +47,11 @@ use Rattle.route_sent.specs.BothEnds.{on_room, listed_after}
 use Rattle.route_sent.specs.Going.{tally_going, stays_going, up_going, climbed, IsSender, up_of, sent_of}
 
 -- ## Down: document 01's walk, with the bridges crossed before it added
+
+module _ (tally : ℕ → tallies.Tally) (bus crossed : ℕ) (w : Walked) (e : outcome_of w ≡ walk_from tally bus 0) where
+  pub down_as : (x : Walked) → w ≡ x → outcome_sent (further crossed (outcome_of x)) ≡ outcome_sent (walk_from tally bus crossed)
+  down_as x q =
+      ap (λ (o : Outcome). outcome_sent (further crossed o)) (ap outcome_of (sym q) ∙ e) ∙ ap outcome_sent (sym (walk_shift tally bus crossed))
 
 pub down_nowhere : (bus crossed : ℕ) → stops no_owner ≡ outcome_sent (walk_from nothing bus crossed)
 unfolding walk_from walk_over

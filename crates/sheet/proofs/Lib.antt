@@ -6,6 +6,7 @@ pub mod FrameLaws
 pub mod IndexLaws
 pub mod LookupLaws
 pub mod NumberLaws
+pub mod PlaceLaws
 pub mod ReadSoFarLaws
 pub mod RecordIdLaws
 pub mod RulesLaws

@@ -41,7 +41,7 @@ has_id_more id es e =
     ∙ ap (λ (b : Bool). b || has_id id es) (or-false (eqb e.id id) ∙ eqb_sym e.id id)
 
 -- with one record more an ID comes twice where one did, or where the record's was there
-twice_more : (es : List Entry) (e : Entry) → id_twice (es ++ (e ∷ [])) ≡ has_id e.id es || id_twice es
+pub twice_more : (es : List Entry) (e : Entry) → id_twice (es ++ (e ∷ [])) ≡ has_id e.id es || id_twice es
 unfolding id_twice has_id
 twice_more [] e = refl
 twice_more (x ∷ es) e =
@@ -49,7 +49,7 @@ twice_more (x ∷ es) e =
     ∙ or_swap (eqb x.id e.id) (has_id x.id es) (has_id e.id es) (id_twice es)
 
 -- and stays so, whatever follows
-twice_append : (es fs : List Entry) → id_twice es ≡ true → id_twice (es ++ fs) ≡ true
+pub twice_append : (es fs : List Entry) → id_twice es ≡ true → id_twice (es ++ fs) ≡ true
 unfolding id_twice
 twice_append [] fs h = absurd (false≢true h)
 twice_append (x ∷ es) fs h = go (has_id x.id es) refl h (twice_append es fs)
@@ -60,7 +60,7 @@ twice_append (x ∷ es) fs h = go (has_id x.id es) refl h (twice_append es fs)
     go false e h on = rw (on h) (or-true (has_id x.id (es ++ fs)))
 
 -- with the record's ID marked, exactly the IDs with this record's are
-exactly_more : (ws vs : List ℕ) (es : List Entry) (e : Entry) (id : ℕ) → e.id ≡ id → id / 64 < length ws → vs ≡ marked ws id
+pub exactly_more : (ws vs : List ℕ) (es : List Entry) (e : Entry) (id : ℕ) → e.id ≡ id → id / 64 < length ws → vs ≡ marked ws id
     → ExactlyMarked ws es → ExactlyMarked vs (es ++ (e ∷ []))
 exactly_more ws vs es e id own h v x j =
     ap (λ (us : List ℕ). is_marked us j) v
