@@ -4,8 +4,7 @@ use Rattle.std.proofs.Common.{sym, ap, ◌∙◌, zero-add, add-zero, add-one, a
 use Rattle.std.proofs.Math.Nat.{min-eq_left, min-eq_right, div-div-eq-div-mul}
 use Rattle.std.proofs.lemmas.List.Edits.{sets, sets-eq}
 use Rattle.std.proofs.Math.Seq.{set_out, length-sets}
-use borrow.Rule.Slice.PartMut.{put_mid}
-use Rattle.endian.specs.SetsLaws.{sets_sets, sets_comm, sets_of_copy}
+use Rattle.endian.specs.SetsLaws.{sets_sets, sets_comm}
 use Rattle.text.specs.Text.{Put, ascii, digit, hexadecimal, decimal_over, decimal, refusal_text}
 
 -- stores past the end change nothing
@@ -64,20 +63,16 @@ sets_cut o i vs h l =
     let out : length (sets o i a) ≤ i + length a = omega (arith, length-sets o i a) in
     sym (ap (sets o i) (sym (take-append-drop k vs)) ∙ sym (sets_sets o i a (drop k vs)) ∙ sets_out (sets o i a) (i + length a) (drop k vs) out)
 
-module _ {o text ys : List ℕ} {at start : ℕ} (p : Put o at [] o start) where
+module _ {o text after : List ℕ} {at start : ℕ} (p : Put o at [] o start) where
   -- a text copied to the place where it goes
-  pub put_copied : start + length text ≤ length o → ys ≡ text
-      → Put o at text (put_mid start (start + length text - start) o ys) (start + length text)
-  put_copied h e =
-      put_append p (record { stored = rw e (sets_of_copy o start (start + length text) text refl h); place = omega arith })
+  pub put_copied : start + length text ≤ length o → after ≡ sets o start text → Put o at text after (start + length text)
+  put_copied h e = put_append p (record { stored = e; place = omega arith })
 
   -- and one that passes the end: what fits of it
-  pub put_cut : start ≤ length o → length o - start ≤ length text → ys ≡ take (length o - start) text
-      → Put o at text (put_mid start (length o - start) o ys) (length (put_mid start (length o - start) o ys))
+  pub put_cut : start ≤ length o → length o - start ≤ length text → after ≡ sets o start (take (length o - start) text)
+      → Put o at text after (length after)
   put_cut h l e =
-      let n : length (take (length o - start) text) ≡ length o - start = omega (arith, length-take (length o - start) text) in
-      let s : put_mid start (length o - start) o ys ≡ sets o start text =
-      rw e (sets_of_copy o start (length o) (take (length o - start) text) (omega arith) (omega arith) ∙ sets_cut o start text h (omega arith)) in
+      let s : after ≡ sets o start text = e ∙ sets_cut o start text h (omega arith) in
       put_append p (record { stored = s; place = rw s (omega (arith, length-sets o start text)) })
 
 -- the last hexadecimal digit, and those in front of it

@@ -27,12 +27,21 @@ pub fn put_text(out: &mut [u8], at: usize, text: &[u8]) -> usize
     let start = place(out, at);
     let room = out.len() - start;
     if room < text.len() {
-        out[start..].copy_from_slice(&text[..room]);
+        copy_in(out, start, &text[..room]);
         return out.len();
     }
-    let end = start + text.len();
-    out[start..end].copy_from_slice(text);
-    end
+    copy_in(out, start, text);
+    start + text.len()
+}
+
+// By bytes: `copy_from_slice` of a length that is not known is compiled into a call of memmove, which the archive may not need.
+fn copy_in(out: &mut [u8], start: usize, text: &[u8])
+    requires { start + length text.now ≤ length out.old }
+    ensures { out.new ≡ sets out.old start text.now }
+{
+    for i in 0..text.len() {
+        out[start + i] = text[i];
+    }
 }
 
 // The last `width` hexadecimal digits, with zeros in front.

@@ -4,7 +4,7 @@ use Rattle.text.specs.TextLaws.{put_copied, put_cut}
 use Rattle.text.proofs.put_text.Goals as goal
 
 pub returns-then-room-text : goal.returns-then-room-text
-returns-then-room-text c = put_cut c.place-start.ensures (omega arith) (omega arith) c.copy_from_slice.ensures.after
+returns-then-room-text c = put_cut c.place-start.ensures (omega arith) (omega arith) c.copy_in.ensures
 
 pub returns : goal.returns
-returns c = put_copied c.place-start.ensures (omega arith) c.copy_from_slice-2.ensures.after
+returns c = put_copied c.place-start.ensures (omega arith) c.copy_in-2.ensures
