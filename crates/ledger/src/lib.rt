@@ -4,7 +4,7 @@
 
 ghost use Rattle.std.specs.Prelude.{◌≡◌, true, ◌+◌, ◌≤◌, length, drop, get_or};
 ghost use Rattle.tlp_kinds.specs.Kinds.{is_memory, is_io, is_config as is_config_request};
-ghost use Rattle.ledger.specs.Words.{key_of, key_in, left_in, is_read, is_config, is_locked, place_of, in_use, empty};
+ghost use Rattle.ledger.specs.Words.{key_of, key_in, left_in, is_read, is_config, is_locked, place_of, in_use, used_by, empty};
 ghost use Rattle.ledger.specs.WordsLaws.{is_among_four};
 ghost use Rattle.ledger.specs.Ledger.{class_of, has_data, in_locked_form, disagrees, on_success, settled, on_completion, on_request};
 ghost use Rattle.ledger.specs.Ledger.{Inside, opening_of, completing_of, number_of, words_after};
@@ -84,7 +84,11 @@ pub fn complete_in(words: &mut [u64], header: &[u8]) -> u8
 pub fn count(words: &[u64]) -> usize
     ensures { result ≡ in_use words.now }
 {
-    words.iter().filter(|word| key_in(**word) != 0).count()
+    let mut n: usize = 0;
+    for word in words {
+        n += used_by(*word);
+    }
+    n
 }
 
 // ---- verdicts
@@ -408,6 +412,13 @@ fn is_locked(word: u64) -> bool
     ensures { result ≡ is_locked word }
 {
     word % 2 == 1
+}
+
+// 0 for a free place.
+fn used_by(word: u64) -> usize
+    ensures { (result ≡ used_by word) × (result ≤ 1) }
+{
+    usize::from(key_in(word) != 0)
 }
 
 // ---- the search

@@ -38,7 +38,7 @@ use Rattle.script_writes.specs.Writes.{register_writes, writes_in, pass_writes, 
 use Rattle.scripter.specs.Scripting.{board_writes}
 use Rattle.scripter.specs.Counting.{used_in, own_writes, write_count, count_in}
 
--- ## Bounds, and a parts_turn of the loops
+-- ## Bounds, and a turn of the loops
 
 pub used_le : (n : ℕ) (rs : List ℕ) (j : ℕ) → used_in n rs j ≤ n
 unfolding used_in

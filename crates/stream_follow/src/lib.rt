@@ -6,8 +6,8 @@
 use stream_trace::Stop;
 use trace_engine::Engine;
 
-// Where bytes are held: as in the annotator (`stream_trace`) the sheet, 8,192 bytes, 51, 16 and 16; 9 for a kind's name, the two bytes of
-// the ID and of the length, a piece of the trace and its lines. With a full sheet of 47,105 bytes that is 61,438 of the 65,536 allowed.
+// Where bytes are held: as in the annotator (`stream_trace`) the sheet, 8,192 bytes, 51 and 16; the two bytes of the ID and of the length,
+// a piece of the trace and its lines. With a full sheet of 47,105 bytes that is 61,413 of the 65,536 allowed.
 // A piece of ordinary records, each 12 bytes after its length, has lines that fit by their count, so that none is routed twice.
 pub const MOST_LINES: usize = 93;
 

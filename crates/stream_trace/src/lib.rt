@@ -14,8 +14,7 @@ use trace_engine::Engine;
 use trace_line::Finder;
 
 // Where bytes are held: the sheet, a piece of the trace, its lines; 8,192 bytes in which the sheet's check marks IDs, 51 for a line that is
-// measured; 16 kept of a record, 16 that clear them and 8 for a kind's name. With a full sheet of 47,105 bytes that is 61,436 of the 65,536
-// allowed.
+// measured; 16 kept of a record and 8 for a kind's name. With a full sheet of 47,105 bytes that is 61,420 of the 65,536 allowed.
 // A piece of ordinary records, each 12 bytes after its length, has lines that fit by their count, so that none is routed twice.
 pub const MOST_LINES: usize = 112;
 

@@ -105,6 +105,8 @@ fn is_lawful_io(s: &[u8]) -> bool
     packet::io_rules(h, e, a) == 0
 }
 
+// Inlined, so that `judge` saves no registers for a call of it.
+#[inline(always)]
 fn is_lawful_message(s: &[u8]) -> bool
     requires { (12 ≤ length s.now) × (is_message (get_or s.now 0 0) ≡ true) }
     ensures { Passes result s.now }

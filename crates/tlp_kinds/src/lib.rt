@@ -11,7 +11,9 @@ use pairs::{CompletionKind, ConfigKind, IoKind, MemoryKind};
 pub fn is_memory(b: u8) -> bool
     ensures { result ≡ is_memory b }
 {
-    matches!(b, 0x00 | 0x20 | 0x01 | 0x21 | 0x40 | 0x60)
+    // without bit 5, the form: matched as they are, writes would be branches of their own
+    let formless = b / 64 * 32 + b % 32;
+    matches!(formless, 0x00 | 0x01 | 0x20)
 }
 
 pub fn memory_kind(b: u8) -> MemoryKind

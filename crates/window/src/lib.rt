@@ -18,20 +18,36 @@ pub struct Window {
 }
 
 impl Window {
-    // The closed window of a pool: "A closed window has one spelling for each kind". Zeros would open 1 MiB at 0.
+    // "A closed window has one spelling for each kind". Zeros would open 1 MiB at 0.
+    pub const CLOSED_LOW: Window = Window {
+        base: 0xfff0,
+        limit: 0x0000,
+        upper_base: 0,
+        upper_limit: 0,
+    };
+
+    pub const CLOSED_HIGH: Window = Window {
+        base: 0xfff1,
+        limit: 0x0001,
+        upper_base: 0,
+        upper_limit: 0,
+    };
+
+    pub const CLOSED_IO: Window = Window {
+        base: 0xf0,
+        limit: 0x00,
+        upper_base: 0,
+        upper_limit: 0,
+    };
+
+    // The closed window of a pool.
     pub fn closed(q: Pool) -> Self
         ensures { result ≡ closed_of q }
     {
-        let (base, limit) = match q {
-            Pool::Low => (0xfff0, 0x0000),
-            Pool::High => (0xfff1, 0x0001),
-            Pool::Io => (0xf0, 0x00),
-        };
-        Self {
-            base,
-            limit,
-            upper_base: 0,
-            upper_limit: 0,
+        match q {
+            Pool::Low => Self::CLOSED_LOW,
+            Pool::High => Self::CLOSED_HIGH,
+            Pool::Io => Self::CLOSED_IO,
         }
     }
 
