@@ -105,8 +105,6 @@ fn is_lawful_io(s: &[u8]) -> bool
     packet::io_rules(h, e, a) == 0
 }
 
-// Inlined, so that `judge` saves no registers for a call of it.
-#[inline(always)]
 fn is_lawful_message(s: &[u8]) -> bool
     requires { (12 ≤ length s.now) × (is_message (get_or s.now 0 0) ≡ true) }
     ensures { Passes result s.now }
@@ -168,10 +166,11 @@ fn is_last(x: u8) -> bool
     matches!(x, 15 | 7 | 3 | 1)
 }
 
+// Bit 6, whether data follow, is left out, so that it is one range and one comparison.
 fn is_message(b: u8) -> bool
     ensures { result ≡ is_message b }
 {
-    matches!(b, 0x30..=0x35 | 0x70..=0x75)
+    matches!(b % 64, 0x30..=0x35) & (b < 128)
 }
 
 fn message_kind(b: u8) -> MessageKind
